@@ -1,0 +1,6 @@
+pub mod Rules
+pub mod Lists
+pub mod Repeats
+pub mod Words
+pub mod Emitted
+pub mod Cleared

@@ -1,0 +1,32 @@
+-- Facts on texts as lists that any reader uses.
+use mathlib.Core.Path.{_≡_, refl, sym, _∙_}
+use mathlib.Core.List.{List, [], _∷_}
+use Prim.Native.Nat.{ℕ, zero, suc, _+_, _-_, _<_, _≤_, suc-le-suc}
+use native.Mathlib.Numerals.{add-one}
+use native.Mathlib.Nat.{add-zero}
+use native.Mathlib.Omega.{arith}
+use lib.ListN.{length, getD, take, drop, length-drop}
+use lib.Seq.{getD-drop, take-all}
+
+-- a byte that is not 0 is there
+pub inside : (s : List ℕ) (i b : ℕ) → getD s i 0 ≡ suc b → i < length s
+inside [] i b e = absurd (omega arith)
+inside (x ∷ r) zero b e = omega arith
+inside (x ∷ r) (suc i) b e = suc-le-suc (inside r i b e)
+
+-- what `&s[a..]` lends is the rest of the text
+pub rest : (s : List ℕ) (a : ℕ) → take (length s - a) (drop a s) ≡ drop a s
+rest s a = take-all (length s - a) (drop a s) (omega (arith, length-drop a s))
+
+-- the byte at i is the first of the rest from i on
+pub first : (s : List ℕ) (i : ℕ) → getD (drop i s) 0 0 ≡ getD s i 0
+first s i = getD-drop i s 0 0 ∙ rw (add-zero i)
+
+-- the byte behind the one at i is the first of what follows it
+pub next : (s : List ℕ) (i : ℕ) → getD (drop (suc i) s) 0 0 ≡ getD s (i + 1) 0
+next s i = getD-drop (suc i) s 0 0 ∙ simp (add-zero, add-one)
+
+-- a list that has no length is empty
+pub nil-of : (b : List ℕ) → length b ≤ 0 → b ≡ []
+nil-of [] h = refl
+nil-of (x ∷ b) h = absurd (omega arith)

@@ -1,0 +1,156 @@
+-- How `search` goes through a definition made of `pick`, `or` and `and`: `search cases`.
+use Prim.Native.Nat.{ℕ, suc, _≤_, _<_}
+use mathlib.Core.Path.{_≡_, refl, sym, _∙_}
+use mathlib.Core.Bool.{Bool, true, false}
+use mathlib.Core.Logic.{_⊎_, inl, inr}
+use borrow.Author.Needs.{needs}
+use borrow.Author.Tests.{eq-eqb, ne-eqb, eqb-true, leb-true, le-leb, lt-leb, ltb-true, ltb-false}
+use lib.Dec.{leb, ltb}
+use Rattle.combinators.specs.Choice.{pick, or, and, is, within}
+
+module _ {A : Type 0} (v x y : A) (t : Bool) where
+  pub pick-true : t ≡ true → v ≡ x → v ≡ pick t x y
+  unfolding pick
+  pick-true e p = rw e p
+
+  pub pick-false : t ≡ false → v ≡ y → v ≡ pick t x y
+  unfolding pick
+  pick-false e p = rw e p
+
+-- a choice by an order
+module _ {A : Type 0} (v x y : A) (a b : ℕ) where
+  pub at-most : a ≤ b → v ≡ x → v ≡ pick (leb a b) x y
+  at-most h p = pick-true v x y _ (le-leb a b h) p
+
+  pub above : b < a → v ≡ y → v ≡ pick (leb a b) x y
+  above h p = pick-false v x y _ (lt-leb a b h) p
+
+-- what holds of both arms holds of a choice
+pub pick-holds : {A : Type 0} (P : A → Type 0) (t : Bool) (x y : A) → (t ≡ true → P x) → (t ≡ false → P y) → P (pick t x y)
+unfolding pick
+pick-holds P true x y f g = f refl
+pick-holds P false x y f g = g refl
+
+-- what follows from either part of an `or`
+pub either : (P : Type 0) (a b : Bool) → or a b ≡ true → (a ≡ true → P) → (b ≡ true → P) → P
+unfolding or
+either P true b e f g = f refl
+either P false b e f g = g e
+
+module _ (a b : Bool) where
+  pub or-left : a ≡ true → or a b ≡ true
+  unfolding or
+  or-left e = rw e
+
+  pub or-right : a ≡ false → b ≡ true → or a b ≡ true
+  unfolding or
+  or-right e p = rw (e, p)
+
+  pub or-none : a ≡ false → b ≡ false → or a b ≡ false
+  unfolding or
+  or-none e p = rw (e, p)
+
+  pub and-both : a ≡ true → b ≡ true → and a b ≡ true
+  unfolding and
+  and-both e p = rw (e, p)
+
+  pub and-left : a ≡ false → and a b ≡ false
+  unfolding and
+  and-left e = rw e
+
+  pub or-gives-true : a ≡ true → true ≡ or a b
+  or-gives-true e = sym (or-left e)
+
+  pub or-gives : (r : Bool) → a ≡ false → r ≡ b → r ≡ or a b
+  unfolding or
+  or-gives r e p = rw e p
+
+  pub and-gives : (r : Bool) → a ≡ true → r ≡ b → r ≡ and a b
+  unfolding and
+  and-gives r e p = rw e p
+
+  pub and-gives-false : a ≡ false → false ≡ and a b
+  and-gives-false e = sym (and-left e)
+
+and-no : (a : Bool) → and a false ≡ false
+unfolding and
+and-no true = refl
+and-no false = refl
+
+pub and-right : (a b : Bool) → b ≡ false → and a b ≡ false
+and-right a b e = rw (e, and-no a)
+
+pub and-true : (a b : Bool) → and a b ≡ true → (a ≡ true) × (b ≡ true)
+unfolding and
+and-true true b e = (refl, e)
+and-true false b e = (e, cc)
+
+-- ---- a test that a call made, or the code
+pub told : (r a v : Bool) → r ≡ a → r ≡ v → a ≡ v
+told r a v e p = sym e ∙ p
+
+pub is-yes : (x k : ℕ) → x ≡ k → is x k ≡ true
+unfolding is
+is-yes x k e = eq-eqb x k e
+
+pub is-no : (x k : ℕ) → ¬ (x ≡ k) → is x k ≡ false
+unfolding is
+is-no x k e = ne-eqb x k e
+
+-- the same of a byte y that a call gave
+pub is-yes-of : (y x k : ℕ) → y ≡ x → y ≡ k → is x k ≡ true
+is-yes-of y x k e p = is-yes x k (sym e ∙ p)
+
+pub is-no-of : (y x k : ℕ) → y ≡ x → ¬ (y ≡ k) → is x k ≡ false
+is-no-of y x k e d = is-no x k (λ p. d (e ∙ p))
+
+-- of two numbers the first is less, or at least the second
+pub lt-or-ge : (m n : ℕ) → (m < n) ⊎ (n ≤ m)
+lt-or-ge m n = go (ltb m n) refl
+  where
+    go : (t : Bool) → ltb m n ≡ t → (m < n) ⊎ (n ≤ m)
+    go true e = inl (ltb-true m n e)
+    go false e = inr (ltb-false m n e)
+
+-- ---- what a test says
+pub is-true : (x k : ℕ) → is x k ≡ true → x ≡ k
+unfolding is
+is-true x k e = eqb-true x k e
+
+pub within-false : (x lo hi : ℕ) → x < lo → false ≡ within x lo hi
+unfolding within
+within-false x lo hi h = and-gives-false _ _ (lt-leb lo x h)
+
+pub within-rest : (x lo hi : ℕ) → lo ≤ x → leb x hi ≡ within x lo hi
+unfolding within
+within-rest x lo hi h = and-gives _ _ _ (le-leb lo x h) refl
+
+pub within-true : (x lo hi : ℕ) → within x lo hi ≡ true → (lo ≤ x) × (x ≤ hi)
+unfolding within
+within-true x lo hi e =
+    let p = and-true (leb lo x) (leb x hi) e in
+    (leb-true lo x (p .0), leb-true x hi (p .1))
+
+pub ruleset cases = (
+  needs,
+  pick-true,
+  pick-false,
+  or-left,
+  or-right,
+  or-none,
+  and-both,
+  and-left,
+  and-right,
+  or-gives-true,
+  or-gives,
+  and-gives,
+  and-gives-false,
+  told,
+  is-yes,
+  is-no,
+  is-yes-of,
+  is-no-of,
+)
+
+-- for choices by orders
+pub ruleset orders = (needs, at-most, above)

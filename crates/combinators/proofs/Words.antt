@@ -1,0 +1,49 @@
+-- One step of `startsWith` at an index of both lists, and what a true answer says.
+use mathlib.Core.Path.{_≡_, refl, ap, _∙_}
+use mathlib.Core.List.{List, [], _∷_, _++_}
+use mathlib.Core.Bool.{Bool, true, false}
+use Prim.Native.Nat.{ℕ, _+_, _<_, _≤_}
+use native.Mathlib.Numerals.{add-one}
+use native.Mathlib.Omega.{arith}
+use lib.ListN.{length, getD, drop, drop-of-length-le}
+use lib.Seq.{drop-cons}
+use Rattle.combinators.specs.Choice.{and, is}
+use Rattle.combinators.specs.Word.{startsWith}
+use Rattle.combinators.proofs.Rules.{and-true, is-true, is-yes, is-no}
+
+module _ (w s : List ℕ) (i : ℕ) where
+  pub word-done : length w ≤ i → startsWith (drop i w) (drop i s) ≡ true
+  unfolding startsWith
+  word-done h = rw (drop-of-length-le w h)
+
+  pub word-short : i < length w → length s ≤ i → startsWith (drop i w) (drop i s) ≡ false
+  unfolding startsWith
+  word-short h l = rw (drop-cons w i 0 h, drop-of-length-le s l)
+
+  pub word-differs : i < length w → i < length s → ¬ (getD s i 0 ≡ getD w i 0) → startsWith (drop i w) (drop i s) ≡ false
+  unfolding startsWith and
+  word-differs h l d = rw (drop-cons w i 0 h, drop-cons s i 0 l, is-no _ _ d)
+
+  pub word-step : i < length w → i < length s → getD s i 0 ≡ getD w i 0
+      → startsWith (drop i w) (drop i s) ≡ startsWith (drop (i + 1) w) (drop (i + 1) s)
+  unfolding startsWith and
+  word-step h l e = rw (add-one, drop-cons w i 0 h, drop-cons s i 0 l, is-yes _ _ e)
+
+never : {A : Type 0} → false ≡ true → A
+never e = absurd (let z : _≡_ {A = ℕ} 0 1 = cc in omega arith)
+
+-- the word is no longer than the text
+pub starts-le : (w s : List ℕ) → startsWith w s ≡ true → length w ≤ length s
+unfolding startsWith
+starts-le [] s e = omega arith
+starts-le (x ∷ w) [] e = never e
+starts-le (x ∷ w) (y ∷ s) e = let l = starts-le w s (and-true (is y x) _ e .1) in omega arith
+
+-- the text is the word and what follows it
+pub starts-is : (w s : List ℕ) → startsWith w s ≡ true → s ≡ w ++ drop (length w) s
+unfolding startsWith
+starts-is [] s e = refl
+starts-is (x ∷ w) [] e = never e
+starts-is (x ∷ w) (y ∷ s) e =
+    let p = and-true (is y x) (startsWith w s) e in
+    ap (λ b. b ∷ s) (is-true y x (p .0)) ∙ ap (λ l. x ∷ l) (starts-is w s (p .1))

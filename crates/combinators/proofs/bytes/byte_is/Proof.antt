@@ -1,0 +1,17 @@
+use Rattle.combinators.specs.Choice.{is}
+use lib.Dec.{eqb}
+use Prim.Native.Nat.{ℕ}
+use mathlib.Core.Path.{ap}
+use borrow.Author.Needs.{needs}
+use Rattle.combinators.proofs.bytes.byte_is.Statement.{statement}
+use Rattle.combinators.proofs.bytes.byte_is.Tie as tie
+
+peek-requires : tie.Need-peek-requires
+peek-requires c κs = search needs
+
+returns : tie.Need-returns
+unfolding is
+returns c = ap (λ (x : ℕ). eqb x (c .before .before .args .k)) (c .peek .ensures)
+
+pub byte-is-spec : {M : Type 1} → statement M
+byte-is-spec = tie.close (tie.spec peek-requires returns)

@@ -1,0 +1,3 @@
+// What every reader and writer is made of: tests of bytes and fixed words, and lent stores.
+pub mod bytes; // bytes.rt: a byte, a range of bytes, a word at the start of a text
+pub mod stores; // stores.rt: bytes emitted to a lent store, and stores cleared

@@ -1,0 +1,55 @@
+// Lent stores. A writer asks for no room: what does not fit is left out, and the fill then stands one above the length.
+ghost use mathlib.Core.Path.{_≡_};
+ghost use mathlib.Core.List.{[], _∷_};
+ghost use lib.ListN.{take};
+ghost use Rattle.combinators.specs.Store.{emits, cleared};
+
+// One byte at `fill`; the fill behind it.
+pub fn emit(b: u8, store: &mut [u8], fill: usize) -> usize
+    ensures { λ r. ⌜ record { bytes = now (store .exit); fill = r } ≡ emits (record { bytes = now (store .entry); fill = fill }) (b ∷ []) ⌝ }
+{
+    if fill < store.len() {
+        store[fill] = b;
+        fill + 1
+    } else {
+        store.len() + 1
+    }
+}
+
+// The first `n` bytes of `s`, or all where there are fewer, from `fill` on; the fill behind them.
+pub fn emit_part(s: &[u8], n: usize, store: &mut [u8], fill: usize) -> usize
+    ensures { λ r. ⌜ record { bytes = now (store .exit); fill = r } ≡ emits (record { bytes = now (store .entry); fill = fill }) (take n (now (s .entry))) ⌝ }
+{
+    let mut f = fill;
+    let mut i = 0;
+    while i < n {
+        if i >= s.len() {
+            return f;
+        }
+        f = emit(s[i], store, f);
+        i += 1;
+    }
+    f
+}
+
+// Zeros from a place on, in a store of bytes.
+pub fn clear_bytes(store: &mut [u8], from: usize)
+    ensures { λ _. ⌜ now (store .exit) ≡ cleared from (now (store .entry)) ⌝ }
+{
+    let mut i = from;
+    while i < store.len() {
+        store[i] = 0;
+        i += 1;
+    }
+}
+
+// Zeros from a place on, in a store of numbers.
+pub fn clear_numbers(store: &mut [u32], from: usize)
+    ensures { λ _. ⌜ now (store .exit) ≡ cleared from (now (store .entry)) ⌝ }
+{
+    let mut i = from;
+    while i < store.len() {
+        store[i] = 0;
+        i += 1;
+    }
+}
