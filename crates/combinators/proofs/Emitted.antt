@@ -55,6 +55,16 @@ emits-bytes (x ∷ xs) l f =
     ∙ sets-out xs l (length l + 1) (omega arith) ∙ sym (sets-out (x ∷ xs) l f h))
     (lt-or-ge f (length l))
 
+-- a text stored behind one that was emitted
+pub sets-onto : (l l₁ xs ys : List ℕ) (f f₁ : ℕ) → record { bytes = l₁; fill = f₁ } ≡ emits (record { bytes = l; fill = f }) xs
+    → sets l₁ f₁ ys ≡ sets l f (xs ++ ys)
+sets-onto l l₁ xs ys f f₁ e =
+    sym (emits-bytes ys l₁ f₁) ∙ ap (λ (o : Store). o .bytes) (onto _ _ xs ys e) ∙ emits-bytes (xs ++ ys) l f
+
+-- and the text alone
+pub sets-emitted : (l l₁ xs : List ℕ) (f f₁ : ℕ) → record { bytes = l₁; fill = f₁ } ≡ emits (record { bytes = l; fill = f }) xs → l₁ ≡ sets l f xs
+sets-emitted l l₁ xs f f₁ e = ap (λ (o : Store). o .bytes) e ∙ emits-bytes xs l f
+
 -- where all of it fits, the fill stands behind it
 pub emits-fill : (xs l : List ℕ) (f : ℕ) → f + length xs ≤ length l → (emits (record { bytes = l; fill = f }) xs) .fill ≡ f + length xs
 unfolding emits

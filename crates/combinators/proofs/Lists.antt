@@ -6,13 +6,17 @@ use native.Mathlib.Numerals.{add-one}
 use native.Mathlib.Nat.{add-zero}
 use native.Mathlib.Omega.{arith}
 use lib.ListN.{length, getD, take, drop, length-drop}
-use lib.Seq.{getD-drop, take-all}
+use lib.Seq.{getD-drop, take-all, take-suc}
 
 -- a byte that is not 0 is there
 pub inside : (s : List ℕ) (i b : ℕ) → getD s i 0 ≡ suc b → i < length s
 inside [] i b e = absurd (omega arith)
 inside (x ∷ r) zero b e = omega arith
 inside (x ∷ r) (suc i) b e = suc-le-suc (inside r i b e)
+
+-- the same of a byte of at least 1
+pub there : (s : List ℕ) (i : ℕ) → 1 ≤ getD s i 0 → i < length s
+there s i h = inside s i (getD s i 0 - 1) (omega arith)
 
 -- what `&s[a..]` lends is the rest of the text
 pub rest : (s : List ℕ) (a : ℕ) → take (length s - a) (drop a s) ≡ drop a s
@@ -30,3 +34,17 @@ next s i = getD-drop (suc i) s 0 0 ∙ simp (add-zero, add-one)
 pub nil-of : (b : List ℕ) → length b ≤ 0 → b ≡ []
 nil-of [] h = refl
 nil-of (x ∷ b) h = absurd (omega arith)
+
+-- the first byte of a text that has one, the first two, three and four
+module _ (s : List ℕ) where
+  pub front-one : 1 ≤ length s → take 1 s ≡ getD s 0 0 ∷ []
+  front-one h = take-suc s 0 0 h
+
+  pub front-two : 2 ≤ length s → take 2 s ≡ getD s 0 0 ∷ getD s 1 0 ∷ []
+  front-two h = take-suc s 1 0 h ∙ rw (front-one (omega arith))
+
+  pub front-three : 3 ≤ length s → take 3 s ≡ getD s 0 0 ∷ getD s 1 0 ∷ getD s 2 0 ∷ []
+  front-three h = take-suc s 2 0 h ∙ rw (front-two (omega arith))
+
+  pub front-four : 4 ≤ length s → take 4 s ≡ getD s 0 0 ∷ getD s 1 0 ∷ getD s 2 0 ∷ getD s 3 0 ∷ []
+  front-four h = take-suc s 3 0 h ∙ rw (front-three (omega arith))

@@ -64,6 +64,21 @@ many-ge u [] i k = omega arith
 many-ge u (x ∷ r) i zero = took-ge (u (x ∷ r)) i (λ n. many u (i + 1) n r) (λ n. omega (arith, many-ge u r (i + 1) n))
 many-ge u (x ∷ r) i (suc k) = omega (arith, many-ge u r (i + 1) k)
 
+-- what was taken, where all ends later by j
+took-from : (j n i : ℕ) (f g : ℕ → ℕ) → ((k : ℕ) → g k ≡ j + f k) → took n (j + i) g ≡ j + took n i f
+unfolding took
+took-from j zero i f g e = refl
+took-from j (suc n) i f g e = e n
+
+-- a repetition that begins later by j ends later by j
+pub many-from : (j : ℕ) (u : List ℕ → ℕ) (s : List ℕ) (i k : ℕ) → many u (j + i) k s ≡ j + many u i k s
+unfolding many
+many-from j u [] i k = refl
+many-from j u (x ∷ r) i zero =
+    took-from j (u (x ∷ r)) i (λ n. many u (i + 1) n r) (λ n. many u (j + i + 1) n r)
+    (λ n. ap (λ m. many u m n r) (omega arith) ∙ many-from j u r (i + 1) n)
+many-from j u (x ∷ r) i (suc k) = ap (λ m. many u m k r) (omega arith) ∙ many-from j u r (i + 1) k
+
 -- ---- the text that it stands for
 module _ (u : List ℕ → ℕ) (b : List ℕ → List ℕ) where
   texts-pass : (s : List ℕ) (k : ℕ) → k ≤ length s → texts u b k s ≡ texts u b 0 (drop k s)

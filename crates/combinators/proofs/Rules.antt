@@ -1,11 +1,12 @@
 -- How `search` goes through a definition made of `pick`, `or` and `and`: `search cases`.
-use Prim.Native.Nat.{ℕ, suc, _≤_, _<_}
+use Prim.Native.Nat.{ℕ, suc, _+_, _≤_, _<_}
 use mathlib.Core.Path.{_≡_, refl, sym, _∙_}
 use mathlib.Core.Bool.{Bool, true, false}
 use mathlib.Core.Logic.{_⊎_, inl, inr}
+use native.Mathlib.Omega.{arith}
 use borrow.Author.Needs.{needs}
-use borrow.Author.Tests.{eq-eqb, ne-eqb, eqb-true, leb-true, le-leb, lt-leb, ltb-true, ltb-false}
-use lib.Dec.{leb, ltb}
+use borrow.Author.Tests.{eq-eqb, ne-eqb, eqb-true, eqb-false, leb-true, leb-false, le-leb, lt-leb, ltb-true, ltb-false}
+use lib.Dec.{T, leb, ltb, ltb→lt}
 use Rattle.combinators.specs.Choice.{pick, or, and, is, within}
 
 module _ {A : Type 0} (v x y : A) (t : Bool) where
@@ -25,11 +26,19 @@ module _ {A : Type 0} (v x y : A) (a b : ℕ) where
   pub above : b < a → v ≡ y → v ≡ pick (leb a b) x y
   above h p = pick-false v x y _ (lt-leb a b h) p
 
+-- what is at least k is above all that is below k
+pub past : (k b x : ℕ) → k ≤ x → T (ltb b k) → b < x
+past k b x h l = omega (arith, ltb→lt b k l)
+
 -- what holds of both arms holds of a choice
 pub pick-holds : {A : Type 0} (P : A → Type 0) (t : Bool) (x y : A) → (t ≡ true → P x) → (t ≡ false → P y) → P (pick t x y)
 unfolding pick
 pick-holds P true x y f g = f refl
 pick-holds P false x y f g = g refl
+
+-- the same of a choice by an order
+pub by-order : {A : Type 0} (P : A → Type 0) (a b : ℕ) (x y : A) → (a ≤ b → P x) → (b < a → P y) → P (pick (leb a b) x y)
+by-order P a b x y f g = pick-holds P (leb a b) x y (λ e. f (leb-true a b e)) (λ e. g (leb-false a b e))
 
 -- what follows from either part of an `or`
 pub either : (P : Type 0) (a b : Bool) → or a b ≡ true → (a ≡ true → P) → (b ≡ true → P) → P
@@ -85,6 +94,24 @@ unfolding and
 and-true true b e = (refl, e)
 and-true false b e = (e, cc)
 
+-- a test beside one that fails
+pub or-false : (a b : Bool) → b ≡ false → or a b ≡ a
+unfolding or
+or-false true b e = refl
+or-false false b e = e
+
+-- brackets do not matter
+pub or-assoc : (a b c : Bool) → or a (or b c) ≡ or (or a b) c
+unfolding or
+or-assoc true b c = refl
+or-assoc false b c = refl
+
+-- two tests that each follow from the other
+pub same-test : (a b : Bool) → (a ≡ true → b ≡ true) → (b ≡ true → a ≡ true) → a ≡ b
+same-test true b f g = sym (f refl)
+same-test false true f g = g refl
+same-test false false f g = refl
+
 -- ---- a test that a call made, or the code
 pub told : (r a v : Bool) → r ≡ a → r ≡ v → a ≡ v
 told r a v e p = sym e ∙ p
@@ -117,6 +144,19 @@ pub is-true : (x k : ℕ) → is x k ≡ true → x ≡ k
 unfolding is
 is-true x k e = eqb-true x k e
 
+-- and what one that fails says
+pub is-false : (x k : ℕ) → is x k ≡ false → ¬ (x ≡ k)
+unfolding is
+is-false x k e = eqb-false x k e
+
+-- the same number added on both sides changes no test
+pub is-from : (n x y : ℕ) → is (n + x) (n + y) ≡ is x y
+is-from n x y = go (is x y) refl
+  where
+    go : (t : Bool) → is x y ≡ t → is (n + x) (n + y) ≡ is x y
+    go true e = let p = is-true x y e in is-yes (n + x) (n + y) (omega arith) ∙ sym e
+    go false e = is-no (n + x) (n + y) (λ p. is-false x y e (omega arith)) ∙ sym e
+
 pub within-false : (x lo hi : ℕ) → x < lo → false ≡ within x lo hi
 unfolding within
 within-false x lo hi h = and-gives-false _ _ (lt-leb lo x h)
@@ -130,6 +170,10 @@ unfolding within
 within-true x lo hi e =
     let p = and-true (leb lo x) (leb x hi) e in
     (leb-true lo x (p .0), leb-true x hi (p .1))
+
+-- a number between two is within them
+pub within-yes : (x lo hi : ℕ) → lo ≤ x → x ≤ hi → within x lo hi ≡ true
+within-yes x lo hi h l = sym (within-rest x lo hi h) ∙ le-leb x hi l
 
 pub ruleset cases = (
   needs,
@@ -154,3 +198,6 @@ pub ruleset cases = (
 
 -- for choices by orders
 pub ruleset orders = (needs, at-most, above)
+
+-- for choices by orders, of a number that lies between two literals
+pub ruleset ranges = (at-most, above, past, refl, tt)

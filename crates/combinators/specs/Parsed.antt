@@ -16,6 +16,11 @@ unfoldable pub behind : {A : Type 0} → ℕ → Parsed A → Parsed A
 behind k (ok n a) = ok (k + n) a
 behind k err = err
 
+-- the first that reads (nom's `alt`)
+unfoldable pub orElse : {A : Type 0} → Parsed A → Parsed A → Parsed A
+orElse (ok n a) r = ok n a
+orElse err r = r
+
 -- the bytes that it takes: none where it does not read
 unfoldable pub taken : {A : Type 0} → Parsed A → ℕ
 taken (ok n a) = n

@@ -1,0 +1,154 @@
+-- How long the text is that a reader stands for, for every reader: no longer than the bytes taken, or two bytes longer where a
+-- backslash ends the text.
+use mathlib.Core.Path.{_≡_, refl, ap, sym, _∙_}
+use mathlib.Core.List.{List, [], _∷_, _++_}
+use mathlib.Core.Logic.{_⊎_, inl, inr}
+use Prim.Native.Nat.{ℕ, zero, suc, _+_, _-_, _<_, _≤_}
+use native.Mathlib.Nat.{add-zero}
+use native.Mathlib.Omega.{arith}
+use lib.ListN.{length, getD, drop, length-append, length-drop}
+use lib.Seq.{getD-drop}
+use Rattle.combinators.specs.Ascii.{reverseSolidus}
+use Rattle.combinators.specs.Repeat.{many, texts, took}
+use Rattle.combinators.proofs.Lists.{nil-of}
+use Rattle.combinators.proofs.Repeats.{texts-all, many-all}
+
+-- the bytes b that n bytes at the start of s stand for: no more than n, or two more where a lone backslash ends the text there
+pub data Bound (s : List ℕ) (n : ℕ) (b : List ℕ) : Type 0 where
+  short : length b ≤ n → Bound s n b
+  lone : length b ≤ n + 2 → n ≡ length s → getD s (n - 1) 0 ≡ reverseSolidus → Bound s n b
+
+-- two bytes more at most
+pub bound-two : {s : List ℕ} {n : ℕ} {b : List ℕ} → Bound s n b → length b ≤ n + 2
+bound-two (short h) = omega arith
+bound-two (lone h e l) = h
+
+-- none more where the text goes on
+pub bound-short : {s : List ℕ} {n : ℕ} {b : List ℕ} → Bound s n b → n < length s → length b ≤ n
+bound-short (short h) l = h
+bound-short (lone h e k) l = absurd (omega arith)
+
+-- what takes nothing stands for nothing
+pub none-of : (s b : List ℕ) → Bound s 0 b → b ≡ []
+none-of s b (short h) = nil-of b h
+none-of [] b (lone h e l) = absurd (omega arith)
+none-of (x ∷ s) b (lone h e l) = absurd (omega arith)
+
+-- ---- a reading: it takes a byte or more, no more than there are, and its text b keeps to the bound
+pub record Fits (s : List ℕ) (n : ℕ) (b : List ℕ) : Type 0 where
+  pub some : 1 ≤ n
+  pub within-text : n ≤ length s
+  pub bound : Bound s n b
+
+-- the same seen from k bytes before it
+bound-behind : (s : List ℕ) (k n : ℕ) (b : List ℕ) → k ≤ length s → 1 ≤ n → Bound (drop k s) n b → Bound s (k + n) b
+bound-behind s k n b h i (short l) = short (omega arith)
+bound-behind s k n b h i (lone l e x) =
+    let q : k + n - 1 ≡ k + (n - 1) = omega arith in
+    lone (omega arith) (omega (arith, length-drop k s)) (ap (λ j. getD s j 0) q ∙ sym (getD-drop k s (n - 1) 0) ∙ x)
+
+pub fits-behind : (s : List ℕ) (k n : ℕ) (b : List ℕ) → k ≤ length s → Fits (drop k s) n b → Fits s (k + n) b
+fits-behind s k n b h f =
+    record {
+      some = omega (arith, f .some);
+      within-text = omega (arith, f .within-text, length-drop k s);
+      bound = bound-behind s k n b h (f .some) (f .bound);
+    }
+
+-- ---- repetition
+
+-- the text t of the repetition from i on, k bytes of s passed over first; m is where it stops
+data Span (s : List ℕ) (i k m : ℕ) (t : List ℕ) : Type 0 where
+  fits : length t + (i + k) ≤ m → Span s i k m t
+  ends : length t + (i + k) ≤ m + 2 → m ≡ i + length s → getD s (length s - 1) 0 ≡ reverseSolidus → Span s i k m t
+
+last-cons : (x : ℕ) (r : List ℕ) → getD r (length r - 1) 0 ≡ reverseSolidus → getD (x ∷ r) (suc (length r) - 1) 0 ≡ reverseSolidus
+last-cons x [] e = absurd (omega arith)
+last-cons x (y ∷ r) e =
+    let p : suc (suc (length r)) - 1 ≡ suc (length r) = omega arith in
+    let q : suc (length r) - 1 ≡ length r = omega arith in
+    rw p (rw q at e)
+
+module _ (u : List ℕ → ℕ) (b : List ℕ → List ℕ) (le : (l : List ℕ) → u l ≤ length l) (fine : (l : List ℕ) → Bound l (u l) (b l)) where
+  pass : (x : ℕ) (r : List ℕ) (i k m : ℕ) (t : List ℕ) → Span r (i + 1) k m t → Span (x ∷ r) i (suc k) m t
+  pass x r i k m t (fits h) = fits (omega arith)
+  pass x r i k m t (ends h e l) = ends (omega arith) (e ∙ omega arith) (last-cons x r l)
+
+  turn : (x : ℕ) (r : List ℕ) (i n : ℕ) → Bound (x ∷ r) (suc n) (b (x ∷ r)) → Span r (i + 1) n (many u (i + 1) n r) (texts u b n r)
+      → Span (x ∷ r) i 0 (many u (i + 1) n r) (b (x ∷ r) ++ texts u b n r)
+  turn x r i n (short h) (fits g) = fits (omega (arith, length-append (b (x ∷ r)) (texts u b n r)))
+  turn x r i n (short h) (ends g e l) =
+      ends (omega (arith, length-append (b (x ∷ r)) (texts u b n r))) (e ∙ omega arith) (last-cons x r l)
+  turn x r i n (lone h e l) s =
+      let q : n ≡ length r = omega arith in
+      let m = many-all u r (i + 1) n q in
+      ends (omega (arith, length-append (b (x ∷ r)) (texts u b n r), ap length (texts-all u b r n q))) (m ∙ omega arith) (rw q at l)
+
+  at : (x : ℕ) (r : List ℕ) (i : ℕ) → ((n : ℕ) → n ≤ length r → Span r (i + 1) n (many u (i + 1) n r) (texts u b n r))
+      → (n : ℕ) → u (x ∷ r) ≡ n → Span (x ∷ r) i 0 (many u i 0 (x ∷ r)) (texts u b 0 (x ∷ r))
+  unfolding many texts took
+  at x r i f zero e = rw e (fits (omega arith))
+  at x r i f (suc n) e = rw e (turn x r i n (rw e at (fine (x ∷ r))) (f n (omega (arith, le (x ∷ r), e))))
+
+  span : (s : List ℕ) (i k : ℕ) → k ≤ length s → Span s i k (many u i k s) (texts u b k s)
+  unfolding many texts took
+  span [] i k h = fits (omega arith)
+  span (x ∷ r) i zero h = at x r i (λ n l. span r (i + 1) n l) (u (x ∷ r)) refl
+  span (x ∷ r) i (suc k) h = pass x r i k _ _ (span r (i + 1) k (omega arith))
+
+  bounded : (s : List ℕ) (m : ℕ) (t : List ℕ) → Span s 0 0 m t → Bound s m t
+  bounded s m t (fits h) = short (omega arith)
+  bounded s m t (ends h e l) = let q : m ≡ length s = omega arith in lone (omega arith) q (rw q l)
+
+  -- the repetition keeps to the bound of its reader
+  pub repeated : (s : List ℕ) → Bound s (many u 0 0 s) (texts u b 0 s)
+  repeated s = bounded s _ _ (span s 0 0 (omega arith))
+
+-- ---- a reader that stands for no more than it takes, wherever the text ends
+module _ (u : List ℕ → ℕ) (b : List ℕ → List ℕ) (le : (l : List ℕ) → u l ≤ length l) (small : (l : List ℕ) → length (b l) ≤ u l) where
+  at-short : (x : ℕ) (r : List ℕ) (i : ℕ) → ((n : ℕ) → n ≤ length r → length (texts u b n r) + (i + 1 + n) ≤ many u (i + 1) n r)
+      → (n : ℕ) → u (x ∷ r) ≡ n → length (texts u b 0 (x ∷ r)) + i ≤ many u i 0 (x ∷ r)
+  unfolding many texts took
+  at-short x r i f zero e = rw e (omega arith)
+  at-short x r i f (suc n) e =
+      let h = f n (omega (arith, le (x ∷ r), e)) in
+      rw e (omega (arith, length-append (b (x ∷ r)) (texts u b n r), small (x ∷ r), e))
+
+  run-short : (s : List ℕ) (i k : ℕ) → k ≤ length s → length (texts u b k s) + (i + k) ≤ many u i k s
+  unfolding many texts
+  run-short [] i k h = omega arith
+  run-short (x ∷ r) i zero h = rw (add-zero i) (at-short x r i (λ n l. run-short r (i + 1) n l) (u (x ∷ r)) refl)
+  run-short (x ∷ r) i (suc k) h = omega (arith, run-short r (i + 1) k (omega arith))
+
+  -- neither does its repetition
+  pub repeated-short : (s : List ℕ) → length (texts u b 0 s) ≤ many u 0 0 s
+  repeated-short s = omega (arith, run-short s 0 0 (omega arith))
+
+-- ---- where a repetition stops: at the end of the text, or where the reader takes none
+data Stops (u : List ℕ → ℕ) (s : List ℕ) (i m : ℕ) : Type 0 where
+  all : m ≡ i + length s → Stops u s i m
+  before : (j : ℕ) → m ≡ i + j → u (drop j s) ≡ 0 → Stops u s i m
+
+module _ (u : List ℕ → ℕ) where
+  stops-cons : (x : ℕ) (r : List ℕ) (i m : ℕ) → Stops u r (i + 1) m → Stops u (x ∷ r) i m
+  stops-cons x r i m (all e) = all (e ∙ omega arith)
+  stops-cons x r i m (before j e z) = before (suc j) (e ∙ omega arith) z
+
+  stops-at : (x : ℕ) (r : List ℕ) (i : ℕ) → ((n : ℕ) → Stops u r (i + 1) (many u (i + 1) n r)) → (n : ℕ) → u (x ∷ r) ≡ n → Stops u (x ∷ r) i (many u i 0 (x ∷ r))
+  unfolding many took
+  stops-at x r i f zero e = rw e (before 0 (sym (add-zero i)) e)
+  stops-at x r i f (suc n) e = rw e (stops-cons x r i _ (f n))
+
+  stops : (s : List ℕ) (i k : ℕ) → Stops u s i (many u i k s)
+  unfolding many
+  stops [] i k = all (sym (add-zero i))
+  stops (x ∷ r) i zero = stops-at x r i (λ n. stops r (i + 1) n) (u (x ∷ r)) refl
+  stops (x ∷ r) i (suc k) = stops-cons x r i _ (stops r (i + 1) k)
+
+  stops-or : (s : List ℕ) (m : ℕ) → Stops u s 0 m → (m ≡ length s) ⊎ (u (drop m s) ≡ 0)
+  stops-or s m (all e) = inl (omega arith)
+  stops-or s m (before j e z) = let p : m ≡ j = omega arith in inr (rw p z)
+
+  -- a repetition is at the end of the text, or stands where its reader takes none
+  pub many-stops : (s : List ℕ) → (many u 0 0 s ≡ length s) ⊎ (u (drop (many u 0 0 s) s) ≡ 0)
+  many-stops s = stops-or s _ (stops s 0 0)

@@ -1,0 +1,14 @@
+pub mod Repeating
+pub mod Comments
+pub mod SyntaxWhitespace
+pub mod Digits
+pub mod Bounds
+pub mod Writing
+pub mod Quotes
+pub mod SyntaxString
+pub mod Escapes
+pub mod Characters
+pub mod Idents
+pub mod SyntaxName
+pub mod Lexing
+pub mod TokenBounds

@@ -1,0 +1,23 @@
+use Rattle.lexer.specs.Quoted.{escapedByte}
+use Rattle.combinators.proofs.Rules.{cases}
+use borrow.Author.Needs.{needs}
+use Rattle.lexer.proofs.strings.escaped_byte.Statement.{statement}
+use Rattle.lexer.proofs.strings.escaped_byte.Tie as tie
+
+returns : tie.Need-returns
+unfolding escapedByte
+returns c = search cases depth 12
+
+peek-requires : tie.Need-peek-requires
+peek-requires c κs = search needs
+
+returns-2 : tie.Need-returns-2
+unfolding escapedByte
+returns-2 c = search cases depth 12
+
+returns-3 : tie.Need-returns-3
+unfolding escapedByte
+returns-3 c = search cases depth 12
+
+pub escaped-byte-spec : {M : Type 1} → statement M
+escaped-byte-spec = tie.close (tie.spec returns peek-requires returns-2 returns-3)

@@ -1,0 +1,5 @@
+pub mod Whitespace
+pub mod Name
+pub mod Number
+pub mod Quoted
+pub mod Token
