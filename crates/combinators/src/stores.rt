@@ -16,6 +16,18 @@ pub fn emit(b: u8, store: &mut [u8], fill: usize) -> usize
     }
 }
 
+// One number at `fill`, in a store of numbers; the fill behind it.
+pub fn emit_number(x: u32, store: &mut [u32], fill: usize) -> usize
+    ensures { λ r. ⌜ record { bytes = now (store .exit); fill = r } ≡ emits (record { bytes = now (store .entry); fill = fill }) (x ∷ []) ⌝ }
+{
+    if fill < store.len() {
+        store[fill] = x;
+        fill + 1
+    } else {
+        store.len() + 1
+    }
+}
+
 // The first `n` bytes of `s`, or all where there are fewer, from `fill` on; the fill behind them.
 pub fn emit_part(s: &[u8], n: usize, store: &mut [u8], fill: usize) -> usize
     ensures { λ r. ⌜ record { bytes = now (store .exit); fill = r } ≡ emits (record { bytes = now (store .entry); fill = fill }) (take n (now (s .entry))) ⌝ }

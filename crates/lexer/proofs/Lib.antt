@@ -12,3 +12,4 @@ pub mod Idents
 pub mod SyntaxName
 pub mod Lexing
 pub mod TokenBounds
+pub mod TokenRows

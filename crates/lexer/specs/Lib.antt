@@ -3,3 +3,4 @@ pub mod Name
 pub mod Number
 pub mod Quoted
 pub mod Token
+pub mod TokenRow

@@ -10,6 +10,7 @@ use Rattle.combinators.specs.Ascii.{hyphenMinus, digitZero, digitNine, capitalA
 use Rattle.combinators.specs.Choice.{pick, or, and, is, within}
 use Rattle.combinators.specs.Parsed.{Parsed, ok, err, behind}
 use Rattle.combinators.specs.Repeat.{many, texts, took}
+use Rattle.unicode.specs.Literal.{text}
 use Rattle.unicode.specs.Utf8.{utf8, orReplacement, replacementCharacter, scalarOf, takenOf, isScalar, scalarBy, scalarTail, leadOf, two, isContinuation, continuation}
 use Rattle.unicode.specs.declared.utf8.Scalar.{Scalar}
 use Rattle.unicode.specs.declared.utf8.Scalar.the-variants.{Value, NoScalar}
@@ -152,18 +153,18 @@ nameText (ok n b) = b
 nameText err = []
 
 -- `\41` at the end of the text, before a blank and before `-`; `\d800x`, `\110000x`, `\` at the end, `\é`; `Ab\`
-test-escapes : (identOf (92 ∷ 52 ∷ 49 ∷ []) ≡ ok 3 (4 ∷ 49 ∷ [])) × (identOf (92 ∷ 52 ∷ 49 ∷ 32 ∷ []) ≡ ok 3 (65 ∷ []))
-    × (identOf (92 ∷ 52 ∷ 49 ∷ 45 ∷ []) ≡ ok 4 (65 ∷ 45 ∷ []))
-    × (identOf (92 ∷ 100 ∷ 56 ∷ 48 ∷ 48 ∷ 120 ∷ []) ≡ ok 6 (0xef ∷ 0xbf ∷ 0xbd ∷ 120 ∷ []))
-    × (identOf (92 ∷ 49 ∷ 49 ∷ 48 ∷ 48 ∷ 48 ∷ 48 ∷ 120 ∷ []) ≡ ok 8 (0xef ∷ 0xbf ∷ 0xbd ∷ 120 ∷ []))
-    × (identOf (92 ∷ []) ≡ ok 1 (0xef ∷ 0xbf ∷ 0xbd ∷ [])) × (identOf (92 ∷ 0xc3 ∷ 0xa9 ∷ []) ≡ ok 3 (0xc3 ∷ 0xa9 ∷ []))
-    × (identOf (65 ∷ 98 ∷ 92 ∷ []) ≡ ok 3 (97 ∷ 98 ∷ 0xef ∷ 0xbf ∷ 0xbd ∷ []))
-unfolding identOf nameOf nameFrom dash charsEnd charsText charTaken charText bytesOf nmcharOf nmstartOf either nmcharCharOf nmstartCharOf foldedChar identEscapeOf escapedOf behindOne hexValue hexCount hexRun hexDigit isHexDigit lower isNmchar isNmstart skipWhitespace whitespaceItem isWhitespace commentOf behind many texts took takenOf utf8 continuation orReplacement isScalar scalarOf scalarBy scalarTail leadOf two isContinuation pick or and is within
+test-escapes : (identOf (text "\\41") ≡ ok 3 (text "\u{4}1")) × (identOf (text "\\41 ") ≡ ok 3 (text "A"))
+    × (identOf (text "\\41-") ≡ ok 4 (text "A-"))
+    × (identOf (text "\\d800x") ≡ ok 6 (text "�x"))
+    × (identOf (text "\\110000x") ≡ ok 8 (text "�x"))
+    × (identOf (text "\\") ≡ ok 1 (text "�")) × (identOf (text "\\é") ≡ ok 3 (text "é"))
+    × (identOf (text "Ab\\") ≡ ok 3 (text "ab�"))
+unfolding identOf nameOf nameFrom dash charsEnd charsText charTaken charText bytesOf nmcharOf nmstartOf either nmcharCharOf nmstartCharOf foldedChar identEscapeOf escapedOf behindOne hexValue hexCount hexRun hexDigit isHexDigit lower isNmchar isNmstart skipWhitespace whitespaceItem isWhitespace commentOf behind many texts took takenOf utf8 continuation orReplacement isScalar scalarOf scalarBy scalarTail leadOf two isContinuation pick or and is within text
 test-escapes = (refl, refl, refl, refl, refl, refl, refl, refl)
 
 -- ` /**/-A1-b;`; `é`, `-`, `--a`, `1a` and nothing are none; `1\é;` has characters of names
-test-names : (identOf (32 ∷ 47 ∷ 42 ∷ 42 ∷ 47 ∷ 45 ∷ 65 ∷ 49 ∷ 45 ∷ 98 ∷ 59 ∷ []) ≡ ok 10 (45 ∷ 97 ∷ 49 ∷ 45 ∷ 98 ∷ []))
-    × (identOf (0xc3 ∷ 0xa9 ∷ []) ≡ err) × (identOf (45 ∷ []) ≡ err) × (identOf (45 ∷ 45 ∷ 97 ∷ []) ≡ err) × (identOf (49 ∷ 97 ∷ []) ≡ err)
-    × (identOf [] ≡ err) × (identstringOf (49 ∷ 92 ∷ 0xc3 ∷ 0xa9 ∷ 59 ∷ []) ≡ ok 4 (49 ∷ 0xc3 ∷ 0xa9 ∷ [])) × (identstringOf (32 ∷ []) ≡ err)
-unfolding identOf identstringOf charsOf nameOf nameFrom dash charsEnd charsText charTaken charText bytesOf nmcharOf nmstartOf either nmcharCharOf nmstartCharOf foldedChar identEscapeOf escapedOf behindOne hexValue hexCount hexRun hexDigit isHexDigit lower isNmchar isNmstart skipWhitespace whitespaceItem isWhitespace commentOf commentEnd behind many texts took takenOf utf8 continuation orReplacement isScalar scalarOf scalarBy scalarTail leadOf two isContinuation pick or and is within
+test-names : (identOf (text " /**/-A1-b;") ≡ ok 10 (text "-a1-b"))
+    × (identOf (text "é") ≡ err) × (identOf (text "-") ≡ err) × (identOf (text "--a") ≡ err) × (identOf (text "1a") ≡ err)
+    × (identOf [] ≡ err) × (identstringOf (text "1\\é;") ≡ ok 4 (text "1é")) × (identstringOf (text " ") ≡ err)
+unfolding identOf identstringOf charsOf nameOf nameFrom dash charsEnd charsText charTaken charText bytesOf nmcharOf nmstartOf either nmcharCharOf nmstartCharOf foldedChar identEscapeOf escapedOf behindOne hexValue hexCount hexRun hexDigit isHexDigit lower isNmchar isNmstart skipWhitespace whitespaceItem isWhitespace commentOf commentEnd behind many texts took takenOf utf8 continuation orReplacement isScalar scalarOf scalarBy scalarTail leadOf two isContinuation pick or and is within text
 test-names = (refl, refl, refl, refl, refl, refl, refl, refl)

@@ -8,6 +8,8 @@ use lib.ListN.{getD, drop}
 use Rattle.combinators.specs.Choice.{pick, or, and, is, within}
 use Rattle.combinators.specs.Ascii.{plusSign, hyphenMinus, fullStop, digitZero, digitNine}
 use Rattle.combinators.specs.Repeat.{many, took}
+use Rattle.unicode.specs.Literal.{text}
+use Rattle.unicode.specs.Utf8.{utf8, continuation}
 use Rattle.lexer.specs.Whitespace.{skipWhitespace, whitespaceItem, isWhitespace, commentOf, commentEnd}
 
 unfoldable pub isDigit : ℕ → Bool
@@ -49,7 +51,7 @@ number s =
     pick (is n 0) 0 (w + n)
 
 -- "1.5", ".5", " -12x", "- 1", "+.", "5."
-test-number : (number (49 ∷ 46 ∷ 53 ∷ []) ≡ 1) × (number (46 ∷ 53 ∷ []) ≡ 2) × (number (32 ∷ 45 ∷ 49 ∷ 50 ∷ 120 ∷ []) ≡ 4)
-    × (number (45 ∷ 32 ∷ 49 ∷ []) ≡ 0) × (number (43 ∷ 46 ∷ []) ≡ 0) × (number (53 ∷ 46 ∷ []) ≡ 1) × (decimal (49 ∷ 46 ∷ 53 ∷ []) ≡ 3)
-unfolding number signed sign unsigned decimal digits oneDigit isDigit skipWhitespace many took whitespaceItem commentOf commentEnd isWhitespace pick or and is within
+test-number : (number (text "1.5") ≡ 1) × (number (text ".5") ≡ 2) × (number (text " -12x") ≡ 4)
+    × (number (text "- 1") ≡ 0) × (number (text "+.") ≡ 0) × (number (text "5.") ≡ 1) × (decimal (text "1.5") ≡ 3)
+unfolding number signed sign unsigned decimal digits oneDigit isDigit skipWhitespace many took whitespaceItem commentOf commentEnd isWhitespace pick or and is within text utf8 continuation
 test-number = (refl, refl, refl, refl, refl, refl, refl)

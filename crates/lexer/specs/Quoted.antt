@@ -6,6 +6,8 @@ use lib.ListN.{length, getD}
 use Rattle.combinators.specs.Choice.{pick, is}
 use Rattle.combinators.specs.Ascii.{lineFeed, reverseSolidus}
 use Rattle.combinators.specs.Repeat.{many, texts, took}
+use Rattle.unicode.specs.Literal.{text}
+use Rattle.unicode.specs.Utf8.{utf8, continuation}
 use Rattle.lexer.specs.declared.strings.Quoted.{Quoted}
 use Rattle.lexer.specs.declared.strings.Quoted.the-variants.{Byte, Skip, Stop}
 
@@ -49,9 +51,9 @@ unfoldable pub stringText : ℕ → List ℕ → List ℕ
 stringText q s = texts (quotedTaken q) (quotedText q) 0 s
 
 -- `a\` ending the text, `a\"b"`, `a\` and a line feed before `b"`, `é"`, and a line feed
-test-string : (stringEnd 34 (97 ∷ 92 ∷ []) ≡ 2) × (stringText 34 (97 ∷ 92 ∷ []) ≡ 97 ∷ [])
-    × (stringEnd 34 (97 ∷ 92 ∷ 34 ∷ 98 ∷ 34 ∷ []) ≡ 4) × (stringText 34 (97 ∷ 92 ∷ 34 ∷ 98 ∷ 34 ∷ []) ≡ 97 ∷ 34 ∷ 98 ∷ [])
-    × (stringText 34 (97 ∷ 92 ∷ 10 ∷ 98 ∷ 34 ∷ []) ≡ 97 ∷ 98 ∷ []) × (stringText 34 (0xc3 ∷ 0xa9 ∷ 34 ∷ []) ≡ 0xc3 ∷ 0xa9 ∷ [])
-    × (stringEnd 34 (97 ∷ 10 ∷ 98 ∷ 34 ∷ []) ≡ 1)
-unfolding stringEnd stringText quotedTaken quotedText takenOf textOf quotedOf escapedByte many texts took pick is
+test-string : (stringEnd 34 (text "a\\") ≡ 2) × (stringText 34 (text "a\\") ≡ text "a")
+    × (stringEnd 34 (text "a\\\"b\"") ≡ 4) × (stringText 34 (text "a\\\"b\"") ≡ text "a\"b")
+    × (stringText 34 (text "a\\\nb\"") ≡ text "ab") × (stringText 34 (text "é\"") ≡ text "é")
+    × (stringEnd 34 (text "a\nb\"") ≡ 1)
+unfolding stringEnd stringText quotedTaken quotedText takenOf textOf quotedOf escapedByte many texts took pick is text utf8 continuation
 test-string = (refl, refl, refl, refl, refl, refl, refl)

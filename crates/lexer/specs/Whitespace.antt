@@ -7,6 +7,8 @@ use lib.ListN.{getD, drop}
 use Rattle.combinators.specs.Choice.{pick, or, and, is}
 use Rattle.combinators.specs.Ascii.{tabulation, lineFeed, formFeed, carriageReturn, space, asterisk, solidus}
 use Rattle.combinators.specs.Repeat.{many, took}
+use Rattle.unicode.specs.Literal.{text}
+use Rattle.unicode.specs.Utf8.{utf8, continuation}
 
 -- where the first "*/" ends, counted on from i; 0 where there is none (`take_until("*/")`, then `tag("*/")`)
 unfoldable pub commentEnd : ℕ → List ℕ → ℕ
@@ -32,7 +34,7 @@ unfoldable pub skipWhitespace : List ℕ → ℕ
 skipWhitespace s = many whitespaceItem 0 0 s
 
 -- " \t/* x */ /**/a"; an unclosed comment and "/*/" are none
-test-skip : (skipWhitespace (32 ∷ 9 ∷ 47 ∷ 42 ∷ 32 ∷ 120 ∷ 32 ∷ 42 ∷ 47 ∷ 32 ∷ 47 ∷ 42 ∷ 42 ∷ 47 ∷ 97 ∷ []) ≡ 14)
-    × (skipWhitespace (32 ∷ 47 ∷ 42 ∷ 32 ∷ 120 ∷ 32 ∷ 42 ∷ 32 ∷ 47 ∷ []) ≡ 1) × (skipWhitespace (47 ∷ 42 ∷ 47 ∷ []) ≡ 0)
-unfolding skipWhitespace many took whitespaceItem commentOf commentEnd isWhitespace pick or and is
+test-skip : (skipWhitespace (text " \t/* x */ /**/a") ≡ 14)
+    × (skipWhitespace (text " /* x * /") ≡ 1) × (skipWhitespace (text "/*/") ≡ 0)
+unfolding skipWhitespace many took whitespaceItem commentOf commentEnd isWhitespace pick or and is text utf8 continuation
 test-skip = (refl, refl, refl)

@@ -5,6 +5,7 @@ pub mod numbers; // numbers.rt: numbers, recognised
 pub mod strings; // strings.rt: the characters of a quoted string
 pub mod names; // names.rt: names, with escapes
 pub mod tokens; // tokens.rt: tokens
+pub mod rows; // rows.rt: tokens written to lent numbers
 
 // What a repetition took from the text, and how many bytes it stands for in the store.
 pub struct Written {

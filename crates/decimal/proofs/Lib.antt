@@ -1,0 +1,4 @@
+pub mod Table
+pub mod Compare
+pub mod Steps
+pub mod Float

@@ -1,0 +1,38 @@
+-- The returns of the functions that write token rows.
+use mathlib.Core.Path.{_≡_, refl, ap, sym, _∙_}
+use mathlib.Core.List.{List, [], _∷_}
+use Prim.Native.Nat.{ℕ}
+use Rattle.combinators.specs.Store.{Store, emits}
+use Rattle.combinators.proofs.Emitted.{then}
+use Rattle.lexer.specs.TokenRow.{columnsOf, delimKind, word, rowOf}
+use Rattle.lexer.specs.declared.rows.Columns.{Columns}
+use Rattle.lexer.specs.declared.tokens.Token as declared
+use Rattle.lexer.specs.declared.tokens.Token.the-variants as code
+
+-- the columns of the token that a match found
+pub found : (k k′ : declared.Token) → k ≡ k′ → (r : Columns) → r ≡ columnsOf k′ → r ≡ columnsOf k
+found k k′ e r er = er ∙ ap columnsOf (sym e)
+
+pub delim-columns : (c v : ℕ) → v ≡ c → (r : Columns) → r ≡ record { kind = delimKind; first = v; second = 0 } → r ≡ columnsOf (code.Delim c)
+unfolding columnsOf
+delim-columns c v e r er = er ∙ rw e
+
+-- five numbers, one behind the other
+five : (o₀ o₁ o₂ o₃ o₄ o₅ : Store) (a b c d e : ℕ) → o₁ ≡ emits o₀ (a ∷ []) → o₂ ≡ emits o₁ (b ∷ []) → o₃ ≡ emits o₂ (c ∷ []) → o₄ ≡ emits o₃ (d ∷ [])
+    → o₅ ≡ emits o₄ (e ∷ []) → o₅ ≡ emits o₀ (a ∷ b ∷ c ∷ d ∷ e ∷ [])
+five o₀ o₁ o₂ o₃ o₄ o₅ a b c d e p q r s t =
+    then o₀ o₄ o₅ (a ∷ b ∷ c ∷ d ∷ []) (e ∷ [])
+    (then o₀ o₃ o₄ (a ∷ b ∷ c ∷ []) (d ∷ [])
+    (then o₀ o₂ o₃ (a ∷ b ∷ []) (c ∷ [])
+    (then o₀ o₁ o₂ (a ∷ []) (b ∷ []) p q) r) s) t
+
+-- the row of a token
+module _ (k : declared.Token) (x : Columns) (ex : x ≡ columnsOf k) (byte start : ℕ) (b s f g : ℕ)
+    (eb : b ≡ word byte) (es : s ≡ word start) (ef : f ≡ word (x .first)) (eg : g ≡ word (x .second)) where
+  columns : (x .kind ∷ b ∷ s ∷ f ∷ g ∷ []) ≡ rowOf byte start k
+  unfolding rowOf
+  columns = rw (← ex, eb, es, ef, eg)
+
+  pub row-written : (o₀ o₁ o₂ o₃ o₄ o₅ : Store) → o₁ ≡ emits o₀ (x .kind ∷ []) → o₂ ≡ emits o₁ (b ∷ []) → o₃ ≡ emits o₂ (s ∷ [])
+      → o₄ ≡ emits o₃ (f ∷ []) → o₅ ≡ emits o₄ (g ∷ []) → o₅ ≡ emits o₀ (rowOf byte start k)
+  row-written o₀ o₁ o₂ o₃ o₄ o₅ p q r t u = five o₀ o₁ o₂ o₃ o₄ o₅ _ b s f g p q r t u ∙ ap (emits o₀) columns
