@@ -14,21 +14,25 @@ step i [] h = absurd (omega arith)
 step zero (x ∷ l) h = refl
 step (suc i) (x ∷ l) h = ap (λ (r : List ℕ). x ∷ r) (step i l (omega arith))
 
+-- one zero more
 pub cleared-step : (i : ℕ) (l : List ℕ) → i < length l → cleared (i + 1) (set l i 0) ≡ cleared i l
 cleared-step i l h = rw add-one (step i l h)
 
+-- nothing is left
 pub cleared-done : (i : ℕ) (l : List ℕ) → length l ≤ i → cleared i l ≡ l
 unfolding cleared
 cleared-done i [] h = refl
 cleared-done zero (x ∷ l) h = absurd (omega arith)
 cleared-done (suc i) (x ∷ l) h = ap (λ (r : List ℕ). x ∷ r) (cleared-done i l (omega arith))
 
+-- the length stays
 pub length-cleared : (i : ℕ) (l : List ℕ) → length (cleared i l) ≡ length l
 unfolding cleared
 length-cleared i [] = refl
 length-cleared zero (x ∷ l) = ap suc (length-cleared zero l)
 length-cleared (suc i) (x ∷ l) = ap suc (length-cleared i l)
 
+-- what was before the place, and zeros
 pub cleared-is : (n : ℕ) (l : List ℕ) → cleared n l ≡ take n l ++ replicate (length l - n) 0
 unfolding cleared
 cleared-is n [] =

@@ -1,23 +1,25 @@
--- The laws of stores: emitting one text behind another, what emitting leaves, and clearing.
+-- The laws of stores: emitting one text behind another, what emitting leaves, and the loop of `emit_part`.
 use mathlib.Core.Path.{_≡_, refl, sym, ap, _∙_}
 use mathlib.Core.List.{List, [], _∷_, _++_}
-use mathlib.Core.Logic.{_⊎_, ⊎-elim}
-use Prim.Native.Nat.{ℕ, zero, suc, _+_, _-_, _≤_, _<_}
+use mathlib.Core.Logic.{⊎-elim}
+use Prim.Native.Nat.{ℕ, suc, _+_, _-_, _≤_, _<_}
 use native.Mathlib.Numerals.{add-one}
 use native.Mathlib.Nat.{add-zero}
 use native.Mathlib.Omega.{arith}
 use borrow.Author.Tests.{lt-ltb, le-ltb}
-use lib.ListN.{length, set, take, drop, getD, replicate, length-set, drop-of-length-le}
+use lib.ListN.{length, set, take, drop, getD, length-set, drop-of-length-le}
 use lib.Seq.{sets, set-out, take-nil, drop-cons}
 use Rattle.combinators.specs.Choice.{pick}
 use Rattle.combinators.specs.Store.{Store, step, emits}
 use Rattle.combinators.proofs.Rules.{lt-or-ge}
 
 -- ---- emitting
+-- no byte changes nothing
 pub emits-none : (o : Store) → emits o [] ≡ o
 unfolding emits
 emits-none o = refl
 
+-- two texts, one after the other, are one
 pub emits-append : (o : Store) (xs ys : List ℕ) → emits (emits o xs) ys ≡ emits o (xs ++ ys)
 unfolding emits
 emits-append o [] ys = refl
@@ -95,10 +97,12 @@ pub record Copying (s : List ℕ) (n : ℕ) (st₀ : List ℕ) (fill : ℕ) (st 
   pub left : emits (record { bytes = st; fill = f }) (take (n - i) (drop i s)) ≡ emits (record { bytes = st₀; fill = fill }) (take n s)
   pub long : length st ≡ length st₀
 
+-- nothing is emitted yet
 pub copying-begin : (s : List ℕ) (n : ℕ) (st : List ℕ) (fill : ℕ) → Copying s n st fill st fill 0
 copying-begin s n st fill = let d : n - 0 ≡ n = omega arith in record { left = rw d; long = refl }
 
 module _ (s : List ℕ) (n : ℕ) (st₀ : List ℕ) (fill : ℕ) (st : List ℕ) (f i : ℕ) (c : Copying s n st₀ fill st f i) where
+  -- a byte is emitted
   pub copying-more : i < n → i < length s → (z : List ℕ) (g : ℕ)
       → record { bytes = z; fill = g } ≡ emits (record { bytes = st; fill = f }) (getD s i 0 ∷ []) → length z ≡ length st → Copying s n st₀ fill z g (i + 1)
   copying-more h l z g e k =
@@ -109,9 +113,10 @@ module _ (s : List ℕ) (n : ℕ) (st₀ : List ℕ) (fill : ℕ) (st : List ℕ
   done : take (n - i) (drop i s) ≡ [] → record { bytes = st; fill = f } ≡ emits (record { bytes = st₀; fill = fill }) (take n s)
   done p = sym (ap (emits _) p ∙ emits-none _) ∙ c .left
 
-  -- all n are emitted, or the text is at its end
+  -- all n are emitted
   pub copying-done : n ≤ i → record { bytes = st; fill = f } ≡ emits (record { bytes = st₀; fill = fill }) (take n s)
   copying-done h = let d : n - i ≡ 0 = omega arith in done (rw d)
 
+  -- the text is at its end
   pub copying-end : length s ≤ i → record { bytes = st; fill = f } ≡ emits (record { bytes = st₀; fill = fill }) (take n s)
   copying-end h = done (rw (drop-of-length-le s h, take-nil))

@@ -1,6 +1,7 @@
 pub mod Rules
 pub mod Lists
 pub mod Repeats
+pub mod Repeating
 pub mod Words
 pub mod Emitted
 pub mod Cleared

@@ -1,7 +1,7 @@
 -- The laws of `many` and `texts`, for every reader: a turn that takes bytes, a turn that takes none, the end of the text.
 use mathlib.Core.Path.{_≡_, refl, ap, sym, _∙_}
 use mathlib.Core.List.{List, [], _∷_, _++_}
-use Prim.Native.Nat.{ℕ, zero, suc, _+_, _<_, _≤_}
+use Prim.Native.Nat.{ℕ, zero, suc, _+_, _≤_}
 use native.Mathlib.Nat.{add-zero}
 use native.Mathlib.Omega.{arith}
 use lib.ListN.{length, drop, drop-of-length-le}
@@ -88,32 +88,37 @@ module _ (u : List ℕ → ℕ) (b : List ℕ → List ℕ) where
   texts-pass (x ∷ r) zero h = refl
   texts-pass (x ∷ r) (suc k) h = texts-pass r k (omega arith)
 
+  -- the reader takes n bytes
   pub texts-took : (l : List ℕ) (n : ℕ) → n ≤ length l → u l ≡ n → ¬ (n ≡ 0) → texts u b 0 l ≡ b l ++ texts u b 0 (drop n l)
   unfolding texts took
   texts-took l zero h e d = absurd (d refl)
   texts-took [] (suc n) h e d = absurd (omega arith)
   texts-took (x ∷ r) (suc n) h e d = rw e (ap (λ t. b (x ∷ r) ++ t) (texts-pass r n (omega arith)))
 
+  -- the same at the index i of a text
   pub texts-more : (s : List ℕ) (i n : ℕ) → n ≤ length (drop i s) → u (drop i s) ≡ n → ¬ (n ≡ 0)
       → texts u b 0 (drop i s) ≡ b (drop i s) ++ texts u b 0 (drop (i + n) s)
   texts-more s i n h e d = texts-took (drop i s) n h e d ∙ ap (λ t. b (drop i s) ++ texts u b 0 t) (drop-drop n i s)
 
+  -- the reader takes none
   pub texts-stop : (l : List ℕ) → u l ≡ 0 → texts u b 0 l ≡ []
   unfolding texts took
   texts-stop [] e = refl
   texts-stop (x ∷ r) e = rw e
 
+  -- nothing is left
   pub texts-end : (s : List ℕ) (i : ℕ) → length s ≤ i → texts u b 0 (drop i s) ≡ []
   unfolding texts
   texts-end s i h = rw (drop-of-length-le s h)
 
-  -- where all that is left is passed over, the text is empty and the repetition stops at the end
+  -- where all that is left is passed over, the text is empty
   pub texts-all : (r : List ℕ) (n : ℕ) → n ≡ length r → texts u b n r ≡ []
   unfolding texts
   texts-all [] n e = refl
   texts-all (x ∷ r) zero e = absurd (omega arith)
   texts-all (x ∷ r) (suc n) e = texts-all r n (omega arith)
 
+-- and the repetition stops at the end
 pub many-all : (u : List ℕ → ℕ) (r : List ℕ) (i n : ℕ) → n ≡ length r → many u i n r ≡ i + length r
 unfolding many
 many-all u [] i n e = sym (add-zero i)

@@ -1,28 +1,35 @@
--- How `search` goes through a definition made of `pick`, `or` and `and`: `search cases`.
-use Prim.Native.Nat.{ℕ, suc, _+_, _≤_, _<_}
+-- What choices and tests say, and how `search` goes through a definition made of them: `search cases`, `search orders`.
 use mathlib.Core.Path.{_≡_, refl, sym, _∙_}
 use mathlib.Core.Bool.{Bool, true, false}
 use mathlib.Core.Logic.{_⊎_, inl, inr}
+use Prim.Native.Nat.{ℕ, _+_, _≤_, _<_}
 use native.Mathlib.Omega.{arith}
 use borrow.Author.Needs.{needs}
 use borrow.Author.Tests.{eq-eqb, ne-eqb, eqb-true, eqb-false, leb-true, leb-false, le-leb, lt-leb, ltb-true, ltb-false}
 use lib.Dec.{T, leb, ltb, ltb→lt}
 use Rattle.combinators.specs.Choice.{pick, or, and, is, within}
 
+-- the two answers of a test differ
+pub never : {A : Type 0} → false ≡ true → A
+never e = absurd (let z : _≡_ {A = ℕ} 0 1 = cc in omega arith)
+
 module _ {A : Type 0} (v x y : A) (t : Bool) where
+  -- the first of a choice
   pub pick-true : t ≡ true → v ≡ x → v ≡ pick t x y
   unfolding pick
   pick-true e p = rw e p
 
+  -- the second
   pub pick-false : t ≡ false → v ≡ y → v ≡ pick t x y
   unfolding pick
   pick-false e p = rw e p
 
--- a choice by an order
 module _ {A : Type 0} (v x y : A) (a b : ℕ) where
+  -- the first of a choice by an order
   pub at-most : a ≤ b → v ≡ x → v ≡ pick (leb a b) x y
   at-most h p = pick-true v x y _ (le-leb a b h) p
 
+  -- the second
   pub above : b < a → v ≡ y → v ≡ pick (leb a b) x y
   above h p = pick-false v x y _ (lt-leb a b h) p
 
@@ -47,37 +54,46 @@ either P true b e f g = f refl
 either P false b e f g = g e
 
 module _ (a b : Bool) where
+  -- the first of two tests holds
   pub or-left : a ≡ true → or a b ≡ true
   unfolding or
   or-left e = rw e
 
+  -- only the second does
   pub or-right : a ≡ false → b ≡ true → or a b ≡ true
   unfolding or
   or-right e p = rw (e, p)
 
+  -- neither does
   pub or-none : a ≡ false → b ≡ false → or a b ≡ false
   unfolding or
   or-none e p = rw (e, p)
 
+  -- both do
   pub and-both : a ≡ true → b ≡ true → and a b ≡ true
   unfolding and
   and-both e p = rw (e, p)
 
+  -- the first does not
   pub and-left : a ≡ false → and a b ≡ false
   unfolding and
   and-left e = rw e
 
+  -- the same for an answer on the left
   pub or-gives-true : a ≡ true → true ≡ or a b
   or-gives-true e = sym (or-left e)
 
+  -- the second decides where the first fails
   pub or-gives : (r : Bool) → a ≡ false → r ≡ b → r ≡ or a b
   unfolding or
   or-gives r e p = rw e p
 
+  -- the second decides where the first holds
   pub and-gives : (r : Bool) → a ≡ true → r ≡ b → r ≡ and a b
   unfolding and
   and-gives r e p = rw e p
 
+  -- the first fails
   pub and-gives-false : a ≡ false → false ≡ and a b
   and-gives-false e = sym (and-left e)
 
@@ -86,9 +102,11 @@ unfolding and
 and-no true = refl
 and-no false = refl
 
+-- the second of two tests fails
 pub and-right : (a b : Bool) → b ≡ false → and a b ≡ false
 and-right a b e = rw (e, and-no a)
 
+-- both hold where all does
 pub and-true : (a b : Bool) → and a b ≡ true → (a ≡ true) × (b ≡ true)
 unfolding and
 and-true true b e = (refl, e)
@@ -113,13 +131,16 @@ same-test false true f g = g refl
 same-test false false f g = refl
 
 -- ---- a test that a call made, or the code
+-- what the call answered
 pub told : (r a v : Bool) → r ≡ a → r ≡ v → a ≡ v
 told r a v e p = sym e ∙ p
 
+-- the code found the two numbers equal
 pub is-yes : (x k : ℕ) → x ≡ k → is x k ≡ true
 unfolding is
 is-yes x k e = eq-eqb x k e
 
+-- it found them different
 pub is-no : (x k : ℕ) → ¬ (x ≡ k) → is x k ≡ false
 unfolding is
 is-no x k e = ne-eqb x k e
@@ -128,6 +149,7 @@ is-no x k e = ne-eqb x k e
 pub is-yes-of : (y x k : ℕ) → y ≡ x → y ≡ k → is x k ≡ true
 is-yes-of y x k e p = is-yes x k (sym e ∙ p)
 
+-- and of one that it is not
 pub is-no-of : (y x k : ℕ) → y ≡ x → ¬ (y ≡ k) → is x k ≡ false
 is-no-of y x k e d = is-no x k (λ p. d (e ∙ p))
 
@@ -140,11 +162,12 @@ lt-or-ge m n = go (ltb m n) refl
     go false e = inr (ltb-false m n e)
 
 -- ---- what a test says
+-- that two numbers are equal
 pub is-true : (x k : ℕ) → is x k ≡ true → x ≡ k
 unfolding is
 is-true x k e = eqb-true x k e
 
--- and what one that fails says
+-- and, where it fails, that they are not
 pub is-false : (x k : ℕ) → is x k ≡ false → ¬ (x ≡ k)
 unfolding is
 is-false x k e = eqb-false x k e
@@ -157,14 +180,22 @@ is-from n x y = go (is x y) refl
     go true e = let p = is-true x y e in is-yes (n + x) (n + y) (omega arith) ∙ sym e
     go false e = is-no (n + x) (n + y) (λ p. is-false x y e (omega arith)) ∙ sym e
 
+-- no number below a range is within it
 pub within-false : (x lo hi : ℕ) → x < lo → false ≡ within x lo hi
 unfolding within
 within-false x lo hi h = and-gives-false _ _ (lt-leb lo x h)
 
+-- no number above a range is within it
+pub within-past : (x lo hi : ℕ) → hi < x → within x lo hi ≡ false
+unfolding within
+within-past x lo hi h = and-right _ _ (lt-leb x hi h)
+
+-- above the lower end the upper one decides
 pub within-rest : (x lo hi : ℕ) → lo ≤ x → leb x hi ≡ within x lo hi
 unfolding within
 within-rest x lo hi h = and-gives _ _ _ (le-leb lo x h) refl
 
+-- a number within a range is between its ends
 pub within-true : (x lo hi : ℕ) → within x lo hi ≡ true → (lo ≤ x) × (x ≤ hi)
 unfolding within
 within-true x lo hi e =
@@ -175,6 +206,7 @@ within-true x lo hi e =
 pub within-yes : (x lo hi : ℕ) → lo ≤ x → x ≤ hi → within x lo hi ≡ true
 within-yes x lo hi h l = sym (within-rest x lo hi h) ∙ le-leb x hi l
 
+-- for choices by tests
 pub ruleset cases = (
   needs,
   pick-true,

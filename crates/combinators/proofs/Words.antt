@@ -1,7 +1,7 @@
 -- One step of `startsWith` at an index of both lists, and what a true answer says.
 use mathlib.Core.Path.{_≡_, refl, ap, _∙_}
 use mathlib.Core.List.{List, [], _∷_, _++_}
-use mathlib.Core.Bool.{Bool, true, false}
+use mathlib.Core.Bool.{true, false}
 use Prim.Native.Nat.{ℕ, _+_, _<_, _≤_}
 use native.Mathlib.Numerals.{add-one}
 use native.Mathlib.Omega.{arith}
@@ -9,28 +9,29 @@ use lib.ListN.{length, getD, drop, drop-of-length-le}
 use lib.Seq.{drop-cons}
 use Rattle.combinators.specs.Choice.{and, is}
 use Rattle.combinators.specs.Word.{startsWith}
-use Rattle.combinators.proofs.Rules.{and-true, is-true, is-yes, is-no}
+use Rattle.combinators.proofs.Rules.{never, and-true, is-true, is-yes, is-no}
 
 module _ (w s : List ℕ) (i : ℕ) where
+  -- all of the word is read
   pub word-done : length w ≤ i → startsWith (drop i w) (drop i s) ≡ true
   unfolding startsWith
   word-done h = rw (drop-of-length-le w h)
 
+  -- the text ends before the word
   pub word-short : i < length w → length s ≤ i → startsWith (drop i w) (drop i s) ≡ false
   unfolding startsWith
   word-short h l = rw (drop-cons w i 0 h, drop-of-length-le s l)
 
+  -- a byte differs
   pub word-differs : i < length w → i < length s → ¬ (getD s i 0 ≡ getD w i 0) → startsWith (drop i w) (drop i s) ≡ false
   unfolding startsWith and
   word-differs h l d = rw (drop-cons w i 0 h, drop-cons s i 0 l, is-no _ _ d)
 
+  -- a byte is the same
   pub word-step : i < length w → i < length s → getD s i 0 ≡ getD w i 0
       → startsWith (drop i w) (drop i s) ≡ startsWith (drop (i + 1) w) (drop (i + 1) s)
   unfolding startsWith and
   word-step h l e = rw (add-one, drop-cons w i 0 h, drop-cons s i 0 l, is-yes _ _ e)
-
-never : {A : Type 0} → false ≡ true → A
-never e = absurd (let z : _≡_ {A = ℕ} 0 1 = cc in omega arith)
 
 -- the word is no longer than the text
 pub starts-le : (w s : List ℕ) → startsWith w s ≡ true → length w ≤ length s

@@ -18,6 +18,13 @@ pub fn between(b: u8, lo: u8, hi: u8) -> bool
     if lo <= b { b <= hi } else { false }
 }
 
+// The byte as a number of 32 bits, for what a byte cannot hold.
+pub fn wide(b: u8) -> u32
+    ensures { λ r. ⌜ r ≡ b ⌝ }
+{
+    b as u32
+}
+
 // The byte at `i`, or 0 past the end.
 pub fn peek(s: &[u8], i: usize) -> u8
     ensures { λ r. ⌜ r ≡ getD (now (s .entry)) i 0 ⌝ }

@@ -9,6 +9,7 @@ use native.Mathlib.Omega.{arith}
 use lib.ListN.{length, getD, drop, length-append, length-drop}
 use lib.Seq.{getD-drop}
 use Rattle.combinators.specs.Ascii.{reverseSolidus}
+use Rattle.combinators.specs.Parsed.{Parsed, ok, err, behind}
 use Rattle.combinators.specs.Repeat.{many, texts, took}
 use Rattle.combinators.proofs.Lists.{nil-of}
 use Rattle.combinators.proofs.Repeats.{texts-all, many-all}
@@ -40,28 +41,46 @@ pub record Fits (s : List ℕ) (n : ℕ) (b : List ℕ) : Type 0 where
   pub within-text : n ≤ length s
   pub bound : Bound s n b
 
--- the same seen from k bytes before it
-bound-behind : (s : List ℕ) (k n : ℕ) (b : List ℕ) → k ≤ length s → 1 ≤ n → Bound (drop k s) n b → Bound s (k + n) b
-bound-behind s k n b h i (short l) = short (omega arith)
-bound-behind s k n b h i (lone l e x) =
+-- behind k bytes that stand for a text a, which is no longer, the bound is kept
+bound-after : (s : List ℕ) (k n : ℕ) (a b : List ℕ) → k ≤ length s → length a ≤ k → 1 ≤ n → Bound (drop k s) n b → Bound s (k + n) (a ++ b)
+bound-after s k n a b h i j (short l) = short (omega (arith, length-append a b))
+bound-after s k n a b h i j (lone l e x) =
     let q : k + n - 1 ≡ k + (n - 1) = omega arith in
-    lone (omega arith) (omega (arith, length-drop k s)) (ap (λ j. getD s j 0) q ∙ sym (getD-drop k s (n - 1) 0) ∙ x)
+    lone (omega (arith, length-append a b)) (omega (arith, length-drop k s))
+    (ap (λ j. getD s j 0) q ∙ sym (getD-drop k s (n - 1) 0) ∙ x)
 
-pub fits-behind : (s : List ℕ) (k n : ℕ) (b : List ℕ) → k ≤ length s → Fits (drop k s) n b → Fits s (k + n) b
-fits-behind s k n b h f =
+-- so both are one reading
+pub fits-after : (s : List ℕ) (k n : ℕ) (a b : List ℕ) → k ≤ length s → length a ≤ k → Fits (drop k s) n b → Fits s (k + n) (a ++ b)
+fits-after s k n a b h i f =
     record {
       some = omega (arith, f .some);
       within-text = omega (arith, f .within-text, length-drop k s);
-      bound = bound-behind s k n b h (f .some) (f .bound);
+      bound = bound-after s k n a b h i (f .some) (f .bound);
     }
 
--- ---- repetition
+-- and so is a reading behind k bytes that stand for nothing
+pub fits-behind : (s : List ℕ) (k n : ℕ) (b : List ℕ) → k ≤ length s → Fits (drop k s) n b → Fits s (k + n) b
+fits-behind s k n b h f = fits-after s k n [] b h (omega arith) f
 
+-- an answer whose value stands for the text `text a`: where it reads, it is such a reading
+abbrev pub Keeps : {A : Type 0} → (A → List ℕ) → List ℕ → Parsed A → Type 0
+Keeps text s (ok n a) = Fits s n (text a)
+Keeps text s err = Unit
+
+-- the same behind k bytes
+pub behind-keeps : {A : Type 0} (text : A → List ℕ) (s : List ℕ) (k : ℕ) (p : Parsed A) → k ≤ length s → Keeps text (drop k s) p
+    → Keeps text s (behind k p)
+unfolding behind
+behind-keeps text s k (ok n a) h f = fits-behind s k n (text a) h f
+behind-keeps text s k err h f = tt
+
+-- ---- repetition
 -- the text t of the repetition from i on, k bytes of s passed over first; m is where it stops
 data Span (s : List ℕ) (i k m : ℕ) (t : List ℕ) : Type 0 where
   fits : length t + (i + k) ≤ m → Span s i k m t
   ends : length t + (i + k) ≤ m + 2 → m ≡ i + length s → getD s (length s - 1) 0 ≡ reverseSolidus → Span s i k m t
 
+-- the last byte of a text is the last behind one byte more
 last-cons : (x : ℕ) (r : List ℕ) → getD r (length r - 1) 0 ≡ reverseSolidus → getD (x ∷ r) (suc (length r) - 1) 0 ≡ reverseSolidus
 last-cons x [] e = absurd (omega arith)
 last-cons x (y ∷ r) e =
@@ -70,10 +89,12 @@ last-cons x (y ∷ r) e =
     rw p (rw q at e)
 
 module _ (u : List ℕ → ℕ) (b : List ℕ → List ℕ) (le : (l : List ℕ) → u l ≤ length l) (fine : (l : List ℕ) → Bound l (u l) (b l)) where
+  -- a byte that is passed over
   pass : (x : ℕ) (r : List ℕ) (i k m : ℕ) (t : List ℕ) → Span r (i + 1) k m t → Span (x ∷ r) i (suc k) m t
   pass x r i k m t (fits h) = fits (omega arith)
   pass x r i k m t (ends h e l) = ends (omega arith) (e ∙ omega arith) (last-cons x r l)
 
+  -- a byte where a reading begins
   turn : (x : ℕ) (r : List ℕ) (i n : ℕ) → Bound (x ∷ r) (suc n) (b (x ∷ r)) → Span r (i + 1) n (many u (i + 1) n r) (texts u b n r)
       → Span (x ∷ r) i 0 (many u (i + 1) n r) (b (x ∷ r) ++ texts u b n r)
   turn x r i n (short h) (fits g) = fits (omega (arith, length-append (b (x ∷ r)) (texts u b n r)))
@@ -84,18 +105,21 @@ module _ (u : List ℕ → ℕ) (b : List ℕ → List ℕ) (le : (l : List ℕ)
       let m = many-all u r (i + 1) n q in
       ends (omega (arith, length-append (b (x ∷ r)) (texts u b n r), ap length (texts-all u b r n q))) (m ∙ omega arith) (rw q at l)
 
+  -- by what the reader takes there
   at : (x : ℕ) (r : List ℕ) (i : ℕ) → ((n : ℕ) → n ≤ length r → Span r (i + 1) n (many u (i + 1) n r) (texts u b n r))
       → (n : ℕ) → u (x ∷ r) ≡ n → Span (x ∷ r) i 0 (many u i 0 (x ∷ r)) (texts u b 0 (x ∷ r))
   unfolding many texts took
   at x r i f zero e = rw e (fits (omega arith))
   at x r i f (suc n) e = rw e (turn x r i n (rw e at (fine (x ∷ r))) (f n (omega (arith, le (x ∷ r), e))))
 
+  -- all of the text
   span : (s : List ℕ) (i k : ℕ) → k ≤ length s → Span s i k (many u i k s) (texts u b k s)
   unfolding many texts took
   span [] i k h = fits (omega arith)
   span (x ∷ r) i zero h = at x r i (λ n l. span r (i + 1) n l) (u (x ∷ r)) refl
   span (x ∷ r) i (suc k) h = pass x r i k _ _ (span r (i + 1) k (omega arith))
 
+  -- from the start, a span is the bound
   bounded : (s : List ℕ) (m : ℕ) (t : List ℕ) → Span s 0 0 m t → Bound s m t
   bounded s m t (fits h) = short (omega arith)
   bounded s m t (ends h e l) = let q : m ≡ length s = omega arith in lone (omega arith) q (rw q l)
@@ -106,6 +130,7 @@ module _ (u : List ℕ → ℕ) (b : List ℕ → List ℕ) (le : (l : List ℕ)
 
 -- ---- a reader that stands for no more than it takes, wherever the text ends
 module _ (u : List ℕ → ℕ) (b : List ℕ → List ℕ) (le : (l : List ℕ) → u l ≤ length l) (small : (l : List ℕ) → length (b l) ≤ u l) where
+  -- by what the reader takes
   at-short : (x : ℕ) (r : List ℕ) (i : ℕ) → ((n : ℕ) → n ≤ length r → length (texts u b n r) + (i + 1 + n) ≤ many u (i + 1) n r)
       → (n : ℕ) → u (x ∷ r) ≡ n → length (texts u b 0 (x ∷ r)) + i ≤ many u i 0 (x ∷ r)
   unfolding many texts took
@@ -114,6 +139,7 @@ module _ (u : List ℕ → ℕ) (b : List ℕ → List ℕ) (le : (l : List ℕ)
       let h = f n (omega (arith, le (x ∷ r), e)) in
       rw e (omega (arith, length-append (b (x ∷ r)) (texts u b n r), small (x ∷ r), e))
 
+  -- all of the text
   run-short : (s : List ℕ) (i k : ℕ) → k ≤ length s → length (texts u b k s) + (i + k) ≤ many u i k s
   unfolding many texts
   run-short [] i k h = omega arith

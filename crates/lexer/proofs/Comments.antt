@@ -2,31 +2,26 @@
 use mathlib.Core.Path.{_≡_, refl, ap, sym, _∙_}
 use mathlib.Core.List.{List, [], _∷_}
 use mathlib.Core.Bool.{Bool, true, false}
-use Prim.Native.Nat.{ℕ, zero, suc, _+_, _<_, _≤_, zero-le}
+use Prim.Native.Nat.{ℕ, suc, _+_, _<_, _≤_, zero-le}
 use native.Mathlib.Numerals.{add-one}
 use native.Mathlib.Omega.{arith}
 use lib.ListN.{length, getD, drop, drop-of-length-le, length-drop}
 use lib.Seq.{drop-cons}
 use Rattle.combinators.specs.Choice.{and, or, pick, is}
 use Rattle.combinators.specs.Ascii.{asterisk, solidus, space}
-use Rattle.combinators.proofs.Rules.{is-yes, is-no, is-true, and-both, and-left, and-right, and-true, or-none, pick-holds}
-use Rattle.combinators.proofs.Lists.{next, inside}
+use Rattle.combinators.proofs.Rules.{is-yes, is-no, and-both, and-left, and-right, and-true, or-none, pick-holds}
+use Rattle.combinators.proofs.Lists.{test-there, byte-there, next}
 use Rattle.combinators.proofs.Repeats.{many-le}
 use Rattle.lexer.specs.Whitespace.{commentEnd, commentOf, isWhitespace, whitespaceItem, skipWhitespace}
 
--- a byte that is k is there, where k is not 0
-pub there : (s : List ℕ) (i k : ℕ) → 0 < k → is (getD s i 0) k ≡ true → i < length s
-there s i zero h e = absurd (omega arith)
-there s i (suc k) h e = inside s i k (is-true _ _ e)
-
--- ---- the search for the end of a comment at the index i of s, what follows its "/*"
+-- ---- the search for the end of a comment, at the index i of what follows its "/*"
 pub record Seeking (s : List ℕ) (i : ℕ) : Type 0 where
-  pub within : i ≤ length s
+  pub within-text : i ≤ length s
   pub left : commentEnd (i + 2) (drop i s) ≡ commentEnd 2 s
 
 -- at the start
 pub seek-begin : (s : List ℕ) → Seeking s 0
-seek-begin s = record { within = omega arith; left = refl }
+seek-begin s = record { within-text = omega arith; left = refl }
 
 module _ (s : List ℕ) (i : ℕ) (c : Seeking s i) where
   -- the text is at its end
@@ -50,7 +45,7 @@ module _ (s : List ℕ) (i : ℕ) (c : Seeking s i) where
   unfolding pick
   on l e =
       let p : i + 1 + 2 ≡ i + 2 + 1 = omega arith in
-      record { within = omega arith; left = ap (λ n. commentEnd n (drop (i + 1) s)) p ∙ sym (step l false e) ∙ c .left }
+      record { within-text = omega arith; left = ap (λ n. commentEnd n (drop (i + 1) s)) p ∙ sym (step l false e) ∙ c .left }
 
   -- no solidus follows
   pub seek-other : i < length s → is (getD s (i + 1) 0) solidus ≡ false → Seeking s (i + 1)
@@ -67,7 +62,7 @@ unfolding commentEnd
 end-le [] j = zero-le
 end-le (x ∷ r) j =
     pick-holds (λ n. n ≤ j + suc (length r)) _ _ _
-    (λ e. let l = there r 0 solidus (omega arith) (and-true (is x asterisk) _ e .1) in omega arith)
+    (λ e. let l = byte-there r 0 solidus (omega arith) (and-true (is x asterisk) _ e .1) in omega arith)
     (λ _. let l = end-le r (j + 1) in omega arith)
 
 -- a comment lies within the text
@@ -77,7 +72,7 @@ comment-le s =
     pick-holds (λ n. n ≤ length s) _ _ _
     (λ _. pick-holds (λ n. n ≤ length s) _ _ _
     (λ e.
-    let l = there s 1 asterisk (omega arith) e in
+    let l = byte-there s 1 asterisk (omega arith) e in
     omega (arith, end-le (drop 2 s) 2, length-drop 2 s))
     (λ _. zero-le))
     (λ _. zero-le)
@@ -86,25 +81,24 @@ comment-le s =
 pub above-space : (b : ℕ) → space < b → isWhitespace b ≡ false
 unfolding isWhitespace
 above-space b h =
-    or-none _ _ (other _ (omega arith)) (or-none _ _ (other _ (omega arith)) (or-none _ _ (other _ (omega arith)) (or-none _ _ (other _ (omega arith)) (other _ (omega arith)))))
+    or-none _ _ (other _ (omega arith))
+    (or-none _ _ (other _ (omega arith))
+    (or-none _ _ (other _ (omega arith))
+    (or-none _ _ (other _ (omega arith))
+    (other _ (omega arith)))))
   where
     other : (k : ℕ) → k ≤ space → is b k ≡ false
     other k l = is-no b k (λ e. omega arith)
 
 -- 0, which a place past the end reads as, is no white space
-null-other : isWhitespace 0 ≡ false
+whitespace-null : isWhitespace 0 ≡ false
 unfolding isWhitespace or is
-null-other = refl
-
--- a character of white space is there
-white-inside : (s : List ℕ) → isWhitespace (getD s 0 0) ≡ true → 0 < length s
-white-inside [] e = absurd (let p = null-other in let z : _≡_ {A = ℕ} 0 1 = cc in omega arith)
-white-inside (x ∷ r) e = omega arith
+whitespace-null = refl
 
 -- a character of white space or a comment lies within the text
 pub item-le : (s : List ℕ) → whitespaceItem s ≤ length s
 unfolding whitespaceItem
-item-le s = pick-holds (λ n. n ≤ length s) _ _ _ (λ e. white-inside s e) (λ _. comment-le s)
+item-le s = pick-holds (λ n. n ≤ length s) _ _ _ (λ e. test-there isWhitespace whitespace-null s 0 e) (λ _. comment-le s)
 
 -- and so does what is skipped
 pub skip-le : (s : List ℕ) → skipWhitespace s ≤ length s

@@ -8,12 +8,12 @@ use lib.ListN.{length, getD, take, drop, length-drop}
 use Rattle.combinators.specs.Choice.{pick, is}
 use Rattle.combinators.specs.Ascii.{hyphenMinus, plusSign, fullStop}
 use Rattle.combinators.proofs.Rules.{is-yes, is-no, pick-true, pick-false, pick-holds, either}
-use Rattle.combinators.proofs.Lists.{first}
+use Rattle.combinators.proofs.Lists.{byte-there, first}
 use Rattle.combinators.proofs.Repeats.{many-le}
-use Rattle.lexer.specs.Number.{isDigit, oneDigit, digits, decimal, unsigned, sign, signed, number}
+use Rattle.combinators.proofs.Repeating.{lent}
 use Rattle.lexer.specs.Whitespace.{skipWhitespace}
-use Rattle.lexer.proofs.Repeating.{lent}
-use Rattle.lexer.proofs.Comments.{there, skip-le}
+use Rattle.lexer.specs.Number.{isDigit, oneDigit, digits, decimal, unsigned, sign, signed, number}
+use Rattle.lexer.proofs.Comments.{skip-le}
 
 -- the byte at i decides whether the rest from i on begins with a digit
 pub digit-at : (s : List ℕ) (i : ℕ) (t : Bool) → isDigit (getD s i 0) ≡ t → oneDigit (drop i s) ≡ pick t 1 0
@@ -66,7 +66,7 @@ pub decimal-le : (s : List ℕ) → decimal s ≤ length s
 unfolding decimal
 decimal-le s =
     pick-holds (λ k. k ≤ length s) _ _ _
-    (λ e. followed-le digits digits-le s (digits s + 1) (let l = there s (digits s) fullStop (omega arith) e in omega arith))
+    (λ e. followed-le digits digits-le s (digits s + 1) (let l = byte-there s (digits s) fullStop (omega arith) e in omega arith))
     (λ _. zero-le)
 
 -- a number without a sign
@@ -79,7 +79,7 @@ pub sign-le : (s : List ℕ) → sign s ≤ length s
 unfolding sign
 sign-le s =
     pick-holds (λ k. k ≤ length s) _ _ _
-    (λ e. either (1 ≤ length s) _ _ e (there s 0 hyphenMinus (omega arith)) (there s 0 plusSign (omega arith)))
+    (λ e. either (1 ≤ length s) _ _ e (byte-there s 0 hyphenMinus (omega arith)) (byte-there s 0 plusSign (omega arith)))
     (λ _. zero-le)
 
 -- a number with a sign or none

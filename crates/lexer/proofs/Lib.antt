@@ -1,4 +1,3 @@
-pub mod Repeating
 pub mod Comments
 pub mod SyntaxWhitespace
 pub mod Digits
@@ -8,8 +7,13 @@ pub mod Quotes
 pub mod SyntaxString
 pub mod Escapes
 pub mod Characters
+pub mod CharacterRuns
 pub mod Idents
+pub mod IdentBounds
 pub mod SyntaxName
+pub mod SyntaxEscape
+pub mod TokenAnswers
+pub mod TokenReaders
 pub mod Lexing
 pub mod TokenBounds
 pub mod TokenRows

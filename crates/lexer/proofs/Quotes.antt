@@ -1,18 +1,15 @@
 -- The characters of a quoted string: what one takes and stands for, where the string ends, and how long its text is.
 use mathlib.Core.Path.{_≡_, refl, sym}
 use mathlib.Core.List.{List, [], _∷_}
-use mathlib.Core.Bool.{false}
 use mathlib.Core.Logic.{_⊎_, inl, inr, ⊎-elim}
 use Prim.Native.Nat.{ℕ, _+_, _-_, _≤_}
 use native.Mathlib.Omega.{arith}
-use borrow.Author.Tests.{eqb-false}
 use lib.ListN.{length, getD, take, drop, length-drop}
 use lib.Seq.{sets}
-use Rattle.combinators.specs.Choice.{is}
 use Rattle.combinators.specs.Ascii.{lineFeed}
 use Rattle.combinators.specs.Repeat.{many}
 use Rattle.combinators.specs.Store.{emits}
-use Rattle.combinators.proofs.Rules.{pick-holds, is-true}
+use Rattle.combinators.proofs.Rules.{pick-holds, is-true, is-false}
 use Rattle.combinators.proofs.Lists.{rest, first, nil-of}
 use Rattle.combinators.proofs.Repeats.{many-le}
 use Rattle.combinators.proofs.Emitted.{emits-none}
@@ -24,26 +21,23 @@ use Rattle.lexer.proofs.Writing.{Writing, Wrote, writing-more, writing-
 
 -- a character takes no more than there is, and stands for no more than it takes
 record Fine (s : List ℕ) (c : Quoted) : Type 0 where
-  pub within′ : takenOf c ≤ length s
+  pub within-text : takenOf c ≤ length s
   pub small : length (textOf c) ≤ takenOf c
 
+-- by the cases of a turn
 fine-byte : (s : List ℕ) (n b : ℕ) → n ≤ length s → 1 ≤ n → Fine s (Byte n b)
 unfolding takenOf textOf
-fine-byte s n b h l = record { within′ = h; small = l }
+fine-byte s n b h l = record { within-text = h; small = l }
 
 fine-skip : (s : List ℕ) (n : ℕ) → n ≤ length s → Fine s (Skip n)
 unfolding takenOf textOf
-fine-skip s n h = record { within′ = h; small = omega arith }
+fine-skip s n h = record { within-text = h; small = omega arith }
 
 fine-stop : (s : List ℕ) → Fine s Stop
 unfolding takenOf textOf
-fine-stop s = record { within′ = omega arith; small = omega arith }
+fine-stop s = record { within-text = omega arith; small = omega arith }
 
--- what a test that failed says
-is-false : (x k : ℕ) → is x k ≡ false → ¬ (x ≡ k)
-unfolding is
-is-false x k e = eqb-false x k e
-
+-- behind a backslash
 fine-escaped : (s : List ℕ) → ¬ (length s ≡ 0) → Fine s (escapedByte s)
 unfolding escapedByte
 fine-escaped s h =
@@ -51,6 +45,7 @@ fine-escaped s h =
     (λ e. let d = is-false _ _ e in
     pick-holds (Fine s) _ _ _ (λ _. fine-skip s 2 (omega arith)) (λ _. fine-byte s 2 _ (omega arith) (omega arith)))
 
+-- every character
 fine : (q : ℕ) (s : List ℕ) → Fine s (quotedOf q s)
 unfolding quotedOf
 fine q s =
@@ -63,19 +58,19 @@ fine q s =
 -- one character takes no more than there is
 pub quoted-le : (q : ℕ) (s : List ℕ) → quotedTaken q s ≤ length s
 unfolding quotedTaken
-quoted-le q s = fine q s .within′
+quoted-le q s = fine q s .within-text
 
 -- and stands for no more than it takes
 pub quoted-short : (q : ℕ) (s : List ℕ) → length (quotedText q s) ≤ quotedTaken q s
 unfolding quotedTaken quotedText
 quoted-short q s = fine q s .small
 
+-- ---- the returns of `emit_quoted`
 -- what one turn answers: bytes taken, bytes of text, and the store behind them
 abbrev pub Turned : ℕ → List ℕ → List ℕ → ℕ → ℕ → ℕ → List ℕ → ℕ → Type 0
 Turned q s st f k m z g =
     ((k ≡ quotedTaken q s) × (m ≡ length (quotedText q s))) × (record { bytes = z; fill = g } ≡ emits (record { bytes = st; fill = f }) (quotedText q s))
 
--- ---- the returns of `emit_quoted`
 module _ (q : ℕ) (s : List ℕ) (c : Quoted) (e : c ≡ quotedOf q s) (st : List ℕ) (f : ℕ) where
   -- a byte of text
   pub turn-byte : (n x : ℕ) → c ≡ Byte n x → (z : List ℕ) (g : ℕ) → record { bytes = z; fill = g } ≡ emits (record { bytes = st; fill = f }) (x ∷ [])
@@ -116,6 +111,7 @@ escaped-some s =
     pick-holds (λ c. ¬ (takenOf c ≡ 0)) _ _ _ (λ _ e. omega arith)
     (λ _. pick-holds (λ c. ¬ (takenOf c ≡ 0)) _ _ _ (λ _ e. omega arith) (λ _ e. omega arith))
 
+-- by the tests of one turn
 quoted-stop : (q : ℕ) (s : List ℕ) → quotedTaken q s ≡ 0 → Ends q s
 unfolding quotedTaken quotedOf takenOf
 quoted-stop q s =
@@ -137,7 +133,8 @@ string-at q s =
     (λ h. inr (rw (first s m) at h)) (quoted-stop q (drop m s) z))
     (many-stops (quotedTaken q) s)
 
--- what `emit_string` leaves: the bytes taken, the length of the text, and the text in the store
+-- ---- the loop of `emit_string`
+-- what it leaves: the bytes taken, the length of the text, and the text in the store
 abbrev pub Ended : ℕ → List ℕ → List ℕ → ℕ → List ℕ → ℕ → ℕ → Type 0
 Ended q s st₀ fill st i n = ((i ≡ stringEnd q s) × (n ≡ length (stringText q s))) × (st ≡ sets st₀ fill (stringText q s))
 
@@ -146,7 +143,6 @@ string-wrote : (q : ℕ) (s st₀ : List ℕ) (fill : ℕ) (st : List ℕ) (i n 
 unfolding stringEnd stringText
 string-wrote q s st₀ fill st i n w = ((w .0, w .1), w .2)
 
--- ---- the loop of `emit_string`
 module _ (q : ℕ) (s st₀ : List ℕ) (fill : ℕ) (st : List ℕ) (f i n : ℕ) (w : Writing (quotedTaken q) (quotedText q) s st₀ fill st f i n) where
   -- nothing is left
   pub string-done : length s ≤ i → Ended q s st₀ fill st i n

@@ -24,6 +24,7 @@ unfoldable pub plain : ℕ → List ℕ → Bool
 plain q [] = true
 plain q (x ∷ r) = and (ordinary q x) (plain q r)
 
+-- a test whose negation holds fails
 untrue : (b : Bool) → not b ≡ true → b ≡ false
 untrue true e = sym e
 untrue false e = refl
@@ -40,11 +41,12 @@ itself q x r h =
     (pick-false _ _ _ _ (untrue _ (p′ .0))
     (pick-false _ _ _ _ (untrue _ (p′ .1)) refl)))
 
+-- it takes one byte and stands for itself
 itself-read : (q x : ℕ) (r : List ℕ) → ordinary q x ≡ true → (quotedTaken q (x ∷ r) ≡ 1) × (quotedText q (x ∷ r) ≡ x ∷ [])
 unfolding quotedTaken quotedText takenOf textOf
 itself-read q x r h = rw (← itself q x r h) (refl, refl)
 
--- a plain text before t, where no character begins
+-- a plain text before t, where no character begins, ends there
 plain-end : (q : ℕ) (body t : List ℕ) (i : ℕ) → plain q body ≡ true → quotedTaken q t ≡ 0 → many (quotedTaken q) i 0 (body ++ t) ≡ i + length body
 unfolding plain many took
 plain-end q [] t i h e = many-stop (quotedTaken q) t i e ∙ sym (add-zero i)
@@ -52,6 +54,7 @@ plain-end q (x ∷ r) t i h e =
     let p = and-true (ordinary q x) _ h in
     rw (itself-read q x (r ++ t) (p .0) .0) (plain-end q r t (i + 1) (p .1) e ∙ omega arith)
 
+-- and is its own text
 plain-text : (q : ℕ) (body t : List ℕ) → plain q body ≡ true → quotedTaken q t ≡ 0 → texts (quotedTaken q) (quotedText q) 0 (body ++ t) ≡ body
 unfolding plain texts took
 plain-text q [] t h e = texts-stop (quotedTaken q) (quotedText q) t e
@@ -65,17 +68,20 @@ reads-itself : (q : ℕ) (body t : List ℕ) → plain q body ≡ true → quote
 unfolding stringEnd stringText
 reads-itself q body t h e = (plain-end q body t 0 h e ∙ omega arith, plain-text q body t h e)
 
+-- no character begins with the quote
 stop-quote : (q : ℕ) (t : List ℕ) → quotedTaken q (q ∷ t) ≡ 0
 unfolding quotedTaken quotedOf takenOf
 stop-quote q t =
     ap takenOf (sym (pick-false Stop _ _ _ (is-no (suc (length t)) 0 (λ e. omega arith)) (pick-true _ _ _ _ (is-yes q q refl) refl)))
 
+-- nor with a newline
 stop-newline : (q : ℕ) (t : List ℕ) → quotedTaken q (lineFeed ∷ t) ≡ 0
 unfolding quotedTaken quotedOf takenOf is pick
 stop-newline q t =
     pick-holds (λ c. takenOf c ≡ 0) (is (suc (length t)) 0) Stop _ (λ _. refl)
     (λ _. pick-holds (λ c. takenOf c ≡ 0) (is lineFeed q) Stop Stop (λ _. refl) (λ _. refl))
 
+-- nor at the end of the text
 stop-empty : (q : ℕ) → quotedTaken q [] ≡ 0
 unfolding quotedTaken quotedOf takenOf is pick
 stop-empty q = refl
@@ -90,5 +96,5 @@ module _ (q : ℕ) (body : List ℕ) (h : plain q body ≡ true) where
   string-newline t = reads-itself q body (lineFeed ∷ t) h (stop-newline q t)
 
   -- the end of the text
-  pub string-eof : (stringEnd q body ≡ length body) × (stringText q body ≡ body)
-  string-eof = rw append-nil at (reads-itself q body [] h (stop-empty q))
+  pub string-end-of-text : (stringEnd q body ≡ length body) × (stringText q body ≡ body)
+  string-end-of-text = rw append-nil at (reads-itself q body [] h (stop-empty q))

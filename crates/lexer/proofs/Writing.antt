@@ -18,7 +18,7 @@ pub record Writing (u : List ℕ → ℕ) (b : List ℕ → List ℕ) (s st₀ :
   pub text : n + length (texts u b 0 (drop i s)) ≡ length (texts u b 0 s)
   pub stored : emits (record { bytes = st; fill = f }) (texts u b 0 (drop i s)) ≡ emits (record { bytes = st₀; fill = fill }) (texts u b 0 s)
   pub long : length st ≡ length st₀
-  pub within′ : i ≤ length s
+  pub within-text : i ≤ length s
 
 -- what the loop leaves: the bytes read, the length of their text, and the text in the store
 abbrev pub Wrote : (List ℕ → ℕ) → (List ℕ → List ℕ) → List ℕ → List ℕ → ℕ → List ℕ → ℕ → ℕ → Type 0
@@ -26,7 +26,7 @@ Wrote u b s st₀ fill st i n = (i ≡ many u 0 0 s) × (n ≡ length (texts u b
 
 -- nothing is read yet
 pub writing-begin : (u : List ℕ → ℕ) (b : List ℕ → List ℕ) (s st : List ℕ) (fill : ℕ) → Writing u b s st fill st fill 0 0
-writing-begin u b s st fill = record { end = refl; text = omega arith; stored = refl; long = refl; within′ = omega arith }
+writing-begin u b s st fill = record { end = refl; text = omega arith; stored = refl; long = refl; within-text = omega arith }
 
 module _ (u : List ℕ → ℕ) (b : List ℕ → List ℕ) (s st₀ : List ℕ) (fill : ℕ) (st : List ℕ) (f i n : ℕ) (w : Writing u b s st₀ fill st f i n) where
   -- a turn that reads k bytes and emits the m bytes that they stand for
@@ -37,15 +37,16 @@ module _ (u : List ℕ → ℕ) (b : List ℕ → List ℕ) (s st₀ : List ℕ)
       let e = texts-more u b s i k le eu d in
       let a = length-append (b (drop i s)) (texts u b 0 (drop (i + k) s)) in
       let l = length-drop i s in
-      let h = w .within′ in
+      let h = w .within-text in
       record {
         end = w .end ∙ many-more u s i k le eu d;
         text = omega (arith, em, a) ∙ ap (λ (t : List ℕ). n + length t) (sym e) ∙ w .text;
         stored = onto _ _ _ _ ez ∙ sym (ap (emits _) e) ∙ w .stored;
         long = lz ∙ w .long;
-        within′ = omega arith;
+        within-text = omega arith;
       }
 
+  -- nothing is left to read or to emit
   done : many u i 0 (drop i s) ≡ i → texts u b 0 (drop i s) ≡ [] → Wrote u b s st₀ fill st i n
   done p q = (
     sym (w .end ∙ p),
@@ -72,10 +73,3 @@ module _ (u : List ℕ → ℕ) (b : List ℕ → List ℕ) (s st₀ : List ℕ)
   -- the bytes emitted so far are no more than those of the whole text
   pub writing-small : length (texts u b 0 s) ≤ length s + 2 → n ≤ length s + 2
   writing-small h = omega (arith, w .text)
-
-  -- with those of one turn more too
-  pub writing-small-more : length (texts u b 0 s) ≤ length s + 2 → (k : ℕ) → u (drop i s) ≡ k → k ≤ length (drop i s) → ¬ (k ≡ 0)
-      → n + length (b (drop i s)) ≤ length s + 2
-  writing-small-more h k eu le d =
-      let e = ap length (texts-more u b s i k le eu d) in
-      omega (arith, w .text, e, length-append (b (drop i s)) (texts u b 0 (drop (i + k) s)))

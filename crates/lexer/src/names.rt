@@ -5,7 +5,13 @@ use combinators::bytes::between;
 use combinators::bytes::byte_is;
 use combinators::bytes::peek;
 use combinators::bytes::same;
+use combinators::bytes::wide;
+use unicode::utf8::REPLACEMENT_CHARACTER;
 use unicode::utf8::Scalar;
+use unicode::utf8::emit_scalar;
+use unicode::utf8::length_of;
+use unicode::utf8::or_replacement;
+use unicode::utf8::scalar_at;
 ghost use mathlib.Core.Path.{_≡_};
 ghost use Prim.Native.Nat.{_≤_};
 ghost use lib.ListN.{length};
@@ -21,6 +27,7 @@ pub enum Name {
 // An escape takes up to six hex digits.
 const MAXIMUM_DIGITS: usize = 6;
 
+// Whether `b` can start a name.
 fn is_nmstart(b: u8) -> bool
     ensures { λ r. ⌜ r ≡ isNmstart b ⌝ }
 {
@@ -33,6 +40,7 @@ fn is_nmstart(b: u8) -> bool
     between(b, b'A', b'Z')
 }
 
+// Whether `b` can stand in a name.
 fn is_nmchar(b: u8) -> bool
     ensures { λ r. ⌜ r ≡ isNmchar b ⌝ }
 {
@@ -45,13 +53,7 @@ fn is_nmchar(b: u8) -> bool
     same(b, b'-')
 }
 
-fn wide(b: u8) -> u32
-    ensures { λ r. ⌜ r ≡ b ⌝ }
-{
-    b as u32
-}
-
-// The byte, with A-Z folded to a-z.
+// The byte, with A-Z folded to a-z, which stand 32 above them.
 fn lower_of(b: u8) -> u32
     ensures { λ r. ⌜ r ≡ lower b ⌝ }
 {
@@ -83,6 +85,7 @@ pub fn nmchar_char(s: &[u8]) -> Scalar
     Scalar::NoScalar
 }
 
+// Whether `b` is a hex digit.
 fn is_hex_digit(b: u8) -> bool
     ensures { λ r. ⌜ r ≡ isHexDigit b ⌝ }
 {
@@ -158,14 +161,14 @@ fn escaped(t: &[u8]) -> Scalar
     ensures { λ r. ⌜ r ≡ escapedOf (now (t .entry)) ⌝ }
 {
     if t.len() == 0 {
-        return Scalar::Value(1, unicode::utf8::REPLACEMENT_CHARACTER);
+        return Scalar::Value(1, REPLACEMENT_CHARACTER);
     }
     if is_hex_digit(peek(t, 0)) {
         let n = hex_count(t);
-        let v = unicode::utf8::or_replacement(hex_value_of(t, n));
+        let v = or_replacement(hex_value_of(t, n));
         return Scalar::Value(1 + n, v);
     }
-    match unicode::utf8::scalar_at(t) {
+    match scalar_at(t) {
         Scalar::Value(n, v) => {
             return Scalar::Value(1 + n, v);
         }
@@ -224,8 +227,8 @@ fn emit_nmchars(s: &[u8], store: &mut [u8], fill: usize) -> Written
     while i < s.len() {
         match nmchar(&s[i..]) {
             Scalar::Value(k, v) => {
-                f = unicode::utf8::emit_scalar(v, store, f);
-                n += unicode::utf8::length_of(v);
+                f = emit_scalar(v, store, f);
+                n += length_of(v);
                 i += k;
             }
             Scalar::NoScalar => {

@@ -112,6 +112,7 @@ pub fn parse_ident_like(s: &[u8], store: &mut [u8], fill: usize) -> TokenAnswer
     }
 }
 
+// Whether `b` starts a string.
 fn is_quote(b: u8) -> bool
     ensures { λ r. ⌜ r ≡ isQuote b ⌝ }
 {
@@ -191,28 +192,29 @@ const LEFT_CURLY_BRACKET: u32 = b'{' as u32;
 
 const RIGHT_CURLY_BRACKET: u32 = b'}' as u32;
 
-const FIRST_NAMED: u32 = 0x81; // from here on every character counts as one that starts a name
+const FIRST_ABOVE_U_0080: u32 = 0x81; // from here on the crate takes every character for the start of a name
 
-fn ranges(c: u32, lo: u32, hi: u32) -> bool
+// Whether `c` is from `lo` to `hi`: `combinators::bytes::between` for scalar values, which a byte does not hold.
+fn between_scalars(c: u32, lo: u32, hi: u32) -> bool
     ensures { λ r. ⌜ r ≡ within c lo hi ⌝ }
 {
     if lo <= c { c <= hi } else { false }
 }
 
-// Whether the crate takes `c` for the start of a name; above U+0080 it does, and then reads none.
+// Whether the crate takes `c` for the start of a name. Above U+0080 it does, and then reads none.
 fn is_ident_start(c: u32) -> bool
     ensures { λ r. ⌜ r ≡ isIdentStart c ⌝ }
 {
-    if ranges(c, SMALL_A, SMALL_Z) {
+    if between_scalars(c, SMALL_A, SMALL_Z) {
         return true;
     }
-    if ranges(c, CAPITAL_A, CAPITAL_Z) {
+    if between_scalars(c, CAPITAL_A, CAPITAL_Z) {
         return true;
     }
     if c == LOW_LINE {
         return true;
     }
-    FIRST_NAMED <= c
+    FIRST_ABOVE_U_0080 <= c
 }
 
 // Which reader the character `c` selects, in the crate's order.
@@ -246,7 +248,7 @@ fn start_of(c: u32) -> Start
     if is_ident_start(c) {
         return Start::Letter;
     }
-    if ranges(c, DIGIT_ZERO, DIGIT_NINE) {
+    if between_scalars(c, DIGIT_ZERO, DIGIT_NINE) {
         return Start::Digit;
     }
     Start::Other

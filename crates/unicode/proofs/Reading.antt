@@ -6,10 +6,9 @@ use Prim.Native.Nat.{ℕ, _+_, _-_, _<_, _≤_}
 use native.Mathlib.Omega.{arith}
 use lib.ListN.{length, getD, take, drop, length-drop}
 use Rattle.combinators.specs.Choice.{pick, within}
-use Rattle.combinators.specs.Repeat.{many}
 use Rattle.combinators.proofs.Rules.{pick-true, is-yes, is-no}
 use Rattle.combinators.proofs.Lists.{rest}
-use Rattle.combinators.proofs.Repeats.{many-more, many-stop, many-end}
+use Rattle.combinators.proofs.Repeating.{Repeating, repeat-more, repeat-stop, repeat-end}
 use Rattle.unicode.specs.Utf8.{isContinuation, leadOf, two, three, four, scalarTail, scalarBy, scalarOf, takenOf, scalarTaken, valid}
 use Rattle.unicode.specs.declared.utf8.Scalar.{Scalar}
 use Rattle.unicode.specs.declared.utf8.Scalar.the-variants.{Value, NoScalar}
@@ -79,16 +78,8 @@ module _ (s : List ℕ) (some : ¬ (length s ≡ 0)) (a : ℕ) (ea : a ≡ getD 
     unfolding scalarBy pick
     at-other w = rw (by-row, is-no (l .long) 1 more, is-no (l .long) 0 any, ← eb, w)
 
--- ---- `is_valid`: where the scalar values end from i on is where they end
-pub record Checking (s : List ℕ) (i : ℕ) : Type 0 where
-  pub ends : many scalarTaken i 0 (drop i s) ≡ many scalarTaken 0 0 s
-  pub bound : i ≤ length s
-
--- at the start
-pub checking-begin : (s : List ℕ) → Checking s 0
-checking-begin s = record { ends = refl; bound = omega arith }
-
-module _ (s : List ℕ) (i : ℕ) (c : Checking s i) where
+-- ---- `is_valid`: a turn of the loop at i
+module _ (s : List ℕ) (i : ℕ) (c : Repeating scalarTaken s i) where
   module _ (r : Scalar) (e : r ≡ scalarOf (take (length s - i) (drop i s))) where
     -- what the call on the rest of the text says of the text at i
     here : scalarOf (drop i s) ≡ r
@@ -97,7 +88,7 @@ module _ (s : List ℕ) (i : ℕ) (c : Checking s i) where
     module _ (n v : ℕ) (h : r ≡ Value n v) where
       -- a scalar value was read
       pub checking-step : (1 ≤ n) × (i + n ≤ length s)
-      checking-step = let p = scalar-some (drop i s) n v (here ∙ h) in (p .0, omega (arith, p .1, length-drop i s, c .bound))
+      checking-step = let p = scalar-some (drop i s) n v (here ∙ h) in (p .0, omega (arith, p .1, length-drop i s, c .within-text))
 
       -- the bytes that it takes
       taken : scalarTaken (drop i s) ≡ n
@@ -105,10 +96,8 @@ module _ (s : List ℕ) (i : ℕ) (c : Checking s i) where
       taken = rw (here, h)
 
       -- and the loop goes on behind it
-      pub checking-more : Checking s (i + n)
-      checking-more =
-          let p = scalar-some (drop i s) n v (here ∙ h) in
-          record { ends = sym (many-more scalarTaken s i n (p .1) taken (λ z. omega (arith, p .0))) ∙ c .ends; bound = checking-step .1 }
+      pub checking-more : Repeating scalarTaken s (i + n)
+      checking-more = repeat-more scalarTaken s i c n taken (checking-step .1) (λ z. omega (arith, checking-step .0))
 
     -- where there is none, it takes no byte
     none : r ≡ NoScalar → scalarTaken (drop i s) ≡ 0
@@ -118,9 +107,9 @@ module _ (s : List ℕ) (i : ℕ) (c : Checking s i) where
     -- no well-formed sequence stands at i
     pub checking-stop : i < length s → r ≡ NoScalar → false ≡ valid s
     unfolding valid
-    checking-stop l h = sym (is-no _ _ (λ z. let e = sym (c .ends) ∙ many-stop scalarTaken (drop i s) i (none h) in omega (arith, e)))
+    checking-stop l h = sym (is-no _ _ (λ z. let q = repeat-stop scalarTaken s i c (none h) in omega (arith, q, z)))
 
   -- the end is reached
   pub checking-done : length s ≤ i → true ≡ valid s
   unfolding valid
-  checking-done h = sym (is-yes _ _ (sym (c .ends) ∙ many-end scalarTaken s i i h ∙ omega (arith, c .bound)))
+  checking-done h = sym (is-yes _ _ (sym (repeat-end scalarTaken s i c h) ∙ omega (arith, c .within-text)))

@@ -1,6 +1,7 @@
 // UTF-8 by the Unicode Standard, section 3.9: Table 3-6 (the bytes of a scalar value) and Table 3-7 (well-formed byte sequences).
 use combinators::bytes::between;
 use combinators::bytes::peek;
+use combinators::bytes::wide;
 use combinators::stores::emit;
 ghost use mathlib.Core.Path.{_≡_};
 ghost use mathlib.Core.List.{[], _∷_};
@@ -71,12 +72,6 @@ fn is_continuation(b: u8) -> bool
     ensures { λ r. ⌜ r ≡ isContinuation b ⌝ }
 {
     between(b, 0x80, 0xbf)
-}
-
-fn wide(b: u8) -> u32
-    ensures { λ r. ⌜ r ≡ b ⌝ }
-{
-    b as u32
 }
 
 fn value_of_two(a: u8, b: u8) -> u32

@@ -1,5 +1,4 @@
 use Rattle.combinators.proofs.Rules.{within-false, within-rest}
-use borrow.Author.Needs.{needs}
 use Rattle.combinators.proofs.bytes.between.Statement.{statement}
 use Rattle.combinators.proofs.bytes.between.Tie as tie
 

@@ -1,7 +1,7 @@
-use Rattle.combinators.specs.Choice.{is}
-use lib.Dec.{eqb}
-use Prim.Native.Nat.{ℕ}
 use mathlib.Core.Path.{ap}
+use Prim.Native.Nat.{ℕ}
+use lib.Dec.{eqb}
+use Rattle.combinators.specs.Choice.{is}
 use borrow.Author.Needs.{needs}
 use Rattle.combinators.proofs.bytes.byte_is.Statement.{statement}
 use Rattle.combinators.proofs.bytes.byte_is.Tie as tie

@@ -1,5 +1,5 @@
-use lib.ListN.{List·getD-eq-default}
 use mathlib.Core.Path.{sym}
+use lib.ListN.{List·getD-eq-default}
 use borrow.Author.Needs.{needs}
 use Rattle.combinators.proofs.bytes.peek.Statement.{statement}
 use Rattle.combinators.proofs.bytes.peek.Tie as tie

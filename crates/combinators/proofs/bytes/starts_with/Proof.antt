@@ -1,9 +1,9 @@
-use borrow.Author.Needs.{needs}
 use mathlib.Core.Path.{_≡_, refl, sym, _∙_}
 use Prim.Native.Nat.{_-_}
 use lib.ListN.{length, drop}
 use Rattle.combinators.specs.Word.{startsWith}
 use Rattle.combinators.proofs.Words as laws
+use borrow.Author.Needs.{needs}
 use Rattle.combinators.proofs.bytes.starts_with.Statement.{statement}
 use Rattle.combinators.proofs.bytes.starts_with.Tie as tie
 

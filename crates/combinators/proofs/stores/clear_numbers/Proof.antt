@@ -1,9 +1,9 @@
-use borrow.Author.Needs.{needs}
 use mathlib.Core.Path.{_≡_, refl, sym, _∙_}
 use Prim.Native.Nat.{_-_}
 use lib.ListN.{length, length-set}
 use Rattle.combinators.specs.Store.{cleared}
 use Rattle.combinators.proofs.Cleared.{cleared-step, cleared-done}
+use borrow.Author.Needs.{needs}
 use Rattle.combinators.proofs.stores.clear_numbers.Statement.{statement}
 use Rattle.combinators.proofs.stores.clear_numbers.Tie as tie
 

@@ -1,7 +1,7 @@
-use borrow.Author.Needs.{needs}
 use borrow.Author.Tests.{lt-ltb, le-ltb}
 use Rattle.combinators.specs.Choice.{pick}
 use Rattle.combinators.specs.Store.{step, emits}
+use borrow.Author.Needs.{needs}
 use Rattle.combinators.proofs.stores.emit.Statement.{statement}
 use Rattle.combinators.proofs.stores.emit.Tie as tie
 

@@ -1,15 +1,8 @@
-use Rattle.combinators.proofs.Emitted as laws
-use Rattle.combinators.specs.Store.{emits}
-use lib.ListN.{length, take, drop}
-use mathlib.Core.Path.{_≡_, refl, sym, ap, _∙_}
-use native.Mathlib.Omega.{arith}
 use Prim.Native.Nat.{_-_}
+use Rattle.combinators.proofs.Emitted as laws
 use borrow.Author.Needs.{needs}
 use Rattle.combinators.proofs.stores.emit_part.Statement.{statement}
 use Rattle.combinators.proofs.stores.emit_part.Tie as tie
-use Rattle.combinators.proofs.stores.emit_part.Reads as reads
-use Rattle.combinators.proofs.stores.emit_part.Lts as lts
-use Rattle.combinators.proofs.stores.emit.Reads as emit-reads
 
 abbrev Inv-loop : tie.InvT-loop
 Inv-loop s n store₀ fill f₀ i₀ store f i = laws.Copying s n store₀ fill store f i
@@ -17,45 +10,35 @@ Inv-loop s n store₀ fill f₀ i₀ store f i = laws.Copying s n store₀ fill 
 abbrev μ-loop : tie.MeasureT-loop
 μ-loop s n store₀ fill f₀ i₀ store f i = n - i
 
--- src/stores.rt:25:5
 loop-holds : tie.Need-loop-holds Inv-loop μ-loop
 loop-holds c = laws.copying-begin _ _ _ _
 
--- src/stores.rt:27:13
 same-length : tie.Need-same-length Inv-loop μ-loop
 same-length c = search needs
 
--- src/stores.rt:27:13
 returns : tie.Need-returns Inv-loop μ-loop
 returns c = laws.copying-end _ _ _ _ _ _ _ (c .before .before .loop .inv) (c .if1 .taken)
 
--- src/stores.rt:29:18
 shared-slice-read-emit : tie.Need-shared-slice-read-emit Inv-loop μ-loop
 shared-slice-read-emit c = search needs
 
--- src/stores.rt:29:9
 emit-requires : tie.Need-emit-requires Inv-loop μ-loop
 emit-requires c κs = search needs
 
--- src/stores.rt:30:9
 add-i : tie.Need-add-i Inv-loop μ-loop
 add-i c = search needs
 
--- src/stores.rt:25:5
 loop-less : tie.Need-loop-less Inv-loop μ-loop
 loop-less c = search needs
 
--- src/stores.rt:25:5
 loop-again : tie.Need-loop-again Inv-loop μ-loop
 loop-again c = let d = c .before .before in
     let t = d .before .before .before .before in
     laws.copying-more _ _ _ _ _ _ _ (t .before .loop .inv) (t .loop-test .taken) (search needs) _ _ (d .emit .ensures) (d .emit .kept .1 .0)
 
--- src/stores.rt:20:1
 same-length-2 : tie.Need-same-length-2 Inv-loop μ-loop
 same-length-2 c = search needs
 
--- src/stores.rt:20:1
 returns-2 : tie.Need-returns-2 Inv-loop μ-loop
 returns-2 c = laws.copying-done _ _ _ _ _ _ _ (c .before .loop .inv) (c .loop-test .left)
 

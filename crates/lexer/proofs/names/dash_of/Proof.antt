@@ -1,25 +1,19 @@
 use mathlib.Core.Path.{sym, _∙_}
 use native.Mathlib.Omega.{arith}
-use Rattle.lexer.proofs.Comments.{there}
-use Rattle.lexer.specs.Name.{dash}
 use Rattle.combinators.proofs.Rules.{cases}
+use Rattle.combinators.proofs.Lists.{byte-there}
+use Rattle.lexer.specs.Name.{dash}
 use borrow.Author.Needs.{needs}
 use Rattle.lexer.proofs.names.dash_of.Statement.{statement}
 use Rattle.lexer.proofs.names.dash_of.Tie as tie
-use Rattle.lexer.proofs.names.dash_of.Reads as reads
-use Rattle.lexer.proofs.names.dash_of.Lts as lts
-use Rattle.combinators.proofs.bytes.byte_is.Reads as byte-is-reads
 
--- src/names.rt:244:8
 byte-is-requires : tie.Need-byte-is-requires
 byte-is-requires c κs = search needs
 
--- src/names.rt:245:9
 returns : tie.Need-returns
 unfolding dash
-returns c = (search cases, omega (arith, there (c .before .before .before .args .t .now) 0 _ (search needs) (sym (c .before .byte-is .ensures) ∙ c .if1 .taken)))
+returns c = (search cases, omega (arith, byte-there (c .before .before .before .args .t .now) 0 _ (search needs) (sym (c .before .byte-is .ensures) ∙ c .if1 .taken)))
 
--- src/names.rt:240:1
 returns-2 : tie.Need-returns-2
 unfolding dash
 returns-2 c = (search cases, search needs)

@@ -1,8 +1,8 @@
-use Rattle.lexer.proofs.Escapes as laws
-use native.Mathlib.Omega.{arith}
 use mathlib.Core.Path.{sym, _∙_}
-use Rattle.lexer.specs.Name.{hexDigit}
+use native.Mathlib.Omega.{arith}
 use Rattle.combinators.proofs.Rules.{cases, within-true}
+use Rattle.lexer.specs.Name.{hexDigit}
+use Rattle.lexer.proofs.Escapes as laws
 use borrow.Author.Needs.{needs}
 use Rattle.lexer.proofs.names.hex_digit_of.Statement.{statement}
 use Rattle.lexer.proofs.names.hex_digit_of.Tie as tie

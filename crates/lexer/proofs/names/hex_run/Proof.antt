@@ -1,6 +1,6 @@
-use Rattle.lexer.specs.Name.{isHexDigit, maximumDigits}
+use mathlib.Core.Path.{sym, ap, _∙_}
 use Prim.Native.Nat.{_-_}
-use mathlib.Core.Path.{_≡_, sym, ap, _∙_}
+use Rattle.lexer.specs.Name.{isHexDigit, maximumDigits}
 use Rattle.lexer.proofs.Escapes as laws
 use borrow.Author.Needs.{needs}
 use Rattle.lexer.proofs.names.hex_run.Statement.{statement}
@@ -13,7 +13,7 @@ abbrev μ-loop : tie.MeasureT-loop
 μ-loop t i₀ i = maximumDigits - i
 
 loop-holds : tie.Need-loop-holds Inv-loop μ-loop
-loop-holds c = laws.begin-count _
+loop-holds c = laws.count-begin _
 
 peek-requires : tie.Need-peek-requires Inv-loop μ-loop
 peek-requires c κs = search needs
@@ -28,13 +28,13 @@ loop-less : tie.Need-loop-less Inv-loop μ-loop
 loop-less c = search needs
 
 loop-again : tie.Need-loop-again Inv-loop μ-loop
-loop-again c = laws.more _ _ (c .before .before .before .before .loop .inv) (c .before .before .before .loop-test .taken) (sym (ap isHexDigit (c .before .before .peek .ensures)) ∙ sym (c .before .is-hex-digit .ensures) ∙ c .if1 .taken)
+loop-again c = laws.count-more _ _ (c .before .before .before .before .loop .inv) (search needs) (sym (ap isHexDigit (c .before .before .peek .ensures)) ∙ sym (c .before .is-hex-digit .ensures) ∙ c .if1 .taken)
 
 returns : tie.Need-returns Inv-loop μ-loop
-returns c = laws.stop _ _ (c .before .before .before .before .loop .inv) (c .before .before .before .loop-test .taken) (sym (ap isHexDigit (c .before .before .peek .ensures)) ∙ sym (c .before .is-hex-digit .ensures) ∙ c .if1 .left)
+returns c = laws.count-stop _ _ (c .before .before .before .before .loop .inv) (search needs) (sym (ap isHexDigit (c .before .before .peek .ensures)) ∙ sym (c .before .is-hex-digit .ensures) ∙ c .if1 .left)
 
 returns-2 : tie.Need-returns-2 Inv-loop μ-loop
-returns-2 c = laws.full _ _ (c .before .loop .inv) (c .loop-test .left)
+returns-2 c = laws.count-full _ _ (c .before .loop .inv) (c .loop-test .left)
 
 pub hex-run-spec : {M : Type 1} → statement M
 hex-run-spec =

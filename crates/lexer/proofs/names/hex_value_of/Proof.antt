@@ -1,5 +1,5 @@
-use native.Mathlib.Omega.{arith}
 use Prim.Native.Nat.{_-_}
+use native.Mathlib.Omega.{arith}
 use Rattle.lexer.proofs.Escapes as laws
 use borrow.Author.Needs.{needs}
 use Rattle.lexer.proofs.names.hex_value_of.Statement.{statement}
@@ -12,7 +12,7 @@ abbrev μ-loop : tie.MeasureT-loop
 μ-loop t n v₀ i₀ v i = n - i
 
 loop-holds : tie.Need-loop-holds Inv-loop μ-loop
-loop-holds c = laws.begin-value _ _
+loop-holds c = laws.value-begin _ _
 
 peek-requires : tie.Need-peek-requires Inv-loop μ-loop
 peek-requires c κs = search needs
@@ -21,10 +21,10 @@ hex-digit-of-requires : tie.Need-hex-digit-of-requires Inv-loop μ-loop
 hex-digit-of-requires c κs = search needs
 
 mul-v : tie.Need-mul-v Inv-loop μ-loop
-mul-v c = omega (arith, laws.fits _ _ _ _ (c .before .before .before .loop .inv) (c .before .before .before .before .before .pre) (c .before .before .loop-test .taken) _ _ (c .hex-digit-of .ensures))
+mul-v c = omega (arith, laws.value-fits _ _ _ _ (c .before .before .before .loop .inv) (c .before .before .before .before .before .pre) (c .before .before .loop-test .taken) _ _ (c .hex-digit-of .ensures))
 
 add-v : tie.Need-add-v Inv-loop μ-loop
-add-v c = omega (arith, laws.fits _ _ _ _ (c .before .before .before .loop .inv) (c .before .before .before .before .before .pre) (c .before .before .loop-test .taken) _ _ (c .hex-digit-of .ensures))
+add-v c = omega (arith, laws.value-fits _ _ _ _ (c .before .before .before .loop .inv) (c .before .before .before .before .before .pre) (c .before .before .loop-test .taken) _ _ (c .hex-digit-of .ensures))
 
 add-i : tie.Need-add-i Inv-loop μ-loop
 add-i c = search needs
@@ -33,10 +33,10 @@ loop-less : tie.Need-loop-less Inv-loop μ-loop
 loop-less c = search needs
 
 loop-again : tie.Need-loop-again Inv-loop μ-loop
-loop-again c = laws.next _ _ _ _ (c .before .before .before .loop .inv) (c .before .before .loop-test .taken) _ _ (c .before .peek .ensures) (c .hex-digit-of .ensures)
+loop-again c = laws.value-more _ _ _ _ (c .before .before .before .loop .inv) (c .before .before .loop-test .taken) _ _ (c .before .peek .ensures) (c .hex-digit-of .ensures)
 
 returns : tie.Need-returns Inv-loop μ-loop
-returns c = laws.read _ _ _ _ (c .before .loop .inv) (c .loop-test .left)
+returns c = laws.value-done _ _ _ _ (c .before .loop .inv) (c .loop-test .left)
 
 pub hex-value-of-spec : {M : Type 1} → statement M
 hex-value-of-spec =

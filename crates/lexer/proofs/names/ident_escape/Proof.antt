@@ -3,36 +3,25 @@ use Rattle.lexer.proofs.Escapes as laws
 use borrow.Author.Needs.{needs}
 use Rattle.lexer.proofs.names.ident_escape.Statement.{statement}
 use Rattle.lexer.proofs.names.ident_escape.Tie as tie
-use Rattle.lexer.proofs.names.ident_escape.Reads as reads
-use Rattle.lexer.proofs.names.ident_escape.Lts as lts
-use Rattle.combinators.proofs.bytes.byte_is.Reads as byte-is-reads
-use Rattle.lexer.proofs.names.escaped.Reads as escaped-reads
 
--- src/names.rt:181:8
 byte-is-requires : tie.Need-byte-is-requires
 byte-is-requires c κs = search needs
 
--- src/names.rt:182:24
 sub-escaped : tie.Need-sub-escaped
 sub-escaped c = omega (arith, laws.escape-there (c .before .before .before .args .s .now) _ (c .before .byte-is .ensures) (c .if1 .taken))
 
--- src/names.rt:182:24
 part-escaped-start : tie.Need-part-escaped-start
 part-escaped-start c = omega (arith, laws.escape-there (c .before .before .before .args .s .now) _ (c .before .byte-is .ensures) (c .if1 .taken))
 
--- src/names.rt:182:24
 part-escaped-end : tie.Need-part-escaped-end
 part-escaped-end c = search needs
 
--- src/names.rt:182:9
 escaped-requires : tie.Need-escaped-requires
 escaped-requires c κs = search needs
 
--- src/names.rt:182:9
 returns : tie.Need-returns
 returns c = laws.escape-yes _ _ (c .before .before .before .byte-is .ensures) (c .before .before .if1 .taken) _ (c .escaped .ensures)
 
--- src/names.rt:178:1
 returns-2 : tie.Need-returns-2
 returns-2 c = laws.escape-no _ _ (c .before .byte-is .ensures) (c .if1 .left)
 

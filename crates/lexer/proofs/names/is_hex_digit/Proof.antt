@@ -1,5 +1,5 @@
+use Rattle.combinators.proofs.Rules.{cases}
 use Rattle.lexer.specs.Name.{isHexDigit}
-use Rattle.combinators.proofs.Rules.{cases, within-true}
 use borrow.Author.Needs.{needs}
 use Rattle.lexer.proofs.names.is_hex_digit.Statement.{statement}
 use Rattle.lexer.proofs.names.is_hex_digit.Tie as tie

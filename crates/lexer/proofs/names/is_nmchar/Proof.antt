@@ -1,5 +1,5 @@
+use Rattle.combinators.proofs.Rules.{cases}
 use Rattle.lexer.specs.Name.{isNmchar}
-use Rattle.combinators.proofs.Rules.{cases, within-true}
 use borrow.Author.Needs.{needs}
 use Rattle.lexer.proofs.names.is_nmchar.Statement.{statement}
 use Rattle.lexer.proofs.names.is_nmchar.Tie as tie

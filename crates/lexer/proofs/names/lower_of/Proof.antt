@@ -1,6 +1,4 @@
 use Rattle.lexer.proofs.Escapes as laws
-use Rattle.lexer.specs.Name.{lower}
-use Rattle.combinators.proofs.Rules.{cases, within-true}
 use borrow.Author.Needs.{needs}
 use Rattle.lexer.proofs.names.lower_of.Statement.{statement}
 use Rattle.lexer.proofs.names.lower_of.Tie as tie

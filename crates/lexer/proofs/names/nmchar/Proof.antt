@@ -3,33 +3,23 @@ use Rattle.lexer.proofs.Escapes as laws
 use borrow.Author.Needs.{needs}
 use Rattle.lexer.proofs.names.nmchar.Statement.{statement}
 use Rattle.lexer.proofs.names.nmchar.Tie as tie
-use Rattle.lexer.proofs.names.nmchar.Reads as reads
-use Rattle.lexer.proofs.names.nmchar.Lts as lts
-use Rattle.lexer.proofs.names.ident_escape.Reads as ident-escape-reads
-use Rattle.lexer.proofs.names.nmchar_char.Reads as nmchar-char-reads
 
--- src/names.rt:205:11
 nmchar-char-requires : tie.Need-nmchar-char-requires
 nmchar-char-requires c κs = search needs
 
--- src/names.rt:206:23
 enum-known-n : tie.Need-enum-known-n
 enum-known-n c = search needs
 
--- src/names.rt:207:13
 returns : tie.Need-returns
 unfolding nmcharOf
 returns c = laws.either-first _ _ _ (c .before .before .before .nmchar-char .ensures) _ _ (c .before .n .given .1)
 
--- src/names.rt:210:13
 enum-told : tie.Need-enum-told
 enum-told c = search needs
 
--- src/names.rt:210:13
 ident-escape-requires : tie.Need-ident-escape-requires
 ident-escape-requires c κs = search needs
 
--- src/names.rt:210:13
 returns-2 : tie.Need-returns-2
 unfolding nmcharOf
 returns-2 c = laws.either-second _ _ _ (c .before .before .before .nmchar-char .ensures) (c .before .enum-told .given .1) _ (c .ident-escape .ensures)

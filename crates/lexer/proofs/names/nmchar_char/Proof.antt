@@ -3,30 +3,20 @@ use Rattle.lexer.proofs.Escapes as laws
 use borrow.Author.Needs.{needs}
 use Rattle.lexer.proofs.names.nmchar_char.Statement.{statement}
 use Rattle.lexer.proofs.names.nmchar_char.Tie as tie
-use Rattle.lexer.proofs.names.nmchar_char.Reads as reads
-use Rattle.lexer.proofs.names.nmchar_char.Lts as lts
-use Rattle.combinators.proofs.bytes.peek.Reads as peek-reads
-use Rattle.lexer.proofs.names.is_nmchar.Reads as is-nmchar-reads
-use Rattle.lexer.proofs.names.lower_of.Reads as lower-of-reads
 
--- src/names.rt:77:9
 peek-requires : tie.Need-peek-requires
 peek-requires c κs = search needs
 
--- src/names.rt:78:8
 is-nmchar-requires : tie.Need-is-nmchar-requires
 is-nmchar-requires c κs = search needs
 
--- src/names.rt:79:33
 lower-of-requires : tie.Need-lower-of-requires
 lower-of-requires c κs = search needs
 
--- src/names.rt:79:9
 returns : tie.Need-returns
 unfolding nmcharCharOf
 returns c = laws.char-yes isNmchar _ _ (c .before .before .before .peek .ensures) _ (c .before .before .is-nmchar .ensures) (c .before .if1 .taken) _ (c .lower-of .ensures)
 
--- src/names.rt:74:1
 returns-2 : tie.Need-returns-2
 unfolding nmcharCharOf
 returns-2 c = laws.char-no isNmchar _ _ (c .before .before .peek .ensures) _ (c .before .is-nmchar .ensures) (c .if1 .left)

@@ -3,33 +3,23 @@ use Rattle.lexer.proofs.Escapes as laws
 use borrow.Author.Needs.{needs}
 use Rattle.lexer.proofs.names.nmstart.Statement.{statement}
 use Rattle.lexer.proofs.names.nmstart.Tie as tie
-use Rattle.lexer.proofs.names.nmstart.Reads as reads
-use Rattle.lexer.proofs.names.nmstart.Lts as lts
-use Rattle.lexer.proofs.names.ident_escape.Reads as ident-escape-reads
-use Rattle.lexer.proofs.names.nmstart_char.Reads as nmstart-char-reads
 
--- src/names.rt:191:11
 nmstart-char-requires : tie.Need-nmstart-char-requires
 nmstart-char-requires c κs = search needs
 
--- src/names.rt:192:23
 enum-known-n : tie.Need-enum-known-n
 enum-known-n c = search needs
 
--- src/names.rt:193:13
 returns : tie.Need-returns
 unfolding nmstartOf
 returns c = laws.either-first _ _ _ (c .before .before .before .nmstart-char .ensures) _ _ (c .before .n .given .1)
 
--- src/names.rt:196:13
 enum-told : tie.Need-enum-told
 enum-told c = search needs
 
--- src/names.rt:196:13
 ident-escape-requires : tie.Need-ident-escape-requires
 ident-escape-requires c κs = search needs
 
--- src/names.rt:196:13
 returns-2 : tie.Need-returns-2
 unfolding nmstartOf
 returns-2 c = laws.either-second _ _ _ (c .before .before .before .nmstart-char .ensures) (c .before .enum-told .given .1) _ (c .ident-escape .ensures)

@@ -3,30 +3,20 @@ use Rattle.lexer.proofs.Escapes as laws
 use borrow.Author.Needs.{needs}
 use Rattle.lexer.proofs.names.nmstart_char.Statement.{statement}
 use Rattle.lexer.proofs.names.nmstart_char.Tie as tie
-use Rattle.lexer.proofs.names.nmstart_char.Reads as reads
-use Rattle.lexer.proofs.names.nmstart_char.Lts as lts
-use Rattle.combinators.proofs.bytes.peek.Reads as peek-reads
-use Rattle.lexer.proofs.names.is_nmstart.Reads as is-nmstart-reads
-use Rattle.lexer.proofs.names.lower_of.Reads as lower-of-reads
 
--- src/names.rt:66:9
 peek-requires : tie.Need-peek-requires
 peek-requires c κs = search needs
 
--- src/names.rt:67:8
 is-nmstart-requires : tie.Need-is-nmstart-requires
 is-nmstart-requires c κs = search needs
 
--- src/names.rt:68:33
 lower-of-requires : tie.Need-lower-of-requires
 lower-of-requires c κs = search needs
 
--- src/names.rt:68:9
 returns : tie.Need-returns
 unfolding nmstartCharOf
 returns c = laws.char-yes isNmstart _ _ (c .before .before .before .peek .ensures) _ (c .before .before .is-nmstart .ensures) (c .before .if1 .taken) _ (c .lower-of .ensures)
 
--- src/names.rt:63:1
 returns-2 : tie.Need-returns-2
 unfolding nmstartCharOf
 returns-2 c = laws.char-no isNmstart _ _ (c .before .before .peek .ensures) _ (c .before .is-nmstart .ensures) (c .if1 .left)

@@ -1,62 +1,47 @@
 use native.Mathlib.Omega.{arith}
-use Rattle.lexer.specs.Name.{nameOf, identOf, identstringOf}
+use Rattle.lexer.specs.Name.{nameOf, identOf}
 use Rattle.lexer.proofs.Idents as laws
+use Rattle.lexer.proofs.IdentBounds.{name-keeps, answer-le}
 use borrow.Author.Needs.{needs}
 use Rattle.lexer.proofs.names.parse_ident.Statement.{statement}
 use Rattle.lexer.proofs.names.parse_ident.Tie as tie
-use Rattle.lexer.proofs.names.parse_ident.Reads as reads
-use Rattle.lexer.proofs.names.parse_ident.Lts as lts
-use Rattle.lexer.proofs.names.parse_name.Reads as parse-name-reads
-use Rattle.lexer.proofs.whitespace.skip_optional_whitespace.Reads as skip-optional-whitespace-reads
 
--- src/names.rt:284:9
 skip-optional-whitespace-requires : tie.Need-skip-optional-whitespace-requires
 skip-optional-whitespace-requires c κs = search needs
 
--- src/names.rt:285:22
 sub-parse-name : tie.Need-sub-parse-name
 sub-parse-name c = search needs
 
--- src/names.rt:285:22
 part-parse-name-start : tie.Need-part-parse-name-start
 part-parse-name-start c = search needs
 
--- src/names.rt:285:22
 part-parse-name-end : tie.Need-part-parse-name-end
 part-parse-name-end c = search needs
 
--- src/names.rt:285:11
 parse-name-requires : tie.Need-parse-name-requires
 parse-name-requires c κs = search needs
 
--- src/names.rt:286:20
 enum-known-n : tie.Need-enum-known-n
 enum-known-n c = search needs
 
--- src/names.rt:287:31
 add-t14 : tie.Need-add-t14
-add-t14 c = omega (arith, laws.answer-le _ _ (laws.name-fits _) _ (c .before .before .before .before .before .parse-name .ensures .0) _ _ (c .before .n .given .1))
+add-t14 c = omega (arith, answer-le _ _ (name-keeps _) _ (c .before .before .before .before .before .parse-name .ensures .0) _ _ (c .before .n .given .1))
 
--- src/names.rt:287:13
 same-length : tie.Need-same-length
 same-length c = search needs
 
--- src/names.rt:287:13
 returns : tie.Need-returns
-unfolding identOf identstringOf
+unfolding identOf
 returns c = laws.behind-text nameOf _ _ (c .before .before .before .before .before .before .before .before .skip-optional-whitespace .ensures .0) _ _ _ _ (c .before .before .before .before .before .parse-name .ensures) _ _ (c .before .n .given .1)
 
--- src/names.rt:290:13
 enum-told : tie.Need-enum-told
 enum-told c = search needs
 
--- src/names.rt:290:13
 same-length-2 : tie.Need-same-length-2
 same-length-2 c = search needs
 
--- src/names.rt:290:13
 returns-2 : tie.Need-returns-2
-unfolding identOf identstringOf
+unfolding identOf
 returns-2 c = laws.behind-none nameOf _ _ (c .before .before .before .before .before .before .before .skip-optional-whitespace .ensures .0) _ _ _ _ (c .before .before .before .before .parse-name .ensures) (c .enum-told .given .1)
 
 pub parse-ident-spec : {M : Type 1} → statement M

@@ -2,53 +2,37 @@ use Rattle.lexer.proofs.Idents as laws
 use borrow.Author.Needs.{needs}
 use Rattle.lexer.proofs.names.parse_name.Statement.{statement}
 use Rattle.lexer.proofs.names.parse_name.Tie as tie
-use Rattle.lexer.proofs.names.parse_name.Reads as reads
-use Rattle.lexer.proofs.names.parse_name.Lts as lts
-use Rattle.lexer.proofs.names.dash_of.Reads as dash-of-reads
-use Rattle.lexer.proofs.names.emit_nmchars.Reads as emit-nmchars-reads
-use Rattle.lexer.proofs.names.nmstart.Reads as nmstart-reads
 
--- src/names.rt:255:9
 dash-of-requires : tie.Need-dash-of-requires
 dash-of-requires c κs = search needs
 
--- src/names.rt:256:19
 sub-nmstart : tie.Need-sub-nmstart
 sub-nmstart c = search needs
 
--- src/names.rt:256:19
 part-nmstart-start : tie.Need-part-nmstart-start
 part-nmstart-start c = search needs
 
--- src/names.rt:256:19
 part-nmstart-end : tie.Need-part-nmstart-end
 part-nmstart-end c = search needs
 
--- src/names.rt:256:11
 nmstart-requires : tie.Need-nmstart-requires
 nmstart-requires c κs = search needs
 
--- src/names.rt:258:37
 enum-told : tie.Need-enum-told
 enum-told c = search needs
 
--- src/names.rt:258:17
 emit-nmchars-requires : tie.Need-emit-nmchars-requires
 emit-nmchars-requires c κs = search needs
 
--- src/names.rt:259:13
 same-length : tie.Need-same-length
 same-length c = search needs
 
--- src/names.rt:259:13
 returns : tie.Need-returns
 returns c = laws.named _ _ (c .before .before .before .before .before .before .before .before .dash-of .ensures .0) _ (c .before .before .before .before .before .before .nmstart .ensures) _ _ (c .before .before .before .before .enum-told .given .1) _ _ _ _ _ (c .before .before .emit-nmchars .ensures)
 
--- src/names.rt:262:13
 enum-told-2 : tie.Need-enum-told-2
 enum-told-2 c = search needs
 
--- src/names.rt:262:13
 returns-2 : tie.Need-returns-2
 returns-2 c = laws.not-named _ _ (c .before .before .before .before .dash-of .ensures .0) _ (c .before .before .nmstart .ensures) (c .enum-told2 .given .1) _ _
 

@@ -1,19 +1,19 @@
-use Rattle.lexer.proofs.Digits.{decimal-none, decimal-some, decimal-le, followed-none, followed-some}
-use Rattle.lexer.proofs.Repeating.{bounded}
-use Rattle.lexer.specs.Number.{decimal, digits}
-use Rattle.combinators.specs.Ascii.{fullStop}
-use lib.ListN.{length}
-use Rattle.lexer.proofs.Comments.{there}
-use native.Mathlib.Omega.{arith}
-use Prim.Native.Nat.{_+_, _<_}
 use mathlib.Core.Path.{sym, ap, _∙_}
+use Prim.Native.Nat.{_+_, _<_}
+use native.Mathlib.Omega.{arith}
+use lib.ListN.{length}
+use Rattle.combinators.specs.Ascii.{fullStop}
+use Rattle.combinators.proofs.Lists.{byte-there}
+use Rattle.combinators.proofs.Repeating.{bounded}
+use Rattle.lexer.specs.Number.{decimal, digits}
+use Rattle.lexer.proofs.Digits.{decimal-none, decimal-some, decimal-le, followed-none, followed-some}
 use borrow.Author.Needs.{needs}
 use Rattle.lexer.proofs.numbers.parse_decimal.Statement.{statement}
 use Rattle.lexer.proofs.numbers.parse_decimal.Tie as tie
 
 -- the full stop is there
 stop-there : (c : tie.Then1) → c .before .before .parse-integer .result < length (c .before .before .before .before .args .s .now)
-stop-there c = there (c .before .before .before .before .args .s .now) _ fullStop (omega arith) (sym (c .before .byte-is .ensures) ∙ c .if1 .taken)
+stop-there c = byte-there (c .before .before .before .before .args .s .now) _ fullStop (omega arith) (sym (c .before .byte-is .ensures) ∙ c .if1 .taken)
 
 parse-integer-requires : tie.Need-parse-integer-requires
 parse-integer-requires c κs = search needs

@@ -1,11 +1,11 @@
-use Rattle.lexer.proofs.Digits.{digit-at}
-use Rattle.lexer.proofs.Repeating.{Repeating, repeat-begin, repeat-more, repeat-stop, repeat-end}
-use Rattle.lexer.specs.Number.{digits, oneDigit}
-use Rattle.combinators.specs.Choice.{pick}
-use lib.ListN.{length}
-use native.Mathlib.Omega.{arith}
-use Prim.Native.Nat.{_-_}
 use mathlib.Core.Path.{sym, _∙_}
+use Prim.Native.Nat.{_-_}
+use native.Mathlib.Omega.{arith}
+use lib.ListN.{length}
+use Rattle.combinators.specs.Choice.{pick}
+use Rattle.combinators.proofs.Repeating.{Repeating, repeat-begin, repeat-more, repeat-stop, repeat-end}
+use Rattle.lexer.specs.Number.{digits, oneDigit}
+use Rattle.lexer.proofs.Digits.{digit-at}
 use borrow.Author.Needs.{needs}
 use Rattle.lexer.proofs.numbers.parse_integer.Statement.{statement}
 use Rattle.lexer.proofs.numbers.parse_integer.Tie as tie

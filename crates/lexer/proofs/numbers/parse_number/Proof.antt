@@ -1,6 +1,6 @@
-use Rattle.lexer.proofs.Digits.{number-le, followed-none, followed-some}
-use Rattle.lexer.proofs.Repeating.{bounded}
+use Rattle.combinators.proofs.Repeating.{bounded}
 use Rattle.lexer.specs.Number.{signed, number}
+use Rattle.lexer.proofs.Digits.{number-le, followed-none, followed-some}
 use borrow.Author.Needs.{needs}
 use Rattle.lexer.proofs.numbers.parse_number.Statement.{statement}
 use Rattle.lexer.proofs.numbers.parse_number.Tie as tie

@@ -1,7 +1,7 @@
-use Rattle.lexer.specs.Number.{sign}
-use Rattle.lexer.proofs.Repeating.{bounded}
-use Rattle.lexer.proofs.Digits.{sign-le}
 use Rattle.combinators.proofs.Rules.{cases}
+use Rattle.combinators.proofs.Repeating.{bounded}
+use Rattle.lexer.specs.Number.{sign}
+use Rattle.lexer.proofs.Digits.{sign-le}
 use borrow.Author.Needs.{needs}
 use Rattle.lexer.proofs.numbers.parse_sign.Statement.{statement}
 use Rattle.lexer.proofs.numbers.parse_sign.Tie as tie

@@ -1,6 +1,6 @@
-use Rattle.lexer.proofs.Digits.{signed-le, followed-none, followed-some}
-use Rattle.lexer.proofs.Repeating.{bounded}
+use Rattle.combinators.proofs.Repeating.{bounded}
 use Rattle.lexer.specs.Number.{unsigned, signed}
+use Rattle.lexer.proofs.Digits.{signed-le, followed-none, followed-some}
 use borrow.Author.Needs.{needs}
 use Rattle.lexer.proofs.numbers.parse_signed.Statement.{statement}
 use Rattle.lexer.proofs.numbers.parse_signed.Tie as tie

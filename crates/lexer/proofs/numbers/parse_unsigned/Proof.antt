@@ -1,5 +1,5 @@
-use Rattle.lexer.specs.Number.{unsigned}
 use Rattle.combinators.proofs.Rules.{cases}
+use Rattle.lexer.specs.Number.{unsigned}
 use borrow.Author.Needs.{needs}
 use Rattle.lexer.proofs.numbers.parse_unsigned.Statement.{statement}
 use Rattle.lexer.proofs.numbers.parse_unsigned.Tie as tie

@@ -3,57 +3,40 @@ use Rattle.lexer.proofs.TokenRows as laws
 use borrow.Author.Needs.{needs}
 use Rattle.lexer.proofs.rows.put_token.Statement.{statement}
 use Rattle.lexer.proofs.rows.put_token.Tie as tie
-use Rattle.lexer.proofs.rows.put_token.Reads as reads
-use Rattle.lexer.proofs.rows.put_token.Lts as lts
-use Rattle.combinators.proofs.stores.emit_number.Reads as emit-number-reads
-use Rattle.lexer.proofs.rows.columns_of.Reads as columns-of-reads
-use Rattle.lexer.proofs.rows.word_of.Reads as word-of-reads
 
--- src/rows.rt:91:9
 columns-of-requires : tie.Need-columns-of-requires
 columns-of-requires c κs = search needs
 
--- src/rows.rt:92:9
 emit-number-requires : tie.Need-emit-number-requires
 emit-number-requires c κs = search needs
 
--- src/rows.rt:93:34
 word-of-requires : tie.Need-word-of-requires
 word-of-requires c κs = search needs
 
--- src/rows.rt:93:9
 emit-number-requires-2 : tie.Need-emit-number-requires-2
 emit-number-requires-2 c κs = search needs
 
--- src/rows.rt:94:35
 word-of-requires-2 : tie.Need-word-of-requires-2
 word-of-requires-2 c κs = search needs
 
--- src/rows.rt:94:9
 emit-number-requires-3 : tie.Need-emit-number-requires-3
 emit-number-requires-3 c κs = search needs
 
--- src/rows.rt:95:35
 word-of-requires-3 : tie.Need-word-of-requires-3
 word-of-requires-3 c κs = search needs
 
--- src/rows.rt:95:9
 emit-number-requires-4 : tie.Need-emit-number-requires-4
 emit-number-requires-4 c κs = search needs
 
--- src/rows.rt:96:17
 word-of-requires-4 : tie.Need-word-of-requires-4
 word-of-requires-4 c κs = search needs
 
--- src/rows.rt:96:5
 emit-number-requires-5 : tie.Need-emit-number-requires-5
 emit-number-requires-5 c κs = search needs
 
--- src/rows.rt:88:1
 same-length : tie.Need-same-length
 same-length c = c .before .before .emit-number5 .kept .1 .0 ∙ c .before .before .before .before .before .before .before .emit-number4 .kept .1 .0 ∙ c .before .before .before .before .before .before .before .before .before .before .before .before .emit-number3 .kept .1 .0 ∙ c .before .before .before .before .before .before .before .before .before .before .before .before .before .before .before .before .before .emit-number2 .kept .1 .0 ∙ c .before .before .before .before .before .before .before .before .before .before .before .before .before .before .before .before .before .before .before .before .before .before .emit-number .kept .1 .0
 
--- src/rows.rt:88:1
 returns : tie.Need-returns
 returns c = laws.row-written _ _ (c .before .before .before .before .before .before .before .before .before .before .before .before .before .before .before .before .before .before .before .before .before .before .before .before .columns-of .ensures) _ _ _ _ _ _ (c .before .before .before .before .before .before .before .before .before .before .before .before .before .before .before .before .before .before .before .word-of .ensures) (c .before .before .before .before .before .before .before .before .before .before .before .before .before .before .word-of2 .ensures) (c .before .before .before .before .before .before .before .before .before .word-of3 .ensures) (c .before .before .before .before .word-of4 .ensures) _ _ _ _ _ _ (c .before .before .before .before .before .before .before .before .before .before .before .before .before .before .before .before .before .before .before .before .before .before .emit-number .ensures) (c .before .before .before .before .before .before .before .before .before .before .before .before .before .before .before .before .before .emit-number2 .ensures) (c .before .before .before .before .before .before .before .before .before .before .before .before .emit-number3 .ensures) (c .before .before .before .before .before .before .before .emit-number4 .ensures) (c .before .before .emit-number5 .ensures)
 

@@ -2,14 +2,10 @@ use Rattle.lexer.specs.TokenRow.{word}
 use borrow.Author.Needs.{needs}
 use Rattle.lexer.proofs.rows.word_of.Statement.{statement}
 use Rattle.lexer.proofs.rows.word_of.Tie as tie
-use Rattle.lexer.proofs.rows.word_of.Reads as reads
-use Rattle.lexer.proofs.rows.word_of.Lts as lts
 
--- src/rows.rt:83:5
 cast-result : tie.Need-cast-result
 cast-result c = search needs
 
--- src/rows.rt:80:1
 returns : tie.Need-returns
 unfolding word
 returns c = search needs

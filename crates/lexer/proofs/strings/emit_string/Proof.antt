@@ -1,6 +1,6 @@
 use mathlib.Core.Path.{_∙_}
-use native.Mathlib.Omega.{arith}
 use Prim.Native.Nat.{_+_, _-_}
+use native.Mathlib.Omega.{arith}
 use lib.ListN.{length}
 use Rattle.lexer.specs.Quoted.{quotedTaken, quotedText}
 use Rattle.lexer.proofs.Writing as writing
@@ -47,13 +47,13 @@ returns : tie.Need-returns Inv-loop μ-loop
 returns c = let d = c .before .before .before .before in laws.string-stop _ _ _ _ _ _ _ _ (d .before .before .before .before .loop .inv) _ _ _ _ (d .emit-quoted .ensures) (c .if1 .taken)
 
 add-i : tie.Need-add-i Inv-loop μ-loop
-add-i c = omega (arith, next c .within′)
+add-i c = omega (arith, next c .within-text)
 
 add-n : tie.Need-add-n Inv-loop μ-loop
 add-n c = omega (arith, laws.string-small _ _ _ _ _ _ _ _ (next (c .before)))
 
 loop-less : tie.Need-loop-less Inv-loop μ-loop
-loop-less c = omega (arith, next (c .before) .within′, c .before .before .if1 .left)
+loop-less c = omega (arith, next (c .before) .within-text, c .before .before .if1 .left)
 
 loop-again : tie.Need-loop-again Inv-loop μ-loop
 loop-again c = next (c .before)

@@ -1,5 +1,5 @@
-use Rattle.lexer.specs.Quoted.{escapedByte}
 use Rattle.combinators.proofs.Rules.{cases}
+use Rattle.lexer.specs.Quoted.{escapedByte}
 use borrow.Author.Needs.{needs}
 use Rattle.lexer.proofs.strings.escaped_byte.Statement.{statement}
 use Rattle.lexer.proofs.strings.escaped_byte.Tie as tie

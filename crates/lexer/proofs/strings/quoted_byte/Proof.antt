@@ -1,5 +1,5 @@
-use Rattle.lexer.specs.Quoted.{quotedOf}
 use Rattle.combinators.proofs.Rules.{cases}
+use Rattle.lexer.specs.Quoted.{quotedOf}
 use borrow.Author.Needs.{needs}
 use Rattle.lexer.proofs.strings.quoted_byte.Statement.{statement}
 use Rattle.lexer.proofs.strings.quoted_byte.Tie as tie

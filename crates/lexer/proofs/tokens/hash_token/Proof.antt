@@ -1,55 +1,40 @@
 use native.Mathlib.Omega.{arith}
-use Rattle.lexer.proofs.TokenBounds.{token-le, numeric-bounded}
-use Rattle.lexer.proofs.Idents.{answer-le, identstring-fits}
-use Rattle.lexer.proofs.Lexing as laws
+use Rattle.lexer.proofs.IdentBounds.{identstring-keeps, answer-le}
+use Rattle.lexer.proofs.TokenReaders as laws
 use borrow.Author.Needs.{needs}
 use Rattle.lexer.proofs.tokens.hash_token.Statement.{statement}
 use Rattle.lexer.proofs.tokens.hash_token.Tie as tie
-use Rattle.lexer.proofs.tokens.hash_token.Reads as reads
-use Rattle.lexer.proofs.tokens.hash_token.Lts as lts
-use Rattle.lexer.proofs.names.parse_identstring.Reads as parse-identstring-reads
 
--- src/tokens.rt:273:29
 sub-parse-identstring : tie.Need-sub-parse-identstring
 sub-parse-identstring c = search needs
 
--- src/tokens.rt:273:29
 part-parse-identstring-start : tie.Need-part-parse-identstring-start
 part-parse-identstring-start c = search needs
 
--- src/tokens.rt:273:29
 part-parse-identstring-end : tie.Need-part-parse-identstring-end
 part-parse-identstring-end c = search needs
 
--- src/tokens.rt:273:11
 parse-identstring-requires : tie.Need-parse-identstring-requires
 parse-identstring-requires c κs = search needs
 
--- src/tokens.rt:274:20
 enum-known-m : tie.Need-enum-known-m
 enum-known-m c = search needs
 
--- src/tokens.rt:275:38
 add-t14 : tie.Need-add-t14
-add-t14 c = omega (arith, answer-le _ _ (identstring-fits _) _ (c .before .before .before .before .before .parse-identstring .ensures .0) _ _ (c .before .m .given .1))
+add-t14 c = omega (arith, answer-le _ _ (identstring-keeps _) _ (c .before .before .before .before .before .parse-identstring .ensures .0) _ _ (c .before .m .given .1))
 
--- src/tokens.rt:275:13
 same-length : tie.Need-same-length
 same-length c = search needs
 
--- src/tokens.rt:275:13
 returns : tie.Need-returns
 returns c = laws.hashed _ _ _ _ _ _ (c .before .before .before .before .before .parse-identstring .ensures) _ _ (c .before .m .given .1)
 
--- src/tokens.rt:278:41
 enum-told : tie.Need-enum-told
 enum-told c = search needs
 
--- src/tokens.rt:278:13
 same-length-2 : tie.Need-same-length-2
 same-length-2 c = search needs
 
--- src/tokens.rt:278:13
 returns-2 : tie.Need-returns-2
 returns-2 c = laws.not-hashed _ _ _ _ _ _ (c .before .before .before .before .parse-identstring .ensures) (c .enum-told .given .1)
 

@@ -1,24 +1,17 @@
-use Rattle.lexer.proofs.Lexing as laws
+use Rattle.lexer.proofs.TokenReaders as laws
 use borrow.Author.Needs.{needs}
 use Rattle.lexer.proofs.tokens.less_token.Statement.{statement}
 use Rattle.lexer.proofs.tokens.less_token.Tie as tie
-use Rattle.lexer.proofs.tokens.less_token.Reads as reads
-use Rattle.lexer.proofs.tokens.less_token.Lts as lts
-use Rattle.combinators.proofs.bytes.starts_with.Reads as starts-with-reads
 
--- src/tokens.rt:321:23
 slice-aggregate-starts-with : tie.Need-slice-aggregate-starts-with
 slice-aggregate-starts-with c = search needs
 
--- src/tokens.rt:321:8
 starts-with-requires : tie.Need-starts-with-requires
 starts-with-requires c κs = search needs
 
--- src/tokens.rt:322:9
 returns : tie.Need-returns
 returns c = laws.less-cdo _ _ _ (c .before .starts-with .ensures) (c .if1 .taken)
 
--- src/tokens.rt:318:1
 returns-2 : tie.Need-returns-2
 returns-2 c = laws.less-delim _ _ _ (c .before .starts-with .ensures) (c .if1 .left)
 

@@ -1,59 +1,46 @@
-use Rattle.lexer.proofs.Lexing as laws
+use Rattle.combinators.proofs.Rules.{cases}
 use Rattle.lexer.specs.Token.{markOf, coded}
 use Rattle.lexer.specs.Token as token
-use Rattle.combinators.proofs.Rules.{cases}
-use borrow.Author.Needs.{needs}
+use Rattle.lexer.proofs.Lexing as laws
 use Rattle.lexer.proofs.tokens.mark_of.Statement.{statement}
 use Rattle.lexer.proofs.tokens.mark_of.Tie as tie
-use Rattle.lexer.proofs.tokens.mark_of.Reads as reads
-use Rattle.lexer.proofs.tokens.mark_of.Lts as lts
 
--- src/tokens.rt:228:9
 returns : tie.Need-returns
 unfolding markOf coded
 returns c = laws.marked token.semicolon _ (search cases depth 30)
 
--- src/tokens.rt:231:9
 returns-2 : tie.Need-returns-2
 unfolding markOf coded
 returns-2 c = laws.marked token.openRound _ (search cases depth 30)
 
--- src/tokens.rt:234:9
 returns-3 : tie.Need-returns-3
 unfolding markOf coded
 returns-3 c = laws.marked token.closeRound _ (search cases depth 30)
 
--- src/tokens.rt:237:9
 returns-4 : tie.Need-returns-4
 unfolding markOf coded
 returns-4 c = laws.marked token.comma _ (search cases depth 30)
 
--- src/tokens.rt:240:9
 returns-5 : tie.Need-returns-5
 unfolding markOf coded
 returns-5 c = laws.marked token.colon _ (search cases depth 30)
 
--- src/tokens.rt:243:9
 returns-6 : tie.Need-returns-6
 unfolding markOf coded
 returns-6 c = laws.marked token.openSquare _ (search cases depth 30)
 
--- src/tokens.rt:246:9
 returns-7 : tie.Need-returns-7
 unfolding markOf coded
 returns-7 c = laws.marked token.closeSquare _ (search cases depth 30)
 
--- src/tokens.rt:249:9
 returns-8 : tie.Need-returns-8
 unfolding markOf coded
 returns-8 c = laws.marked token.openBrace _ (search cases depth 30)
 
--- src/tokens.rt:252:9
 returns-9 : tie.Need-returns-9
 unfolding markOf coded
 returns-9 c = laws.marked token.closeBrace _ (search cases depth 30)
 
--- src/tokens.rt:224:1
 returns-10 : tie.Need-returns-10
 unfolding markOf coded
 returns-10 c = laws.marked (token.delim _) _ (search cases depth 30)

@@ -1,64 +1,45 @@
 use mathlib.Core.Path.{_∙_}
-use Rattle.lexer.proofs.Lexing as laws
+use Rattle.lexer.proofs.TokenReaders as laws
 use borrow.Author.Needs.{needs}
 use Rattle.lexer.proofs.tokens.minus_token.Statement.{statement}
 use Rattle.lexer.proofs.tokens.minus_token.Tie as tie
-use Rattle.lexer.proofs.tokens.minus_token.Reads as reads
-use Rattle.lexer.proofs.tokens.minus_token.Lts as lts
-use Rattle.combinators.proofs.bytes.starts_with.Reads as starts-with-reads
-use Rattle.lexer.proofs.tokens.or_delim.Reads as or-delim-reads
-use Rattle.lexer.proofs.tokens.parse_ident_like.Reads as parse-ident-like-reads
-use Rattle.lexer.proofs.tokens.parse_numeric_token.Reads as parse-numeric-token-reads
 
--- src/tokens.rt:304:11
 parse-numeric-token-requires : tie.Need-parse-numeric-token-requires
 parse-numeric-token-requires c κs = search needs
 
--- src/tokens.rt:305:27
 enum-known-n : tie.Need-enum-known-n
 enum-known-n c = search needs
 
--- src/tokens.rt:306:13
 same-length : tie.Need-same-length
 same-length c = search needs
 
--- src/tokens.rt:306:13
 returns : tie.Need-returns
 returns c = laws.minus-number _ _ _ _ _ _ (c .before .before .before .before .before .parse-numeric-token .ensures) _ _ (c .before .n .given .1)
 
--- src/tokens.rt:309:31
 enum-told : tie.Need-enum-told
 enum-told c = search needs
 
--- src/tokens.rt:309:31
 slice-aggregate-starts-with : tie.Need-slice-aggregate-starts-with
 slice-aggregate-starts-with c = search needs
 
--- src/tokens.rt:309:16
 starts-with-requires : tie.Need-starts-with-requires
 starts-with-requires c κs = search needs
 
--- src/tokens.rt:310:17
 same-length-2 : tie.Need-same-length-2
 same-length-2 c = search needs
 
--- src/tokens.rt:310:17
 returns-2 : tie.Need-returns-2
 returns-2 c = laws.minus-cdc _ _ _ _ _ _ (c .before .before .before .before .before .before .before .parse-numeric-token .ensures) (c .before .before .before .enum-told .given .1) _ (c .before .starts-with .ensures) (c .if1 .taken)
 
--- src/tokens.rt:312:29
 parse-ident-like-requires : tie.Need-parse-ident-like-requires
 parse-ident-like-requires c κs = search needs
 
--- src/tokens.rt:312:13
 or-delim-requires : tie.Need-or-delim-requires
 or-delim-requires c κs = search needs
 
--- src/tokens.rt:312:13
 same-length-3 : tie.Need-same-length-3
 same-length-3 c = c .before .before .before .parse-ident-like .kept .1 .0 ∙ c .before .before .before .before .before .before .before .before .before .before .before .before .parse-numeric-token .kept .1 .0
 
--- src/tokens.rt:312:13
 returns-3 : tie.Need-returns-3
 returns-3 c = laws.minus-ident _ _ _ _ _ _ (c .before .before .before .before .before .before .before .before .before .before .before .before .parse-numeric-token .ensures) (c .before .before .before .before .before .before .before .before .enum-told .given .1) _ (c .before .before .before .before .before .before .starts-with .ensures) (c .before .before .before .before .before .if1 .left) _ _ (c .before .before .before .parse-ident-like .ensures) _ (c .or-delim .ensures)
 

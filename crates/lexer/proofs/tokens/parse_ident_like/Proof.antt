@@ -1,55 +1,40 @@
 use native.Mathlib.Omega.{arith}
-use Rattle.lexer.proofs.Idents.{answer-le, ident-fits}
-use Rattle.lexer.proofs.Lexing as laws
+use Rattle.lexer.proofs.IdentBounds.{ident-keeps, answer-le}
+use Rattle.lexer.proofs.TokenReaders as laws
 use borrow.Author.Needs.{needs}
 use Rattle.lexer.proofs.tokens.parse_ident_like.Statement.{statement}
 use Rattle.lexer.proofs.tokens.parse_ident_like.Tie as tie
-use Rattle.lexer.proofs.tokens.parse_ident_like.Reads as reads
-use Rattle.lexer.proofs.tokens.parse_ident_like.Lts as lts
-use Rattle.combinators.proofs.bytes.byte_is.Reads as byte-is-reads
-use Rattle.lexer.proofs.names.parse_ident.Reads as parse-ident-reads
 
--- src/tokens.rt:91:11
 parse-ident-requires : tie.Need-parse-ident-requires
 parse-ident-requires c κs = search needs
 
--- src/tokens.rt:92:20
 enum-known-n : tie.Need-enum-known-n
 enum-known-n c = search needs
 
--- src/tokens.rt:93:16
 byte-is-requires : tie.Need-byte-is-requires
 byte-is-requires c κs = search needs
 
--- src/tokens.rt:94:42
 add-t10 : tie.Need-add-t10
-add-t10 c = omega (arith, answer-le _ _ (ident-fits _) _ (c .before .before .before .before .before .before .before .parse-ident .ensures .0) _ _ (c .before .before .before .n .given .1))
+add-t10 c = omega (arith, answer-le _ _ (ident-keeps _) _ (c .before .before .before .before .before .before .before .parse-ident .ensures .0) _ _ (c .before .before .before .n .given .1))
 
--- src/tokens.rt:94:17
 same-length : tie.Need-same-length
 same-length c = search needs
 
--- src/tokens.rt:94:17
 returns : tie.Need-returns
 returns c = laws.function-like _ _ _ _ _ (c .before .before .before .before .before .before .before .parse-ident .ensures) _ _ (c .before .before .before .n .given .1) _ (c .before .byte-is .ensures) (c .if1 .taken)
 
--- src/tokens.rt:96:13
 same-length-2 : tie.Need-same-length-2
 same-length-2 c = search needs
 
--- src/tokens.rt:96:13
 returns-2 : tie.Need-returns-2
 returns-2 c = laws.ident-like _ _ _ _ _ (c .before .before .before .before .before .before .before .parse-ident .ensures) _ _ (c .before .before .before .n .given .1) _ (c .before .byte-is .ensures) (c .if1 .left)
 
--- src/tokens.rt:99:13
 enum-told : tie.Need-enum-told
 enum-told c = search needs
 
--- src/tokens.rt:99:13
 same-length-3 : tie.Need-same-length-3
 same-length-3 c = search needs
 
--- src/tokens.rt:99:13
 returns-3 : tie.Need-returns-3
 returns-3 c = laws.no-ident _ _ _ _ _ (c .before .before .before .before .parse-ident .ensures) (c .enum-told .given .1)
 

@@ -1,86 +1,62 @@
 use mathlib.Core.Path.{_∙_}
 use native.Mathlib.Omega.{arith}
-use Rattle.lexer.proofs.Idents.{answer-le, ident-fits}
-use Rattle.lexer.proofs.Lexing as laws
+use Rattle.lexer.proofs.IdentBounds.{ident-keeps, answer-le}
+use Rattle.lexer.proofs.TokenReaders as laws
 use borrow.Author.Needs.{needs}
 use Rattle.lexer.proofs.tokens.parse_numeric_token.Statement.{statement}
 use Rattle.lexer.proofs.tokens.parse_numeric_token.Tie as tie
-use Rattle.lexer.proofs.tokens.parse_numeric_token.Reads as reads
-use Rattle.lexer.proofs.tokens.parse_numeric_token.Lts as lts
-use Rattle.combinators.proofs.bytes.byte_is.Reads as byte-is-reads
-use Rattle.combinators.proofs.stores.emit_part.Reads as emit-part-reads
-use Rattle.lexer.proofs.names.parse_ident.Reads as parse-ident-reads
-use Rattle.lexer.proofs.numbers.parse_number.Reads as parse-number-reads
 
--- src/tokens.rt:68:9
 parse-number-requires : tie.Need-parse-number-requires
 parse-number-requires c κs = search needs
 
--- src/tokens.rt:70:9
 returns : tie.Need-returns
 returns c = laws.no-number _ _ (c .before .parse-number .ensures .0) (c .if1 .taken) _ _
 
--- src/tokens.rt:72:9
 emit-part-requires : tie.Need-emit-part-requires
 emit-part-requires c κs = search needs
 
--- src/tokens.rt:73:8
 byte-is-requires : tie.Need-byte-is-requires
 byte-is-requires c κs = search needs
 
--- src/tokens.rt:74:34
 add-t12 : tie.Need-add-t12
 add-t12 c = search needs
 
--- src/tokens.rt:74:9
 same-length : tie.Need-same-length
 same-length c = search needs
 
--- src/tokens.rt:74:9
 returns-2 : tie.Need-returns-2
 returns-2 c = laws.percent _ _ (c .before .before .before .before .before .before .before .parse-number .ensures .0) (c .before .before .before .before .before .before .if1 .left) _ _ _ _ (c .before .before .before .before .emit-part .ensures) _ (c .before .byte-is .ensures) (c .if2 .taken)
 
--- src/tokens.rt:76:23
 sub-parse-ident : tie.Need-sub-parse-ident
 sub-parse-ident c = search needs
 
--- src/tokens.rt:76:23
 part-parse-ident-start : tie.Need-part-parse-ident-start
 part-parse-ident-start c = search needs
 
--- src/tokens.rt:76:23
 part-parse-ident-end : tie.Need-part-parse-ident-end
 part-parse-ident-end c = search needs
 
--- src/tokens.rt:76:11
 parse-ident-requires : tie.Need-parse-ident-requires
 parse-ident-requires c κs = search needs
 
--- src/tokens.rt:77:20
 enum-known-m : tie.Need-enum-known-m
 enum-known-m c = search needs
 
--- src/tokens.rt:78:38
 add-t21 : tie.Need-add-t21
-add-t21 c = omega (arith, c .before .before .before .before .before .before .before .before .before .before .before .before .before .before .before .parse-number .ensures .1, answer-le _ _ (ident-fits _) _ (c .before .before .before .before .before .parse-ident .ensures .0) _ _ (c .before .m .given .1))
+add-t21 c = omega (arith, c .before .before .before .before .before .before .before .before .before .before .before .before .before .before .before .parse-number .ensures .1, answer-le _ _ (ident-keeps _) _ (c .before .before .before .before .before .parse-ident .ensures .0) _ _ (c .before .m .given .1))
 
--- src/tokens.rt:78:13
 same-length-2 : tie.Need-same-length-2
 same-length-2 c = c .before .before .before .before .before .parse-ident .kept .1 .0 ∙ c .before .before .before .before .before .before .before .before .before .before .before .before .emit-part .kept .1 .1 .0
 
--- src/tokens.rt:78:13
 returns-3 : tie.Need-returns-3
 returns-3 c = laws.unit _ _ (c .before .before .before .before .before .before .before .before .before .before .before .before .before .before .before .parse-number .ensures .0) (c .before .before .before .before .before .before .before .before .before .before .before .before .before .before .if1 .left) _ _ _ _ (c .before .before .before .before .before .before .before .before .before .before .before .before .emit-part .ensures) _ (c .before .before .before .before .before .before .before .before .before .byte-is .ensures) (c .before .before .before .before .before .before .before .before .if2 .left) _ _ (c .before .before .before .before .before .parse-ident .ensures) _ _ (c .before .m .given .1)
 
--- src/tokens.rt:81:41
 enum-told : tie.Need-enum-told
 enum-told c = search needs
 
--- src/tokens.rt:81:13
 same-length-3 : tie.Need-same-length-3
 same-length-3 c = c .before .before .before .before .parse-ident .kept .1 .0 ∙ c .before .before .before .before .before .before .before .before .before .before .before .emit-part .kept .1 .1 .0
 
--- src/tokens.rt:81:13
 returns-4 : tie.Need-returns-4
 returns-4 c = laws.bare _ _ (c .before .before .before .before .before .before .before .before .before .before .before .before .before .before .parse-number .ensures .0) (c .before .before .before .before .before .before .before .before .before .before .before .before .before .if1 .left) _ _ _ _ (c .before .before .before .before .before .before .before .before .before .before .before .emit-part .ensures) _ (c .before .before .before .before .before .before .before .before .byte-is .ensures) (c .before .before .before .before .before .before .before .if2 .left) _ _ (c .before .before .before .before .parse-ident .ensures) (c .enum-told .given .1)
 

@@ -1,60 +1,44 @@
 use mathlib.Core.Path.{refl}
 use native.Mathlib.Omega.{arith}
-use Rattle.lexer.proofs.TokenBounds.{token-le, at-bounded}
 use Rattle.lexer.proofs.Lexing as laws
+use Rattle.lexer.proofs.TokenBounds.{token-le, at-bounded}
 use borrow.Author.Needs.{needs}
 use Rattle.lexer.proofs.tokens.parse_token.Statement.{statement}
 use Rattle.lexer.proofs.tokens.parse_token.Tie as tie
-use Rattle.lexer.proofs.tokens.parse_token.Reads as reads
-use Rattle.lexer.proofs.tokens.parse_token.Lts as lts
-use Rattle.lexer.proofs.tokens.token_at.Reads as token-at-reads
-use Rattle.lexer.proofs.whitespace.skip_optional_whitespace.Reads as skip-optional-whitespace-reads
 
--- src/tokens.rt:395:9
 skip-optional-whitespace-requires : tie.Need-skip-optional-whitespace-requires
 skip-optional-whitespace-requires c κs = search needs
 
--- src/tokens.rt:396:20
 sub-token-at : tie.Need-sub-token-at
 sub-token-at c = search needs
 
--- src/tokens.rt:396:20
 part-token-at-start : tie.Need-part-token-at-start
 part-token-at-start c = search needs
 
--- src/tokens.rt:396:20
 part-token-at-end : tie.Need-part-token-at-end
 part-token-at-end c = search needs
 
--- src/tokens.rt:396:11
 token-at-requires : tie.Need-token-at-requires
 token-at-requires c κs = search needs
 
--- src/tokens.rt:397:27
 enum-known-n : tie.Need-enum-known-n
 enum-known-n c = search needs
 
--- src/tokens.rt:398:33
 add-t14 : tie.Need-add-t14
 add-t14 c = omega (arith, token-le _ _ (at-bounded _ _ refl) _ (c .before .before .before .before .before .token-at .ensures .0) _ _ (c .before .n .given .1))
 
--- src/tokens.rt:398:13
 same-length : tie.Need-same-length
 same-length c = search needs
 
--- src/tokens.rt:398:13
 returns : tie.Need-returns
 returns c = laws.lexed _ _ (c .before .before .before .before .before .before .before .before .skip-optional-whitespace .ensures .0) _ _ _ _ (c .before .before .before .before .before .token-at .ensures) _ _ (c .before .n .given .1)
 
--- src/tokens.rt:401:13
 enum-told : tie.Need-enum-told
 enum-told c = search needs
 
--- src/tokens.rt:401:13
 same-length-2 : tie.Need-same-length-2
 same-length-2 c = search needs
 
--- src/tokens.rt:401:13
 returns-2 : tie.Need-returns-2
 returns-2 c = laws.nothing-lexed _ _ (c .before .before .before .before .before .before .before .skip-optional-whitespace .ensures .0) _ _ _ _ (c .before .before .before .before .token-at .ensures) (c .enum-told .given .1)
 

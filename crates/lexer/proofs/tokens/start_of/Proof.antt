@@ -1,74 +1,57 @@
 use mathlib.Core.Path.{sym, _∙_}
-use Rattle.lexer.proofs.Lexing as laws
+use Rattle.combinators.proofs.Rules.{cases}
 use Rattle.lexer.specs.Number.{isDigit}
 use Rattle.lexer.specs.Token.{startOf, isQuote}
-use Rattle.combinators.proofs.Rules.{cases}
+use Rattle.lexer.proofs.Lexing as laws
 use borrow.Author.Needs.{needs}
 use Rattle.lexer.proofs.tokens.start_of.Statement.{statement}
 use Rattle.lexer.proofs.tokens.start_of.Tie as tie
-use Rattle.lexer.proofs.tokens.start_of.Reads as reads
-use Rattle.lexer.proofs.tokens.start_of.Lts as lts
-use Rattle.lexer.proofs.tokens.is_ident_start.Reads as is-ident-start-reads
-use Rattle.lexer.proofs.tokens.ranges.Reads as ranges-reads
 
--- src/tokens.rt:191:9
 returns : tie.Need-returns
 unfolding startOf isQuote isDigit
 returns c = search cases depth 30
 
--- src/tokens.rt:194:9
 returns-2 : tie.Need-returns-2
 unfolding startOf isQuote isDigit
 returns-2 c = search cases depth 30
 
--- src/tokens.rt:197:9
 returns-3 : tie.Need-returns-3
 unfolding startOf isQuote isDigit
 returns-3 c = search cases depth 30
 
--- src/tokens.rt:200:9
 returns-4 : tie.Need-returns-4
 unfolding startOf isQuote isDigit
 returns-4 c = search cases depth 30
 
--- src/tokens.rt:203:9
 returns-5 : tie.Need-returns-5
 unfolding startOf isQuote isDigit
 returns-5 c = search cases depth 30
 
--- src/tokens.rt:206:9
 returns-6 : tie.Need-returns-6
 unfolding startOf isQuote isDigit
 returns-6 c = search cases depth 30
 
--- src/tokens.rt:209:9
 returns-7 : tie.Need-returns-7
 unfolding startOf isQuote isDigit
 returns-7 c = search cases depth 30
 
--- src/tokens.rt:212:9
 returns-8 : tie.Need-returns-8
 unfolding startOf isQuote isDigit
 returns-8 c = search cases depth 30
 
--- src/tokens.rt:214:8
 is-ident-start-requires : tie.Need-is-ident-start-requires
 is-ident-start-requires c κs = search needs
 
--- src/tokens.rt:215:9
 returns-9 : tie.Need-returns-9
 unfolding startOf isQuote isDigit
 returns-9 c = search cases depth 30
 
--- src/tokens.rt:217:8
-ranges-requires : tie.Need-ranges-requires
-ranges-requires c κs = search needs
+between-scalars-requires : tie.Need-between-scalars-requires
+between-scalars-requires c κs = search needs
 
--- src/tokens.rt:218:9
 returns-10 : tie.Need-returns-10
-returns-10 c = laws.digit-start _ (c .before .before .before .before .before .before .before .before .before .before .before .if1 .left) (c .before .before .before .before .before .before .before .before .before .before .if2 .left) (c .before .before .before .before .before .before .before .before .before .if3 .left) (c .before .before .before .before .before .before .before .before .if4 .left) (c .before .before .before .before .before .before .before .if5 .left) (c .before .before .before .before .before .before .if6 .left) (c .before .before .before .before .before .if7 .left) (c .before .before .before .before .if8 .left) (sym (c .before .before .before .is-ident-start .ensures) ∙ c .before .before .if9 .left) (sym (c .before .ranges .ensures) ∙ c .if10 .taken)
+returns-10 c = laws.digit-start _ (c .before .before .before .before .before .before .before .before .before .before .before .if1 .left) (c .before .before .before .before .before .before .before .before .before .before .if2 .left) (c .before .before .before .before .before .before .before .before .before .if3 .left) (c .before .before .before .before .before .before .before .before .if4 .left) (c .before .before .before .before .before .before .before .if5 .left) (c .before .before .before .before .before .before .if6 .left) (c .before .before .before .before .before .if7 .left) (c .before .before .before .before .if8 .left) (sym (c .before .before .before .is-ident-start .ensures) ∙ c .before .before .if9 .left) (sym (c .before .between-scalars .ensures) ∙ c .if10 .taken)
 
--- src/tokens.rt:187:1
 returns-11 : tie.Need-returns-11
 unfolding startOf isQuote isDigit
 returns-11 c = search cases depth 30
@@ -87,6 +70,6 @@ start-of-spec =
     returns-8
     is-ident-start-requires
     returns-9
-    ranges-requires
+    between-scalars-requires
     returns-10
     returns-11)

@@ -5,36 +5,25 @@ use Rattle.lexer.proofs.Lexing as laws
 use borrow.Author.Needs.{needs}
 use Rattle.lexer.proofs.tokens.token_at.Statement.{statement}
 use Rattle.lexer.proofs.tokens.token_at.Tie as tie
-use Rattle.lexer.proofs.tokens.token_at.Reads as reads
-use Rattle.lexer.proofs.tokens.token_at.Lts as lts
-use Rattle.lexer.proofs.tokens.token_by.Reads as token-by-reads
-use Rattle.unicode.proofs.utf8.scalar_at.Reads as scalar-at-reads
 
--- src/tokens.rt:380:11
 scalar-at-requires : tie.Need-scalar-at-requires
 scalar-at-requires c κs = search needs
 
--- src/tokens.rt:381:23
 enum-known-n : tie.Need-enum-known-n
 enum-known-n c = search needs
 
--- src/tokens.rt:382:13
 token-by-requires : tie.Need-token-by-requires
 token-by-requires c κs = let r = scalar-some _ _ _ (sym (c .before .before .before .before .scalar-at .ensures) ∙ c .before .before .n .given .1) in omega (arith, r .0, r .1)
 
--- src/tokens.rt:382:13
 same-length : tie.Need-same-length
 same-length c = search needs
 
--- src/tokens.rt:382:13
 returns : tie.Need-returns
 returns c = laws.at-char _ _ _ _ (c .before .before .before .before .before .before .before .scalar-at .ensures) _ _ (c .before .before .before .before .before .n .given .1) _ _ (c .before .before .token-by .ensures)
 
--- src/tokens.rt:385:13
 enum-told : tie.Need-enum-told
 enum-told c = search needs
 
--- src/tokens.rt:385:13
 returns-2 : tie.Need-returns-2
 returns-2 c = laws.at-none _ _ _ _ (c .before .before .scalar-at .ensures) (c .enum-told .given .1)
 

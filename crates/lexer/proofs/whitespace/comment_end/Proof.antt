@@ -1,8 +1,8 @@
-use Rattle.lexer.proofs.Comments as laws
-use lib.ListN.{length}
-use Prim.Native.Nat.{_-_}
-use mathlib.Core.Logic.{⊎-elim}
 use mathlib.Core.Path.{sym, _∙_}
+use mathlib.Core.Logic.{⊎-elim}
+use Prim.Native.Nat.{_-_}
+use lib.ListN.{length}
+use Rattle.lexer.proofs.Comments as laws
 use borrow.Author.Needs.{needs}
 use Rattle.lexer.proofs.whitespace.comment_end.Statement.{statement}
 use Rattle.lexer.proofs.whitespace.comment_end.Tie as tie

@@ -1,7 +1,7 @@
 use mathlib.Core.Path.{sym}
-use Rattle.lexer.proofs.Comments.{above-space}
-use Rattle.lexer.specs.Whitespace.{isWhitespace}
 use Rattle.combinators.proofs.Rules.{cases}
+use Rattle.lexer.specs.Whitespace.{isWhitespace}
+use Rattle.lexer.proofs.Comments.{above-space}
 use borrow.Author.Needs.{needs}
 use Rattle.lexer.proofs.whitespace.is_whitespace.Statement.{statement}
 use Rattle.lexer.proofs.whitespace.is_whitespace.Tie as tie

@@ -1,19 +1,18 @@
-use Rattle.lexer.specs.Whitespace.{commentOf, commentEnd}
-use Rattle.combinators.proofs.Lists.{rest}
-use Rattle.combinators.proofs.Rules.{cases}
-use lib.ListN.{length, drop}
-use Prim.Native.Nat.{_<_}
-use Rattle.combinators.specs.Ascii.{asterisk}
-use Rattle.lexer.proofs.Comments.{there}
-use native.Mathlib.Omega.{arith}
 use mathlib.Core.Path.{_≡_, sym, ap, _∙_}
+use Prim.Native.Nat.{_<_}
+use native.Mathlib.Omega.{arith}
+use lib.ListN.{length, drop}
+use Rattle.combinators.specs.Ascii.{asterisk}
+use Rattle.combinators.proofs.Rules.{cases}
+use Rattle.combinators.proofs.Lists.{rest, byte-there}
+use Rattle.lexer.specs.Whitespace.{commentOf, commentEnd}
 use borrow.Author.Needs.{needs}
 use Rattle.lexer.proofs.whitespace.match_comment.Statement.{statement}
 use Rattle.lexer.proofs.whitespace.match_comment.Tie as tie
 
 -- both bytes of "/*" are there
 two : (c : tie.Then2) → 1 < length (c .before .before .before .before .before .args .s .now)
-two c = there (c .before .before .before .before .before .args .s .now) 1 asterisk (omega arith) (sym (c .before .byte-is2 .ensures) ∙ c .if2 .taken)
+two c = byte-there (c .before .before .before .before .before .args .s .now) 1 asterisk (omega arith) (sym (c .before .byte-is2 .ensures) ∙ c .if2 .taken)
 
 byte-is-requires : tie.Need-byte-is-requires
 byte-is-requires c κs = search needs

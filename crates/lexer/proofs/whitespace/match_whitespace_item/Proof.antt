@@ -1,6 +1,6 @@
-use Rattle.lexer.specs.Whitespace.{whitespaceItem, isWhitespace}
-use Rattle.combinators.proofs.Rules.{pick-true, pick-false}
 use mathlib.Core.Path.{sym, ap, _∙_}
+use Rattle.combinators.proofs.Rules.{pick-true, pick-false}
+use Rattle.lexer.specs.Whitespace.{whitespaceItem, isWhitespace}
 use borrow.Author.Needs.{needs}
 use Rattle.lexer.proofs.whitespace.match_whitespace_item.Statement.{statement}
 use Rattle.lexer.proofs.whitespace.match_whitespace_item.Tie as tie

@@ -1,10 +1,10 @@
-use Rattle.lexer.proofs.Comments.{item-le}
-use Rattle.lexer.proofs.Repeating.{Repeating, repeat-begin, repeat-more, repeat-stop, repeat-end, lent, lent-le}
-use Rattle.lexer.specs.Whitespace.{skipWhitespace, whitespaceItem}
-use lib.ListN.{length}
-use native.Mathlib.Omega.{arith}
-use Prim.Native.Nat.{_+_, _-_, _≤_}
 use mathlib.Core.Path.{_∙_}
+use Prim.Native.Nat.{_+_, _-_, _≤_}
+use native.Mathlib.Omega.{arith}
+use lib.ListN.{length}
+use Rattle.combinators.proofs.Repeating.{Repeating, repeat-begin, repeat-more, repeat-stop, repeat-end, lent, lent-le}
+use Rattle.lexer.specs.Whitespace.{skipWhitespace, whitespaceItem}
+use Rattle.lexer.proofs.Comments.{item-le}
 use borrow.Author.Needs.{needs}
 use Rattle.lexer.proofs.whitespace.skip_optional_whitespace.Statement.{statement}
 use Rattle.lexer.proofs.whitespace.skip_optional_whitespace.Tie as tie
@@ -17,7 +17,7 @@ abbrev μ-loop : tie.MeasureT-loop
 
 -- the item lies within the text
 fits : (c : tie.Else1 Inv-loop μ-loop) → c .before .before .before .before .loop .i + c .before .match-whitespace-item .result ≤ length (c .before .before .before .before .before .before .args .s .now)
-fits c = lent-le whitespaceItem item-le (c .before .before .before .before .before .before .args .s .now) (c .before .before .before .before .loop .i) _ (c .before .before .before .before .loop .inv .within) (c .before .match-whitespace-item .ensures)
+fits c = lent-le whitespaceItem item-le (c .before .before .before .before .before .before .args .s .now) (c .before .before .before .before .loop .i) _ (c .before .before .before .before .loop .inv .within-text) (c .before .match-whitespace-item .ensures)
 
 loop-holds : tie.Need-loop-holds Inv-loop μ-loop
 loop-holds c = repeat-begin _ _

@@ -1,19 +1,21 @@
 use native.Mathlib.Omega.{arith}
 use Prim.Native.Nat.{_-_}
 use lib.ListN.{length}
+use Rattle.combinators.proofs.Repeating.{Repeating, repeat-begin}
+use Rattle.unicode.specs.Utf8.{scalarTaken}
 use Rattle.unicode.proofs.Reading as laws
 use borrow.Author.Needs.{needs}
 use Rattle.unicode.proofs.utf8.is_valid.Statement.{statement}
 use Rattle.unicode.proofs.utf8.is_valid.Tie as tie
 
 abbrev Inv-loop : tie.InvT-loop
-Inv-loop s i₀ i = laws.Checking s i
+Inv-loop s i₀ i = Repeating scalarTaken s i
 
 abbrev μ-loop : tie.MeasureT-loop
 μ-loop s i₀ i = length s - i
 
 loop-holds : tie.Need-loop-holds Inv-loop μ-loop
-loop-holds c = laws.checking-begin _
+loop-holds c = repeat-begin _ _
 
 sub-scalar-at : tie.Need-sub-scalar-at Inv-loop μ-loop
 sub-scalar-at c = search needs

@@ -4,18 +4,18 @@ use mathlib.Core.List.{List}
 use Prim.Native.Nat.{ℕ, _+_, _-_, _≤_}
 use native.Mathlib.Omega.{arith}
 use lib.ListN.{length, take, drop, length-drop}
 use Rattle.combinators.specs.Repeat.{many}
 use Rattle.combinators.proofs.Lists.{rest}
 use Rattle.combinators.proofs.Repeats.{many-more, many-stop, many-end}
 
 -- at i: what is left to count, with what was counted, is the whole
 pub record Repeating (u : List ℕ → ℕ) (s : List ℕ) (i : ℕ) : Type 0 where
-  pub within : i ≤ length s
+  pub within-text : i ≤ length s
   pub left : many u i 0 (drop i s) ≡ many u 0 0 s
 
 -- at the start of the text
 pub repeat-begin : (u : List ℕ → ℕ) (s : List ℕ) → Repeating u s 0
-repeat-begin u s = record { within = omega arith; left = refl }
+repeat-begin u s = record { within-text = omega arith; left = refl }
 
 -- what u took of the part of the text that it was lent, it takes of the rest of the text
 pub lent : (u : List ℕ → ℕ) (s : List ℕ) (i n : ℕ) → n ≡ u (take (length s - i) (drop i s)) → u (drop i s) ≡ n
@@ -34,7 +34,7 @@ module _ (u : List ℕ → ℕ) (s : List ℕ) (i : ℕ) (c : Repeating u s i) w
   -- u takes n bytes
   pub repeat-more : (n : ℕ) → u (drop i s) ≡ n → i + n ≤ length s → ¬ (n ≡ 0) → Repeating u s (i + n)
   repeat-more n e h d =
-      record { within = h; left = sym (many-more u s i n (omega (arith, length-drop i s)) e d) ∙ c .left }
+      record { within-text = h; left = sym (many-more u s i n (omega (arith, length-drop i s)) e d) ∙ c .left }
 
   -- u takes none
   pub repeat-stop : u (drop i s) ≡ 0 → i ≡ many u 0 0 s
