@@ -1,18 +1,28 @@
--- The P cases of document 01: one theorem for the whole list.
+-- The P cases of document 01: one theorem for the whole list. Each case is computed; the line below names what is computed with.
 use mathlib.Core.Path.{refl}
-use Rattle.combinators.specs.Choice.{pick, or, and, is, within}
-use Rattle.combinators.specs.Parsed.{Parsed, ok, err, behind, orElse, onParsed}
-use Rattle.combinators.specs.Repeat.{many, texts, took}
-use Rattle.combinators.specs.Word.{startsWith}
-use Rattle.unicode.specs.Utf8.{utf8, orReplacement, replacementCharacter, scalarOf, takenOf, isScalar, scalarBy, scalarTail, leadOf, two, three, four, isContinuation, continuation}
-use Rattle.lexer.specs.Whitespace.{skipWhitespace, whitespaceItem, isWhitespace, commentOf, commentEnd}
-use Rattle.lexer.specs.Name.{identOf, identstringOf, charsOf, nameOf, nameFrom, dash, charsEnd, charsText, charTaken, charText, bytesOf, nmcharOf, nmstartOf, either, nmcharCharOf, nmstartCharOf, foldedChar, identEscapeOf, escapedOf, behindOne, hexValue, hexCount, hexRun, hexDigit, isHexDigit, lower, isNmchar, isNmstart}
-use Rattle.lexer.specs.Number.{number, signed, sign, unsigned, decimal, digits, oneDigit, isDigit}
-use Rattle.lexer.specs.Quoted.{stringEnd, stringText, quotedTaken, quotedText, quotedOf, escapedByte}
+use Rattle.combinators.specs.Choice as choice
+use Rattle.combinators.specs.Parsed as parsed
+use Rattle.combinators.specs.Repeat as repeat
+use Rattle.combinators.specs.Word as word
+use Rattle.unicode.specs.Literal as literal
+use Rattle.unicode.specs.Trim as trim
+use Rattle.unicode.specs.Utf8 as utf8
+use Rattle.unicode.specs.WhiteSpace as white
+use Rattle.lexer.specs.Name as name
+use Rattle.lexer.specs.Number as number
 use Rattle.lexer.specs.Quoted as quoted
-use Rattle.unicode.specs.Literal.{text}
-use Rattle.cases.specs.Proved.{All, cases}
+use Rattle.lexer.specs.Token as token
+use Rattle.lexer.specs.TokenRow as row
+use Rattle.lexer.specs.Whitespace as whitespace
+use Rattle.decimal.specs.Decimal as decimal
+use Rattle.declarations.specs.Attribute as attribute
+use Rattle.declarations.specs.Colour as colour
+use Rattle.declarations.specs.Property as property
+use Rattle.declarations.specs.Rules as rules
+use Rattle.declarations.specs.Value as value
+use Rattle.declarations.specs.Words as words
+use Rattle.cases.specs.Proved.{All, cases, tinyHeight}
 
 pub all-proved : All cases
-unfolding text identOf nameOf nameFrom dash charsEnd charsText charTaken charText bytesOf nmcharOf nmstartOf either nmcharCharOf nmstartCharOf foldedChar identEscapeOf escapedOf behindOne hexValue hexCount hexRun hexDigit isHexDigit lower isNmchar isNmstart skipWhitespace whitespaceItem isWhitespace commentOf behind many texts took takenOf utf8 continuation orReplacement isScalar scalarOf scalarBy scalarTail leadOf pick or and is within
-all-proved = ((refl, refl), tt)
+unfolding tinyHeight choice.pick choice.or choice.and choice.is choice.within parsed.onParsed parsed.behind parsed.orElse parsed.taken repeat.took repeat.many repeat.texts word.startsWith literal.text trim.whiteOf trim.whiteTaken trim.wordOf trim.wordTaken utf8.isScalar utf8.orReplacement utf8.continuation utf8.utf8 utf8.isContinuation utf8.leadOf utf8.two utf8.three utf8.four utf8.scalarTail utf8.scalarBy utf8.scalarOf utf8.takenOf utf8.scalarTaken utf8.valid utf8.encode white.member white.isWhiteSpace white.upFrom white.numbers white.inRanges name.isNmstart name.isNmchar name.lower name.foldedChar name.nmstartCharOf name.nmcharCharOf name.isHexDigit name.hexDigit name.hexRun name.hexCount name.hexValue name.behindOne name.escapedOf name.identEscapeOf name.either name.nmstartOf name.nmcharOf name.bytesOf name.charTaken name.charText name.charsEnd name.charsText name.nameFrom name.dash name.nameOf name.identOf name.charsOf name.identstringOf name.nameAnswer name.nameText number.isDigit number.oneDigit number.digits number.decimal number.unsigned number.sign number.signed number.number quoted.escapedByte quoted.quotedOf quoted.takenOf quoted.textOf quoted.quotedTaken quoted.quotedText quoted.stringEnd quoted.stringText token.numericFrom token.numericOf token.identLikeOf token.stringFrom token.isQuote token.stringOf token.isIdentStart token.startOf token.markOf token.hashOf token.plusOf token.minusOf token.lessOf token.tokenBy token.tokenAt token.tokenOf token.coded token.textOf token.tokenAnswer token.tokenText token.lexedAnswer token.orDelim row.columnsOf row.word row.rowOf row.tokenRow row.tokenFrom whitespace.commentEnd whitespace.commentOf whitespace.isWhitespace whitespace.whitespaceItem whitespace.skipWhitespace decimal.digit decimal.number decimal.digits decimal.numerator decimal.denominator decimal.roundsToZero attribute.styleAttribute attribute.trimmed attribute.pairs attribute.faultyColour attribute.orFaulty attribute.colourAttribute colour.rgb colour.allOf colour.numeral colour.withoutPlus colour.digitsIn colour.parseU8 colour.parseHex colour.threeDigits colour.sixDigits colour.hashColour colour.threeNumbers colour.rgbColour colour.oneToken colour.colourOf colour.behindComma colour.backgroundOf property.unsignedZero property.numberZero property.anyOf property.heightOf property.firstWord property.overflowOf property.displayOf property.whiteSpaceOf property.contentOf property.declOf rules.valueBehind rules.declarationOf rules.startsAt rules.moreRules rules.declarationsOf value.bracketOf value.closing value.ending value.stepOf value.stop value.cons value.onStep value.scan value.statementOf value.tokensOf value.isMark value.isImportant value.withoutMark value.valueFrom value.valueOf words.same words.kindOf words.firstOf words.numberOf words.unitOf words.isKind words.isWord words.isDelim words.foundOr words.lookup words.onFound words.split words.placeOf
+all-proved = (refl, ((refl, refl), ((refl, refl), (refl, tt))))

@@ -1,7 +1,7 @@
 -- The laws of `many` and `texts`, for every reader: a turn that takes bytes, a turn that takes none, the end of the text.
 use mathlib.Core.Path.{_≡_, refl, ap, sym, _∙_}
 use mathlib.Core.List.{List, [], _∷_, _++_}
-use Prim.Native.Nat.{ℕ, zero, suc, _+_, _≤_}
+use Prim.Native.Nat.{ℕ, zero, suc, _+_, _≤_, _<_}
 use native.Mathlib.Nat.{add-zero}
 use native.Mathlib.Omega.{arith}
 use lib.ListN.{length, drop, drop-of-length-le}
@@ -78,6 +78,29 @@ many-from j u (x ∷ r) i zero =
     took-from j (u (x ∷ r)) i (λ n. many u (i + 1) n r) (λ n. many u (j + i + 1) n r)
     (λ n. ap (λ m. many u m n r) (omega arith) ∙ many-from j u r (i + 1) n)
 many-from j u (x ∷ r) i (suc k) = ap (λ m. many u m k r) (omega arith) ∙ many-from j u r (i + 1) k
+
+module _ (u : List ℕ → ℕ) (x : ℕ) (r : List ℕ) where
+  -- a byte passed over, with k more: as the rest does
+  stopped-more : (k : ℕ) → (many u 0 k r < length r → u (drop (many u 0 k r) r) ≡ 0)
+      → many u 1 k r < length (x ∷ r) → u (drop (many u 1 k r) (x ∷ r)) ≡ 0
+  stopped-more k f h =
+      let m = many u 0 k r in
+      let p : many u 1 k r ≡ suc m = many-from 1 u r 0 k ∙ omega arith in
+      ap (λ i. u (drop i (x ∷ r))) p ∙ f (omega arith)
+
+  -- the reader takes n bytes
+  stopped-took : ((k : ℕ) → many u 0 k r < length r → u (drop (many u 0 k r) r) ≡ 0) → (n : ℕ) → u (x ∷ r) ≡ n
+      → took n 0 (λ k. many u 1 k r) < length (x ∷ r) → u (drop (took n 0 (λ k. many u 1 k r)) (x ∷ r)) ≡ 0
+  unfolding took
+  stopped-took f zero e h = e
+  stopped-took f (suc n) e h = stopped-more n (f n) h
+
+-- where a repetition of u stops before the end of the text, u takes none
+pub many-stopped : (u : List ℕ → ℕ) (s : List ℕ) (k : ℕ) → many u 0 k s < length s → u (drop (many u 0 k s) s) ≡ 0
+unfolding many
+many-stopped u [] k h = absurd (omega arith)
+many-stopped u (x ∷ r) zero h = stopped-took u x r (many-stopped u r) (u (x ∷ r)) refl h
+many-stopped u (x ∷ r) (suc k) h = stopped-more u x r k (many-stopped u r k) h
 
 -- ---- the text that it stands for
 module _ (u : List ℕ → ℕ) (b : List ℕ → List ℕ) where

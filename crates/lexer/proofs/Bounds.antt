@@ -2,7 +2,7 @@
 -- backslash ends the text.
 use mathlib.Core.Path.{_≡_, refl, ap, sym, _∙_}
 use mathlib.Core.List.{List, [], _∷_, _++_}
-use mathlib.Core.Logic.{_⊎_, inl, inr}
+use mathlib.Core.Logic.{_⊎_, inl, inr, ⊎-elim}
 use Prim.Native.Nat.{ℕ, zero, suc, _+_, _-_, _<_, _≤_}
 use native.Mathlib.Nat.{add-zero}
 use native.Mathlib.Omega.{arith}
@@ -12,7 +12,8 @@ use Rattle.combinators.specs.Ascii.{reverseSolidus}
 use Rattle.combinators.specs.Parsed.{Parsed, ok, err, behind}
 use Rattle.combinators.specs.Repeat.{many, texts, took}
 use Rattle.combinators.proofs.Lists.{nil-of}
-use Rattle.combinators.proofs.Repeats.{texts-all, many-all}
+use Rattle.combinators.proofs.Rules.{lt-or-ge}
+use Rattle.combinators.proofs.Repeats.{texts-all, many-all, many-stopped, many-le}
 
 -- the bytes b that n bytes at the start of s stand for: no more than n, or two more where a lone backslash ends the text there
 pub data Bound (s : List ℕ) (n : ℕ) (b : List ℕ) : Type 0 where
@@ -150,31 +151,7 @@ module _ (u : List ℕ → ℕ) (b : List ℕ → List ℕ) (le : (l : List ℕ)
   pub repeated-short : (s : List ℕ) → length (texts u b 0 s) ≤ many u 0 0 s
   repeated-short s = omega (arith, run-short s 0 0 (omega arith))
 
--- ---- where a repetition stops: at the end of the text, or where the reader takes none
-data Stops (u : List ℕ → ℕ) (s : List ℕ) (i m : ℕ) : Type 0 where
-  all : m ≡ i + length s → Stops u s i m
-  before : (j : ℕ) → m ≡ i + j → u (drop j s) ≡ 0 → Stops u s i m
-
-module _ (u : List ℕ → ℕ) where
-  stops-cons : (x : ℕ) (r : List ℕ) (i m : ℕ) → Stops u r (i + 1) m → Stops u (x ∷ r) i m
-  stops-cons x r i m (all e) = all (e ∙ omega arith)
-  stops-cons x r i m (before j e z) = before (suc j) (e ∙ omega arith) z
-
-  stops-at : (x : ℕ) (r : List ℕ) (i : ℕ) → ((n : ℕ) → Stops u r (i + 1) (many u (i + 1) n r)) → (n : ℕ) → u (x ∷ r) ≡ n → Stops u (x ∷ r) i (many u i 0 (x ∷ r))
-  unfolding many took
-  stops-at x r i f zero e = rw e (before 0 (sym (add-zero i)) e)
-  stops-at x r i f (suc n) e = rw e (stops-cons x r i _ (f n))
-
-  stops : (s : List ℕ) (i k : ℕ) → Stops u s i (many u i k s)
-  unfolding many
-  stops [] i k = all (sym (add-zero i))
-  stops (x ∷ r) i zero = stops-at x r i (λ n. stops r (i + 1) n) (u (x ∷ r)) refl
-  stops (x ∷ r) i (suc k) = stops-cons x r i _ (stops r (i + 1) k)
-
-  stops-or : (s : List ℕ) (m : ℕ) → Stops u s 0 m → (m ≡ length s) ⊎ (u (drop m s) ≡ 0)
-  stops-or s m (all e) = inl (omega arith)
-  stops-or s m (before j e z) = let p : m ≡ j = omega arith in inr (rw p z)
-
-  -- a repetition is at the end of the text, or stands where its reader takes none
-  pub many-stops : (s : List ℕ) → (many u 0 0 s ≡ length s) ⊎ (u (drop (many u 0 0 s) s) ≡ 0)
-  many-stops s = stops-or s _ (stops s 0 0)
+-- a repetition is at the end of the text, or stands where its reader takes none
+pub many-stops : (u : List ℕ → ℕ) (s : List ℕ) → (many u 0 0 s ≡ length s) ⊎ (u (drop (many u 0 0 s) s) ≡ 0)
+many-stops u s =
+    ⊎-elim (λ h. inr (many-stopped u s 0 h)) (λ h. inl (omega (arith, many-le u s 0 0))) (lt-or-ge (many u 0 0 s) (length s))

@@ -93,12 +93,12 @@ power-small (suc (suc (suc (suc (suc zero))))) h = omega arith
 power-small (suc (suc (suc (suc (suc (suc k)))))) h = absurd (omega arith)
 
 -- a hex digit is worth at most 15
-digit-le : (x : ℕ) → hexDigit x ≤ 15
+pub digit-le : (x : ℕ) → hexDigit x ≤ 15
 unfolding hexDigit
 digit-le x =
-    pick-holds (λ (y : ℕ). y ≤ 15) _ _ _ (λ e. omega (arith, within-true x 48 57 e))
-    (λ _. pick-holds (λ (y : ℕ). y ≤ 15) _ _ _ (λ e. omega (arith, within-true x 97 102 e))
-    (λ _. pick-holds (λ (y : ℕ). y ≤ 15) _ _ _ (λ e. omega (arith, within-true x 65 70 e)) (λ _. omega arith)))
+    pick-holds (λ (y : ℕ). y ≤ 15) _ _ _ (λ e. omega (arith, within-true x digitZero digitNine e))
+    (λ _. pick-holds (λ (y : ℕ). y ≤ 15) _ _ _ (λ e. omega (arith, within-true x smallA smallF e))
+    (λ _. pick-holds (λ (y : ℕ). y ≤ 15) _ _ _ (λ e. omega (arith, within-true x capitalA capitalF e)) (λ _. omega arith)))
 
 -- k digits more make the number at most 16 times as large each
 pub value-lt : (k j a : ℕ) (s : List ℕ) → a < powerOfSixteen j → hexValue a k s < powerOfSixteen (j + k)

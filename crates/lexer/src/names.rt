@@ -86,7 +86,7 @@ pub fn nmchar_char(s: &[u8]) -> Scalar
 }
 
 // Whether `b` is a hex digit.
-fn is_hex_digit(b: u8) -> bool
+pub fn is_hex_digit(b: u8) -> bool
     ensures { λ r. ⌜ r ≡ isHexDigit b ⌝ }
 {
     if between(b, b'0', b'9') {
@@ -99,7 +99,7 @@ fn is_hex_digit(b: u8) -> bool
 }
 
 // What a hex digit is worth.
-fn hex_digit_of(b: u8) -> u32
+pub fn hex_digit_of(b: u8) -> u32
     ensures { λ r. ⌜ r ≡ hexDigit b ⌝ }
 {
     if between(b, b'0', b'9') {

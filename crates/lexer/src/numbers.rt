@@ -60,7 +60,7 @@ fn parse_unsigned(s: &[u8]) -> usize
 }
 
 // A sign or none.
-fn parse_sign(s: &[u8]) -> usize
+pub fn parse_sign(s: &[u8]) -> usize
     ensures { λ r. ⌜ r ≡ sign (now (s .entry)) ⌝ }
     ensures { λ r. ⌜ r ≤ length (now (s .entry)) ⌝ }
 {
@@ -75,7 +75,7 @@ fn parse_sign(s: &[u8]) -> usize
 }
 
 // A sign or none, and a number without one behind it.
-fn parse_signed(s: &[u8]) -> usize
+pub fn parse_signed(s: &[u8]) -> usize
     ensures { λ r. ⌜ r ≡ signed (now (s .entry)) ⌝ }
     ensures { λ r. ⌜ r ≤ length (now (s .entry)) ⌝ }
 {

@@ -4,3 +4,4 @@ pub mod Writing
 pub mod RoundTrip
 pub mod Texts
 pub mod WhiteSpaces
+pub mod Trimming

@@ -1,0 +1,3 @@
+pub mod HeightLaws
+pub mod WordLaws
+pub mod ColourLaws

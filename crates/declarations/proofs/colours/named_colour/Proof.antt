@@ -1,0 +1,46 @@
+use Rattle.declarations.proofs.WordLaws.{numbersOf, joinedOf, lengthsOf}
+use Rattle.declarations.specs.declared.colours.ColourAnswer.the-variants.{Colour, NoColour}
+use Rattle.declarations.specs.ColourAnswer.{packed, colourAnswer}
+use Rattle.declarations.specs.Colour.{rgb, colours}
+use Rattle.unicode.specs.Utf8.{utf8, continuation}
+use Rattle.unicode.specs.Literal.{text}
+use Rattle.combinators.specs.Choice.{pick}
+use Rattle.declarations.proofs.WordLaws as laws
+use borrow.Author.Needs.{needs}
+use Rattle.declarations.proofs.colours.named_colour.Statement.{statement}
+use Rattle.declarations.proofs.colours.named_colour.Tie as tie
+
+slice-aggregate-place-of : tie.Need-slice-aggregate-place-of
+slice-aggregate-place-of c = search needs
+
+slice-aggregate-place-of-2 : tie.Need-slice-aggregate-place-of-2
+slice-aggregate-place-of-2 c = search needs
+
+place-of-requires : tie.Need-place-of-requires
+place-of-requires c κs = search needs
+
+mul-t11 : tie.Need-mul-t11
+mul-t11 c = search needs
+
+array-read-t14 : tie.Need-array-read-t14
+array-read-t14 c = search needs
+
+returns : tie.Need-returns
+unfolding colourAnswer packed rgb numbersOf joinedOf lengthsOf text utf8 continuation pick
+returns c = laws.table-hit packed Colour NoColour colours _ _ (c .before .place-of .ensures) (c .if1 .taken)
+
+returns-2 : tie.Need-returns-2
+unfolding colourAnswer packed rgb numbersOf joinedOf lengthsOf text utf8 continuation pick
+returns-2 c = laws.table-miss packed Colour NoColour colours _ _ (c .before .place-of .ensures) (c .if1 .left)
+
+pub named-colour-spec : {M : Type 1} → statement M
+named-colour-spec =
+    tie.close
+    (tie.spec
+    slice-aggregate-place-of
+    slice-aggregate-place-of-2
+    place-of-requires
+    mul-t11
+    array-read-t14
+    returns
+    returns-2)

@@ -1,0 +1,24 @@
+use Rattle.declarations.specs.ColourAnswer.{packed}
+use Rattle.declarations.specs.Colour.{rgb}
+use borrow.Author.Needs.{needs}
+use Rattle.declarations.proofs.colours.packed_of.Statement.{statement}
+use Rattle.declarations.proofs.colours.packed_of.Tie as tie
+
+mul-result : tie.Need-mul-result
+mul-result c = search needs
+
+mul-result-2 : tie.Need-mul-result-2
+mul-result-2 c = search needs
+
+add-result : tie.Need-add-result
+add-result c = search needs
+
+add-result-2 : tie.Need-add-result-2
+add-result-2 c = search needs
+
+returns : tie.Need-returns
+unfolding packed rgb
+returns c = search needs
+
+pub packed-of-spec : {M : Type 1} → statement M
+packed-of-spec = tie.close (tie.spec mul-result mul-result-2 add-result add-result-2 returns)

@@ -1,0 +1,23 @@
+use Rattle.declarations.specs.Colour.{sixDigits}
+use borrow.Author.Needs.{needs}
+use Rattle.declarations.proofs.colours.six_digits.Statement.{statement}
+use Rattle.declarations.proofs.colours.six_digits.Tie as tie
+
+cast-red : tie.Need-cast-red
+cast-red c = search needs
+
+cast-green : tie.Need-cast-green
+cast-green c = search needs
+
+cast-blue : tie.Need-cast-blue
+cast-blue c = search needs
+
+packed-of-requires : tie.Need-packed-of-requires
+packed-of-requires c κs = search needs
+
+returns : tie.Need-returns
+unfolding sixDigits
+returns c = c .packed-of .ensures
+
+pub six-digits-spec : {M : Type 1} → statement M
+six-digits-spec = tie.close (tie.spec cast-red cast-green cast-blue packed-of-requires returns)

@@ -1,0 +1,34 @@
+use Rattle.declarations.specs.Colour.{threeDigits}
+use borrow.Author.Needs.{needs}
+use Rattle.declarations.proofs.colours.three_digits.Statement.{statement}
+use Rattle.declarations.proofs.colours.three_digits.Tie as tie
+
+mul-red : tie.Need-mul-red
+mul-red c = search needs
+
+cast-red : tie.Need-cast-red
+cast-red c = search needs
+
+mul-green : tie.Need-mul-green
+mul-green c = search needs
+
+cast-green : tie.Need-cast-green
+cast-green c = search needs
+
+mul-blue : tie.Need-mul-blue
+mul-blue c = search needs
+
+cast-blue : tie.Need-cast-blue
+cast-blue c = search needs
+
+packed-of-requires : tie.Need-packed-of-requires
+packed-of-requires c κs = search needs
+
+returns : tie.Need-returns
+unfolding threeDigits
+returns c = c .packed-of .ensures
+
+pub three-digits-spec : {M : Type 1} → statement M
+three-digits-spec =
+    tie.close
+    (tie.spec mul-red cast-red mul-green cast-green mul-blue cast-blue packed-of-requires returns)

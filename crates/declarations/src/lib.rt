@@ -1,0 +1,4 @@
+// Declarations, read from the rest of a text as html2text 0.17.4 reads them (src/css/parser.rs).
+pub mod words; // words.rt: fixed words, and tables of them
+pub mod colours; // colours.rt: colours by name, by '#' and by `rgb`
+pub mod heights; // heights.rt: numbers that are zero

@@ -1,0 +1,206 @@
+-- How declarations and styles lie in lent numbers and the text store. A row says what it is, whether it is important, and up to three
+-- numbers: a colour's parts, a flag or a word's number, or where a text starts in the store and how long it is.
+use Prim.Native.Nat.{ℕ}
+use mathlib.Core.Bool.{Bool, true, false}
+use mathlib.Core.List.{List, [], _∷_}
+use lib.ListN.{length, getD, drop}
+use Rattle.combinators.specs.Choice.{pick, is}
+use Rattle.syntax.specs.Declaration.{Colour, Overflow, visible, hidden, scroll, auto, WhiteSpace, normal, pre, preWrap, Decl, color, backgroundColor, height, maxHeight, overflow, overflowY, display, whiteSpace, content, unknown, Declaration}
+use Rattle.syntax.specs.Stream.{Read, readMany, textsMany, rowsMany, part}
+use Rattle.syntax.specs.Style as style
+use Rattle.syntax.specs.Style.{Style, StyleDecl}
+
+-- ---- numbers for what a declaration can be. 0 is none, so that a cleared row is none.
+abbrev pub colorKind : ℕ
+colorKind = 1
+
+abbrev pub backgroundColorKind : ℕ
+backgroundColorKind = 2
+
+abbrev pub heightKind : ℕ
+heightKind = 3
+
+abbrev pub maxHeightKind : ℕ
+maxHeightKind = 4
+
+abbrev pub overflowKind : ℕ
+overflowKind = 5
+
+abbrev pub overflowYKind : ℕ
+overflowYKind = 6
+
+abbrev pub displayKind : ℕ
+displayKind = 7
+
+abbrev pub whiteSpaceKind : ℕ
+whiteSpaceKind = 8
+
+abbrev pub contentKind : ℕ
+contentKind = 9
+
+abbrev pub unknownKind : ℕ
+unknownKind = 10
+
+-- ---- flags and words
+unfoldable pub flag : Bool → ℕ
+flag false = 0
+flag true = 1
+
+unfoldable pub flagOf : ℕ → Bool
+flagOf n = is n 1
+
+unfoldable pub overflowNumber : Overflow → ℕ
+overflowNumber visible = 0
+overflowNumber hidden = 1
+overflowNumber scroll = 2
+overflowNumber auto = 3
+
+unfoldable pub overflowOf : ℕ → Overflow
+overflowOf n = pick (is n 0) visible (pick (is n 1) hidden (pick (is n 2) scroll auto))
+
+-- as in the compiled sheet
+unfoldable pub whiteSpaceNumber : WhiteSpace → ℕ
+whiteSpaceNumber normal = 0
+whiteSpaceNumber pre = 1
+whiteSpaceNumber preWrap = 2
+
+unfoldable pub whiteSpaceOf : ℕ → WhiteSpace
+whiteSpaceOf n = pick (is n 0) normal (pick (is n 1) pre preWrap)
+
+unfoldable pub colourOf : ℕ → ℕ → ℕ → Colour
+colourOf r g b = record { red = r; green = g; blue = b }
+
+-- ---- declarations: kind, important, first byte, three numbers
+abbrev pub declarationWidth : ℕ
+declarationWidth = 6
+
+-- its text in the store: of a content that text, of an unknown declaration its name
+unfoldable pub declText : Decl → List ℕ
+declText (color c) = []
+declText (backgroundColor c) = []
+declText (height z) = []
+declText (maxHeight z) = []
+declText (overflow o) = []
+declText (overflowY o) = []
+declText (display n) = []
+declText (whiteSpace w) = []
+declText (content t) = t
+declText (unknown t) = t
+
+unfoldable pub declarationText : Declaration → List ℕ
+declarationText d = declText (d .decl)
+
+-- the row, where its text starts at f
+unfoldable pub declRow : ℕ → ℕ → ℕ → Decl → List ℕ
+declRow i s f (color c) = colorKind ∷ i ∷ s ∷ c .red ∷ c .green ∷ c .blue ∷ []
+declRow i s f (backgroundColor c) = backgroundColorKind ∷ i ∷ s ∷ c .red ∷ c .green ∷ c .blue ∷ []
+declRow i s f (height z) = heightKind ∷ i ∷ s ∷ flag z ∷ 0 ∷ 0 ∷ []
+declRow i s f (maxHeight z) = maxHeightKind ∷ i ∷ s ∷ flag z ∷ 0 ∷ 0 ∷ []
+declRow i s f (overflow o) = overflowKind ∷ i ∷ s ∷ overflowNumber o ∷ 0 ∷ 0 ∷ []
+declRow i s f (overflowY o) = overflowYKind ∷ i ∷ s ∷ overflowNumber o ∷ 0 ∷ 0 ∷ []
+declRow i s f (display n) = displayKind ∷ i ∷ s ∷ flag n ∷ 0 ∷ 0 ∷ []
+declRow i s f (whiteSpace w) = whiteSpaceKind ∷ i ∷ s ∷ whiteSpaceNumber w ∷ 0 ∷ 0 ∷ []
+declRow i s f (content t) = contentKind ∷ i ∷ s ∷ f ∷ length t ∷ 0 ∷ []
+declRow i s f (unknown t) = unknownKind ∷ i ∷ s ∷ f ∷ length t ∷ 0 ∷ []
+
+unfoldable pub declarationRow : ℕ → Declaration → List ℕ
+declarationRow f d = declRow (flag (d .important)) (d .start) f (d .decl)
+
+-- the declaration of a kind and three numbers
+unfoldable pub declOf : List ℕ → ℕ → ℕ → ℕ → ℕ → Decl
+declOf store k a b c =
+    pick (is k colorKind) (color (colourOf a b c))
+    (pick (is k backgroundColorKind) (backgroundColor (colourOf a b c))
+    (pick (is k heightKind) (height (flagOf a))
+    (pick (is k maxHeightKind) (maxHeight (flagOf a))
+    (pick (is k overflowKind) (overflow (overflowOf a))
+    (pick (is k overflowYKind) (overflowY (overflowOf a))
+    (pick (is k displayKind) (display (flagOf a))
+    (pick (is k whiteSpaceKind) (whiteSpace (whiteSpaceOf a))
+    (pick (is k contentKind) (content (part store a b))
+    (unknown (part store a b))))))))))
+
+unfoldable pub readDeclaration : List ℕ → List ℕ → Read Declaration
+readDeclaration store t =
+    record {
+      value =
+          record {
+            decl = declOf store (getD t 0 0) (getD t 3 0) (getD t 4 0) (getD t 5 0);
+            important = flagOf (getD t 1 0);
+            start = getD t 2 0;
+          };
+      rest = drop declarationWidth t;
+    }
+
+-- declarations whose texts start at f, and the n declarations at the start of a stream
+unfoldable pub declarationRows : ℕ → List Declaration → List ℕ
+declarationRows f ds = rowsMany declarationRow declarationText f ds
+
+unfoldable pub declarationTexts : List Declaration → List ℕ
+declarationTexts ds = textsMany declarationText ds
+
+unfoldable pub declarationsAt : List ℕ → List ℕ → ℕ → List Declaration
+declarationsAt rows store n = readMany (readDeclaration store) n rows .value
+
+-- ---- styles: slot, important, three numbers. The slots are those of the compiled sheet.
+abbrev pub colourSlot : ℕ
+colourSlot = 0
+
+abbrev pub backgroundSlot : ℕ
+backgroundSlot = 1
+
+abbrev pub displaySlot : ℕ
+displaySlot = 2
+
+abbrev pub whiteSpaceSlot : ℕ
+whiteSpaceSlot = 3
+
+abbrev pub contentSlot : ℕ
+contentSlot = 4
+
+abbrev pub styleWidth : ℕ
+styleWidth = 5
+
+unfoldable pub styleTextOf : Style → List ℕ
+styleTextOf (style.colour c) = []
+styleTextOf (style.background c) = []
+styleTextOf style.displayNone = []
+styleTextOf (style.whiteSpace w) = []
+styleTextOf (style.content t) = t
+
+unfoldable pub styleText : StyleDecl → List ℕ
+styleText d = styleTextOf (d .style)
+
+unfoldable pub styleRowOf : ℕ → ℕ → Style → List ℕ
+styleRowOf i f (style.colour c) = colourSlot ∷ i ∷ c .red ∷ c .green ∷ c .blue ∷ []
+styleRowOf i f (style.background c) = backgroundSlot ∷ i ∷ c .red ∷ c .green ∷ c .blue ∷ []
+styleRowOf i f style.displayNone = displaySlot ∷ i ∷ 0 ∷ 0 ∷ 0 ∷ []
+styleRowOf i f (style.whiteSpace w) = whiteSpaceSlot ∷ i ∷ whiteSpaceNumber w ∷ 0 ∷ 0 ∷ []
+styleRowOf i f (style.content t) = contentSlot ∷ i ∷ f ∷ length t ∷ 0 ∷ []
+
+unfoldable pub styleRow : ℕ → StyleDecl → List ℕ
+styleRow f d = styleRowOf (flag (d .important)) f (d .style)
+
+unfoldable pub styleOf : List ℕ → ℕ → ℕ → ℕ → ℕ → Style
+styleOf store k a b c =
+    pick (is k colourSlot) (style.colour (colourOf a b c))
+    (pick (is k backgroundSlot) (style.background (colourOf a b c))
+    (pick (is k displaySlot) style.displayNone
+    (pick (is k whiteSpaceSlot) (style.whiteSpace (whiteSpaceOf a))
+    (style.content (part store a b)))))
+
+unfoldable pub readStyle : List ℕ → List ℕ → Read StyleDecl
+readStyle store t =
+    record {
+      value = record { style = styleOf store (getD t 0 0) (getD t 2 0) (getD t 3 0) (getD t 4 0); important = flagOf (getD t 1 0) };
+      rest = drop styleWidth t;
+    }
+
+unfoldable pub styleRows : ℕ → List StyleDecl → List ℕ
+styleRows f ds = rowsMany styleRow styleText f ds
+
+unfoldable pub styleTexts : List StyleDecl → List ℕ
+styleTexts ds = textsMany styleText ds
+
+unfoldable pub stylesAt : List ℕ → List ℕ → ℕ → List StyleDecl
+stylesAt rows store n = readMany (readStyle store) n rows .value

@@ -1,0 +1,4 @@
+pub mod Declaration
+pub mod Style
+pub mod Stream
+pub mod Layout

@@ -1,0 +1,16 @@
+-- Styles: what declarations ask of an element (`Style`, `StyleDecl` of src/css.rs).
+use Prim.Native.Nat.{ℕ}
+use mathlib.Core.Bool.{Bool}
+use mathlib.Core.List.{List}
+use Rattle.syntax.specs.Declaration.{Colour, WhiteSpace}
+
+pub data Style : Type 0 where
+  colour : Colour → Style
+  background : Colour → Style
+  displayNone : Style
+  whiteSpace : WhiteSpace → Style
+  content : List ℕ → Style
+
+pub record StyleDecl : Type 0 where
+  pub style : Style
+  pub important : Bool

@@ -1,0 +1,1 @@
+// Declarations and styles: what they are.
