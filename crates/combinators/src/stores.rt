@@ -1,7 +1,8 @@
 // Lent stores. A writer asks for no room: what does not fit is left out, and the fill then stands one above the length.
 ghost use mathlib.Core.Path.{_≡_};
 ghost use mathlib.Core.List.{[], _∷_};
-ghost use lib.ListN.{take};
+ghost use Prim.Native.Nat.{_+_};
+ghost use lib.ListN.{take, getD};
 ghost use Rattle.combinators.specs.Store.{emits, cleared};
 
 // One byte at `fill`; the fill behind it.
@@ -42,6 +43,19 @@ pub fn emit_part(s: &[u8], n: usize, store: &mut [u8], fill: usize) -> usize
         i += 1;
     }
     f
+}
+
+// The number `k` places behind `at`, or 0 past the end.
+pub fn number_at(rows: &[u32], at: usize, k: usize) -> u32
+    ensures { λ r. ⌜ r ≡ getD (now (rows .entry)) (at + k) 0 ⌝ }
+{
+    if at < rows.len() {
+        if k < rows.len() - at {
+            return rows[at + k];
+        }
+        return 0;
+    }
+    0
 }
 
 // Zeros from a place on, in a store of bytes.

@@ -1,3 +1,5 @@
 pub mod HeightLaws
 pub mod WordLaws
 pub mod ColourLaws
+pub mod Nesting
+pub mod Turns

@@ -1,5 +1,6 @@
 pub mod Words
 pub mod Value
+pub mod Layout
 pub mod Colour
 pub mod ColourAnswer
 pub mod Property

@@ -2,3 +2,4 @@
 pub mod words; // words.rt: fixed words, and tables of them
 pub mod colours; // colours.rt: colours by name, by '#' and by `rgb`
 pub mod heights; // heights.rt: numbers that are zero
+pub mod statements; // statements.rt: the tokens of a statement, with its brackets

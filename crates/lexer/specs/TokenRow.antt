@@ -1,9 +1,10 @@
 -- Token rows: how tokens lie in lent numbers of 32 bits. A row says the token's kind, the byte of the text where the token starts,
 -- where its text starts in the text store, and two numbers more: the length of that text, or of a dimension's number and unit,
 -- or the scalar value of a delimiter. A unit lies behind its number.
-use Prim.Native.Nat.{ℕ, _%_, _^_, _<_}
+use Prim.Native.Nat.{ℕ, _+_, _%_, _^_}
 use mathlib.Core.List.{List, [], _∷_}
 use mathlib.Core.Path.{_≡_, refl}
+use lib.ListN.{getD}
 use Rattle.combinators.specs.Choice.{pick, is}
 use Rattle.lexer.specs.Token.{Token, coded}
 use Rattle.lexer.specs.declared.rows.Columns.{Columns}
@@ -109,7 +110,22 @@ rowOf byte start k = columnsOf k .kind ∷ word byte ∷ word start ∷ word (co
 unfoldable pub tokenRow : ℕ → ℕ → Token → List ℕ
 tokenRow byte start k = rowOf byte start (coded k)
 
--- the token that a kind and two numbers say: a closing brace where no other kind fits
+-- the mark of a kind: a closing brace where no other fits
+unfoldable pub markFrom : ℕ → declared.Token
+markFrom k =
+    pick (is k cdoKind) code.CDO
+    (pick (is k cdcKind) code.CDC
+    (pick (is k colonKind) code.Colon
+    (pick (is k semicolonKind) code.Semicolon
+    (pick (is k commaKind) code.Comma
+    (pick (is k openSquareKind) code.OpenSquare
+    (pick (is k closeSquareKind) code.CloseSquare
+    (pick (is k openRoundKind) code.OpenRound
+    (pick (is k closeRoundKind) code.CloseRound
+    (pick (is k openBraceKind) code.OpenBrace
+    code.CloseBrace)))))))))
+
+-- the token that a kind and two numbers say
 unfoldable pub tokenFrom : ℕ → ℕ → ℕ → declared.Token
 tokenFrom k a b =
     pick (is k identKind) (code.Ident a)
@@ -121,21 +137,15 @@ tokenFrom k a b =
     (pick (is k numberKind) (code.Number a)
     (pick (is k dimensionKind) (code.Dimension a b)
     (pick (is k percentageKind) (code.Percentage a)
-    (pick (is k cdoKind) code.CDO
-    (pick (is k cdcKind) code.CDC
-    (pick (is k colonKind) code.Colon
-    (pick (is k semicolonKind) code.Semicolon
-    (pick (is k commaKind) code.Comma
-    (pick (is k openSquareKind) code.OpenSquare
-    (pick (is k closeSquareKind) code.CloseSquare
-    (pick (is k openRoundKind) code.OpenRound
-    (pick (is k closeRoundKind) code.CloseRound
-    (pick (is k openBraceKind) code.OpenBrace
-    code.CloseBrace))))))))))))))))))
+    (markFrom k)))))))))
+
+-- the token whose row starts at a place
+unfoldable pub tokenIn : List ℕ → ℕ → declared.Token
+tokenIn rows at = tokenFrom (getD rows (at + 0) 0) (getD rows (at + 3) 0) (getD rows (at + 4) 0)
 
 -- the columns of a token read back as the token
 pub columns-back : (k : declared.Token) → tokenFrom (columnsOf k .kind) (columnsOf k .first) (columnsOf k .second) ≡ k
-unfolding tokenFrom columnsOf pick is
+unfolding tokenFrom markFrom columnsOf pick is
 columns-back (code.Ident n) = refl
 columns-back (code.Function n) = refl
 columns-back (code.Hash n) = refl

@@ -1,12 +1,20 @@
 // Token rows: a token written to lent numbers of 32 bits.
 use crate::tokens::Token;
 use combinators::stores::emit_number;
+use combinators::stores::number_at;
 ghost use mathlib.Core.Path.{_≡_};
 ghost use Rattle.combinators.specs.Store.{emits};
-ghost use Rattle.lexer.specs.TokenRow.{columnsOf, word, rowOf};
+ghost use Rattle.lexer.specs.TokenRow.{columnsOf, word, rowOf, markFrom, tokenFrom, tokenIn};
 
 // Numbers in a row: the kind, the byte of the text where the token starts, the place of the store where its text starts, and two more.
 pub const TOKEN_WIDTH: usize = 5;
+
+// Where the kind and the two last numbers stand in a row.
+const TOKEN_KIND: usize = 0;
+
+const TOKEN_FIRST: usize = 3;
+
+const TOKEN_SECOND: usize = 4;
 
 // The kinds. 0 is none, so that a cleared row is no token.
 pub const IDENT: u32 = 1;
@@ -66,10 +74,10 @@ fn with_kind(kind: u32, first: usize, second: usize) -> Columns
     }
 }
 
-fn scalar_value(c: u32) -> usize
-    ensures { λ r. ⌜ r ≡ c ⌝ }
+fn wide_number(x: u32) -> usize
+    ensures { λ r. ⌜ r ≡ x ⌝ }
 {
-    c as usize
+    x as usize
 }
 
 fn columns_of(k: Token) -> Columns
@@ -81,7 +89,7 @@ fn columns_of(k: Token) -> Columns
         Token::Hash(n) => with_kind(HASH, n, 0),
         Token::String(n) => with_kind(STRING, n, 0),
         Token::BadString(n) => with_kind(BAD_STRING, n, 0),
-        Token::Delim(c) => with_kind(DELIM, scalar_value(c), 0),
+        Token::Delim(c) => with_kind(DELIM, wide_number(c), 0),
         Token::Number(n) => with_kind(NUMBER, n, 0),
         Token::Dimension(n, m) => with_kind(DIMENSION, n, m),
         Token::Percentage(n) => with_kind(PERCENTAGE, n, 0),
@@ -117,4 +125,87 @@ pub fn put_token(k: Token, byte: usize, start: usize, rows: &mut [u32], at: usiz
     let after_start = emit_number(word_of(start), rows, after_byte);
     let after_first = emit_number(word_of(row.first), rows, after_start);
     emit_number(word_of(row.second), rows, after_first)
+}
+
+// The mark of a kind: a closing brace where no other fits.
+fn mark_of(kind: u32) -> Token
+    ensures { λ r. ⌜ r ≡ markFrom kind ⌝ }
+{
+    if kind == CDO {
+        return Token::CDO;
+    }
+    if kind == CDC {
+        return Token::CDC;
+    }
+    if kind == COLON {
+        return Token::Colon;
+    }
+    if kind == SEMICOLON {
+        return Token::Semicolon;
+    }
+    if kind == COMMA {
+        return Token::Comma;
+    }
+    if kind == OPEN_SQUARE {
+        return Token::OpenSquare;
+    }
+    if kind == CLOSE_SQUARE {
+        return Token::CloseSquare;
+    }
+    if kind == OPEN_ROUND {
+        return Token::OpenRound;
+    }
+    if kind == CLOSE_ROUND {
+        return Token::CloseRound;
+    }
+    if kind == OPEN_BRACE {
+        return Token::OpenBrace;
+    }
+    Token::CloseBrace
+}
+
+// The token of a kind and two numbers.
+fn token_of(kind: u32, first: u32, second: u32) -> Token
+    ensures { λ r. ⌜ r ≡ tokenFrom kind first second ⌝ }
+{
+    let n = wide_number(first);
+    if kind == IDENT {
+        return Token::Ident(n);
+    }
+    if kind == FUNCTION {
+        return Token::Function(n);
+    }
+    if kind == HASH {
+        return Token::Hash(n);
+    }
+    if kind == STRING {
+        return Token::String(n);
+    }
+    if kind == BAD_STRING {
+        return Token::BadString(n);
+    }
+    if kind == DELIM {
+        return Token::Delim(first);
+    }
+    if kind == NUMBER {
+        return Token::Number(n);
+    }
+    if kind == DIMENSION {
+        return Token::Dimension(n, wide_number(second));
+    }
+    if kind == PERCENTAGE {
+        return Token::Percentage(n);
+    }
+    mark_of(kind)
+}
+
+// The token whose row starts at `at`.
+pub fn token_at(rows: &[u32], at: usize) -> Token
+    ensures { λ r. ⌜ r ≡ tokenIn (now (rows .entry)) at ⌝ }
+{
+    token_of(
+        number_at(rows, at, TOKEN_KIND),
+        number_at(rows, at, TOKEN_FIRST),
+        number_at(rows, at, TOKEN_SECOND),
+    )
 }

@@ -37,8 +37,8 @@ with-kind-requires-5 c κs = search needs
 enum-known-k-6 : tie.Need-enum-known-k-6
 enum-known-k-6 c = search needs
 
-scalar-value-requires : tie.Need-scalar-value-requires
-scalar-value-requires c κs = search needs
+wide-number-requires : tie.Need-wide-number-requires
+wide-number-requires c κs = search needs
 
 with-kind-requires-6 : tie.Need-with-kind-requires-6
 with-kind-requires-6 c κs = search needs
@@ -148,7 +148,7 @@ unfolding columnsOf
 returns-5 c = laws.found _ _ (c .before .before .k5 .given .1) _ (c .with-kind5 .ensures)
 
 returns-6 : tie.Need-returns-6
-returns-6 c = laws.found _ _ (c .before .before .before .k6 .given .1) _ (laws.delim-columns _ _ (c .before .scalar-value .ensures) _ (c .with-kind6 .ensures))
+returns-6 c = laws.found _ _ (c .before .before .before .k6 .given .1) _ (laws.delim-columns _ _ (c .before .wide-number .ensures) _ (c .with-kind6 .ensures))
 
 returns-7 : tie.Need-returns-7
 unfolding columnsOf
@@ -221,7 +221,7 @@ columns-of-spec =
     enum-known-k-5
     with-kind-requires-5
     enum-known-k-6
-    scalar-value-requires
+    wide-number-requires
     with-kind-requires-6
     enum-known-k-7
     with-kind-requires-7

@@ -1,0 +1,182 @@
+// Statements: tokens read to the end of a statement, into rows and a store of texts.
+use lexer::rows::put_token;
+use lexer::tokens::Lexed;
+use lexer::tokens::Token;
+use lexer::tokens::parse_token;
+ghost use mathlib.Core.Path.{_≡_};
+ghost use Prim.Native.Nat.{_-_, _^_, _≤_, _<_};
+ghost use lib.ListN.{length};
+ghost use Rattle.declarations.specs.Value.{closing, statementOf};
+ghost use Rattle.declarations.specs.Layout.{bracketBy, lengthBy, meant, awaited, stepTo, deep, endingBy, Moved, Room, left, Bounds};
+
+// The bytes taken, the tokens and the bytes of text of a statement; or the byte where a closing bracket is wrong.
+pub enum StatementAnswer {
+    Statement(usize, usize, usize),
+    Unbalanced(usize),
+}
+
+// What a token does to the brackets, by the byte that is awaited.
+pub enum Bracket {
+    Opens(u8),
+    Closes(u8),
+    Ends,
+    NoBracket,
+}
+
+// How a statement goes on at a token: with so many brackets awaited; it ends before the token, or behind it; or the brackets are wrong.
+pub enum Step {
+    Next(usize),
+    Before,
+    Behind,
+    Wrong,
+}
+
+// The bytes of a token's texts.
+fn text_length(k: Token) -> usize
+    requires { ⌜ lengthBy k < 2 ^ 64 ⌝ }
+    ensures { λ r. ⌜ r ≡ lengthBy k ⌝ }
+{
+    match k {
+        Token::Ident(n) => n,
+        Token::Function(n) => n,
+        Token::Hash(n) => n,
+        Token::String(n) => n,
+        Token::BadString(n) => n,
+        Token::Number(n) => n,
+        Token::Dimension(n, m) => n + m,
+        Token::Percentage(n) => n,
+        _ => 0,
+    }
+}
+
+fn bracket_of(k: Token) -> Bracket
+    ensures { λ r. ⌜ meant r ≡ bracketBy k ⌝ }
+{
+    match k {
+        Token::Function(_) => Bracket::Opens(b')'),
+        Token::CDO => Bracket::Opens(b'>'),
+        Token::CDC => Bracket::Closes(b'>'),
+        Token::Semicolon => Bracket::Ends,
+        Token::OpenSquare => Bracket::Opens(b']'),
+        Token::CloseSquare => Bracket::Closes(b']'),
+        Token::OpenRound => Bracket::Opens(b')'),
+        Token::CloseRound => Bracket::Closes(b')'),
+        Token::OpenBrace => Bracket::Opens(b'}'),
+        Token::CloseBrace => Bracket::Closes(b'}'),
+        _ => Bracket::NoBracket,
+    }
+}
+
+// A closing bracket `c`, where `d` brackets are awaited.
+fn closing_step(c: u8, brackets: &[u8], d: usize) -> Step
+    requires { ⌜ d ≤ length (now brackets) ⌝ }
+    ensures { λ r. ⌜ stepTo r (now (brackets .entry)) ≡ closing c (awaited (now (brackets .entry)) d) ⌝ }
+    ensures { λ r. ⌜ deep r (d - 1) ≡ d - 1 ⌝ }
+{
+    if d == 0 {
+        if c == b'}' {
+            return Step::Before;
+        }
+        return Step::Wrong;
+    }
+    let e = d - 1;
+    if brackets[e] != c {
+        return Step::Wrong;
+    }
+    if e == 0 {
+        if c == b'}' {
+            return Step::Behind;
+        }
+        return Step::Next(0);
+    }
+    Step::Next(e)
+}
+
+// A semicolon, where `d` brackets are awaited.
+fn ending_step(include_semicolon: bool, d: usize) -> Step
+    ensures { λ r. ⌜ r ≡ endingBy «include_semicolon» d ⌝ }
+{
+    if d == 0 {
+        if include_semicolon {
+            return Step::Behind;
+        }
+        return Step::Before;
+    }
+    Step::Next(d)
+}
+
+// The token `k`, where `d` brackets are awaited.
+fn step_at(k: Token, include_semicolon: bool, brackets: &mut [u8], d: usize) -> Step
+    requires { ⌜ d < length (now brackets) ⌝ }
+    ensures { λ r. ⌜ Moved «include_semicolon» (bracketBy k) (now (brackets .entry)) d (now (brackets .exit)) r ⌝ }
+{
+    match bracket_of(k) {
+        Bracket::Opens(c) => {
+            brackets[d] = c;
+            return Step::Next(d + 1);
+        }
+        Bracket::Closes(c) => {
+            return closing_step(c, brackets, d);
+        }
+        Bracket::Ends => {
+            return ending_step(include_semicolon, d);
+        }
+        Bracket::NoBracket => {
+            return Step::Next(d);
+        }
+    }
+}
+
+// Reads the tokens to the end of a statement: to a semicolon or a closing brace outside all brackets, or behind an outermost block
+// in braces. Their rows go to `rows` from 0 on, their texts to `store` from `fill` on; `brackets` holds the brackets awaited. The
+// entry points refuse stores below the least lengths (refusal 2), so `Room` holds wherever this is called.
+pub fn parse_to_end_of_statement(
+    s: &[u8],
+    include_semicolon: bool,
+    rows: &mut [u32],
+    brackets: &mut [u8],
+    store: &mut [u8],
+    fill: usize,
+) -> StatementAnswer
+    requires { ⌜ Room (length (now s)) fill (now brackets) ⌝ }
+    ensures { λ r. ⌜ record { answer = r; rows = now (rows .exit); brackets = now (brackets .exit); store = now (store .exit) }
+        ≡ left (statementOf «include_semicolon» (now (s .entry))) (now (rows .entry)) (now (brackets .entry)) (now (store .entry)) fill ⌝ }
+    ensures { λ r. ⌜ Bounds (now (s .entry)) r ⌝ }
+{
+    let mut taken = 0;
+    let mut count = 0;
+    let mut place = 0;
+    let mut depth = 0;
+    let mut text = 0;
+    loop {
+        let at = fill + text;
+        match parse_token(&s[taken..], store, at) {
+            Lexed::Nothing => {
+                return StatementAnswer::Statement(taken, count, text);
+            }
+            Lexed::At(start, n, k) => {
+                let byte = taken + start;
+                let length = text_length(k);
+                match step_at(k, include_semicolon, brackets, depth) {
+                    Step::Before => {
+                        return StatementAnswer::Statement(taken, count, text);
+                    }
+                    Step::Wrong => {
+                        return StatementAnswer::Unbalanced(taken);
+                    }
+                    Step::Behind => {
+                        put_token(k, byte, at, rows, place);
+                        return StatementAnswer::Statement(taken + n, count + 1, text + length);
+                    }
+                    Step::Next(d) => {
+                        place = put_token(k, byte, at, rows, place);
+                        taken += n;
+                        count += 1;
+                        text += length;
+                        depth = d;
+                    }
+                }
+            }
+        }
+    }
+}
