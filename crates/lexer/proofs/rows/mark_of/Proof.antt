@@ -1,62 +1,48 @@
 use Rattle.lexer.specs.TokenRow.{markFrom}
 use Rattle.combinators.proofs.Rules.{cases}
-use borrow.Author.Needs.{needs}
 use Rattle.lexer.proofs.rows.mark_of.Statement.{statement}
 use Rattle.lexer.proofs.rows.mark_of.Tie as tie
-use Rattle.lexer.proofs.rows.mark_of.Reads as reads
-use Rattle.lexer.proofs.rows.mark_of.Lts as lts
 
--- src/rows.rt:135:9
 returns : tie.Need-returns
 unfolding markFrom
 returns c = search cases depth 30
 
--- src/rows.rt:138:9
 returns-2 : tie.Need-returns-2
 unfolding markFrom
 returns-2 c = search cases depth 30
 
--- src/rows.rt:141:9
 returns-3 : tie.Need-returns-3
 unfolding markFrom
 returns-3 c = search cases depth 30
 
--- src/rows.rt:144:9
 returns-4 : tie.Need-returns-4
 unfolding markFrom
 returns-4 c = search cases depth 30
 
--- src/rows.rt:147:9
 returns-5 : tie.Need-returns-5
 unfolding markFrom
 returns-5 c = search cases depth 30
 
--- src/rows.rt:150:9
 returns-6 : tie.Need-returns-6
 unfolding markFrom
 returns-6 c = search cases depth 30
 
--- src/rows.rt:153:9
 returns-7 : tie.Need-returns-7
 unfolding markFrom
 returns-7 c = search cases depth 30
 
--- src/rows.rt:156:9
 returns-8 : tie.Need-returns-8
 unfolding markFrom
 returns-8 c = search cases depth 30
 
--- src/rows.rt:159:9
 returns-9 : tie.Need-returns-9
 unfolding markFrom
 returns-9 c = search cases depth 30
 
--- src/rows.rt:162:9
 returns-10 : tie.Need-returns-10
 unfolding markFrom
 returns-10 c = search cases depth 30
 
--- src/rows.rt:131:1
 returns-11 : tie.Need-returns-11
 unfolding markFrom
 returns-11 c = search cases depth 30
