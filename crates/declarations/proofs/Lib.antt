@@ -3,3 +3,4 @@ pub mod WordLaws
 pub mod ColourLaws
 pub mod Nesting
 pub mod Turns
+pub mod Views

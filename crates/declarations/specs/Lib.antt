@@ -1,6 +1,7 @@
 pub mod Words
 pub mod Value
 pub mod Layout
+pub mod View
 pub mod Colour
 pub mod ColourAnswer
 pub mod Property

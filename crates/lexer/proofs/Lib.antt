@@ -17,3 +17,4 @@ pub mod TokenReaders
 pub mod Lexing
 pub mod TokenBounds
 pub mod TokenRows
+pub mod Delimiters

@@ -39,7 +39,7 @@ Bounded s p = Keeps textOf s p
 
 -- ---- by the parts of a definition
 -- what holds of both cases of a reading
-on-holds : {A B : Type 0} (P : B → Type 0) (p : Parsed A) (f : ℕ → A → B) (o : B) → ((n : ℕ) (a : A) → p ≡ ok n a → P (f n a)) → (p ≡ err → P o) → P (onParsed p f o)
+pub on-holds : {A B : Type 0} (P : B → Type 0) (p : Parsed A) (f : ℕ → A → B) (o : B) → ((n : ℕ) (a : A) → p ≡ ok n a → P (f n a)) → (p ≡ err → P o) → P (onParsed p f o)
 unfolding onParsed
 on-holds P (ok n a) f o g h = g n a refl
 on-holds P err f o g h = h refl

@@ -13,7 +13,7 @@ use Rattle.lexer.specs.declared.tokens.Token as declared
 use Rattle.lexer.specs.declared.tokens.Token.the-variants as code
 
 -- a number below 2^32 is its own word
-word-same : (x : ℕ) → x < 2 ^ 32 → word x ≡ x
+pub word-same : (x : ℕ) → x < 2 ^ 32 → word x ≡ x
 unfolding word
 word-same x h = omega arith
 
