@@ -28,9 +28,13 @@ isNmstart x = or (is x lowLine) (or (within x smallA smallZ) (within x capitalA 
 unfoldable pub isNmchar : ℕ → Bool
 isNmchar x = or (isNmstart x) (or (within x digitZero digitNine) (is x hyphenMinus))
 
+-- from a capital letter to its small one
+abbrev pub caseDistance : ℕ
+caseDistance = 32
+
 -- `to_ascii_lowercase`: names fold A-Z to a-z
 unfoldable pub lower : ℕ → ℕ
-lower x = pick (within x capitalA capitalZ) (x + 32) x
+lower x = pick (within x capitalA capitalZ) (x + caseDistance) x
 
 -- a first character that p holds of, folded
 unfoldable pub foldedChar : (ℕ → Bool) → List ℕ → Scalar

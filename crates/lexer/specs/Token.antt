@@ -85,9 +85,13 @@ stringOf t =
 
 -- ---- `parse_token`
 
+-- from here on the crate takes every character for one that starts a name
+abbrev pub firstAboveU0080 : ℕ
+firstAboveU0080 = 0x81
+
 -- `is_ident_start`
 unfoldable pub isIdentStart : ℕ → Bool
-isIdentStart c = or (within c smallA smallZ) (or (within c capitalA capitalZ) (or (is c lowLine) (leb 0x81 c)))
+isIdentStart c = or (within c smallA smallZ) (or (within c capitalA capitalZ) (or (is c lowLine) (leb firstAboveU0080 c)))
 
 -- which reader a first character selects, in the crate's order
 unfoldable pub startOf : ℕ → Start

@@ -24,6 +24,9 @@ pub enum Name {
     NoName,
 }
 
+// From a capital letter to its small one.
+const CASE_DISTANCE: u32 = 32;
+
 // An escape takes up to six hex digits.
 const MAXIMUM_DIGITS: usize = 6;
 
@@ -58,7 +61,7 @@ fn lower_of(b: u8) -> u32
     ensures { λ r. ⌜ r ≡ lower b ⌝ }
 {
     if between(b, b'A', b'Z') {
-        return wide(b) + 32;
+        return wide(b) + CASE_DISTANCE;
     }
     wide(b)
 }
