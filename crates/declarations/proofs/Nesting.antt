@@ -16,8 +16,8 @@ use Rattle.lexer.specs.Token.{Token, ident, function, hash, string, badString, 
 use Rattle.lexer.proofs.tokens.Token.{the-type}
 use Rattle.lexer.specs.declared.tokens.Token as lexer
 use Rattle.lexer.specs.declared.tokens.Token.the-variants as code
-use Rattle.declarations.specs.Value.{Bracket, opens, closes, ends, none, bracketOf, next, closing, ending, stepOf}
-use Rattle.declarations.specs.Layout.{bracketBy, lengthBy, meant, awaited, pushed, depth, stepTo, deep, endingBy, Moved}
+use Rattle.declarations.specs.Value.{Bracket, opens, closes, ends, none, bracketBy, bracketOf, next, closing, ending, stepOf}
+use Rattle.declarations.specs.Layout.{lengthBy, meant, awaited, pushed, depth, stepTo, deep, endingBy, Moved}
 use Rattle.declarations.specs.declared.statements.Bracket as declared-bracket
 use Rattle.declarations.specs.declared.statements.Bracket.the-variants.{Opens, Closes, Ends, NoBracket}
 use Rattle.declarations.specs.declared.statements.Step as declared-step
@@ -80,31 +80,7 @@ without-text code.CloseRound h = refl
 without-text code.OpenBrace h = refl
 without-text code.CloseBrace h = refl
 
--- a token as the code has it does the same
-pub bracket-coded : (k : Token) → bracketBy (coded k) ≡ bracketOf k
-unfolding bracketBy bracketOf coded
-bracket-coded (ident b) = refl
-bracket-coded (function b) = refl
-bracket-coded (hash b) = refl
-bracket-coded (string b) = refl
-bracket-coded (badString b) = refl
-bracket-coded (delim c) = refl
-bracket-coded (number b) = refl
-bracket-coded (dimension b u) = refl
-bracket-coded (percentage b) = refl
-bracket-coded cdo = refl
-bracket-coded cdc = refl
-bracket-coded colon = refl
-bracket-coded semicolon = refl
-bracket-coded comma = refl
-bracket-coded openSquare = refl
-bracket-coded closeSquare = refl
-bracket-coded openRound = refl
-bracket-coded closeRound = refl
-bracket-coded openBrace = refl
-bracket-coded closeBrace = refl
-
--- and has as many bytes of text
+-- a token as the code has it has as many bytes of text
 pub length-coded : (k : Token) → lengthBy (coded k) ≡ length (textOf k)
 unfolding lengthBy textOf coded
 length-coded (ident b) = refl
@@ -130,7 +106,7 @@ length-coded closeBrace = refl
 
 -- a token at which the statement does not go on has no text
 pub no-text : (include : Bool) (cs : List ℕ) (k : Token) → ((ds : List ℕ) → ¬ (stepOf include (bracketOf k) cs ≡ next ds)) → textOf k ≡ []
-unfolding stepOf bracketOf textOf
+unfolding stepOf bracketOf bracketBy coded textOf
 no-text include cs (ident b) never = absurd (never _ refl)
 no-text include cs (function b) never = absurd (never _ refl)
 no-text include cs (hash b) never = absurd (never _ refl)

@@ -21,13 +21,14 @@ use Rattle.lexer.specs.declared.tokens.Lexed.the-variants.{At, Nothing}
 use Rattle.lexer.proofs.Bounds.{Bound, short, lone, Fits}
 use Rattle.lexer.proofs.Comments.{skip-le}
 use Rattle.lexer.proofs.TokenBounds.{token-fits}
-use Rattle.declarations.specs.Value.{Placed, bracketOf, Step, next, before, behind, wrong, stepOf, Statement, stop, cons, onStep, scan, statementOf}
-use Rattle.declarations.specs.Layout.{bracketBy, lengthBy, awaited, pushed, depth, stepTo, deep, Moved, rowsOf, textsOf, bracketsAfter, Left, left, Room, takenBy, countBy, textBy, slack, Bounds}
+use Rattle.syntax.specs.Stream.{rowsMany, textsMany}
+use Rattle.declarations.specs.Value.{Placed, bracketBy, bracketOf, Step, next, before, behind, wrong, stepOf, Statement, stop, cons, onStep, scan, statementOf}
+use Rattle.declarations.specs.Layout.{lengthBy, awaited, pushed, depth, stepTo, deep, Moved, rowsOf, textsOf, bracketsAfter, Left, left, Room, takenBy, countBy, textBy, slack, Bounds}
 use Rattle.declarations.specs.declared.statements.Step as declared-step
 use Rattle.declarations.specs.declared.statements.Step.the-variants.{Next, Before, Behind, Wrong}
 use Rattle.declarations.specs.declared.statements.StatementAnswer.{StatementAnswer}
 use Rattle.declarations.specs.declared.statements.StatementAnswer.the-variants as answer
-use Rattle.declarations.proofs.Nesting.{bracket-coded, length-coded, no-text, unpushed, depth-le}
+use Rattle.declarations.proofs.Nesting.{length-coded, no-text, unpushed, depth-le}
 
 -- ---- what is left of a statement leaves, where n tokens with t bytes of text were read and d brackets are awaited
 unfoldable pub leaves : Statement → Store → ℕ → List ℕ → ℕ → List ℕ → ℕ → ℕ → Left
@@ -57,18 +58,18 @@ sets-append l i (x ∷ xs) ys =
 module _ (o : Store) (n : ℕ) (b : List ℕ) (d : ℕ) (st : List ℕ) (fill t : ℕ) where
   -- of no token
   leaves-stop : (at : ℕ) → leaves (stop at true) o n b d st fill t ≡ record { answer = answer.Statement at n t; rows = o .bytes; brackets = b; store = st }
-  unfolding leaves stop pick rowsOf textsOf bracketsAfter
+  unfolding leaves stop pick rowsMany textsMany bracketsAfter
   leaves-stop at = rw (add-zero n, add-zero t, emits-none o)
 
   leaves-wrong : (at : ℕ) → leaves (stop at false) o n b d st fill t ≡ record { answer = answer.Unbalanced at; rows = o .bytes; brackets = b; store = st }
-  unfolding leaves stop pick rowsOf textsOf bracketsAfter
+  unfolding leaves stop pick rowsMany textsMany bracketsAfter
   leaves-wrong at = rw (emits-none o)
 
   -- of a token and more
   leaves-cons : (k : Token) (at : ℕ) (r : Statement) → leaves (cons (record { token = k; start = at }) r) o n b d st fill t
       ≡ leaves r (emits o (tokenRow at (fill + t) k)) (n + 1) (pushed (bracketOf k) b d) (depth (bracketOf k) d) (sets st (fill + t) (textOf k)) fill
       (t + length (textOf k))
-  unfolding leaves cons rowsOf textsOf bracketsAfter
+  unfolding leaves cons rowsMany textsMany bracketsAfter
   leaves-cons k at r =
       let ts = r .tokens in
       let x = textOf k in
@@ -250,7 +251,8 @@ module _ {s : List ℕ} {include : Bool} {rows₀ brackets₀ store₀ : List �
     length-is = ap lengthBy (read .same) ∙ length-coded t
 
     bracket-is : bracketBy k ≡ bracketOf t
-    bracket-is = ap bracketBy (read .same) ∙ bracket-coded t
+    unfolding bracketOf
+    bracket-is = ap bracketBy (read .same)
 
     -- it takes a byte or more, no more than there are, and starts before the end
     pub some : 1 ≤ m

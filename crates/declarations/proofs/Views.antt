@@ -15,10 +15,10 @@ use Rattle.lexer.specs.declared.tokens.Token as lexer
 use Rattle.lexer.proofs.Delimiters.{delim-scalar}
 use Rattle.lexer.proofs.TokenBounds.{on-holds}
 use Rattle.lexer.proofs.TokenRows.{word-same, row-back}
-use Rattle.syntax.specs.Stream.{Read, rowsMany, textsMany, part}
+use Rattle.syntax.specs.Stream.{Read, part}
 use Rattle.syntax.proofs.Streams.{Held, held-left, held-right, held-part, All, many-back-for, sets-drop, sets-held}
 use Rattle.declarations.specs.Value.{Placed, bracketOf, Step, next, before, behind, wrong, stepOf, Statement, stop, cons, onStep, scan, statementOf, tokensOf}
-use Rattle.declarations.specs.Layout.{rowsOf, textsOf, left}
+use Rattle.declarations.specs.Layout.{placedRow, placedText, rowsOf, textsOf, left}
 use Rattle.declarations.specs.View.{tokenWith, readToken, tokensAt}
 
 -- a text that is held is no longer than the store from there on
@@ -32,25 +32,6 @@ Small k = (c : ℕ) → k ≡ delim c → c < 2 ^ 32
 -- such tokens only
 abbrev pub AllSmall : List Placed → Type 0
 AllSmall ts = All (λ t. Small (t .token)) ts
-
--- ---- a statement's rows and texts are those of a list of values
-abbrev placedRow : ℕ → Placed → List ℕ
-placedRow f t = tokenRow (t .start) f (t .token)
-
-abbrev placedText : Placed → List ℕ
-placedText t = textOf (t .token)
-
--- the rows
-rows-many : (ts : List Placed) (f : ℕ) → rowsOf f ts ≡ rowsMany placedRow placedText f ts
-unfolding rowsOf rowsMany
-rows-many [] f = refl
-rows-many (t ∷ ts) f = rw (rows-many ts (f + length (textOf (t .token))))
-
--- the texts
-texts-many : (ts : List Placed) → textsOf ts ≡ textsMany placedText ts
-unfolding textsOf textsMany
-texts-many [] = refl
-texts-many (t ∷ ts) = rw (texts-many ts)
 
 -- the tokens, without their starts
 tokens-map : (ts : List Placed) → tokensOf ts ≡ map (λ (t : Placed). t .token) ts
@@ -141,10 +122,10 @@ module _ (store : List ℕ) (bits : length store < 2 ^ 32) where
       → tokensAt (rowsOf f ts ++ t) store (length ts) ≡ tokensOf ts
   unfolding tokensAt
   tokens-read ts f t s h =
-      rw (rows-many ts f, tokens-map ts)
+      rw (tokens-map ts)
       (ap (λ (r : Read (List Token)). r .value)
       (many-back-for store placedRow placedText (readToken store) (λ p. p .token) (λ p. Small (p .token))
-      (λ f p t. token-back (p .start) f (p .token) t) ts f t s (rw (← texts-many ts) h)))
+      (λ f p t. token-back (p .start) f (p .token) t) ts f t s h))
 
 -- tokens written into lent rows, and their texts into a lent store from fill on, are read back
 pub tokens-back : (ts : List Placed) (rows store : List ℕ) (fill : ℕ) → AllSmall ts → length (rowsOf fill ts) ≤ length rows

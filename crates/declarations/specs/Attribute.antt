@@ -19,9 +19,10 @@ use Rattle.declarations.specs.Styles.{stylesOf}
 unfoldable pub styleAttribute : List ℕ → List StyleDecl
 styleAttribute s = stylesOf (declarationsOf s .declarations)
 
--- `str::trim`. The end may stay: six bytes are looked at, and White_Space among them reads as no digit.
-unfoldable pub trimmed : List ℕ → List ℕ
-trimmed s = drop (many whiteTaken 0 0 s) s
+-- `str::trim` at the start. The crate trims the end too, which changes nothing: six bytes are looked at, and White_Space among
+-- them reads as no digit.
+unfoldable pub trimmedStart : List ℕ → List ℕ
+trimmedStart s = drop (many whiteTaken 0 0 s) s
 
 -- `parse_faulty_color`: six bytes as three pairs of hex digits
 unfoldable pub pairs : List ℕ → Found Colour
@@ -35,7 +36,7 @@ faultyColour t = pick (leb 6 (length t)) (pairs t) missing
 
 unfoldable pub orFaulty : Found Colour → List ℕ → Found Colour
 orFaulty (found c) s = found c
-orFaulty missing s = faultyColour (trimmed s)
+orFaulty missing s = faultyColour (trimmedStart s)
 
 -- `parse_color_attribute`
 unfoldable pub colourAttribute : List ℕ → Found Colour

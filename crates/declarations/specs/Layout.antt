@@ -5,13 +5,14 @@ use mathlib.Core.List.{List, [], _∷_, _++_}
 use mathlib.Core.Path.{_≡_, refl}
 use lib.ListN.{length, getD, set}
 use lib.Seq.{sets}
-use Rattle.combinators.specs.Ascii.{rightParenthesis, greaterThanSign, rightSquareBracket, rightCurlyBracket, reverseSolidus}
+use Rattle.combinators.specs.Ascii.{rightParenthesis, reverseSolidus}
 use Rattle.combinators.specs.Choice.{pick, and, is}
 use Rattle.lexer.specs.Token.{function, number, closeRound, coded, textOf}
 use Rattle.lexer.specs.TokenRow.{functionKind, numberKind, closeRoundKind, columnsOf, word, rowOf, tokenRow}
 use Rattle.lexer.specs.declared.tokens.Token as lexer
 use Rattle.lexer.specs.declared.tokens.Token.the-variants as code
-use Rattle.declarations.specs.Value.{Placed, Bracket, opens, closes, ends, none, bracketOf, Step, next, before, behind, wrong, stepOf, Statement}
+use Rattle.syntax.specs.Stream.{rowsMany, textsMany}
+use Rattle.declarations.specs.Value.{Placed, Bracket, opens, closes, ends, none, bracketBy, bracketOf, Step, next, before, behind, wrong, stepOf, Statement}
 use Rattle.declarations.specs.declared.statements.Bracket as declared-bracket
 use Rattle.declarations.specs.declared.statements.Bracket.the-variants.{Opens, Closes, Ends, NoBracket}
 use Rattle.declarations.specs.declared.statements.Step as declared-step
@@ -19,29 +20,7 @@ use Rattle.declarations.specs.declared.statements.Step.the-variants.{Nex
 use Rattle.declarations.specs.declared.statements.StatementAnswer.{StatementAnswer}
 use Rattle.declarations.specs.declared.statements.StatementAnswer.the-variants as answer
 
--- ---- a token as the code has it: what it does to the brackets, and the bytes of its texts
-unfoldable pub bracketBy : lexer.Token → Bracket
-bracketBy (code.Ident n) = none
-bracketBy (code.Function n) = opens rightParenthesis
-bracketBy (code.Hash n) = none
-bracketBy (code.String n) = none
-bracketBy (code.BadString n) = none
-bracketBy (code.Delim c) = none
-bracketBy (code.Number n) = none
-bracketBy (code.Dimension n m) = none
-bracketBy (code.Percentage n) = none
-bracketBy code.CDO = opens greaterThanSign
-bracketBy code.CDC = closes greaterThanSign
-bracketBy code.Colon = none
-bracketBy code.Semicolon = ends
-bracketBy code.Comma = none
-bracketBy code.OpenSquare = opens rightSquareBracket
-bracketBy code.CloseSquare = closes rightSquareBracket
-bracketBy code.OpenRound = opens rightParenthesis
-bracketBy code.CloseRound = closes rightParenthesis
-bracketBy code.OpenBrace = opens rightCurlyBracket
-bracketBy code.CloseBrace = closes rightCurlyBracket
-
+-- ---- a token as the code has it: the bytes of its texts
 unfoldable pub lengthBy : lexer.Token → ℕ
 lengthBy (code.Ident n) = n
 lengthBy (code.Function n) = n
@@ -116,15 +95,20 @@ pub record Moved (include : Bool) (x : Bracket) (b : List ℕ) (d : ℕ) (b′ :
 
 -- ---- what a statement leaves
 
+-- a token's row, where its text lies from f on, and that text
+abbrev pub placedRow : ℕ → Placed → List ℕ
+placedRow f t = tokenRow (t .start) f (t .token)
+
+abbrev pub placedText : Placed → List ℕ
+placedText t = textOf (t .token)
+
 -- the rows of tokens whose texts lie from f on
-unfoldable pub rowsOf : ℕ → List Placed → List ℕ
-rowsOf f [] = []
-rowsOf f (t ∷ ts) = tokenRow (t .start) f (t .token) ++ rowsOf (f + length (textOf (t .token))) ts
+abbrev pub rowsOf : ℕ → List Placed → List ℕ
+rowsOf f ts = rowsMany placedRow placedText f ts
 
 -- their texts, one behind the other
-unfoldable pub textsOf : List Placed → List ℕ
-textsOf [] = []
-textsOf (t ∷ ts) = textOf (t .token) ++ textsOf ts
+abbrev pub textsOf : List Placed → List ℕ
+textsOf ts = textsMany placedText ts
 
 -- the store of brackets after tokens
 unfoldable pub bracketsAfter : List Placed → List ℕ → ℕ → List ℕ
@@ -161,7 +145,7 @@ case : left
       brackets = rightParenthesis ∷ 1 ∷ [];
       store = 9 ∷ 0x66 ∷ 0x37 ∷ 9 ∷ [];
     }
-unfolding left rowsOf textsOf bracketsAfter pushed depth bracketOf tokenRow rowOf columnsOf coded word textOf pick
+unfolding left rowsMany textsMany bracketsAfter pushed depth bracketOf bracketBy tokenRow rowOf columnsOf coded word textOf pick
 case = refl
 
 -- ---- room and bounds

@@ -8,7 +8,9 @@ use Rattle.combinators.specs.Choice.{pick, and, is}
 use Rattle.combinators.specs.Parsed.{Parsed, ok, err, onParsed}
 use Rattle.unicode.specs.Literal.{text}
 use Rattle.lexer.specs.Whitespace.{skipWhitespace}
-use Rattle.lexer.specs.Token.{Token, ident, function, hash, string, badString, delim, number, dimension, percentage, cdo, cdc, colon, semicolon, comma, openSquare, closeSquare, openRound, closeRound, openBrace, closeBrace, tokenOf}
+use Rattle.lexer.specs.Token.{Token, tokenOf, coded}
+use Rattle.lexer.specs.declared.tokens.Token as lexer
+use Rattle.lexer.specs.declared.tokens.Token.the-variants as code
 use Rattle.declarations.specs.Words.{isWord, isDelim}
 
 -- a token, and the byte where it starts
@@ -25,27 +27,31 @@ pub data Bracket : Type 0 where
   ends : Bracket
   none : Bracket
 
+-- by the token's kind alone, so of a token as the code has it
+unfoldable pub bracketBy : lexer.Token → Bracket
+bracketBy (code.Ident n) = none
+bracketBy (code.Function n) = opens rightParenthesis
+bracketBy (code.Hash n) = none
+bracketBy (code.String n) = none
+bracketBy (code.BadString n) = none
+bracketBy (code.Delim c) = none
+bracketBy (code.Number n) = none
+bracketBy (code.Dimension n m) = none
+bracketBy (code.Percentage n) = none
+bracketBy code.CDO = opens greaterThanSign
+bracketBy code.CDC = closes greaterThanSign
+bracketBy code.Colon = none
+bracketBy code.Semicolon = ends
+bracketBy code.Comma = none
+bracketBy code.OpenSquare = opens rightSquareBracket
+bracketBy code.CloseSquare = closes rightSquareBracket
+bracketBy code.OpenRound = opens rightParenthesis
+bracketBy code.CloseRound = closes rightParenthesis
+bracketBy code.OpenBrace = opens rightCurlyBracket
+bracketBy code.CloseBrace = closes rightCurlyBracket
+
 unfoldable pub bracketOf : Token → Bracket
-bracketOf (ident b) = none
-bracketOf (function b) = opens rightParenthesis
-bracketOf (hash b) = none
-bracketOf (string b) = none
-bracketOf (badString b) = none
-bracketOf (delim c) = none
-bracketOf (number b) = none
-bracketOf (dimension b u) = none
-bracketOf (percentage b) = none
-bracketOf cdo = opens greaterThanSign
-bracketOf cdc = closes greaterThanSign
-bracketOf colon = none
-bracketOf semicolon = ends
-bracketOf comma = none
-bracketOf openSquare = opens rightSquareBracket
-bracketOf closeSquare = closes rightSquareBracket
-bracketOf openRound = opens rightParenthesis
-bracketOf closeRound = closes rightParenthesis
-bracketOf openBrace = opens rightCurlyBracket
-bracketOf closeBrace = closes rightCurlyBracket
+bracketOf k = bracketBy (coded k)
 
 -- how a statement goes on at a token: with these brackets awaited, innermost first; it ends before the token, or behind it; or the
 -- brackets are wrong

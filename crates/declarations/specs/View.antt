@@ -5,7 +5,7 @@ use mathlib.Core.Path.{_≡_, refl}
 use lib.ListN.{getD, drop}
 use Rattle.combinators.specs.Choice.{pick, is}
 use Rattle.lexer.specs.Token.{Token, ident, function, hash, string, badString, delim, number, dimension, percentage, cdo, cdc, colon, semicolon, comma, openSquare, closeSquare, openRound, closeRound, openBrace, closeBrace}
-use Rattle.lexer.specs.TokenRow.{tokenWidth, dimensionKind, delimKind, tokenFrom, tokenIn}
+use Rattle.lexer.specs.TokenRow.{tokenWidth, startColumn, dimensionKind, delimKind, tokenFrom, tokenIn}
 use Rattle.lexer.specs.declared.tokens.Token as lexer
 use Rattle.lexer.specs.declared.tokens.Token.the-variants as code
 use Rattle.syntax.specs.Stream.{Read, readMany, part}
@@ -35,7 +35,7 @@ tokenWith store s code.CloseBrace = closeBrace
 
 -- the token whose row stands first, by the store; the rows behind it
 unfoldable pub readToken : List ℕ → List ℕ → Read Token
-readToken store t = record { value = tokenWith store (getD t 2 0) (tokenIn t 0); rest = drop tokenWidth t }
+readToken store t = record { value = tokenWith store (getD t startColumn 0) (tokenIn t 0); rest = drop tokenWidth t }
 
 -- the first n tokens of rows, by the store of their texts
 unfoldable pub tokensAt : List ℕ → List ℕ → ℕ → List Token

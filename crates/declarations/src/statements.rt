@@ -6,8 +6,8 @@ use lexer::tokens::parse_token;
 ghost use mathlib.Core.Path.{_≡_};
 ghost use Prim.Native.Nat.{_-_, _^_, _≤_, _<_};
 ghost use lib.ListN.{length};
-ghost use Rattle.declarations.specs.Value.{closing, statementOf};
-ghost use Rattle.declarations.specs.Layout.{bracketBy, lengthBy, meant, awaited, stepTo, deep, endingBy, Moved, Room, left, Bounds};
+ghost use Rattle.declarations.specs.Value.{bracketBy, closing, statementOf};
+ghost use Rattle.declarations.specs.Layout.{lengthBy, meant, awaited, stepTo, deep, endingBy, Moved, Room, left, Bounds};
 
 // The bytes taken, the tokens and the bytes of text of a statement; or the byte where a closing bracket is wrong.
 pub enum StatementAnswer {

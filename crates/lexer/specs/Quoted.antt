@@ -4,7 +4,7 @@ use mathlib.Core.List.{List, [], _∷_}
 use mathlib.Core.Path.{_≡_, refl}
 use lib.ListN.{length, getD}
 use Rattle.combinators.specs.Choice.{pick, is}
-use Rattle.combinators.specs.Ascii.{lineFeed, reverseSolidus}
+use Rattle.combinators.specs.Ascii.{lineFeed, quotationMark, reverseSolidus}
 use Rattle.combinators.specs.Repeat.{many, texts, took}
 use Rattle.unicode.specs.Literal.{text}
 use Rattle.unicode.specs.Utf8.{utf8, continuation}
@@ -51,9 +51,9 @@ unfoldable pub stringText : ℕ → List ℕ → List ℕ
 stringText q s = texts (quotedTaken q) (quotedText q) 0 s
 
 -- `a\` ending the text, `a\"b"`, `a\` and a line feed before `b"`, `é"`, and a line feed
-test-string : (stringEnd 34 (text "a\\") ≡ 2) × (stringText 34 (text "a\\") ≡ text "a")
-    × (stringEnd 34 (text "a\\\"b\"") ≡ 4) × (stringText 34 (text "a\\\"b\"") ≡ text "a\"b")
-    × (stringText 34 (text "a\\\nb\"") ≡ text "ab") × (stringText 34 (text "é\"") ≡ text "é")
-    × (stringEnd 34 (text "a\nb\"") ≡ 1)
+test-string : (stringEnd quotationMark (text "a\\") ≡ 2) × (stringText quotationMark (text "a\\") ≡ text "a")
+    × (stringEnd quotationMark (text "a\\\"b\"") ≡ 4) × (stringText quotationMark (text "a\\\"b\"") ≡ text "a\"b")
+    × (stringText quotationMark (text "a\\\nb\"") ≡ text "ab") × (stringText quotationMark (text "é\"") ≡ text "é")
+    × (stringEnd quotationMark (text "a\nb\"") ≡ 1)
 unfolding stringEnd stringText quotedTaken quotedText takenOf textOf quotedOf escapedByte many texts took pick is text utf8 continuation
 test-string = (refl, refl, refl, refl, refl, refl, refl)

@@ -15,7 +15,20 @@ use Rattle.lexer.specs.declared.tokens.Token.the-variants as code
 abbrev pub tokenWidth : ℕ
 tokenWidth = 5
 
--- the kinds; 0 is none, so that a cleared row is no token
+-- where the kind, the place of the text and the two last numbers stand in a row
+abbrev pub kindColumn : ℕ
+kindColumn = 0
+
+abbrev pub startColumn : ℕ
+startColumn = 2
+
+abbrev pub firstColumn : ℕ
+firstColumn = 3
+
+abbrev pub secondColumn : ℕ
+secondColumn = 4
+
+-- the kinds; no token has 0, so that a cleared row is told from a written one
 abbrev pub identKind : ℕ
 identKind = 1
 
@@ -110,7 +123,7 @@ rowOf byte start k = columnsOf k .kind ∷ word byte ∷ word start ∷ word (co
 unfoldable pub tokenRow : ℕ → ℕ → Token → List ℕ
 tokenRow byte start k = rowOf byte start (coded k)
 
--- the mark of a kind: a closing brace where no other fits
+-- the mark of a kind: a closing brace where no other fits. Rows are counted, so none is read that no token wrote.
 unfoldable pub markFrom : ℕ → declared.Token
 markFrom k =
     pick (is k cdoKind) code.CDO
@@ -141,7 +154,7 @@ tokenFrom k a b =
 
 -- the token whose row starts at a place
 unfoldable pub tokenIn : List ℕ → ℕ → declared.Token
-tokenIn rows at = tokenFrom (getD rows (at + 0) 0) (getD rows (at + 3) 0) (getD rows (at + 4) 0)
+tokenIn rows at = tokenFrom (getD rows (at + kindColumn) 0) (getD rows (at + firstColumn) 0) (getD rows (at + secondColumn) 0)
 
 -- the columns of a token read back as the token
 pub columns-back : (k : declared.Token) → tokenFrom (columnsOf k .kind) (columnsOf k .first) (columnsOf k .second) ≡ k

@@ -56,7 +56,7 @@ fn is_nmchar(b: u8) -> bool
     same(b, b'-')
 }
 
-// The byte, with A-Z folded to a-z, which stand 32 above them.
+// The byte, with A-Z folded to a-z.
 fn lower_of(b: u8) -> u32
     ensures { λ r. ⌜ r ≡ lower b ⌝ }
 {

@@ -16,7 +16,7 @@ const TOKEN_FIRST: usize = 3;
 
 const TOKEN_SECOND: usize = 4;
 
-// The kinds. 0 is none, so that a cleared row is no token.
+// The kinds. No token has 0, so that a cleared row is told from a written one.
 pub const IDENT: u32 = 1;
 
 pub const FUNCTION: u32 = 2;

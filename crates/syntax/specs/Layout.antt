@@ -10,7 +10,7 @@ use Rattle.syntax.specs.Stream.{Read, readMany, textsMany, rowsMany, par
 use Rattle.syntax.specs.Style as style
 use Rattle.syntax.specs.Style.{Style, StyleDecl}
 
--- ---- numbers for what a declaration can be. 0 is none, so that a cleared row is none.
+-- ---- numbers for what a declaration can be. No declaration has 0, so that a cleared row is told from a written one.
 abbrev pub colorKind : ℕ
 colorKind = 1
 

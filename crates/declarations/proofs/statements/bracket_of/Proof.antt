@@ -1,6 +1,7 @@
 use Rattle.declarations.proofs.Nesting as laws
 use mathlib.Core.Path.{sym, ap}
-use Rattle.declarations.specs.Layout.{meant, bracketBy}
+use Rattle.declarations.specs.Value.{bracketBy}
+use Rattle.declarations.specs.Layout.{meant}
 use borrow.Author.Needs.{needs}
 use Rattle.declarations.proofs.statements.bracket_of.Statement.{statement}
 use Rattle.declarations.proofs.statements.bracket_of.Tie as tie
