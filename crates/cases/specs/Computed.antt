@@ -1,17 +1,16 @@
 -- Computed cases of result 1, beside those that document 01 marks P: what would surprise a reader of the CSS documents.
-use mathlib.Core.List.{List, [], _∷_}
 use mathlib.Core.Path.{_≡_, refl}
 use Rattle.combinators.specs.Choice.{pick, or, and, is, within}
-use Rattle.combinators.specs.Parsed.{Parsed, ok, err, behind, orElse, onParsed}
+use Rattle.combinators.specs.Parsed.{ok, err, behind, orElse, onParsed}
 use Rattle.combinators.specs.Repeat.{many, texts, took}
 use Rattle.combinators.specs.Word.{startsWith}
-use Rattle.unicode.specs.Utf8.{utf8, orReplacement, replacementCharacter, scalarOf, takenOf, isScalar, scalarBy, scalarTail, leadOf, two, three, four, isContinuation, continuation}
+use Rattle.unicode.specs.Utf8.{utf8, orReplacement, scalarOf, takenOf, isScalar, scalarBy, scalarTail, leadOf, two, three, four, isContinuation, continuation}
 use Rattle.lexer.specs.Whitespace.{skipWhitespace, whitespaceItem, isWhitespace, commentOf, commentEnd}
 use Rattle.lexer.specs.Name.{identOf, identstringOf, charsOf, nameOf, nameFrom, dash, charsEnd, charsText, charTaken, charText, bytesOf, nmcharOf, nmstartOf, either, nmcharCharOf, nmstartCharOf, foldedChar, identEscapeOf, escapedOf, behindOne, hexValue, hexCount, hexRun, hexDigit, isHexDigit, lower, isNmchar, isNmstart}
 use Rattle.lexer.specs.Number.{number, signed, sign, unsigned, decimal, digits, oneDigit, isDigit}
 use Rattle.lexer.specs.Quoted.{stringEnd, stringText, quotedTaken, quotedText, quotedOf, escapedByte}
 use Rattle.lexer.specs.Quoted as quoted
-use Rattle.lexer.specs.Token.{Token, ident, function, hash, string, badString, delim, dimension, percentage, cdo, cdc, colon, semicolon, comma, openSquare, closeSquare, openRound, closeRound, openBrace, closeBrace, tokenOf, tokenAt, tokenBy, markOf, startOf, isIdentStart, stringOf, stringFrom, identLikeOf, numericOf, numericFrom, isQuote, hashOf, plusOf, minusOf, lessOf}
+use Rattle.lexer.specs.Token.{ident, string, delim, dimension, tokenOf, tokenAt, tokenBy, markOf, startOf, isIdentStart, stringOf, stringFrom, identLikeOf, numericOf, numericFrom, isQuote, hashOf, plusOf, minusOf, lessOf}
 use Rattle.lexer.specs.Token as token
 use Rattle.unicode.specs.Literal.{text}
 

@@ -11,7 +11,7 @@ use lib.Dec.{leb, ltb}
 use lib.ListN.{length, getD, take, drop, drop-of-length-le}
 use lib.Seq.{drop-cons}
 use Rattle.combinators.specs.Ascii.{plusSign, digitZero, digitNine}
-use Rattle.combinators.specs.Choice.{or, and, is, within}
+use Rattle.combinators.specs.Choice.{or, and, is}
 use Rattle.combinators.proofs.Lists.{rest, there}
 use Rattle.combinators.proofs.Rules.{pick-true, pick-false, pick-holds, is-yes, is-no, is-true, and-gives, and-gives-false, and-left, and-both, and-true, or-left, same-test, within-true, told}
 use Rattle.lexer.specs.Name.{isHexDigit, hexDigit}

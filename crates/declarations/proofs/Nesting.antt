@@ -10,7 +10,7 @@ use lib.Seq.{getD-set-same, getD-set-other}
 use types.Run.{OneOf, miss}
 use denote.Enum.Declared.{tagOf}
 use Rattle.combinators.specs.Ascii.{rightCurlyBracket}
-use Rattle.combinators.specs.Choice.{pick, is}
+use Rattle.combinators.specs.Choice.{pick}
 use Rattle.combinators.proofs.Rules.{pick-true, pick-false, is-yes, is-no}
 use Rattle.lexer.specs.Token.{Token, ident, function, hash, string, badString, delim, number, dimension, percentage, cdo, cdc, colon, semicolon, comma, openSquare, closeSquare, openRound, closeRound, openBrace, closeBrace, coded, textOf}
 use Rattle.lexer.proofs.tokens.Token.{the-type}

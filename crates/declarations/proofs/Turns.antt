@@ -8,7 +8,7 @@ use native.Mathlib.Omega.{arith}
 use lib.ListN.{length, getD, set, drop, length-drop, length-append}
 use lib.Seq.{sets, drop-drop, getD-drop}
 use Rattle.combinators.specs.Ascii.{reverseSolidus}
-use Rattle.combinators.specs.Choice.{pick, and, is}
+use Rattle.combinators.specs.Choice.{pick}
 use Rattle.combinators.specs.Parsed.{Parsed, ok, err, onParsed}
 use Rattle.combinators.specs.Store.{Store, emits}
 use Rattle.combinators.proofs.Rules.{pick-true, pick-false, pick-holds, is-yes, is-no, and-both, and-left}

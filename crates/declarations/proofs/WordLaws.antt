@@ -9,7 +9,7 @@ use native.Mathlib.Omega.{arith}
 use lib.Dec.{leb}
 use lib.ListN.{length, getD, take, drop, length-drop, drop-of-length-le}
 use lib.Seq.{drop-cons, drop-drop, take-all, take-at, drop-at}
-use Rattle.combinators.specs.Choice.{pick, and, is}
+use Rattle.combinators.specs.Choice.{pick, is}
 use Rattle.combinators.specs.Word.{startsWith}
 use Rattle.combinators.proofs.Rules.{pick-true, pick-false, by-order, and-right, told}
 use Rattle.declarations.specs.Words.{same, Entry, Found, found, missing, foundOr, onFound, lookup, split, placeOf}

@@ -1,6 +1,6 @@
 -- Colours: `parse_color`, `parse_background_color` and the numbers that they read, of src/css/parser.rs.
-use Prim.Native.Nat.{ℕ, zero, suc, _+_, _*_, _/_, _%_}
-use mathlib.Core.Bool.{Bool, true, false}
+use Prim.Native.Nat.{ℕ, _+_, _*_, _/_, _%_}
+use mathlib.Core.Bool.{Bool, true}
 use mathlib.Core.List.{List, [], _∷_}
 use lib.Dec.{leb}
 use lib.ListN.{length, getD, drop}
@@ -12,7 +12,7 @@ use Rattle.lexer.specs.Number.{isDigit}
 use Rattle.lexer.specs.Token.{Token, textOf}
 use Rattle.lexer.specs.TokenRow.{identKind, functionKind, hashKind, numberKind, commaKind, closeRoundKind}
 use Rattle.syntax.specs.Declaration.{Colour}
-use Rattle.declarations.specs.Words.{same, Entry, Found, found, missing, lookup, onFound, kindOf, isKind}
+use Rattle.declarations.specs.Words.{same, Entry, Found, found, missing, lookup, onFound, isKind}
 
 unfoldable pub rgb : ℕ → ℕ → ℕ → Colour
 rgb r g b = record { red = r; green = g; blue = b }

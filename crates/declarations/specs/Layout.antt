@@ -1,7 +1,7 @@
 -- How a statement lies in lent stores: its tokens in rows, their texts one behind the other, and the brackets awaited.
 use Prim.Native.Nat.{ℕ, zero, suc, _+_, _-_, _^_, _≤_, _<_}
 use mathlib.Core.Bool.{Bool, true}
-use mathlib.Core.List.{List, [], _∷_, _++_}
+use mathlib.Core.List.{List, [], _∷_}
 use mathlib.Core.Path.{_≡_, refl}
 use lib.ListN.{length, getD, set}
 use lib.Seq.{sets}

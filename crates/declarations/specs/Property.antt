@@ -4,15 +4,15 @@ use Prim.Native.Nat.{ℕ, _+_}
 use mathlib.Core.Bool.{Bool, true, false}
 use mathlib.Core.List.{List, [], _∷_, _++_}
 use lib.ListN.{take, drop}
-use Rattle.combinators.specs.Choice.{pick, and, is}
+use Rattle.combinators.specs.Choice.{pick}
 use Rattle.decimal.specs.Decimal.{roundsToZero}
 use Rattle.unicode.specs.Literal.{text}
 use Rattle.lexer.specs.Number.{digits, sign}
 use Rattle.lexer.specs.Token.{Token, textOf}
 use Rattle.lexer.specs.TokenRow.{identKind, stringKind, numberKind, dimensionKind}
 use Rattle.lexer.specs.Whitespace.{skipWhitespace}
-use Rattle.syntax.specs.Declaration.{Colour, Overflow, visible, hidden, scroll, auto, WhiteSpace, normal, pre, preWrap, Decl, color, backgroundColor, height, maxHeight, overflow, overflowY, display, whiteSpace, content, unknown}
-use Rattle.declarations.specs.Words.{same, Entry, Found, found, missing, lookup, onFound, isKind, isWord, numberOf, unitOf}
+use Rattle.syntax.specs.Declaration.{Overflow, visible, hidden, scroll, auto, WhiteSpace, normal, pre, preWrap, Decl, color, backgroundColor, height, maxHeight, overflow, overflowY, display, whiteSpace, content, unknown}
+use Rattle.declarations.specs.Words.{same, Entry, Found, found, missing, lookup, onFound, isKind, numberOf, unitOf}
 use Rattle.declarations.specs.Colour.{colourOf, backgroundOf}
 
 -- ---- heights

@@ -8,7 +8,7 @@ use Rattle.combinators.specs.Parsed.{Parsed, ok, err, onParsed}
 use Rattle.lexer.specs.Name.{identOf}
 use Rattle.lexer.specs.Whitespace.{skipWhitespace}
 use Rattle.syntax.specs.Declaration.{Declaration}
-use Rattle.declarations.specs.Value.{Value, valueOf}
+use Rattle.declarations.specs.Value.{valueOf}
 use Rattle.declarations.specs.Property.{declOf}
 
 -- behind a name that n bytes of s take: white space or none, ':', white space or none, a value

@@ -1,10 +1,9 @@
 -- Names: `nmstart_char`, `nmchar_char`, `ident_escape`, `nmstart`, `nmchar`, `parse_ident` and `parse_identstring` of
 -- src/css/parser.rs. A reader of one character answers the bytes that it takes and the scalar value that they stand for.
 use Prim.Native.Nat.{ℕ, zero, suc, _+_, _-_, _*_}
-use mathlib.Core.Bool.{Bool, true, false}
-use mathlib.Core.List.{List, [], _∷_, _++_}
+use mathlib.Core.Bool.{Bool}
+use mathlib.Core.List.{List, [], _++_}
 use mathlib.Core.Path.{_≡_, refl}
-use lib.Dec.{leb}
 use lib.ListN.{length, getD, take, drop}
 use Rattle.combinators.specs.Ascii.{hyphenMinus, digitZero, digitNine, capitalA, capitalF, capitalZ, reverseSolidus, lowLine, smallA, smallF, smallZ}
 use Rattle.combinators.specs.Choice.{pick, or, and, is, within}

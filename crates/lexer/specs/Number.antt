@@ -2,7 +2,7 @@
 -- takes, 0 where it does not read.
 use Prim.Native.Nat.{ℕ, _+_}
 use mathlib.Core.Bool.{Bool}
-use mathlib.Core.List.{List, [], _∷_}
+use mathlib.Core.List.{List}
 use mathlib.Core.Path.{_≡_, refl}
 use lib.ListN.{getD, drop}
 use Rattle.combinators.specs.Choice.{pick, or, and, is, within}

@@ -1,5 +1,5 @@
 -- The characters of a quoted string: the loop of `parse_string_token` of src/css/parser.rs, behind the quote.
-use Prim.Native.Nat.{ℕ, _+_}
+use Prim.Native.Nat.{ℕ}
 use mathlib.Core.List.{List, [], _∷_}
 use mathlib.Core.Path.{_≡_, refl}
 use lib.ListN.{length, getD}
