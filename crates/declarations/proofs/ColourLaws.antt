@@ -18,9 +18,10 @@ use Rattle.lexer.specs.Name.{isHexDigit, hexDigit}
 use Rattle.lexer.specs.Number.{isDigit}
 use Rattle.lexer.proofs.Escapes.{digit-le}
 use Rattle.syntax.specs.Declaration.{Colour}
+use Rattle.syntax.specs.Layout.{colourNumber}
 use Rattle.declarations.specs.Words.{Found, found, missing, onFound}
 use Rattle.declarations.specs.Colour.{rgb, allOf, numeral, withoutPlus, digitsIn, parseU8, parseHex, threeDigits, sixDigits, hashColour, threeNumbers}
-use Rattle.declarations.specs.ColourAnswer.{isDigitIn, packed, numberAnswer, colourAnswer}
+use Rattle.declarations.specs.ColourAnswer.{isDigitIn, numberAnswer, colourAnswer}
 use Rattle.declarations.specs.declared.colours.ColourAnswer as answer
 use Rattle.declarations.specs.declared.colours.ColourAnswer.the-variants.{NoColour}
 use Rattle.declarations.specs.declared.colours.NumberAnswer.{NumberAnswer}
@@ -48,7 +49,7 @@ unfolding colourAnswer onFound
 no-colour f e = ap colourAnswer e
 
 -- a colour, as one number
-a-colour : (f : Found Colour) (c : Colour) (w : ℕ) → w ≡ packed c → found c ≡ f → answer.the-variants.Colour w ≡ colourAnswer f
+a-colour : (f : Found Colour) (c : Colour) (w : ℕ) → w ≡ colourNumber c → found c ≡ f → answer.the-variants.Colour w ≡ colourAnswer f
 unfolding colourAnswer onFound
 a-colour f c w ew e = rw ew (ap colourAnswer e)
 
@@ -307,11 +308,11 @@ module _ (s : List ℕ) where
 
     module _ (v : ℕ) (h : x ≡ Number v) (w : ℕ) where
       -- three digits
-      pub hash-three : length s ≡ 3 → w ≡ packed (threeDigits v) → answer.the-variants.Colour w ≡ colourAnswer (hashColour s)
+      pub hash-three : length s ≡ 3 → w ≡ colourNumber (threeDigits v) → answer.the-variants.Colour w ≡ colourAnswer (hashColour s)
       hash-three l ew = a-colour _ _ w ew (three-found v (number-found x _ ex v h) l)
 
       -- six digits
-      pub hash-six : length s ≡ 6 → w ≡ packed (sixDigits v) → answer.the-variants.Colour w ≡ colourAnswer (hashColour s)
+      pub hash-six : length s ≡ 6 → w ≡ colourNumber (sixDigits v) → answer.the-variants.Colour w ≡ colourAnswer (hashColour s)
       hash-six l ew = a-colour _ _ w ew (six-found v (number-found x _ ex v h) l)
 
 -- ---- `rgb_colour`
@@ -340,6 +341,6 @@ module _ (r g b : List ℕ) (x : NumberAnswer) (ex : x ≡ numberAnswer (parseU8
       blue-none h = rw (number-found x _ ex i hx, number-found y _ ey j hy, number-missing z _ ez h)
 
       -- all are
-      pub three-numbers : (k : ℕ) → z ≡ Number k → (w : ℕ) → w ≡ packed (rgb i j k) → answer.the-variants.Colour w ≡ colourAnswer (threeNumbers r g b)
+      pub three-numbers : (k : ℕ) → z ≡ Number k → (w : ℕ) → w ≡ colourNumber (rgb i j k) → answer.the-variants.Colour w ≡ colourAnswer (threeNumbers r g b)
       unfolding colourAnswer onFound threeNumbers
       three-numbers k hz w ew = rw (number-found x _ ex i hx, number-found y _ ey j hy, number-found z _ ez k hz, ew)

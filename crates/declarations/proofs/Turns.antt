@@ -34,7 +34,7 @@ use Rattle.declarations.proofs.Nesting.{length-coded, no-text, unpushed
 unfoldable pub leaves : Statement → Store → ℕ → List ℕ → ℕ → List ℕ → ℕ → ℕ → Left
 leaves r o n b d st fill t =
     record {
-      answer = pick (r .balanced) (answer.Statement (r .taken) (n + length (r .tokens)) (t + length (textsOf (r .tokens)))) (answer.Unbalanced (r .taken));
+      answer = pick (r .balanced) (answer.Statement (r .taken) (n + length (r .tokens)) (t + length (textsOf (r .tokens)))) (answer.Unbalanced (r .taken) (n + length (r .tokens)) (t + length (textsOf (r .tokens))));
       rows = (emits o (rowsOf (fill + t) (r .tokens))) .bytes;
       brackets = bracketsAfter (r .tokens) b d;
       store = sets st (fill + t) (textsOf (r .tokens));
@@ -61,9 +61,9 @@ module _ (o : Store) (n : ℕ) (b : List ℕ) (d : ℕ) (st : List ℕ) (fill t 
   unfolding leaves stop pick rowsMany textsMany bracketsAfter
   leaves-stop at = rw (add-zero n, add-zero t, emits-none o)
 
-  leaves-wrong : (at : ℕ) → leaves (stop at false) o n b d st fill t ≡ record { answer = answer.Unbalanced at; rows = o .bytes; brackets = b; store = st }
+  leaves-wrong : (at : ℕ) → leaves (stop at false) o n b d st fill t ≡ record { answer = answer.Unbalanced at n t; rows = o .bytes; brackets = b; store = st }
   unfolding leaves stop pick rowsMany textsMany bracketsAfter
-  leaves-wrong at = rw (emits-none o)
+  leaves-wrong at = rw (add-zero n, add-zero t, emits-none o)
 
   -- of a token and more
   leaves-cons : (k : Token) (at : ℕ) (r : Statement) → leaves (cons (record { token = k; start = at }) r) o n b d st fill t
@@ -221,8 +221,8 @@ module _ {s : List ℕ} {include : Bool} {rows₀ brackets₀ store₀ : List �
   whole-is y p = ap (λ x. leaves x written count brackets d store fill text) (sym p) ∙ c .same
 
   -- the place of the next text is a number of 64 bits
-  pub place-fits : Room (length s) fill brackets₀ → fill + text < 2 ^ 64
-  place-fits r = omega (arith, c .long, c .within, slack-two s taken, r .for-texts)
+  pub place-fits : Room (length s) fill rows₀ brackets₀ store₀ → fill + text < 2 ^ 64
+  place-fits r = omega (arith, c .long, c .within, slack-two s taken, r .bits)
 
   -- no token; z is the store that the lexer left
   pub ends-none : {z : List ℕ} → z ≡ sets store (fill + text) (tokenText (tokenOf ahead)) → Nothing ≡ lexedAnswer (skipWhitespace ahead) (tokenOf ahead)
@@ -273,18 +273,18 @@ module _ {s : List ℕ} {include : Bool} {rows₀ brackets₀ store₀ : List �
         omega (arith, slack-more s taken m text (textOf t) (c .within) some (omega (arith, c .long, z)) (fits .bound), length-is)
 
     -- the numbers of the next turn are numbers of 64 bits, and there is a place for a bracket
-    module _ (r : Room (length s) fill brackets₀) where
+    module _ (r : Room (length s) fill rows₀ brackets₀ store₀) where
       pub byte-fits : taken + w < 2 ^ 64
-      byte-fits = omega (arith, starts-within, r .for-texts)
+      byte-fits = omega (arith, starts-within, r .bits)
 
       pub taken-fits : taken + m < 2 ^ 64
-      taken-fits = omega (arith, within-text, r .for-texts)
+      taken-fits = omega (arith, within-text, r .bits)
 
       pub count-fits : count + 1 < 2 ^ 64
-      count-fits = omega (arith, within-text, some, c .counted, r .for-texts)
+      count-fits = omega (arith, within-text, some, c .counted, r .bits)
 
       pub text-fits : text + lengthBy k < 2 ^ 64
-      text-fits = omega (arith, long-more, within-text, slack-two s (taken + m), r .for-texts)
+      text-fits = omega (arith, long-more, within-text, slack-two s (taken + m), r .bits)
 
       pub bracket-fits : d < length brackets
       bracket-fits = omega (arith, within-text, some, c .nested, c .brackets-long, r .for-brackets)
@@ -330,7 +330,7 @@ module _ {s : List ℕ} {include : Bool} {rows₀ brackets₀ store₀ : List �
           )
 
       -- it is a wrong bracket
-      pub ends-wrong : {b : List ℕ} → Moved include (bracketBy k) brackets d b Wrong → Ends (answer.Unbalanced taken) rows b z
+      pub ends-wrong : {b : List ℕ} → Moved include (bracketBy k) brackets d b Wrong → Ends (answer.Unbalanced taken count text) rows b z
       unfolding stepTo takenBy countBy textBy
       ends-wrong {b} v =
           let h = step-is b Wrong v in
@@ -338,7 +338,7 @@ module _ {s : List ℕ} {include : Bool} {rows₀ brackets₀ store₀ : List �
             rw (p .0, p .1)
                 (sym (leaves-wrong written count brackets d store fill text taken)
                 ∙ whole-is _ (scan-left ∙ scan-wrong include ahead taken inner m t (read .reads) (left-over .0) (sym h))),
-            record { taken = c .within; count = omega arith; text = omega arith },
+            record { taken = c .within; count = c .counted; text = c .long },
           )
 
       -- ---- its row, at place q behind it, and the l bytes of its texts

@@ -3,10 +3,9 @@ use mathlib.Core.Path.{_≡_, refl, ap, _∙_}
 use mathlib.Core.List.{List, [], _∷_, _++_, map}
 use mathlib.Core.Bool.{Bool}
 use Prim.Native.Nat.{ℕ, zero, suc, _+_, _-_, _^_, _≤_, _<_}
-use native.Mathlib.Nat.{add-zero}
 use native.Mathlib.Omega.{arith}
-use lib.ListN.{length, getD, drop, length-append, length-drop}
-use lib.Seq.{sets, length-sets}
+use lib.ListN.{length, getD, drop, length-append}
+use lib.Seq.{sets}
 use Rattle.combinators.specs.Parsed.{ok}
 use Rattle.unicode.proofs.Scalars.{by-scalar}
 use Rattle.lexer.specs.Token.{Token, ident, function, hash, string, badString, delim, number, dimension, percentage, cdo, cdc, colon, semicolon, comma, openSquare, closeSquare, openRound, closeRound, openBrace, closeBrace, tokenOf, coded, textOf}
@@ -16,14 +15,10 @@ use Rattle.lexer.proofs.Delimiters.{delim-scalar}
 use Rattle.lexer.proofs.TokenBounds.{on-holds}
 use Rattle.lexer.proofs.TokenRows.{word-same, row-back}
 use Rattle.syntax.specs.Stream.{Read, part}
-use Rattle.syntax.proofs.Streams.{Held, held-left, held-right, held-part, All, many-back-for, sets-drop, sets-held}
+use Rattle.syntax.proofs.Streams.{Held, held-left, held-right, held-part, All, many-back, sets-drop, sets-held}
 use Rattle.declarations.specs.Value.{Placed, bracketOf, Step, next, before, behind, wrong, stepOf, Statement, stop, cons, onStep, scan, statementOf, tokensOf}
 use Rattle.declarations.specs.Layout.{placedRow, placedText, rowsOf, textsOf, left}
 use Rattle.declarations.specs.View.{tokenWith, readToken, tokensAt}
-
--- a text that is held is no longer than the store from there on
-held-short : (store : List ℕ) (f : ℕ) (xs : List ℕ) → Held store f xs → length xs ≤ length store - f
-held-short store f xs h = omega (arith, length-drop f store, ap length (h .held), length-append xs (h .more))
 
 -- a token whose delimiter, if it is one, has 32 bits
 unfoldable pub Small : Token → Type 0
@@ -49,91 +44,91 @@ row-behind : (byte start : ℕ) (k : lexer.Token) (t : List ℕ) → drop tokenW
 unfolding rowOf
 row-behind byte start k t = refl
 
-module _ (store : List ℕ) (bits : length store < 2 ^ 32) where
+module _ (store : List ℕ) where
   -- ---- one token
   -- a text n bytes behind a start, which the row has with 32 bits
-  text-behind : (f n : ℕ) (xs : List ℕ) → Held store (f + n) xs → part store (word f + n) (length xs) ≡ xs
-  unfolding part
-  text-behind f n [] h = refl
-  text-behind f n (x ∷ xs) h = rw (word-same f (omega (arith, bits, held-short store (f + n) (x ∷ xs) h))) (held-part store (f + n) (x ∷ xs) h)
+  text-behind : (f n : ℕ) (xs : List ℕ) → f + n + length xs < 2 ^ 32 → Held store (f + n) xs → part store (word f + n) (length xs) ≡ xs
+  text-behind f n xs l h = rw (word-same f (omega arith)) (held-part store (f + n) xs h)
 
   -- at the start
-  text-back : (f : ℕ) (xs : List ℕ) → Held store f xs → part store (word f) (length xs) ≡ xs
-  text-back f xs h = rw (add-zero (word f)) at (text-behind f 0 xs (rw (add-zero f) h))
+  text-back : (f : ℕ) (xs : List ℕ) → f + length xs < 2 ^ 32 → Held store f xs → part store (word f) (length xs) ≡ xs
+  text-back f xs l h = rw (word-same f (omega arith)) (held-part store f xs h)
 
   -- its texts
-  texts-back : (f : ℕ) (k : Token) → Held store f (textOf k) → tokenWith store (word f) (coded k) ≡ k
+  texts-back : (f : ℕ) (k : Token) → f + length (textOf k) < 2 ^ 32 → Held store f (textOf k) → tokenWith store (word f) (coded k) ≡ k
   unfolding tokenWith coded textOf
-  texts-back f (ident b) h = ap ident (text-back f b h)
-  texts-back f (function b) h = ap function (text-back f b h)
-  texts-back f (hash b) h = ap hash (text-back f b h)
-  texts-back f (string b) h = ap string (text-back f b h)
-  texts-back f (badString b) h = ap badString (text-back f b h)
-  texts-back f (delim c) h = refl
-  texts-back f (number b) h = ap number (text-back f b h)
-  texts-back f (dimension b u) h = rw (text-back f b (held-left store f b u h), text-behind f (length b) u (held-right store f b u h))
-  texts-back f (percentage b) h = ap percentage (text-back f b h)
-  texts-back f cdo h = refl
-  texts-back f cdc h = refl
-  texts-back f colon h = refl
-  texts-back f semicolon h = refl
-  texts-back f comma h = refl
-  texts-back f openSquare h = refl
-  texts-back f closeSquare h = refl
-  texts-back f openRound h = refl
-  texts-back f closeRound h = refl
-  texts-back f openBrace h = refl
-  texts-back f closeBrace h = refl
+  texts-back f (ident b) l h = ap ident (text-back f b l h)
+  texts-back f (function b) l h = ap function (text-back f b l h)
+  texts-back f (hash b) l h = ap hash (text-back f b l h)
+  texts-back f (string b) l h = ap string (text-back f b l h)
+  texts-back f (badString b) l h = ap badString (text-back f b l h)
+  texts-back f (delim c) l h = refl
+  texts-back f (number b) l h = ap number (text-back f b l h)
+  texts-back f (dimension b u) l h =
+      let e = length-append b u in
+      rw (text-back f b (omega arith) (held-left store f b u h), text-behind f (length b) u (omega arith) (held-right store f b u h))
+  texts-back f (percentage b) l h = ap percentage (text-back f b l h)
+  texts-back f cdo l h = refl
+  texts-back f cdc l h = refl
+  texts-back f colon l h = refl
+  texts-back f semicolon l h = refl
+  texts-back f comma l h = refl
+  texts-back f openSquare l h = refl
+  texts-back f closeSquare l h = refl
+  texts-back f openRound l h = refl
+  texts-back f closeRound l h = refl
+  texts-back f openBrace l h = refl
+  texts-back f closeBrace l h = refl
 
   -- its two numbers
-  narrow : (f : ℕ) (k : Token) → Small k → Held store f (textOf k) → (columnsOf (coded k) .first < 2 ^ 32) × (columnsOf (coded k) .second < 2 ^ 32)
+  narrow : (k : Token) → Small k → length (textOf k) < 2 ^ 32 → (columnsOf (coded k) .first < 2 ^ 32) × (columnsOf (coded k) .second < 2 ^ 32)
   unfolding columnsOf coded textOf Small
-  narrow f (ident b) s h = (omega (arith, bits, held-short store f b h), omega arith)
-  narrow f (function b) s h = (omega (arith, bits, held-short store f b h), omega arith)
-  narrow f (hash b) s h = (omega (arith, bits, held-short store f b h), omega arith)
-  narrow f (string b) s h = (omega (arith, bits, held-short store f b h), omega arith)
-  narrow f (badString b) s h = (omega (arith, bits, held-short store f b h), omega arith)
-  narrow f (delim c) s h = (s c refl, omega arith)
-  narrow f (number b) s h = (omega (arith, bits, held-short store f b h), omega arith)
-  narrow f (dimension b u) s h =
-      (omega (arith, bits, held-short store f b (held-left store f b u h)), omega (arith, bits, held-short store (f + length b) u (held-right store f b u h)))
-  narrow f (percentage b) s h = (omega (arith, bits, held-short store f b h), omega arith)
-  narrow f cdo s h = (omega arith, omega arith)
-  narrow f cdc s h = (omega arith, omega arith)
-  narrow f colon s h = (omega arith, omega arith)
-  narrow f semicolon s h = (omega arith, omega arith)
-  narrow f comma s h = (omega arith, omega arith)
-  narrow f openSquare s h = (omega arith, omega arith)
-  narrow f closeSquare s h = (omega arith, omega arith)
-  narrow f openRound s h = (omega arith, omega arith)
-  narrow f closeRound s h = (omega arith, omega arith)
-  narrow f openBrace s h = (omega arith, omega arith)
-  narrow f closeBrace s h = (omega arith, omega arith)
+  narrow (ident b) s l = (l, omega arith)
+  narrow (function b) s l = (l, omega arith)
+  narrow (hash b) s l = (l, omega arith)
+  narrow (string b) s l = (l, omega arith)
+  narrow (badString b) s l = (l, omega arith)
+  narrow (delim c) s l = (s c refl, omega arith)
+  narrow (number b) s l = (l, omega arith)
+  narrow (dimension b u) s l = (omega (arith, length-append b u), omega (arith, length-append b u))
+  narrow (percentage b) s l = (l, omega arith)
+  narrow cdo s l = (omega arith, omega arith)
+  narrow cdc s l = (omega arith, omega arith)
+  narrow colon s l = (omega arith, omega arith)
+  narrow semicolon s l = (omega arith, omega arith)
+  narrow comma s l = (omega arith, omega arith)
+  narrow openSquare s l = (omega arith, omega arith)
+  narrow closeSquare s l = (omega arith, omega arith)
+  narrow openRound s l = (omega arith, omega arith)
+  narrow closeRound s l = (omega arith, omega arith)
+  narrow openBrace s l = (omega arith, omega arith)
+  narrow closeBrace s l = (omega arith, omega arith)
 
   -- its row
-  token-back : (byte f : ℕ) (k : Token) (t : List ℕ) → Small k → Held store f (textOf k) → readToken store (tokenRow byte f k ++ t) ≡ record { value = k; rest = t }
+  token-back : (byte f : ℕ) (k : Token) (t : List ℕ) → Small k → Held store f (textOf k) → f + length (textOf k) < 2 ^ 32
+      → readToken store (tokenRow byte f k ++ t) ≡ record { value = k; rest = t }
   unfolding readToken tokenRow
-  token-back byte f k t s h =
-      let n = narrow f k s h in
-      rw (row-back byte f (coded k) t (n .0) (n .1), row-start byte f (coded k) t, row-behind byte f (coded k) t, texts-back f k h)
+  token-back byte f k t s h l =
+      let n = narrow k s (omega arith) in
+      rw (row-back byte f (coded k) t (n .0) (n .1), row-start byte f (coded k) t, row-behind byte f (coded k) t, texts-back f k l h)
 
   -- ---- tokens that were written behind f bytes of text, whatever stands behind them
-  pub tokens-read : (ts : List Placed) (f : ℕ) (t : List ℕ) → AllSmall ts → Held store f (textsOf ts)
+  pub tokens-read : (ts : List Placed) (f : ℕ) (t : List ℕ) → AllSmall ts → Held store f (textsOf ts) → f + length (textsOf ts) < 2 ^ 32
       → tokensAt (rowsOf f ts ++ t) store (length ts) ≡ tokensOf ts
   unfolding tokensAt
-  tokens-read ts f t s h =
+  tokens-read ts f t s h l =
       rw (tokens-map ts)
       (ap (λ (r : Read (List Token)). r .value)
-      (many-back-for store placedRow placedText (readToken store) (λ p. p .token) (λ p. Small (p .token))
-      (λ f p t. token-back (p .start) f (p .token) t) ts f t s h))
+      (many-back store placedRow placedText (readToken store) (λ p. p .token) (λ p. Small (p .token)) (2 ^ 32 - 1)
+      (λ f p t s h l. token-back (p .start) f (p .token) t s h (omega arith)) ts f t s h (omega arith)))
 
 -- tokens written into lent rows, and their texts into a lent store from fill on, are read back
 pub tokens-back : (ts : List Placed) (rows store : List ℕ) (fill : ℕ) → AllSmall ts → length (rowsOf fill ts) ≤ length rows
-    → fill + length (textsOf ts) ≤ length store → length store < 2 ^ 32
+    → fill + length (textsOf ts) ≤ length store → fill + length (textsOf ts) < 2 ^ 32
     → tokensAt (sets rows 0 (rowsOf fill ts)) (sets store fill (textsOf ts)) (length ts) ≡ tokensOf ts
 tokens-back ts rows store fill s h k bits =
     rw (sets-drop rows 0 (rowsOf fill ts) (omega arith))
-    (tokens-read (sets store fill (textsOf ts)) (omega (arith, bits, length-sets store fill (textsOf ts))) ts fill _ s (sets-held store fill (textsOf ts) k))
+    (tokens-read (sets store fill (textsOf ts)) ts fill _ s (sets-held store fill (textsOf ts) k) bits)
 
 -- ---- the tokens of a statement are such
 -- a token that was read
@@ -167,7 +162,7 @@ statement-small include s = scan-small (length s + 1) include s 0 []
 
 -- so the tokens of a statement are read back from what it leaves
 pub statement-back : (include : Bool) (s rows brackets store : List ℕ) (fill : ℕ) → length (rowsOf fill (statementOf include s .tokens)) ≤ length rows
-    → fill + length (textsOf (statementOf include s .tokens)) ≤ length store → length store < 2 ^ 32
+    → fill + length (textsOf (statementOf include s .tokens)) ≤ length store → fill + length (textsOf (statementOf include s .tokens)) < 2 ^ 32
     → let l = left (statementOf include s) rows brackets store fill in
     tokensAt (l .rows) (l .store) (length (statementOf include s .tokens)) ≡ tokensOf (statementOf include s .tokens)
 unfolding left

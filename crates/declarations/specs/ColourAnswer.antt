@@ -1,10 +1,11 @@
 -- Colours and numbers as the code answers them.
-use Prim.Native.Nat.{ℕ, _+_, _*_}
+use Prim.Native.Nat.{ℕ}
 use mathlib.Core.Bool.{Bool}
 use lib.Dec.{ltb}
 use Rattle.combinators.specs.Choice.{and}
 use Rattle.lexer.specs.Name.{isHexDigit, hexDigit}
 use Rattle.syntax.specs.Declaration.{Colour}
+use Rattle.syntax.specs.Layout.{colourNumber}
 use Rattle.declarations.specs.Words.{Found, onFound}
 use Rattle.declarations.specs.declared.colours.ColourAnswer as answer
 use Rattle.declarations.specs.declared.colours.ColourAnswer.the-variants.{NoColour}
@@ -15,12 +16,8 @@ use Rattle.declarations.specs.declared.colours.NumberAnswer.the-variants
 unfoldable pub isDigitIn : ℕ → ℕ → Bool
 isDigitIn base x = and (isHexDigit x) (ltb (hexDigit x) base)
 
--- red, green and blue as one number
-unfoldable pub packed : Colour → ℕ
-packed c = c .red * 65536 + c .green * 256 + c .blue
-
 unfoldable pub numberAnswer : Found ℕ → NumberAnswer
 numberAnswer f = onFound f Number NoNumber
 
 unfoldable pub colourAnswer : Found Colour → answer.ColourAnswer
-colourAnswer f = onFound f (λ c. answer.the-variants.Colour (packed c)) NoColour
+colourAnswer f = onFound f (λ c. answer.the-variants.Colour (colourNumber c)) NoColour

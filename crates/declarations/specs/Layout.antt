@@ -1,5 +1,5 @@
 -- How a statement lies in lent stores: its tokens in rows, their texts one behind the other, and the brackets awaited.
-use Prim.Native.Nat.{ℕ, zero, suc, _+_, _-_, _^_, _≤_, _<_}
+use Prim.Native.Nat.{ℕ, zero, suc, _+_, _-_, _*_, _^_, _≤_, _<_}
 use mathlib.Core.Bool.{Bool, true}
 use mathlib.Core.List.{List, [], _∷_}
 use mathlib.Core.Path.{_≡_, refl}
@@ -8,7 +8,7 @@ use lib.Seq.{sets}
 use Rattle.combinators.specs.Ascii.{rightParenthesis, reverseSolidus}
 use Rattle.combinators.specs.Choice.{pick, and, is}
 use Rattle.lexer.specs.Token.{function, number, closeRound, coded, textOf}
-use Rattle.lexer.specs.TokenRow.{functionKind, numberKind, closeRoundKind, columnsOf, word, rowOf, tokenRow}
+use Rattle.lexer.specs.TokenRow.{tokenWidth, functionKind, numberKind, closeRoundKind, columnsOf, word, rowOf, tokenRow}
 use Rattle.lexer.specs.declared.tokens.Token as lexer
 use Rattle.lexer.specs.declared.tokens.Token.the-variants as code
 use Rattle.syntax.specs.Stream.{rowsMany, textsMany}
@@ -125,7 +125,7 @@ pub record Left : Type 0 where
 unfoldable pub left : Statement → List ℕ → List ℕ → List ℕ → ℕ → Left
 left r rows brackets store fill =
     record {
-      answer = pick (r .balanced) (answer.Statement (r .taken) (length (r .tokens)) (length (textsOf (r .tokens)))) (answer.Unbalanced (r .taken));
+      answer = pick (r .balanced) (answer.Statement (r .taken) (length (r .tokens)) (length (textsOf (r .tokens)))) (answer.Unbalanced (r .taken) (length (r .tokens)) (length (textsOf (r .tokens))));
       rows = sets rows 0 (rowsOf fill (r .tokens));
       brackets = bracketsAfter (r .tokens) brackets 0;
       store = sets store fill (textsOf (r .tokens));
@@ -150,23 +150,26 @@ case = refl
 
 -- ---- room and bounds
 
--- what reading n bytes asks for: a place for each bracket, and that places of texts are numbers of 64 bits
-pub record Room (n fill : ℕ) (brackets : List ℕ) : Type 0 where
+-- what reading n bytes asks for: a row for each token, a place for each bracket, a place for each byte of text and two more, and that places
+-- of texts are numbers of 32 bits
+pub record Room (n fill : ℕ) (tokens brackets store : List ℕ) : Type 0 where
+  pub for-tokens : tokenWidth * n ≤ length tokens
   pub for-brackets : n ≤ length brackets
-  pub for-texts : fill + n + 2 < 2 ^ 64
+  pub for-texts : fill + n + 2 ≤ length store
+  pub bits : fill + n + 2 < 2 ^ 32
 
--- the numbers of an answer; where the brackets are wrong, only the bytes
+-- the numbers of an answer
 unfoldable pub takenBy : StatementAnswer → ℕ
 takenBy (answer.Statement n k t) = n
-takenBy (answer.Unbalanced n) = n
+takenBy (answer.Unbalanced n k t) = n
 
 unfoldable pub countBy : StatementAnswer → ℕ
 countBy (answer.Statement n k t) = k
-countBy (answer.Unbalanced n) = 0
+countBy (answer.Unbalanced n k t) = k
 
 unfoldable pub textBy : StatementAnswer → ℕ
 textBy (answer.Statement n k t) = t
-textBy (answer.Unbalanced n) = 0
+textBy (answer.Unbalanced n k t) = t
 
 -- how many bytes longer the texts of n bytes can be: two where they end the text with a backslash
 unfoldable pub slack : List ℕ → ℕ → ℕ

@@ -5,9 +5,10 @@ use lexer::names::hex_digit_of;
 use lexer::names::is_hex_digit;
 ghost use mathlib.Core.Path.{_≡_};
 ghost use Rattle.lexer.specs.Name.{hexDigit};
+ghost use Rattle.syntax.specs.Layout.{colourNumber};
 ghost use Rattle.declarations.specs.Words.{lookup};
 ghost use Rattle.declarations.specs.Colour.{rgb, colours, withoutPlus, digitsIn, parseU8, parseHex, threeDigits, sixDigits, hashColour, threeNumbers};
-ghost use Rattle.declarations.specs.ColourAnswer.{isDigitIn, packed, numberAnswer, colourAnswer};
+ghost use Rattle.declarations.specs.ColourAnswer.{isDigitIn, numberAnswer, colourAnswer};
 
 // A colour, or that a text is none.
 pub enum ColourAnswer {
@@ -126,30 +127,30 @@ fn parse_hex(s: &[u8]) -> NumberAnswer
 }
 
 // The colour as one number.
-fn packed_of(red: u8, green: u8, blue: u8) -> u32
-    ensures { λ r. ⌜ r ≡ packed (rgb red green blue) ⌝ }
+fn colour_number(red: u8, green: u8, blue: u8) -> u32
+    ensures { λ r. ⌜ r ≡ colourNumber (rgb red green blue) ⌝ }
 {
     red as u32 * 65536 + green as u32 * 256 + blue as u32
 }
 
 // One hex digit for each of red, green and blue, which stands twice.
 fn three_digits(v: u32) -> u32
-    ensures { λ r. ⌜ r ≡ packed (threeDigits v) ⌝ }
+    ensures { λ r. ⌜ r ≡ colourNumber (threeDigits v) ⌝ }
 {
     let red = (v / 256 % 16 * 17) as u8;
     let green = (v / 16 % 16 * 17) as u8;
     let blue = (v % 16 * 17) as u8;
-    packed_of(red, green, blue)
+    colour_number(red, green, blue)
 }
 
 // Two hex digits for each.
 fn six_digits(v: u32) -> u32
-    ensures { λ r. ⌜ r ≡ packed (sixDigits v) ⌝ }
+    ensures { λ r. ⌜ r ≡ colourNumber (sixDigits v) ⌝ }
 {
     let red = (v / 65536 % 256) as u8;
     let green = (v / 256 % 256) as u8;
     let blue = (v % 256) as u8;
-    packed_of(red, green, blue)
+    colour_number(red, green, blue)
 }
 
 // The colour whose 3 or 6 hex digits stand behind '#'. A '+' may stand in place of the first.
@@ -181,5 +182,5 @@ pub fn rgb_colour(red: &[u8], green: &[u8], blue: &[u8]) -> ColourAnswer
     let NumberAnswer::Number(z) = parse_u8(blue) else {
         return ColourAnswer::NoColour;
     };
-    ColourAnswer::Colour(packed_of(x as u8, y as u8, z as u8))
+    ColourAnswer::Colour(colour_number(x as u8, y as u8, z as u8))
 }

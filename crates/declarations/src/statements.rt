@@ -9,10 +9,10 @@ ghost use lib.ListN.{length};
 ghost use Rattle.declarations.specs.Value.{bracketBy, closing, statementOf};
 ghost use Rattle.declarations.specs.Layout.{lengthBy, meant, awaited, stepTo, deep, endingBy, Moved, Room, left, Bounds};
 
-// The bytes taken, the tokens and the bytes of text of a statement; or the byte where a closing bracket is wrong.
+// The bytes taken, the tokens and the bytes of text of a statement; or of what stands before a closing bracket that is wrong.
 pub enum StatementAnswer {
     Statement(usize, usize, usize),
-    Unbalanced(usize),
+    Unbalanced(usize, usize, usize),
 }
 
 // What a token does to the brackets, by the byte that is awaited.
@@ -138,7 +138,7 @@ pub fn parse_to_end_of_statement(
     store: &mut [u8],
     fill: usize,
 ) -> StatementAnswer
-    requires { ⌜ Room (length (now s)) fill (now brackets) ⌝ }
+    requires { ⌜ Room (length (now s)) fill (now rows) (now brackets) (now store) ⌝ }
     ensures { λ r. ⌜ record { answer = r; rows = now (rows .exit); brackets = now (brackets .exit); store = now (store .exit) }
         ≡ left (statementOf «include_semicolon» (now (s .entry))) (now (rows .entry)) (now (brackets .entry)) (now (store .entry)) fill ⌝ }
     ensures { λ r. ⌜ Bounds (now (s .entry)) r ⌝ }
@@ -162,7 +162,7 @@ pub fn parse_to_end_of_statement(
                         return StatementAnswer::Statement(taken, count, text);
                     }
                     Step::Wrong => {
-                        return StatementAnswer::Unbalanced(taken);
+                        return StatementAnswer::Unbalanced(taken, count, text);
                     }
                     Step::Behind => {
                         put_token(k, byte, at, rows, place);

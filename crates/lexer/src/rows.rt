@@ -9,12 +9,14 @@ ghost use Rattle.lexer.specs.TokenRow.{columnsOf, word, rowOf, markFrom,
 // Numbers in a row: the kind, the byte of the text where the token starts, the place of the store where its text starts, and two more.
 pub const TOKEN_WIDTH: usize = 5;
 
-// Where the kind and the two last numbers stand in a row.
-const TOKEN_KIND: usize = 0;
+// Where the kind, the place of the text and the two last numbers stand in a row.
+pub const TOKEN_KIND: usize = 0;
 
-const TOKEN_FIRST: usize = 3;
+pub const TOKEN_START: usize = 2;
 
-const TOKEN_SECOND: usize = 4;
+pub const TOKEN_FIRST: usize = 3;
+
+pub const TOKEN_SECOND: usize = 4;
 
 // The kinds. No token has 0, so that a cleared row is told from a written one.
 pub const IDENT: u32 = 1;

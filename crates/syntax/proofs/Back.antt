@@ -1,17 +1,18 @@
--- The view of what was written is what was meant, for declarations and for styles.
-use mathlib.Core.Path.{_≡_, refl, ap}
+-- The view of what was written is what was meant, for declarations and for styles. A colour's parts are bytes.
+use mathlib.Core.Path.{_≡_, refl, ap, _∙_}
 use mathlib.Core.Bool.{Bool, true, false}
-use mathlib.Core.List.{List, _++_}
-use Prim.Native.Nat.{ℕ, _+_, _≤_}
+use mathlib.Core.List.{List, _++_, map-id}
+use Prim.Native.Nat.{ℕ, _+_, _*_, _/_, _%_, _≤_, _<_}
+use native.Mathlib.Omega.{arith}
 use lib.ListN.{length, drop}
 use lib.Seq.{sets}
 use Rattle.combinators.specs.Choice.{pick, is}
-use Rattle.syntax.specs.Declaration.{Overflow, visible, hidden, scroll, auto, WhiteSpace, normal, pre, preWrap, Decl, color, backgroundColor, height, maxHeight, overflow, overflowY, display, whiteSpace, content, unknown, Declaration}
-use Rattle.syntax.specs.Layout.{flag, flagOf, overflowNumber, overflowOf, whiteSpaceNumber, whiteSpaceOf, colourOf, declText, declarationText, declRow, declarationRow, declOf, readDeclaration, declarationRows, declarationTexts, declarationsAt, styleTextOf, styleText, styleRowOf, styleRow, styleOf, readStyle, styleRows, styleTexts, stylesAt}
-use Rattle.syntax.specs.Stream.{Read}
+use Rattle.syntax.specs.Declaration.{Colour, Overflow, visible, hidden, scroll, auto, WhiteSpace, normal, pre, preWrap, Decl, color, backgroundColor, height, maxHeight, overflow, overflowY, display, whiteSpace, content, unknown, Declaration}
+use Rattle.syntax.specs.Layout.{flag, flagOf, overflowNumber, overflowOf, whiteSpaceNumber, whiteSpaceOf, colourNumber, colourOf, declText, declarationText, declRow, declarationRow, declOf, readDeclaration, declarationRows, declarationTexts, declarationsAt, styleTextOf, styleText, styleRowOf, styleRow, styleOf, readStyle, styleRows, styleTexts, stylesAt}
+use Rattle.syntax.specs.Stream.{Read, textsMany}
 use Rattle.syntax.specs.Style as style
 use Rattle.syntax.specs.Style.{Style, StyleDecl}
-use Rattle.syntax.proofs.Streams.{Held, held-part, many-back, sets-drop, sets-held}
+use Rattle.syntax.proofs.Streams.{Held, held-part, All, many-back, sets-drop, sets-held}
 
 -- ---- flags and words
 flag-back : (b : Bool) → flagOf (flag b) ≡ b
@@ -32,61 +33,107 @@ white-space-back normal = refl
 white-space-back pre = refl
 white-space-back preWrap = refl
 
+-- ---- colours
+pub record OfBytes (c : Colour) : Type 0 where
+  pub red : c .red < 256
+  pub green : c .green < 256
+  pub blue : c .blue < 256
+
+parts : (r g b : ℕ) → g < 256 → b < 256
+    → ((r * 65536 + g * 256 + b) / 65536 ≡ r) × ((r * 65536 + g * 256 + b) / 256 % 256 ≡ g) × ((r * 65536 + g * 256 + b) % 256 ≡ b)
+parts r g b h k = (omega arith, omega arith, omega arith)
+
+colour-back : (c : Colour) → OfBytes c → colourOf (colourNumber c) ≡ c
+unfolding colourOf colourNumber
+colour-back c h = let p = parts (c .red) (c .green) (c .blue) (h .green) (h .blue) in rw (p .0, p .1, p .2)
+
+-- what a declaration or a style asks of its colour
+unfoldable pub DeclFits : Decl → Type 0
+DeclFits (color c) = OfBytes c
+DeclFits (backgroundColor c) = OfBytes c
+DeclFits (height z) = Unit
+DeclFits (maxHeight z) = Unit
+DeclFits (overflow o) = Unit
+DeclFits (overflowY o) = Unit
+DeclFits (display n) = Unit
+DeclFits (whiteSpace w) = Unit
+DeclFits (content t) = Unit
+DeclFits (unknown n) = Unit
+
+unfoldable pub StyleFits : Style → Type 0
+StyleFits (style.colour c) = OfBytes c
+StyleFits (style.background c) = OfBytes c
+StyleFits style.displayNone = Unit
+StyleFits (style.whiteSpace w) = Unit
+StyleFits (style.content t) = Unit
+
+abbrev pub DeclarationsFit : List Declaration → Type 0
+DeclarationsFit ds = All (λ d. DeclFits (d .decl)) ds
+
+abbrev pub StylesFit : List StyleDecl → Type 0
+StylesFit ds = All (λ d. StyleFits (d .style)) ds
+
 module _ (store : List ℕ) where
   -- ---- one declaration
-  decl-back : (i s f : ℕ) (d : Decl) (t : List ℕ) → Held store f (declText d)
+  decl-back : (i s f : ℕ) (d : Decl) (t : List ℕ) → DeclFits d → Held store f (declText d)
       → readDeclaration store (declRow i s f d ++ t) ≡ record { value = record { decl = d; important = flagOf i; start = s }; rest = t }
-  unfolding readDeclaration declRow declText declOf colourOf pick is
-  decl-back i s f (color c) t h = refl
-  decl-back i s f (backgroundColor c) t h = refl
-  decl-back i s f (height z) t h = rw (flag-back z)
-  decl-back i s f (maxHeight z) t h = rw (flag-back z)
-  decl-back i s f (overflow o) t h = rw (overflow-back o)
-  decl-back i s f (overflowY o) t h = rw (overflow-back o)
-  decl-back i s f (display n) t h = rw (flag-back n)
-  decl-back i s f (whiteSpace w) t h = rw (white-space-back w)
-  decl-back i s f (content b) t h = rw (held-part store f b h)
-  decl-back i s f (unknown b) t h = rw (held-part store f b h)
+  unfolding readDeclaration declRow declText declOf DeclFits pick is
+  decl-back i s f (color c) t b h = rw (colour-back c b)
+  decl-back i s f (backgroundColor c) t b h = rw (colour-back c b)
+  decl-back i s f (height z) t u h = rw (flag-back z)
+  decl-back i s f (maxHeight z) t u h = rw (flag-back z)
+  decl-back i s f (overflow o) t u h = rw (overflow-back o)
+  decl-back i s f (overflowY o) t u h = rw (overflow-back o)
+  decl-back i s f (display n) t u h = rw (flag-back n)
+  decl-back i s f (whiteSpace w) t u h = rw (white-space-back w)
+  decl-back i s f (content b) t u h = rw (held-part store f b h)
+  decl-back i s f (unknown b) t u h = rw (held-part store f b h)
 
-  declaration-back : (f : ℕ) (d : Declaration) (t : List ℕ) → Held store f (declarationText d)
+  declaration-back : (f : ℕ) (d : Declaration) (t : List ℕ) → DeclFits (d .decl) → Held store f (declarationText d)
       → readDeclaration store (declarationRow f d ++ t) ≡ record { value = d; rest = t }
   unfolding declarationRow declarationText
-  declaration-back f d t h = rw (decl-back (flag (d .important)) (d .start) f (d .decl) t h, flag-back (d .important))
+  declaration-back f d t u h = rw (decl-back (flag (d .important)) (d .start) f (d .decl) t u h, flag-back (d .important))
 
   -- declarations that were written behind f bytes of text are read back, whatever stands behind them
-  pub declarations-back : (ds : List Declaration) (f : ℕ) (t : List ℕ) → Held store f (declarationTexts ds)
+  pub declarations-back : (ds : List Declaration) (f : ℕ) (t : List ℕ) → DeclarationsFit ds → Held store f (declarationTexts ds)
       → declarationsAt (declarationRows f ds ++ t) store (length ds) ≡ ds
   unfolding declarationsAt declarationRows declarationTexts
-  declarations-back ds f t h = ap (λ (r : Read (List Declaration)). r .value) (many-back store declarationRow declarationText (readDeclaration store) declaration-back ds f t h)
+  declarations-back ds f t u h =
+      ap (λ (r : Read (List Declaration)). r .value)
+      (many-back store declarationRow declarationText (readDeclaration store) (λ d. d) (λ d. DeclFits (d .decl)) (f + length (textsMany declarationText ds)) (λ f d t u h _. declaration-back f d t u h) ds f t u h (omega arith))
+      ∙ map-id ds
 
   -- ---- one style
-  style-of-back : (i f : ℕ) (d : Style) (t : List ℕ) → Held store f (styleTextOf d)
+  style-of-back : (i f : ℕ) (d : Style) (t : List ℕ) → StyleFits d → Held store f (styleTextOf d)
       → readStyle store (styleRowOf i f d ++ t) ≡ record { value = record { style = d; important = flagOf i }; rest = t }
-  unfolding readStyle styleRowOf styleTextOf styleOf colourOf pick is
-  style-of-back i f (style.colour c) t h = refl
-  style-of-back i f (style.background c) t h = refl
-  style-of-back i f style.displayNone t h = refl
-  style-of-back i f (style.whiteSpace w) t h = rw (white-space-back w)
-  style-of-back i f (style.content b) t h = rw (held-part store f b h)
+  unfolding readStyle styleRowOf styleTextOf styleOf StyleFits pick is
+  style-of-back i f (style.colour c) t b h = rw (colour-back c b)
+  style-of-back i f (style.background c) t b h = rw (colour-back c b)
+  style-of-back i f style.displayNone t u h = refl
+  style-of-back i f (style.whiteSpace w) t u h = rw (white-space-back w)
+  style-of-back i f (style.content b) t u h = rw (held-part store f b h)
 
-  style-back : (f : ℕ) (d : StyleDecl) (t : List ℕ) → Held store f (styleText d) → readStyle store (styleRow f d ++ t) ≡ record { value = d; rest = t }
+  style-back : (f : ℕ) (d : StyleDecl) (t : List ℕ) → StyleFits (d .style) → Held store f (styleText d) → readStyle store (styleRow f d ++ t) ≡ record { value = d; rest = t }
   unfolding styleRow styleText
-  style-back f d t h = rw (style-of-back (flag (d .important)) f (d .style) t h, flag-back (d .important))
+  style-back f d t u h = rw (style-of-back (flag (d .important)) f (d .style) t u h, flag-back (d .important))
 
-  pub styles-back : (ds : List StyleDecl) (f : ℕ) (t : List ℕ) → Held store f (styleTexts ds) → stylesAt (styleRows f ds ++ t) store (length ds) ≡ ds
+  pub styles-back : (ds : List StyleDecl) (f : ℕ) (t : List ℕ) → StylesFit ds → Held store f (styleTexts ds) → stylesAt (styleRows f ds ++ t) store (length ds) ≡ ds
   unfolding stylesAt styleRows styleTexts
-  styles-back ds f t h = ap (λ (r : Read (List StyleDecl)). r .value) (many-back store styleRow styleText (readStyle store) style-back ds f t h)
+  styles-back ds f t u h =
+      ap (λ (r : Read (List StyleDecl)). r .value)
+      (many-back store styleRow styleText (readStyle store) (λ d. d) (λ d. StyleFits (d .style)) (f + length (textsMany styleText ds)) (λ f d t u h _. style-back f d t u h) ds f t u h (omega arith))
+      ∙ map-id ds
 
 -- declarations written into lent rows from p on, and their texts into a lent store from f on, are read back
-pub declarations-written : (ds : List Declaration) (rows : List ℕ) (p : ℕ) (store : List ℕ) (f : ℕ) → p + length (declarationRows f ds) ≤ length rows
+pub declarations-written : (ds : List Declaration) (rows : List ℕ) (p : ℕ) (store : List ℕ) (f : ℕ) → DeclarationsFit ds → p + length (declarationRows f ds) ≤ length rows
     → f + length (declarationTexts ds) ≤ length store
     → declarationsAt (drop p (sets rows p (declarationRows f ds))) (sets store f (declarationTexts ds)) (length ds) ≡ ds
-declarations-written ds rows p store f h k =
-    rw (sets-drop rows p (declarationRows f ds) h) (declarations-back (sets store f (declarationTexts ds)) ds f _ (sets-held store f (declarationTexts ds) k))
+declarations-written ds rows p store f u h k =
+    rw (sets-drop rows p (declarationRows f ds) h) (declarations-back (sets store f (declarationTexts ds)) ds f _ u (sets-held store f (declarationTexts ds) k))
 
 -- and so are styles
-pub styles-written : (ds : List StyleDecl) (rows : List ℕ) (p : ℕ) (store : List ℕ) (f : ℕ) → p + length (styleRows f ds) ≤ length rows
+pub styles-written : (ds : List StyleDecl) (rows : List ℕ) (p : ℕ) (store : List ℕ) (f : ℕ) → StylesFit ds → p + length (styleRows f ds) ≤ length rows
     → f + length (styleTexts ds) ≤ length store
     → stylesAt (drop p (sets rows p (styleRows f ds))) (sets store f (styleTexts ds)) (length ds) ≡ ds
-styles-written ds rows p store f h k =
-    rw (sets-drop rows p (styleRows f ds) h) (styles-back (sets store f (styleTexts ds)) ds f _ (sets-held store f (styleTexts ds) k))
+styles-written ds rows p store f u h k =
+    rw (sets-drop rows p (styleRows f ds) h) (styles-back (sets store f (styleTexts ds)) ds f _ u (sets-held store f (styleTexts ds) k))

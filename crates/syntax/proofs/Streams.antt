@@ -1,9 +1,9 @@
 -- Reading a list of values back from their rows, for every kind of value; and from what a writer leaves to what a reader asks for.
 use mathlib.Core.Path.{_≡_, refl, ap, sym, _∙_}
-use mathlib.Core.List.{List, [], _∷_, _++_, map, map-id, append-assoc}
+use mathlib.Core.List.{List, [], _∷_, _++_, map, append-assoc}
 use Prim.Native.Nat.{ℕ, _+_, _≤_}
 use native.Mathlib.Omega.{arith}
-use lib.ListN.{length, take, drop}
+use lib.ListN.{length, take, drop, length-append}
 use lib.Seq.{sets, sets-eq, length-take-le, drop-at, take-append-seam, drop-append-seam, drop-drop}
 use Rattle.syntax.specs.Stream.{Read, readMany, textsMany, rowsMany, part}
 
@@ -34,32 +34,20 @@ abbrev pub All : {A : Type 0} → (A → Type 0) → List A → Type 0
 All P [] = Unit
 All P (a ∷ xs) = P a × All P xs
 
--- where a value that P holds of is read from its row as v of it, so is a list of them
-module _ {A B : Type 0} (store : List ℕ) (w : ℕ → A → List ℕ) (x : A → List ℕ) (u : List ℕ → Read B) (v : A → B) (P : A → Type 0)
-    (back : (f : ℕ) (a : A) (t : List ℕ) → P a → Held store f (x a) → u (w f a ++ t) ≡ record { value = v a; rest = t }) where
-  pub many-back-for : (xs : List A) (f : ℕ) (t : List ℕ) → All P xs → Held store f (textsMany x xs)
+-- where a value that P holds of is read from its row as v of it, its text ending at m or before, so is a list of them
+module _ {A B : Type 0} (store : List ℕ) (w : ℕ → A → List ℕ) (x : A → List ℕ) (u : List ℕ → Read B) (v : A → B) (P : A → Type 0) (m : ℕ)
+    (back : (f : ℕ) (a : A) (t : List ℕ) → P a → Held store f (x a) → f + length (x a) ≤ m → u (w f a ++ t) ≡ record { value = v a; rest = t }) where
+  pub many-back : (xs : List A) (f : ℕ) (t : List ℕ) → All P xs → Held store f (textsMany x xs) → f + length (textsMany x xs) ≤ m
       → readMany u (length xs) (rowsMany w x f xs ++ t) ≡ record { value = map v xs; rest = t }
   unfolding readMany rowsMany textsMany
-  many-back-for [] f t p h = refl
-  many-back-for (a ∷ xs) f t p h =
+  many-back [] f t p h l = refl
+  many-back (a ∷ xs) f t p h l =
+      let e : length (x a ++ textsMany x xs) ≡ length (x a) + length (textsMany x xs) = length-append (x a) (textsMany x xs) in
       rw (
         append-assoc (w f a) (rowsMany w x (f + length (x a)) xs) t,
-        back f a (rowsMany w x (f + length (x a)) xs ++ t) (p .0) (held-left store f (x a) (textsMany x xs) h),
-        many-back-for xs (f + length (x a)) t (p .1) (held-right store f (x a) (textsMany x xs) h),
+        back f a (rowsMany w x (f + length (x a)) xs ++ t) (p .0) (held-left store f (x a) (textsMany x xs) h) (omega arith),
+        many-back xs (f + length (x a)) t (p .1) (held-right store f (x a) (textsMany x xs) h) (omega arith),
       )
-
--- what holds of all values holds of those of a list
-pub all-of : {A : Type 0} (P : A → Type 0) → ((a : A) → P a) → (xs : List A) → All P xs
-all-of P h [] = tt
-all-of P h (a ∷ xs) = (h a, all-of P h xs)
-
--- where one value is read back from its row, so is a list of them
-module _ {A : Type 0} (store : List ℕ) (w : ℕ → A → List ℕ) (x : A → List ℕ) (u : List ℕ → Read A)
-    (back : (f : ℕ) (a : A) (t : List ℕ) → Held store f (x a) → u (w f a ++ t) ≡ record { value = a; rest = t }) where
-  pub many-back : (xs : List A) (f : ℕ) (t : List ℕ) → Held store f (textsMany x xs) → readMany u (length xs) (rowsMany w x f xs ++ t) ≡ record { value = xs; rest = t }
-  many-back xs f t h =
-      many-back-for store w x u (λ a. a) (λ _. Unit) (λ f a t p. back f a t) xs f t (all-of (λ _. Unit) (λ _. tt) xs) h
-      ∙ ap (λ (ys : List A). record { value = ys; rest = t }) (map-id xs)
 
 -- what was stored at i is held there
 module _ (l : List ℕ) (i : ℕ) (xs : List ℕ) (h : i + length xs ≤ length l) where

@@ -1,6 +1,6 @@
--- How declarations and styles lie in lent numbers and the text store. A row says what it is, whether it is important, and up to three
--- numbers: a colour's parts, a flag or a word's number, or where a text starts in the store and how long it is.
-use Prim.Native.Nat.{ℕ}
+-- How declarations and styles lie in lent numbers and the text store. A row says what it is, whether it is important, and two numbers:
+-- a colour, a flag or a word's number, and 0; or where a text starts in the store, and how long it is.
+use Prim.Native.Nat.{ℕ, _+_, _*_, _/_, _%_}
 use mathlib.Core.Bool.{Bool, true, false}
 use mathlib.Core.List.{List, [], _∷_}
 use lib.ListN.{length, getD, drop}
@@ -67,12 +67,31 @@ whiteSpaceNumber preWrap = 2
 unfoldable pub whiteSpaceOf : ℕ → WhiteSpace
 whiteSpaceOf n = pick (is n 0) normal (pick (is n 1) pre preWrap)
 
-unfoldable pub colourOf : ℕ → ℕ → ℕ → Colour
-colourOf r g b = record { red = r; green = g; blue = b }
+-- red, green and blue as one number, as in the compiled sheet
+unfoldable pub colourNumber : Colour → ℕ
+colourNumber c = c .red * 65536 + c .green * 256 + c .blue
 
--- ---- declarations: kind, important, first byte, three numbers
+unfoldable pub colourOf : ℕ → Colour
+colourOf n = record { red = n / 65536; green = n / 256 % 256; blue = n % 256 }
+
+-- ---- declarations: kind, important, first byte, two numbers
 abbrev pub declarationWidth : ℕ
-declarationWidth = 6
+declarationWidth = 5
+
+abbrev pub declarationKind : ℕ
+declarationKind = 0
+
+abbrev pub declarationImportant : ℕ
+declarationImportant = 1
+
+abbrev pub declarationStart : ℕ
+declarationStart = 2
+
+abbrev pub declarationValue : ℕ
+declarationValue = 3
+
+abbrev pub declarationSecond : ℕ
+declarationSecond = 4
 
 -- its text in the store: of a content that text, of an unknown declaration its name
 unfoldable pub declText : Decl → List ℕ
@@ -92,25 +111,25 @@ declarationText d = declText (d .decl)
 
 -- the row, where its text starts at f
 unfoldable pub declRow : ℕ → ℕ → ℕ → Decl → List ℕ
-declRow i s f (color c) = colorKind ∷ i ∷ s ∷ c .red ∷ c .green ∷ c .blue ∷ []
-declRow i s f (backgroundColor c) = backgroundColorKind ∷ i ∷ s ∷ c .red ∷ c .green ∷ c .blue ∷ []
-declRow i s f (height z) = heightKind ∷ i ∷ s ∷ flag z ∷ 0 ∷ 0 ∷ []
-declRow i s f (maxHeight z) = maxHeightKind ∷ i ∷ s ∷ flag z ∷ 0 ∷ 0 ∷ []
-declRow i s f (overflow o) = overflowKind ∷ i ∷ s ∷ overflowNumber o ∷ 0 ∷ 0 ∷ []
-declRow i s f (overflowY o) = overflowYKind ∷ i ∷ s ∷ overflowNumber o ∷ 0 ∷ 0 ∷ []
-declRow i s f (display n) = displayKind ∷ i ∷ s ∷ flag n ∷ 0 ∷ 0 ∷ []
-declRow i s f (whiteSpace w) = whiteSpaceKind ∷ i ∷ s ∷ whiteSpaceNumber w ∷ 0 ∷ 0 ∷ []
-declRow i s f (content t) = contentKind ∷ i ∷ s ∷ f ∷ length t ∷ 0 ∷ []
-declRow i s f (unknown t) = unknownKind ∷ i ∷ s ∷ f ∷ length t ∷ 0 ∷ []
+declRow i s f (color c) = colorKind ∷ i ∷ s ∷ colourNumber c ∷ 0 ∷ []
+declRow i s f (backgroundColor c) = backgroundColorKind ∷ i ∷ s ∷ colourNumber c ∷ 0 ∷ []
+declRow i s f (height z) = heightKind ∷ i ∷ s ∷ flag z ∷ 0 ∷ []
+declRow i s f (maxHeight z) = maxHeightKind ∷ i ∷ s ∷ flag z ∷ 0 ∷ []
+declRow i s f (overflow o) = overflowKind ∷ i ∷ s ∷ overflowNumber o ∷ 0 ∷ []
+declRow i s f (overflowY o) = overflowYKind ∷ i ∷ s ∷ overflowNumber o ∷ 0 ∷ []
+declRow i s f (display n) = displayKind ∷ i ∷ s ∷ flag n ∷ 0 ∷ []
+declRow i s f (whiteSpace w) = whiteSpaceKind ∷ i ∷ s ∷ whiteSpaceNumber w ∷ 0 ∷ []
+declRow i s f (content t) = contentKind ∷ i ∷ s ∷ f ∷ length t ∷ []
+declRow i s f (unknown t) = unknownKind ∷ i ∷ s ∷ f ∷ length t ∷ []
 
 unfoldable pub declarationRow : ℕ → Declaration → List ℕ
 declarationRow f d = declRow (flag (d .important)) (d .start) f (d .decl)
 
--- the declaration of a kind and three numbers
-unfoldable pub declOf : List ℕ → ℕ → ℕ → ℕ → ℕ → Decl
-declOf store k a b c =
-    pick (is k colorKind) (color (colourOf a b c))
-    (pick (is k backgroundColorKind) (backgroundColor (colourOf a b c))
+-- the declaration of a kind and two numbers
+unfoldable pub declOf : List ℕ → ℕ → ℕ → ℕ → Decl
+declOf store k a b =
+    pick (is k colorKind) (color (colourOf a))
+    (pick (is k backgroundColorKind) (backgroundColor (colourOf a))
     (pick (is k heightKind) (height (flagOf a))
     (pick (is k maxHeightKind) (maxHeight (flagOf a))
     (pick (is k overflowKind) (overflow (overflowOf a))
@@ -125,9 +144,9 @@ readDeclaration store t =
     record {
       value =
           record {
-            decl = declOf store (getD t 0 0) (getD t 3 0) (getD t 4 0) (getD t 5 0);
-            important = flagOf (getD t 1 0);
-            start = getD t 2 0;
+            decl = declOf store (getD t declarationKind 0) (getD t declarationValue 0) (getD t declarationSecond 0);
+            important = flagOf (getD t declarationImportant 0);
+            start = getD t declarationStart 0;
           };
       rest = drop declarationWidth t;
     }
@@ -142,7 +161,7 @@ declarationTexts ds = textsMany declarationText ds
 unfoldable pub declarationsAt : List ℕ → List ℕ → ℕ → List Declaration
 declarationsAt rows store n = readMany (readDeclaration store) n rows .value
 
--- ---- styles: slot, important, three numbers. The slots are those of the compiled sheet.
+-- ---- styles: slot, important, two numbers. The slots are those of the compiled sheet.
 abbrev pub colourSlot : ℕ
 colourSlot = 0
 
@@ -159,7 +178,19 @@ abbrev pub contentSlot : ℕ
 contentSlot = 4
 
 abbrev pub styleWidth : ℕ
-styleWidth = 5
+styleWidth = 4
+
+abbrev pub styleSlot : ℕ
+styleSlot = 0
+
+abbrev pub styleImportant : ℕ
+styleImportant = 1
+
+abbrev pub styleValue : ℕ
+styleValue = 2
+
+abbrev pub styleSecond : ℕ
+styleSecond = 3
 
 unfoldable pub styleTextOf : Style → List ℕ
 styleTextOf (style.colour c) = []
@@ -172,19 +203,19 @@ unfoldable pub styleText : StyleDecl → List ℕ
 styleText d = styleTextOf (d .style)
 
 unfoldable pub styleRowOf : ℕ → ℕ → Style → List ℕ
-styleRowOf i f (style.colour c) = colourSlot ∷ i ∷ c .red ∷ c .green ∷ c .blue ∷ []
-styleRowOf i f (style.background c) = backgroundSlot ∷ i ∷ c .red ∷ c .green ∷ c .blue ∷ []
-styleRowOf i f style.displayNone = displaySlot ∷ i ∷ 0 ∷ 0 ∷ 0 ∷ []
-styleRowOf i f (style.whiteSpace w) = whiteSpaceSlot ∷ i ∷ whiteSpaceNumber w ∷ 0 ∷ 0 ∷ []
-styleRowOf i f (style.content t) = contentSlot ∷ i ∷ f ∷ length t ∷ 0 ∷ []
+styleRowOf i f (style.colour c) = colourSlot ∷ i ∷ colourNumber c ∷ 0 ∷ []
+styleRowOf i f (style.background c) = backgroundSlot ∷ i ∷ colourNumber c ∷ 0 ∷ []
+styleRowOf i f style.displayNone = displaySlot ∷ i ∷ 0 ∷ 0 ∷ []
+styleRowOf i f (style.whiteSpace w) = whiteSpaceSlot ∷ i ∷ whiteSpaceNumber w ∷ 0 ∷ []
+styleRowOf i f (style.content t) = contentSlot ∷ i ∷ f ∷ length t ∷ []
 
 unfoldable pub styleRow : ℕ → StyleDecl → List ℕ
 styleRow f d = styleRowOf (flag (d .important)) f (d .style)
 
-unfoldable pub styleOf : List ℕ → ℕ → ℕ → ℕ → ℕ → Style
-styleOf store k a b c =
-    pick (is k colourSlot) (style.colour (colourOf a b c))
-    (pick (is k backgroundSlot) (style.background (colourOf a b c))
+unfoldable pub styleOf : List ℕ → ℕ → ℕ → ℕ → Style
+styleOf store k a b =
+    pick (is k colourSlot) (style.colour (colourOf a))
+    (pick (is k backgroundSlot) (style.background (colourOf a))
     (pick (is k displaySlot) style.displayNone
     (pick (is k whiteSpaceSlot) (style.whiteSpace (whiteSpaceOf a))
     (style.content (part store a b)))))
@@ -192,7 +223,7 @@ styleOf store k a b c =
 unfoldable pub readStyle : List ℕ → List ℕ → Read StyleDecl
 readStyle store t =
     record {
-      value = record { style = styleOf store (getD t 0 0) (getD t 2 0) (getD t 3 0) (getD t 4 0); important = flagOf (getD t 1 0) };
+      value = record { style = styleOf store (getD t styleSlot 0) (getD t styleValue 0) (getD t styleSecond 0); important = flagOf (getD t styleImportant 0) };
       rest = drop styleWidth t;
     }
 

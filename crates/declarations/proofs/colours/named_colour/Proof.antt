@@ -1,6 +1,7 @@
 use Rattle.declarations.proofs.WordLaws.{numbersOf, joinedOf, lengthsOf}
+use Rattle.syntax.specs.Layout.{colourNumber}
 use Rattle.declarations.specs.declared.colours.ColourAnswer.the-variants.{Colour, NoColour}
-use Rattle.declarations.specs.ColourAnswer.{packed, colourAnswer}
+use Rattle.declarations.specs.ColourAnswer.{colourAnswer}
 use Rattle.declarations.specs.Colour.{rgb, colours}
 use Rattle.unicode.specs.Utf8.{utf8, continuation}
 use Rattle.unicode.specs.Literal.{text}
@@ -26,12 +27,12 @@ array-read-t14 : tie.Need-array-read-t14
 array-read-t14 c = search needs
 
 returns : tie.Need-returns
-unfolding colourAnswer packed rgb numbersOf joinedOf lengthsOf text utf8 continuation pick
-returns c = laws.table-hit packed Colour NoColour colours _ _ (c .before .place-of .ensures) (c .if1 .taken)
+unfolding colourAnswer colourNumber rgb numbersOf joinedOf lengthsOf text utf8 continuation pick
+returns c = laws.table-hit colourNumber Colour NoColour colours _ _ (c .before .place-of .ensures) (c .if1 .taken)
 
 returns-2 : tie.Need-returns-2
-unfolding colourAnswer packed rgb numbersOf joinedOf lengthsOf text utf8 continuation pick
-returns-2 c = laws.table-miss packed Colour NoColour colours _ _ (c .before .place-of .ensures) (c .if1 .left)
+unfolding colourAnswer colourNumber rgb numbersOf joinedOf lengthsOf text utf8 continuation pick
+returns-2 c = laws.table-miss colourNumber Colour NoColour colours _ _ (c .before .place-of .ensures) (c .if1 .left)
 
 pub named-colour-spec : {M : Type 1} → statement M
 named-colour-spec =

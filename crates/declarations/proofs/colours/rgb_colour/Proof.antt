@@ -46,20 +46,20 @@ returns-3 c = let p3 = c .before .before in
     let x = p2 .before .before in
     laws.blue-none _ _ _ _ (x .before .before .parse-u8 .ensures) _ (x .x .given .1) _ (p2 .parse-u82 .ensures) _ (y .y .given .1) _ (p3 .parse-u83 .ensures) (c .enum-told3 .given .1)
 
-cast-packed-of : tie.Need-cast-packed-of
-cast-packed-of c = let x = c .before .before .before .before .before .before .before .before .before in
+cast-colour-number : tie.Need-cast-colour-number
+cast-colour-number c = let x = c .before .before .before .before .before .before .before .before .before in
     omega (arith, laws.byte-le _ _ _ (x .before .before .parse-u8 .ensures) (x .x .given .1))
 
-cast-packed-of-2 : tie.Need-cast-packed-of-2
-cast-packed-of-2 c = let y = c .before .before .before .before .before in
+cast-colour-number-2 : tie.Need-cast-colour-number-2
+cast-colour-number-2 c = let y = c .before .before .before .before .before in
     omega (arith, laws.byte-le _ _ _ (y .before .before .parse-u82 .ensures) (y .y .given .1))
 
-cast-packed-of-3 : tie.Need-cast-packed-of-3
-cast-packed-of-3 c = let z = c .before in
+cast-colour-number-3 : tie.Need-cast-colour-number-3
+cast-colour-number-3 c = let z = c .before in
     omega (arith, laws.byte-le _ _ _ (z .before .before .parse-u83 .ensures) (z .z .given .1))
 
-packed-of-requires : tie.Need-packed-of-requires
-packed-of-requires c κs = search needs
+colour-number-requires : tie.Need-colour-number-requires
+colour-number-requires c κs = search needs
 
 returns-4 : tie.Need-returns-4
 returns-4 c = let z = c .before .before in
@@ -67,7 +67,7 @@ returns-4 c = let z = c .before .before in
     let y = p3 .before .before in
     let p2 = y .before .before in
     let x = p2 .before .before in
-    laws.three-numbers _ _ _ _ (x .before .before .parse-u8 .ensures) _ (x .x .given .1) _ (p2 .parse-u82 .ensures) _ (y .y .given .1) _ (p3 .parse-u83 .ensures) _ (z .z .given .1) _ (c .packed-of .ensures)
+    laws.three-numbers _ _ _ _ (x .before .before .parse-u8 .ensures) _ (x .x .given .1) _ (p2 .parse-u82 .ensures) _ (y .y .given .1) _ (p3 .parse-u83 .ensures) _ (z .z .given .1) _ (c .colour-number .ensures)
 
 pub rgb-colour-spec : {M : Type 1} → statement M
 rgb-colour-spec =
@@ -85,8 +85,8 @@ rgb-colour-spec =
     enum-known-z
     enum-told-3
     returns-3
-    cast-packed-of
-    cast-packed-of-2
-    cast-packed-of-3
-    packed-of-requires
+    cast-colour-number
+    cast-colour-number-2
+    cast-colour-number-3
+    colour-number-requires
     returns-4)

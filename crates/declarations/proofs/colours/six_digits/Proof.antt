@@ -12,12 +12,12 @@ cast-green c = search needs
 cast-blue : tie.Need-cast-blue
 cast-blue c = search needs
 
-packed-of-requires : tie.Need-packed-of-requires
-packed-of-requires c κs = search needs
+colour-number-requires : tie.Need-colour-number-requires
+colour-number-requires c κs = search needs
 
 returns : tie.Need-returns
 unfolding sixDigits
-returns c = c .packed-of .ensures
+returns c = c .colour-number .ensures
 
 pub six-digits-spec : {M : Type 1} → statement M
-six-digits-spec = tie.close (tie.spec cast-red cast-green cast-blue packed-of-requires returns)
+six-digits-spec = tie.close (tie.spec cast-red cast-green cast-blue colour-number-requires returns)

@@ -21,14 +21,14 @@ mul-blue c = search needs
 cast-blue : tie.Need-cast-blue
 cast-blue c = search needs
 
-packed-of-requires : tie.Need-packed-of-requires
-packed-of-requires c κs = search needs
+colour-number-requires : tie.Need-colour-number-requires
+colour-number-requires c κs = search needs
 
 returns : tie.Need-returns
 unfolding threeDigits
-returns c = c .packed-of .ensures
+returns c = c .colour-number .ensures
 
 pub three-digits-spec : {M : Type 1} → statement M
 three-digits-spec =
     tie.close
-    (tie.spec mul-red cast-red mul-green cast-green mul-blue cast-blue packed-of-requires returns)
+    (tie.spec mul-red cast-red mul-green cast-green mul-blue cast-blue colour-number-requires returns)

@@ -1,8 +1,8 @@
-use Rattle.declarations.specs.ColourAnswer.{packed}
+use Rattle.syntax.specs.Layout.{colourNumber}
 use Rattle.declarations.specs.Colour.{rgb}
 use borrow.Author.Needs.{needs}
-use Rattle.declarations.proofs.colours.packed_of.Statement.{statement}
-use Rattle.declarations.proofs.colours.packed_of.Tie as tie
+use Rattle.declarations.proofs.colours.colour_number.Statement.{statement}
+use Rattle.declarations.proofs.colours.colour_number.Tie as tie
 
 mul-result : tie.Need-mul-result
 mul-result c = search needs
@@ -17,8 +17,8 @@ add-result-2 : tie.Need-add-result-2
 add-result-2 c = search needs
 
 returns : tie.Need-returns
-unfolding packed rgb
+unfolding colourNumber rgb
 returns c = search needs
 
-pub packed-of-spec : {M : Type 1} → statement M
-packed-of-spec = tie.close (tie.spec mul-result mul-result-2 add-result add-result-2 returns)
+pub colour-number-spec : {M : Type 1} → statement M
+colour-number-spec = tie.close (tie.spec mul-result mul-result-2 add-result add-result-2 returns)
