@@ -4,3 +4,4 @@ pub mod ColourLaws
 pub mod Nesting
 pub mod Turns
 pub mod Views
+pub mod TokenViews
