@@ -5,3 +5,6 @@ pub mod Nesting
 pub mod Turns
 pub mod Views
 pub mod TokenViews
+pub mod Sizes
+pub mod Marks
+pub mod ValueLaws

@@ -137,7 +137,7 @@ unfolding Small
 token-small s n k e c h = by-scalar (c < 2 ^ 32) c (delim-scalar s n c (e ∙ ap (ok n) h)) (λ l. omega arith) (λ _ l. omega arith)
 
 -- what holds of every way that a statement goes on
-step-holds : {A : Type 0} (P : A → Type 0) (x : Step) (b a w : A) (f : List ℕ → A) → P b → P a → P w → ((cs : List ℕ) → P (f cs)) → P (onStep x b a w f)
+pub step-holds : {A : Type 0} (P : A → Type 0) (x : Step) (b a w : A) (f : List ℕ → A) → P b → P a → P w → ((cs : List ℕ) → P (f cs)) → P (onStep x b a w f)
 unfolding onStep
 step-holds P (next cs) b a w f p q r g = g cs
 step-holds P before b a w f p q r g = p

@@ -12,13 +12,15 @@ use Rattle.lexer.specs.TokenRow.{tokenWidth, functionKind, numberKind, closeRou
 use Rattle.lexer.specs.declared.tokens.Token as lexer
 use Rattle.lexer.specs.declared.tokens.Token.the-variants as code
 use Rattle.syntax.specs.Stream.{rowsMany, textsMany}
-use Rattle.declarations.specs.Value.{Placed, Bracket, opens, closes, ends, none, bracketBy, bracketOf, Step, next, before, behind, wrong, stepOf, Statement}
+use Rattle.declarations.specs.Value.{Placed, Bracket, opens, closes, ends, none, bracketBy, bracketOf, Step, next, before, behind, wrong, stepOf, Statement, tokensOf, isImportant}
 use Rattle.declarations.specs.declared.statements.Bracket as declared-bracket
 use Rattle.declarations.specs.declared.statements.Bracket.the-variants.{Opens, Closes, Ends, NoBracket}
 use Rattle.declarations.specs.declared.statements.Step as declared-step
 use Rattle.declarations.specs.declared.statements.Step.the-variants.{Next, Before, Behind, Wrong}
 use Rattle.declarations.specs.declared.statements.StatementAnswer.{StatementAnswer}
 use Rattle.declarations.specs.declared.statements.StatementAnswer.the-variants as answer
+use Rattle.declarations.specs.declared.statements.ValueAnswer.{ValueAnswer}
+use Rattle.declarations.specs.declared.statements.ValueAnswer.the-variants as value
 
 -- ---- a token as the code has it: the bytes of its texts
 unfoldable pub lengthBy : lexer.Token → ℕ
@@ -130,6 +132,23 @@ left r rows brackets store fill =
       brackets = bracketsAfter (r .tokens) brackets 0;
       store = sets store fill (textsOf (r .tokens));
     }
+
+-- what a value leaves: an answer of its own, and the same in the stores
+unfoldable pub valueAnswer : Statement → ValueAnswer
+valueAnswer r =
+    pick (r .balanced) (value.Value (r .taken) (length (r .tokens)) (length (textsOf (r .tokens))) (isImportant (tokensOf (r .tokens))))
+    (value.NoValue (length (r .tokens)) (length (textsOf (r .tokens))))
+
+pub record ValueLeft : Type 0 where
+  pub answer : ValueAnswer
+  pub rows : List ℕ
+  pub brackets : List ℕ
+  pub store : List ℕ
+
+unfoldable pub valueLeft : Statement → List ℕ → List ℕ → List ℕ → ℕ → ValueLeft
+valueLeft r rows brackets store fill =
+    let l = left r rows brackets store fill in
+    record { answer = valueAnswer r; rows = l .rows; brackets = l .brackets; store = l .store }
 
 -- the three tokens of "f( 7)", read into longer stores: their rows, the bracket that was awaited, and their texts behind the byte 9
 case : left

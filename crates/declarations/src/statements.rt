@@ -1,18 +1,36 @@
 // Statements: tokens read to the end of a statement, into rows and a store of texts.
+use crate::tokens::is_kind;
+use crate::tokens::place_at;
+use crate::words::same_text;
+use lexer::rows::DELIM;
+use lexer::rows::IDENT;
+use lexer::rows::TOKEN_FIRST;
+use lexer::rows::TOKEN_START;
+use lexer::rows::TOKEN_WIDTH;
 use lexer::rows::put_token;
 use lexer::tokens::Lexed;
 use lexer::tokens::Token;
 use lexer::tokens::parse_token;
+use syntax::texts::part_of;
 ghost use mathlib.Core.Path.{_≡_};
+ghost use mathlib.Core.Bool.{false};
 ghost use Prim.Native.Nat.{_-_, _^_, _≤_, _<_};
 ghost use lib.ListN.{length};
-ghost use Rattle.declarations.specs.Value.{bracketBy, closing, statementOf};
-ghost use Rattle.declarations.specs.Layout.{lengthBy, meant, awaited, stepTo, deep, endingBy, Moved, Room, left, Bounds};
+ghost use Rattle.declarations.specs.Value.{isImportant, bracketBy, closing, statementOf};
+ghost use Rattle.declarations.specs.Layout.{lengthBy, meant, awaited, stepTo, deep, endingBy, Moved, Room, left, Bounds, valueLeft};
+ghost use Rattle.declarations.specs.View.{Counted, tokensAt};
 
 // The bytes taken, the tokens and the bytes of text of a statement; or of what stands before a closing bracket that is wrong.
 pub enum StatementAnswer {
     Statement(usize, usize, usize),
     Unbalanced(usize, usize, usize),
+}
+
+// A value: the bytes taken, its tokens and their bytes of text, and whether it ends in the mark `!important`; or the tokens and the
+// bytes of text before a closing bracket that is wrong.
+pub enum ValueAnswer {
+    Value(usize, usize, usize, bool),
+    NoValue(usize, usize),
 }
 
 // What a token does to the brackets, by the byte that is awaited.
@@ -177,6 +195,55 @@ pub fn parse_to_end_of_statement(
                     }
                 }
             }
+        }
+    }
+}
+
+const EXCLAMATION_MARK: usize = b'!' as usize;
+
+// Whether the last two of `count` tokens are the mark `!important`.
+fn is_important(rows: &[u32], count: usize, store: &[u8]) -> bool
+    requires { ⌜ Counted (now rows) count ⌝ }
+    ensures { λ r. ⌜ r ≡ isImportant (tokensAt (now (rows .entry)) (now (store .entry)) count) ⌝ }
+{
+    if count < 2 {
+        return false;
+    }
+    let mark = (count - 2) * TOKEN_WIDTH;
+    let word = mark + TOKEN_WIDTH;
+    if is_kind(rows, mark, DELIM) {
+        if place_at(rows, mark, TOKEN_FIRST) == EXCLAMATION_MARK {
+            if is_kind(rows, word, IDENT) {
+                let start = place_at(rows, word, TOKEN_START);
+                let n = place_at(rows, word, TOKEN_FIRST);
+                return same_text(part_of(store, start, n), b"important");
+            }
+            return false;
+        }
+        return false;
+    }
+    false
+}
+
+// Reads a value, and leaves its tokens and texts as `parse_to_end_of_statement` does.
+pub fn parse_value(
+    s: &[u8],
+    rows: &mut [u32],
+    brackets: &mut [u8],
+    store: &mut [u8],
+    fill: usize,
+) -> ValueAnswer
+    requires { ⌜ Room (length (now s)) fill (now rows) (now brackets) (now store) ⌝ }
+    ensures { λ r. ⌜ record { answer = r; rows = now (rows .exit); brackets = now (brackets .exit); store = now (store .exit) }
+        ≡ valueLeft (statementOf false (now (s .entry))) (now (rows .entry)) (now (brackets .entry)) (now (store .entry)) fill ⌝ }
+{
+    match parse_to_end_of_statement(s, false, rows, brackets, store, fill) {
+        StatementAnswer::Statement(taken, count, text) => {
+            let important = is_important(rows, count, store);
+            return ValueAnswer::Value(taken, count, text, important);
+        }
+        StatementAnswer::Unbalanced(_, count, text) => {
+            return ValueAnswer::NoValue(count, text);
         }
     }
 }
