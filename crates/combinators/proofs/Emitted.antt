@@ -34,7 +34,7 @@ pub then : (o₀ o₁ o₂ : Store) (xs ys : List ℕ) → o₁ ≡ emits o₀ x
 then o₀ o₁ o₂ xs ys p q = q ∙ onto o₀ o₁ xs ys p
 
 -- past the end nothing is stored
-sets-out : (vs l : List ℕ) (i : ℕ) → length l ≤ i → sets l i vs ≡ l
+pub sets-out : (vs l : List ℕ) (i : ℕ) → length l ≤ i → sets l i vs ≡ l
 sets-out [] l i h = refl
 sets-out (v ∷ vs) l i h = rw (set-out l i v h) (sets-out vs l (suc i) (omega arith))
 

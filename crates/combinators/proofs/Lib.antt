@@ -5,3 +5,4 @@ pub mod Repeating
 pub mod Words
 pub mod Emitted
 pub mod Cleared
+pub mod Wiped

@@ -1,8 +1,9 @@
--- Lent stores: bytes emitted from a fill on, and zeros from a place on.
+-- Lent stores: bytes emitted from a fill on, and zeros from a place on, to the end or so many.
 use Prim.Native.Nat.{ℕ, zero, suc, _+_}
 use mathlib.Core.List.{List, [], _∷_}
-use lib.Dec.{ltb}
-use lib.ListN.{length, set}
+use lib.Dec.{leb, ltb}
+use lib.ListN.{length, set, replicate}
+use lib.Seq.{sets}
 use Rattle.combinators.specs.Choice.{pick}
 
 -- a store and how far it is filled; a fill one above the store's length says that something did not fit
@@ -27,3 +28,11 @@ unfoldable pub cleared : ℕ → List ℕ → List ℕ
 cleared n [] = []
 cleared zero (x ∷ xs) = 0 ∷ cleared zero xs
 cleared (suc n) (x ∷ xs) = x ∷ cleared n xs
+
+-- n zeros from a place on, as far as the store goes
+unfoldable pub wiped : ℕ → ℕ → List ℕ → List ℕ
+wiped from n l = sets l from (replicate n 0)
+
+-- the greater of two numbers
+unfoldable pub most : ℕ → ℕ → ℕ
+most a b = pick (leb a b) b a

@@ -3,7 +3,7 @@ ghost use mathlib.Core.Path.{_≡_};
 ghost use mathlib.Core.List.{[], _∷_};
 ghost use Prim.Native.Nat.{_+_};
 ghost use lib.ListN.{take, getD};
-ghost use Rattle.combinators.specs.Store.{emits, cleared};
+ghost use Rattle.combinators.specs.Store.{emits, cleared, wiped};
 
 // One byte at `fill`; the fill behind it.
 pub fn emit(b: u8, store: &mut [u8], fill: usize) -> usize
@@ -77,5 +77,37 @@ pub fn clear_numbers(store: &mut [u32], from: usize)
     while i < store.len() {
         store[i] = 0;
         i += 1;
+    }
+}
+
+// `n` zeros from a place on, as far as the store goes, in a store of bytes.
+pub fn wipe_bytes(store: &mut [u8], from: usize, n: usize)
+    ensures { λ _. ⌜ now (store .exit) ≡ wiped from n (now (store .entry)) ⌝ }
+{
+    let mut i = from;
+    let mut left = n;
+    while left > 0 {
+        if i >= store.len() {
+            return;
+        }
+        store[i] = 0;
+        i += 1;
+        left -= 1;
+    }
+}
+
+// `n` zeros from a place on, as far as the store goes, in a store of numbers.
+pub fn wipe_numbers(store: &mut [u32], from: usize, n: usize)
+    ensures { λ _. ⌜ now (store .exit) ≡ wiped from n (now (store .entry)) ⌝ }
+{
+    let mut i = from;
+    let mut left = n;
+    while left > 0 {
+        if i >= store.len() {
+            return;
+        }
+        store[i] = 0;
+        i += 1;
+        left -= 1;
     }
 }

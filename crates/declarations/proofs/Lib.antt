@@ -8,3 +8,4 @@ pub mod TokenViews
 pub mod Sizes
 pub mod Marks
 pub mod ValueLaws
+pub mod Moves

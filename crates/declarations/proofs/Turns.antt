@@ -5,7 +5,7 @@ use mathlib.Core.Bool.{Bool, true, false}
 use Prim.Native.Nat.{ℕ, zero, suc, _+_, _-_, _^_, _<_, _≤_}
 use native.Mathlib.Nat.{add-zero}
 use native.Mathlib.Omega.{arith}
-use lib.ListN.{length, getD, set, drop, length-drop, length-append}
+use lib.ListN.{length, getD, drop, length-drop, length-append}
 use lib.Seq.{sets, drop-drop, getD-drop}
 use Rattle.combinators.specs.Ascii.{reverseSolidus}
 use Rattle.combinators.specs.Choice.{pick}
@@ -13,6 +13,7 @@ use Rattle.combinators.specs.Parsed.{Parsed, ok, err, onParsed}
 use Rattle.combinators.specs.Store.{Store, emits}
 use Rattle.combinators.proofs.Rules.{pick-true, pick-false, pick-holds, is-yes, is-no, and-both, and-left}
 use Rattle.combinators.proofs.Emitted.{emits-none, emits-append, emits-bytes}
+use Rattle.combinators.proofs.Wiped.{sets-append}
 use Rattle.lexer.specs.Token.{Token, tokenOf, coded, textOf, tokenText, lexedAnswer}
 use Rattle.lexer.specs.TokenRow.{rowOf, tokenRow}
 use Rattle.lexer.specs.Whitespace.{skipWhitespace}
@@ -47,13 +48,6 @@ leaves-all r rows b st fill =
     let e₁ : 0 + length (r .tokens) ≡ length (r .tokens) = omega arith in
     let e₂ : 0 + length (textsOf (r .tokens)) ≡ length (textsOf (r .tokens)) = omega arith in
     rw (e₁, e₂, add-zero fill, emits-bytes (rowsOf fill (r .tokens)) rows 0)
-
--- a text stored behind another
-sets-append : (l : List ℕ) (i : ℕ) (xs ys : List ℕ) → sets l i (xs ++ ys) ≡ sets (sets l i xs) (i + length xs) ys
-sets-append l i [] ys = rw add-zero
-sets-append l i (x ∷ xs) ys =
-    let e : i + suc (length xs) ≡ suc i + length xs = omega arith in
-    rw e (sets-append (set l i x) (suc i) xs ys)
 
 module _ (o : Store) (n : ℕ) (b : List ℕ) (d : ℕ) (st : List ℕ) (fill t : ℕ) where
   -- of no token

@@ -8,3 +8,4 @@ pub mod Property
 pub mod Rules
 pub mod Styles
 pub mod Attribute
+pub mod Moved

@@ -4,3 +4,4 @@ pub mod colours; // colours.rt: colours by name, by '#' and by `rgb`
 pub mod heights; // heights.rt: numbers that are zero
 pub mod tokens; // tokens.rt: what token rows say
 pub mod statements; // statements.rt: the tokens of a statement, with its brackets
+pub mod texts; // texts.rt: texts moved within the store
