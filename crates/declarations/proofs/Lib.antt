@@ -9,3 +9,4 @@ pub mod Sizes
 pub mod Marks
 pub mod ValueLaws
 pub mod Moves
+pub mod RowLaws

@@ -6,6 +6,7 @@ pub mod Colour
 pub mod ColourAnswer
 pub mod Property
 pub mod Rules
+pub mod DeclAnswer
 pub mod Styles
 pub mod Attribute
 pub mod Moved

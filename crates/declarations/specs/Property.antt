@@ -76,17 +76,21 @@ unfoldable pub contentOf : List Token → Found (List ℕ)
 contentOf [] = found []
 contentOf (k ∷ ks) = pick (isKind stringKind k) (onFound (contentOf ks) (λ b. found (textOf k ++ b)) missing) missing
 
--- ---- the declaration of a property with a value; the property's name where the value does not read
+-- ---- properties, in the crate's order, and how each reads a value; its name is kept where the value does not read
+abbrev pub properties : List (Entry (List ℕ → List Token → Decl))
+properties =
+    record { word = text "background-color"; means = λ name ks. onFound (colourOf ks) backgroundColor (unknown name) }
+    ∷ record { word = text "background"; means = λ name ks. onFound (backgroundOf ks) backgroundColor (unknown name) }
+    ∷ record { word = text "color"; means = λ name ks. onFound (colourOf ks) color (unknown name) }
+    ∷ record { word = text "height"; means = λ name ks. onFound (heightOf ks) height (unknown name) }
+    ∷ record { word = text "max-height"; means = λ name ks. onFound (heightOf ks) maxHeight (unknown name) }
+    ∷ record { word = text "overflow"; means = λ name ks. onFound (overflowOf ks) overflow (unknown name) }
+    ∷ record { word = text "overflow-y"; means = λ name ks. onFound (overflowOf ks) overflowY (unknown name) }
+    ∷ record { word = text "display"; means = λ name ks. display (displayOf ks) }
+    ∷ record { word = text "white-space"; means = λ name ks. whiteSpace (whiteSpaceOf ks) }
+    ∷ record { word = text "content"; means = λ name ks. onFound (contentOf ks) content (unknown name) }
+    ∷ []
+
+-- the declaration of a property with a value
 unfoldable pub declOf : List ℕ → List Token → Decl
-declOf name ks =
-    pick (same name (text "background-color")) (onFound (colourOf ks) backgroundColor (unknown name))
-    (pick (same name (text "background")) (onFound (backgroundOf ks) backgroundColor (unknown name))
-    (pick (same name (text "color")) (onFound (colourOf ks) color (unknown name))
-    (pick (same name (text "height")) (onFound (heightOf ks) height (unknown name))
-    (pick (same name (text "max-height")) (onFound (heightOf ks) maxHeight (unknown name))
-    (pick (same name (text "overflow")) (onFound (overflowOf ks) overflow (unknown name))
-    (pick (same name (text "overflow-y")) (onFound (overflowOf ks) overflowY (unknown name))
-    (pick (same name (text "display")) (display (displayOf ks))
-    (pick (same name (text "white-space")) (whiteSpace (whiteSpaceOf ks))
-    (pick (same name (text "content")) (onFound (contentOf ks) content (unknown name))
-    (unknown name))))))))))
+declOf name ks = onFound (lookup name properties) (λ read. read name ks) (unknown name)

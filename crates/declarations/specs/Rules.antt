@@ -11,20 +11,26 @@ use Rattle.syntax.specs.Declaration.{Declaration}
 use Rattle.declarations.specs.Value.{valueOf}
 use Rattle.declarations.specs.Property.{declOf}
 
--- behind a name that n bytes of s take: white space or none, ':', white space or none, a value
-unfoldable pub valueBehind : ℕ → List ℕ → List ℕ → Parsed Declaration
-valueBehind n name s =
+-- behind a name that n bytes of s take: white space or none, ':', white space or none
+unfoldable pub colonBehind : ℕ → List ℕ → List ℕ → Parsed (List ℕ)
+colonBehind n name s =
     let c = n + skipWhitespace (drop n s) in
-    let v = c + 1 + skipWhitespace (drop (c + 1) s) in
-    pick (is (getD s c 0) ascii.colon)
-    (onParsed (valueOf (drop v s))
+    pick (is (getD s c 0) ascii.colon) (ok (c + 1 + skipWhitespace (drop (c + 1) s)) name) err
+
+-- a property's name and all up to its value
+unfoldable pub propertyOf : List ℕ → Parsed (List ℕ)
+propertyOf s = onParsed (identOf s) (λ n name. colonBehind n name s) err
+
+-- the value behind v bytes
+unfoldable pub valueBehind : ℕ → List ℕ → List ℕ → Parsed Declaration
+valueBehind v name s =
+    onParsed (valueOf (drop v s))
     (λ m value. ok (v + m) (record { decl = declOf name (value .tokens); important = value .important; start = skipWhitespace s }))
-    err)
     err
 
 -- `parse_declaration`; it starts at the first byte of its name
 unfoldable pub declarationOf : List ℕ → Parsed Declaration
-declarationOf s = onParsed (identOf s) (λ n name. valueBehind n name s) err
+declarationOf s = onParsed (propertyOf s) (λ v name. valueBehind v name s) err
 
 -- declarations, and the first byte not read
 pub record Rules : Type 0 where

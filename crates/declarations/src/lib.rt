@@ -5,3 +5,5 @@ pub mod heights; // heights.rt: numbers that are zero
 pub mod tokens; // tokens.rt: what token rows say
 pub mod statements; // statements.rt: the tokens of a statement, with its brackets
 pub mod texts; // texts.rt: texts moved within the store
+pub mod properties; // properties.rt: declarations of a property with a value
+pub mod rows; // rows.rt: declarations written to rows, and their texts kept

@@ -1,0 +1,77 @@
+// Rows of declarations and of styles: their columns, and the numbers for what stands in them.
+
+// Numbers in the row of a declaration: its kind, whether it is important, the byte where it starts, and two more.
+pub const DECLARATION_WIDTH: usize = 5;
+
+pub const DECLARATION_KIND: usize = 0;
+
+pub const DECLARATION_IMPORTANT: usize = 1;
+
+pub const DECLARATION_START: usize = 2;
+
+pub const DECLARATION_VALUE: usize = 3;
+
+pub const DECLARATION_SECOND: usize = 4;
+
+// The kinds. No declaration has 0, so that a cleared row is told from a written one.
+pub const COLOR: u32 = 1;
+
+pub const BACKGROUND_COLOR: u32 = 2;
+
+pub const HEIGHT: u32 = 3;
+
+pub const MAX_HEIGHT: u32 = 4;
+
+pub const OVERFLOW: u32 = 5;
+
+pub const OVERFLOW_Y: u32 = 6;
+
+pub const DISPLAY: u32 = 7;
+
+pub const WHITE_SPACE: u32 = 8;
+
+pub const CONTENT: u32 = 9;
+
+pub const UNKNOWN: u32 = 10;
+
+// Flags: whether something is important, whether a height is zero, whether a display is none.
+pub const FLAG_FALSE: u32 = 0;
+
+pub const FLAG_TRUE: u32 = 1;
+
+// The words of `overflow` and of `white-space`.
+pub const OVERFLOW_VISIBLE: u32 = 0;
+
+pub const OVERFLOW_HIDDEN: u32 = 1;
+
+pub const OVERFLOW_SCROLL: u32 = 2;
+
+pub const OVERFLOW_AUTO: u32 = 3;
+
+pub const WHITE_SPACE_NORMAL: u32 = 0;
+
+pub const WHITE_SPACE_PRE: u32 = 1;
+
+pub const WHITE_SPACE_PRE_WRAP: u32 = 2;
+
+// Numbers in the row of a style: its slot, whether it is important, and two more.
+pub const STYLE_WIDTH: usize = 4;
+
+pub const STYLE_SLOT: usize = 0;
+
+pub const STYLE_IMPORTANT: usize = 1;
+
+pub const STYLE_VALUE: usize = 2;
+
+pub const STYLE_SECOND: usize = 3;
+
+// The slots, which are those of the compiled sheet.
+pub const COLOUR_SLOT: u32 = 0;
+
+pub const BACKGROUND_SLOT: u32 = 1;
+
+pub const DISPLAY_SLOT: u32 = 2;
+
+pub const WHITE_SPACE_SLOT: u32 = 3;
+
+pub const CONTENT_SLOT: u32 = 4;
