@@ -10,3 +10,5 @@ pub mod Marks
 pub mod ValueLaws
 pub mod Moves
 pub mod RowLaws
+pub mod KeywordLaws
+pub mod ContentLaws

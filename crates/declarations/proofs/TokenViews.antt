@@ -155,6 +155,16 @@ module _ (rows store : List ℕ) (p : ℕ) where
   unfolding firstOf columnsOf coded tokenWith tokenFrom pick is
   here-delim e = ap firstOf (here-as delimKind e)
 
+  -- the code cuts its text from the store by two numbers of its row
+  pub text-cut : (s n : ℕ) → s ≡ start → n ≡ first → (t : List ℕ) → t ≡ part store s n → t ≡ firstText rows store p
+  unfolding firstText
+  text-cut s n es en t e = e ∙ ap (λ x. part store x n) es ∙ ap (part store start) en
+
+  -- and a dimension's unit by three
+  pub unit-cut : (s n m : ℕ) → s ≡ start → n ≡ first → m ≡ second → (t : List ℕ) → t ≡ part store (s + n) m → t ≡ secondText rows store p
+  unfolding secondText
+  unit-cut s n m es en em t e = e ∙ ap (λ x. part store (x + n) m) es ∙ ap (λ x. part store (start + x) m) en ∙ ap (part store (start + first)) em
+
   -- the tokens from p on: this one, and those behind its row
   pub tokens-here : (n : ℕ) → tokensAt (drop p rows) store (suc n) ≡ tokenHere rows store p ∷ tokensAt (drop (p + tokenWidth) rows) store n
   unfolding tokensAt readMany tokenHere readToken

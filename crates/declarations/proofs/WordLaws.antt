@@ -144,7 +144,7 @@ numbersOf f [] = []
 numbersOf f (e ∷ es) = f (e .means) ∷ numbersOf f es
 
 -- the words, split again
-split-joined : {A : Type 0} (es : List (Entry A)) → split (joinedOf es) (lengthsOf es) ≡ wordsOf es
+pub split-joined : {A : Type 0} (es : List (Entry A)) → split (joinedOf es) (lengthsOf es) ≡ wordsOf es
 unfolding split joinedOf lengthsOf wordsOf
 split-joined [] = refl
 split-joined (e ∷ es) = rw (take-at (e .word) (joinedOf es), drop-at (e .word) (joinedOf es), split-joined es)
@@ -157,14 +157,14 @@ table-place es w i e = sym (lookup-place w es ∙ ap (rowAt es) (sym (e ∙ ap (
 -- an answer by the number of what was found
 module _ {A B : Type 0} (f : A → ℕ) (g : ℕ → B) (b : B) where
   -- a row that is there
-  row-there : (es : List (Entry A)) (i : ℕ) → i < length (numbersOf f es) → g (getD (numbersOf f es) i 0) ≡ onFound (rowAt es i) (λ a. g (f a)) b
+  pub row-there : (es : List (Entry A)) (i : ℕ) → i < length (numbersOf f es) → g (getD (numbersOf f es) i 0) ≡ onFound (rowAt es i) (λ a. g (f a)) b
   unfolding numbersOf rowAt onFound
   row-there [] i h = absurd (omega arith)
   row-there (e ∷ es) zero h = refl
   row-there (e ∷ es) (suc i) h = row-there es i (omega arith)
 
   -- a row past the last
-  row-missing : (es : List (Entry A)) (i : ℕ) → length (numbersOf f es) ≤ i → b ≡ onFound (rowAt es i) (λ a. g (f a)) b
+  pub row-missing : (es : List (Entry A)) (i : ℕ) → length (numbersOf f es) ≤ i → b ≡ onFound (rowAt es i) (λ a. g (f a)) b
   unfolding numbersOf rowAt onFound
   row-missing [] i h = refl
   row-missing (e ∷ es) zero h = absurd (omega arith)

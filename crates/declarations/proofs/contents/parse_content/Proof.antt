@@ -1,0 +1,75 @@
+use native.Mathlib.Omega.{arith}
+use Rattle.declarations.proofs.TokenViews as views
+use Rattle.declarations.proofs.ContentLaws as laws
+use borrow.Author.Needs.{needs}
+use Rattle.declarations.proofs.contents.parse_content.Statement.{statement}
+use Rattle.declarations.proofs.contents.parse_content.Tie as tie
+
+abbrev Inv-loop : tie.InvT-loop
+Inv-loop rows count store at₀ left₀ length₀ at left length = laws.Joining rows store count at left length
+
+abbrev μ-loop : tie.MeasureT-loop
+μ-loop rows count store at₀ left₀ length₀ at left length = left
+
+loop-holds : tie.Need-loop-holds Inv-loop μ-loop
+loop-holds c = laws.joining-begin _ _ _ (c .before .before .pre)
+
+is-kind-requires : tie.Need-is-kind-requires Inv-loop μ-loop
+is-kind-requires c κs = search needs
+
+place-at-requires : tie.Need-place-at-requires Inv-loop μ-loop
+place-at-requires c κs = search needs
+
+place-at-requires-2 : tie.Need-place-at-requires-2 Inv-loop μ-loop
+place-at-requires-2 c κs = search needs
+
+part-of-requires : tie.Need-part-of-requires Inv-loop μ-loop
+part-of-requires c κs = search needs
+
+add-length : tie.Need-add-length Inv-loop μ-loop
+add-length c = let t = c .before in
+    let k = t .before .before .before in
+    let d = k .before in
+    omega (arith, laws.joining-room _ _ _ _ _ _ (d .before .loop .inv) (d .loop-test .taken) _ (k .is-kind .ensures) (t .before .before .if1 .taken) _ (views.text-cut _ _ _ _ _ (t .before .place-at .ensures) (t .place-at2 .ensures) _ (c .part-of .ensures)))
+
+add-at : tie.Need-add-at Inv-loop μ-loop
+add-at c = search needs
+
+sub-left : tie.Need-sub-left Inv-loop μ-loop
+sub-left c = search needs
+
+loop-less : tie.Need-loop-less Inv-loop μ-loop
+loop-less c = search needs
+
+loop-again : tie.Need-loop-again Inv-loop μ-loop
+loop-again c = let t = c .before in
+    let k = t .before .before .before in
+    let d = k .before in
+    laws.joining-more _ _ _ _ _ _ (d .before .loop .inv) (d .loop-test .taken) _ (k .is-kind .ensures) (t .before .before .if1 .taken) _ (views.text-cut _ _ _ _ _ (t .before .place-at .ensures) (t .place-at2 .ensures) _ (c .part-of .ensures))
+
+returns : tie.Need-returns Inv-loop μ-loop
+returns c = let k = c .before in
+    let d = k .before in
+    laws.joining-stop _ _ _ _ _ _ (d .before .loop .inv) (d .loop-test .taken) _ (k .is-kind .ensures) (c .if1 .left)
+
+returns-2 : tie.Need-returns-2 Inv-loop μ-loop
+returns-2 c = laws.joining-done _ _ _ _ _ _ (c .before .loop .inv) (c .loop-test .left)
+
+pub parse-content-spec : {M : Type 1} → statement M
+parse-content-spec =
+    tie.close
+    (tie.spec
+    Inv-loop
+    μ-loop
+    loop-holds
+    is-kind-requires
+    place-at-requires
+    place-at-requires-2
+    part-of-requires
+    add-length
+    add-at
+    sub-left
+    loop-less
+    loop-again
+    returns
+    returns-2)
