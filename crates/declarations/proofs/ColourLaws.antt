@@ -44,7 +44,7 @@ unfolding numberAnswer onFound
 a-number f v e = ap numberAnswer e
 
 -- no colour
-no-colour : (f : Found Colour) → missing ≡ f → NoColour ≡ colourAnswer f
+pub no-colour : (f : Found Colour) → missing ≡ f → NoColour ≡ colourAnswer f
 unfolding colourAnswer onFound
 no-colour f e = ap colourAnswer e
 

@@ -12,3 +12,6 @@ pub mod Moves
 pub mod RowLaws
 pub mod KeywordLaws
 pub mod ContentLaws
+pub mod PropertyLaws
+pub mod ColourValues
+pub mod ColourRange

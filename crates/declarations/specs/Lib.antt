@@ -8,6 +8,8 @@ pub mod Property
 pub mod ValueAnswer
 pub mod Rules
 pub mod DeclAnswer
+pub mod Leaving
 pub mod Styles
 pub mod Attribute
 pub mod Moved
+pub mod ColourRows

@@ -1,0 +1,118 @@
+-- What reading declarations leaves in the lent stores: the rows and texts of what was read; what was written on the way is zero again, and
+-- nothing else has changed.
+use Prim.Native.Nat.{ℕ, zero, suc, _+_, _*_, _^_, _≤_, _<_}
+use mathlib.Core.Bool.{Bool, true, false}
+use mathlib.Core.List.{List, [], _∷_, map}
+use lib.ListN.{length, getD, drop}
+use lib.Seq.{sets}
+use Rattle.combinators.specs.Ascii as ascii
+use Rattle.combinators.specs.Choice.{pick, is}
+use Rattle.combinators.specs.Parsed.{Parsed, onParsed}
+use Rattle.combinators.specs.Store.{wiped, most}
+use Rattle.lexer.specs.Name.{identOf, nameText}
+use Rattle.lexer.specs.TokenRow.{tokenWidth}
+use Rattle.lexer.specs.Whitespace.{skipWhitespace}
+use Rattle.syntax.specs.Declaration.{Declaration}
+use Rattle.syntax.specs.Layout.{declarationWidth, declarationText, declarationRows, declarationTexts}
+use Rattle.declarations.specs.Value.{statementOf}
+use Rattle.declarations.specs.Layout.{textsOf}
+use Rattle.declarations.specs.Rules.{propertyOf, declarationOf, Rules, startsAt, moreRules, declarationsOf}
+use Rattle.declarations.specs.DeclAnswer.{namedDecl}
+use Rattle.declarations.specs.declared.rules.Property.{Property}
+use Rattle.declarations.specs.declared.rules.Property.the-variants as property
+use Rattle.declarations.specs.declared.rules.DeclarationAnswer.{DeclarationAnswer}
+use Rattle.declarations.specs.declared.rules.DeclarationAnswer.the-variants as answer
+use Rattle.declarations.specs.declared.rules.RulesRead.{RulesRead}
+
+-- ---- what is kept: declarations of a text that starts at a byte; the names of unknown ones only if asked
+unfoldable pub kept : Bool → ℕ → Declaration → Declaration
+kept names at d = record { decl = namedDecl names (d .decl); important = d .important; start = at + d .start }
+
+unfoldable pub keptOf : Bool → ℕ → Parsed Declaration → List Declaration
+keptOf names at p = onParsed p (λ n d. kept names at d ∷ []) []
+
+-- ---- what is used on the way: tokens, and bytes of text
+pub record Used : Type 0 where
+  pub tokens : ℕ
+  pub bytes : ℕ
+
+unfoldable pub unused : Used
+unused = record { tokens = 0; bytes = 0 }
+
+-- by a declaration, also one that does not read: its name and the tokens of its value
+unfoldable pub usedBy : List ℕ → Used
+usedBy s =
+    onParsed (propertyOf s)
+    (λ v name. let ts = statementOf false (drop v s) .tokens in record { tokens = length ts; bytes = length name + length (textsOf ts) })
+    (record { tokens = 0; bytes = length (nameText (identOf s)) })
+
+-- by one declaration that keeps n bytes of text, and by more behind it
+unfoldable pub usedThen : Used → ℕ → Used → Used
+usedThen u n w = record { tokens = most (u .tokens) (w .tokens); bytes = most (u .bytes) (n + w .bytes) }
+
+unfoldable pub textKept : Bool → Declaration → ℕ
+textKept names d = length (declarationText (kept names 0 d))
+
+-- by declarations behind a first one, as `moreRules` reads them
+unfoldable pub usedMore : Bool → ℕ → List ℕ → Used
+usedMore names zero s = unused
+usedMore names (suc l) s =
+    let w = 1 + skipWhitespace (drop 1 s) in
+    pick (is (getD s 0 0) ascii.semicolon)
+    (onParsed (declarationOf (drop w s)) (λ n d. usedThen (usedBy (drop w s)) (textKept names d) (usedMore names l (drop (w + n) s))) (usedBy (drop w s)))
+    unused
+
+unfoldable pub usedRules : Bool → List ℕ → Used
+usedRules names s =
+    onParsed (declarationOf s) (λ n d. usedThen (usedBy s) (textKept names d) (usedMore names (length s) (drop n s))) (usedBy s)
+
+-- ---- what is left
+pub record Leaves (A : Type 0) : Type 0 where
+  pub answer : A
+  pub rules : List ℕ
+  pub tokens : List ℕ
+  pub brackets : List ℕ
+  pub store : List ℕ
+
+unfoldable pub leaves : {A : Type 0} → A → List Declaration → Used → List ℕ → ℕ → List ℕ → List ℕ → List ℕ → ℕ → Leaves A
+leaves a ds u rules place tokens brackets store fill =
+    record {
+      answer = a;
+      rules = sets rules place (declarationRows fill ds);
+      tokens = wiped 0 (tokenWidth * u .tokens) tokens;
+      brackets = wiped 0 (u .tokens) brackets;
+      store = sets (wiped fill (u .bytes) store) fill (declarationTexts ds);
+    }
+
+-- by `parse_property`
+unfoldable pub propertyAnswer : List ℕ → Property
+propertyAnswer s = onParsed (propertyOf s) (λ v name. property.Name v (length name)) (property.NoName (length (nameText (identOf s))))
+
+-- by `parse_declaration`
+unfoldable pub declarationAnswer : Bool → Parsed Declaration → DeclarationAnswer
+declarationAnswer names p = onParsed p (λ n d. answer.Declaration n (textKept names d)) answer.NoDeclaration
+
+unfoldable pub declarationLeft : Bool → ℕ → List ℕ → List ℕ → ℕ → List ℕ → List ℕ → List ℕ → ℕ → Leaves DeclarationAnswer
+declarationLeft names at s = leaves (declarationAnswer names (declarationOf s)) (keptOf names at (declarationOf s)) (usedBy s)
+
+-- by `parse_rules`
+unfoldable pub rulesAnswer : ℕ → List Declaration → RulesRead
+rulesAnswer taken ds = record { taken = taken; count = length ds; text = length (declarationTexts ds) }
+
+unfoldable pub rulesOf : Bool → ℕ → Rules → List Declaration
+rulesOf names at r = map (kept names at) (r .declarations)
+
+unfoldable pub moreLeft : Bool → ℕ → List ℕ → ℕ → List ℕ → ℕ → List ℕ → List ℕ → List ℕ → ℕ → Leaves RulesRead
+moreLeft names at s from =
+    let r = moreRules (length s) (drop from s) from in
+    leaves (rulesAnswer (r .taken) (rulesOf names at r)) (rulesOf names at r) (usedMore names (length s) (drop from s))
+
+unfoldable pub rulesLeft : Bool → ℕ → List ℕ → List ℕ → ℕ → List ℕ → List ℕ → List ℕ → ℕ → Leaves RulesRead
+rulesLeft names at s =
+    let r = declarationsOf s in
+    leaves (rulesAnswer (r .taken) (rulesOf names at r)) (rulesOf names at r) (usedRules names s)
+
+-- ---- room for rows: five numbers for each byte, and bytes that are numbers of 32 bits
+pub record RowRoom (n at place : ℕ) (rules : List ℕ) : Type 0 where
+  pub for-rules : place + declarationWidth * n ≤ length rules
+  pub start-bits : at + n < 2 ^ 32
