@@ -14,13 +14,13 @@ use Rattle.lexer.specs.Token.{Token, textOf}
 use Rattle.lexer.specs.TokenRow.{tokenWidth, kindColumn, identKind}
 use Rattle.syntax.specs.Declaration.{WhiteSpace, normal}
 use Rattle.syntax.specs.Layout.{overflowNumber, whiteSpaceNumber}
-use Rattle.declarations.specs.Words.{Entry, Found, found, missing, onFound, isKind, split, placeOf}
+use Rattle.declarations.specs.Words.{Entry, Found, found, missing, onFound, rowAt, isKind, split, placeOf}
 use Rattle.declarations.specs.View.{tokenHere, firstText, tokensAt, Counted}
 use Rattle.declarations.specs.Property.{firstWord, overflows, overflowOf, displays, displayOf, whiteSpaces, whiteSpaceOf}
 use Rattle.declarations.specs.ValueAnswer.{namePlace, firstPlace, overflowAnswer}
 use Rattle.declarations.specs.declared.keywords.WordAnswer.the-variants.{Word, NoWord}
 use Rattle.declarations.proofs.TokenViews.{ident-text, here-kind, here-text, tokens-here, tokens-none}
-use Rattle.declarations.proofs.WordLaws.{wordsOf, rowAt, lookup-place, joinedOf, lengthsOf, numbersOf, split-joined, row-there, row-missing}
+use Rattle.declarations.proofs.WordLaws.{wordsOf, lookup-place, joinedOf, lengthsOf, numbersOf, split-joined, row-there, row-missing}
 
 -- as many words as lengths
 pub length-split : (joined lengths : List ℕ) → length (split joined lengths) ≡ length lengths

@@ -15,3 +15,9 @@ pub mod ContentLaws
 pub mod PropertyLaws
 pub mod ColourValues
 pub mod ColourRange
+pub mod StyleLaws
+pub mod Styling
+pub mod DeclLaws
+pub mod Putting
+pub mod Unmarked
+pub mod Declaring

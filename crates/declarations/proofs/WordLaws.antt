@@ -12,7 +12,7 @@ use lib.Seq.{drop-cons, drop-drop, take-all, take-at, drop-at}
 use Rattle.combinators.specs.Choice.{pick, is}
 use Rattle.combinators.specs.Word.{startsWith}
 use Rattle.combinators.proofs.Rules.{pick-true, pick-false, by-order, and-right, told}
-use Rattle.declarations.specs.Words.{same, Entry, Found, found, missing, foundOr, onFound, lookup, split, placeOf}
+use Rattle.declarations.specs.Words.{same, Entry, foundOr, lookup, onFound, rowAt, split, placeOf}
 
 -- ---- two texts
 
@@ -109,12 +109,6 @@ module _ (s joined lengths : List ℕ) (at i : ℕ) (c : Placing s joined length
 unfoldable pub wordsOf : {A : Type 0} → List (Entry A) → List (List ℕ)
 wordsOf [] = []
 wordsOf (e ∷ es) = e .word ∷ wordsOf es
-
--- what the row at a place stands for
-unfoldable pub rowAt : {A : Type 0} → List (Entry A) → ℕ → Found A
-rowAt [] n = missing
-rowAt (e ∷ es) zero = found (e .means)
-rowAt (e ∷ es) (suc n) = rowAt es n
 
 -- the first row, or one behind it: p is the place among those
 row-first : {A : Type 0} (t : Bool) (e : Entry A) (es : List (Entry A)) (p : ℕ)

@@ -2,22 +2,28 @@
 -- nothing else has changed.
 use Prim.Native.Nat.{ℕ, zero, suc, _+_, _*_, _^_, _≤_, _<_}
 use mathlib.Core.Bool.{Bool, true, false}
+use mathlib.Core.Path.{_≡_}
 use mathlib.Core.List.{List, [], _∷_, map}
 use lib.ListN.{length, getD, drop}
 use lib.Seq.{sets}
 use Rattle.combinators.specs.Ascii as ascii
 use Rattle.combinators.specs.Choice.{pick, is}
-use Rattle.combinators.specs.Parsed.{Parsed, onParsed}
+use Rattle.combinators.specs.Parsed.{Parsed, ok, onParsed}
 use Rattle.combinators.specs.Store.{wiped, most}
 use Rattle.lexer.specs.Name.{identOf, nameText}
 use Rattle.lexer.specs.TokenRow.{tokenWidth}
 use Rattle.lexer.specs.Whitespace.{skipWhitespace}
+use Rattle.lexer.specs.Token.{textOf}
 use Rattle.syntax.specs.Declaration.{Declaration}
-use Rattle.syntax.specs.Layout.{declarationWidth, declarationText, declarationRows, declarationTexts}
+use Rattle.syntax.specs.Stream.{textsMany, part}
+use Rattle.syntax.specs.Layout.{declarationWidth, flag, declarationText, declarationRows, declarationTexts}
 use Rattle.declarations.specs.Value.{statementOf}
-use Rattle.declarations.specs.Layout.{textsOf}
+use Rattle.declarations.specs.Layout.{textsOf, Room}
 use Rattle.declarations.specs.Rules.{propertyOf, declarationOf, Rules, startsAt, moreRules, declarationsOf}
-use Rattle.declarations.specs.DeclAnswer.{namedDecl}
+use Rattle.declarations.specs.Property.{declOf}
+use Rattle.declarations.specs.View.{tokensAt}
+use Rattle.declarations.specs.DeclAnswer.{declAnswer, namedDecl, keptText, rowBy}
+use Rattle.declarations.specs.declared.properties.Decl as declared
 use Rattle.declarations.specs.declared.rules.Property.{Property}
 use Rattle.declarations.specs.declared.rules.Property.the-variants as property
 use Rattle.declarations.specs.declared.rules.DeclarationAnswer.{DeclarationAnswer}
@@ -112,7 +118,31 @@ rulesLeft names at s =
     let r = declarationsOf s in
     leaves (rulesAnswer (r .taken) (rulesOf names at r)) (rulesOf names at r) (usedRules names s)
 
--- ---- room for rows: five numbers for each byte, and bytes that are numbers of 32 bits
-pub record RowRoom (n at place : ℕ) (rules : List ℕ) : Type 0 where
-  pub for-rules : place + declarationWidth * n ≤ length rules
-  pub start-bits : at + n < 2 ^ 32
+-- ---- a declaration put down: its name of n bytes lies at f in the store, before t bytes of the texts of its tokens
+pub record PutRoom (start : ℕ) (tokens : List ℕ) (count : ℕ) (store : List ℕ) (f n t : ℕ) : Type 0 where
+  pub for-tokens : tokenWidth * count ≤ length tokens
+  pub texts : length (textsMany textOf (tokensAt tokens store count)) ≤ t
+  pub inside : f + (n + t) ≤ length store
+  pub bits : f + (n + t) < 2 ^ 32
+  pub start-bits : start < 2 ^ 32
+
+-- the declaration that the stores say
+unfoldable pub declSaid : Bool → List ℕ → ℕ → List ℕ → ℕ → ℕ → declared.Decl
+declSaid names tokens count store f n = declAnswer (namedDecl names (declOf (part store f n) (tokensAt tokens store count)))
+
+pub record Put (names important : Bool) (start : ℕ) (tokens : List ℕ) (count : ℕ) (rules : List ℕ) (place : ℕ) (store : List ℕ) (f n t r : ℕ)
+    (rules′ store′ : List ℕ) : Type 0 where
+  pub kept : r ≡ declSaid names tokens count store f n .text
+  pub row : rules′ ≡ sets rules place (rowBy (flag important) start f (declSaid names tokens count store f n))
+  pub left : store′ ≡ sets (wiped f (n + t) store) f (keptText (declSaid names tokens count store f n) store f n)
+
+-- ---- what is asked for: the stores' room for the text s at a byte, and where rows go
+pub record RulesRoom (s : List ℕ) (at : ℕ) (rules : List ℕ) (place : ℕ) (tokens brackets store : List ℕ) (fill : ℕ) : Type 0 where
+  pub room : Room (length s) fill tokens brackets store
+  pub for-rules : place + declarationWidth * length s ≤ length rules
+  pub start-bits : at + length s < 2 ^ 32
+
+-- a property that was read: its value starts at v, and its name of n bytes lies at f in the store
+pub record PropertyRead (s : List ℕ) (v n : ℕ) (store : List ℕ) (f : ℕ) : Type 0 where
+  pub reads : propertyOf s ≡ ok v (part store f n)
+  pub long : length (part store f n) ≡ n

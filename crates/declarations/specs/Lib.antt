@@ -10,6 +10,7 @@ pub mod Rules
 pub mod DeclAnswer
 pub mod Leaving
 pub mod Styles
+pub mod StyleNumbers
 pub mod Attribute
 pub mod Moved
 pub mod ColourRows

@@ -1,5 +1,5 @@
 -- Words, compared as fixed byte strings, and what tokens are.
-use Prim.Native.Nat.{ℕ, suc}
+use Prim.Native.Nat.{ℕ, zero, suc}
 use mathlib.Core.Bool.{Bool, true, false}
 use mathlib.Core.List.{List, [], _∷_}
 use lib.ListN.{take, drop}
@@ -64,6 +64,12 @@ lookup w (e ∷ es) = foundOr (same w (e .word)) (e .means) (lookup w es)
 unfoldable pub onFound : {A B : Type 0} → Found A → (A → B) → B → B
 onFound (found a) f b = f a
 onFound missing f b = b
+
+-- what the row at a place stands for
+unfoldable pub rowAt : {A : Type 0} → List (Entry A) → ℕ → Found A
+rowAt [] n = missing
+rowAt (e ∷ es) zero = found (e .means)
+rowAt (e ∷ es) (suc n) = rowAt es n
 
 -- ---- tables of words as the code has them: the words joined, and their lengths
 

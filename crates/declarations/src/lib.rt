@@ -11,3 +11,4 @@ pub mod properties; // properties.rt: declarations of a property with a value
 pub mod texts; // texts.rt: texts moved within the store
 pub mod rows; // rows.rt: declarations written to rows, and their texts kept
 pub mod rules; // rules.rt: declarations, one and many
+pub mod styles; // styles.rt: styles of declarations

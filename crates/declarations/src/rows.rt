@@ -1,11 +1,10 @@
 // Declarations written to lent rows, and their texts kept in the store.
 use crate::properties::Decl;
+use crate::properties::flag_of;
 use crate::texts::move_down;
 use combinators::stores::emit_number;
 use combinators::stores::wipe_bytes;
 use syntax::rows::CONTENT;
-use syntax::rows::FLAG_FALSE;
-use syntax::rows::FLAG_TRUE;
 use syntax::rows::UNKNOWN;
 ghost use mathlib.Core.Path.{_≡_};
 ghost use Prim.Native.Nat.{_+_, _^_, _<_};
@@ -51,12 +50,6 @@ pub fn keep_text(decl: Decl, store: &mut [u8], fill: usize, length: usize, text:
     let from = fill + shift_of(decl, length);
     move_down(store, from, fill, n);
     wipe_bytes(store, fill + n, length + text - n);
-}
-
-pub fn flag_of(b: bool) -> u32
-    ensures { λ r. ⌜ r ≡ flag b ⌝ }
-{
-    if b { FLAG_TRUE } else { FLAG_FALSE }
 }
 
 // The number in a row where a text starts, or the declaration's own.

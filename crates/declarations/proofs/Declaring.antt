@@ -1,0 +1,446 @@
+-- `parse_declaration`: what is left in the stores, from what its parts left.
+use mathlib.Core.Path.{_≡_, refl, sym, ap, _∙_}
+use mathlib.Core.Bool.{Bool, true, false}
+use mathlib.Core.List.{List, [], _∷_, _++_, append-assoc, append-nil}
+use Prim.Native.Nat.{ℕ, _+_, _-_, _*_, _^_, _≤_, _<_}
+use native.Mathlib.Nat.{add-zero}
+use native.Mathlib.Omega.{arith}
+use lib.Dec.{leb}
+use lib.ListN.{length, take, drop, length-append, length-drop}
+use lib.Seq.{sets, length-sets}
+use Rattle.combinators.specs.Choice.{pick, is}
+use Rattle.combinators.specs.Parsed.{Parsed, ok, err, onParsed}
+use Rattle.combinators.specs.Store.{wiped}
+use Rattle.combinators.proofs.Lists.{rest}
+use Rattle.combinators.proofs.Rules.{pick-holds}
+use Rattle.combinators.proofs.Wiped.{wiped-none, wiped-over}
+use Rattle.lexer.specs.Name.{identOf, nameText}
+use Rattle.lexer.specs.Token.{Token, textOf}
+use Rattle.lexer.specs.TokenRow.{tokenWidth}
+use Rattle.lexer.specs.Whitespace.{skipWhitespace}
+use Rattle.lexer.proofs.Comments.{skip-le}
+use Rattle.syntax.specs.Declaration.{Decl, color, backgroundColor, height, maxHeight, overflow, overflowY, display, whiteSpace, content, unknown, Declaration}
+use Rattle.syntax.specs.Layout.{flag, declText, declarationText, declRow, declarationRow, declarationRows, declarationTexts}
+use Rattle.syntax.specs.Stream.{textsMany, rowsMany, part}
+use Rattle.syntax.proofs.Streams.{Held, held-part, sets-held}
+use Rattle.declarations.specs.Value.{Statement, statementOf, tokensOf, isImportant, withoutMark, valueFrom, valueOf}
+use Rattle.declarations.specs.Layout.{rowsOf, textsOf, bracketsAfter, left, ValueLeft, valueAnswer, valueLeft, Room}
+use Rattle.declarations.specs.View.{tokensAt}
+use Rattle.declarations.specs.Property.{declOf}
+use Rattle.declarations.specs.Rules.{propertyOf, valueBehind, declarationOf}
+use Rattle.declarations.specs.DeclAnswer.{declOfNumbers, declAnswer, namedDecl, shift, keptText, rowValue, rowBy}
+use Rattle.declarations.specs.Leaving.{kept, keptOf, Used, usedBy, textKept, Leaves, leaves, propertyAnswer, declarationAnswer, declarationLeft, PutRoom, declSaid, Put, PropertyRead, RulesRoom}
+use Rattle.declarations.specs.declared.properties.Decl as declared
+use Rattle.declarations.specs.declared.statements.ValueAnswer.{ValueAnswer}
+use Rattle.declarations.specs.declared.statements.ValueAnswer.the-variants as value
+use Rattle.declarations.specs.declared.rules.Property.{Property}
+use Rattle.declarations.specs.declared.rules.Property.the-variants as property
+use Rattle.declarations.specs.declared.rules.DeclarationAnswer.{DeclarationAnswer}
+use Rattle.declarations.specs.declared.rules.DeclarationAnswer.the-variants as answer
+use Rattle.declarations.proofs.DeclLaws.{Textless, decl-text, decl-length}
+use Rattle.declarations.proofs.PropertyLaws.{Headed, headed}
+use Rattle.declarations.proofs.Sizes.{Sized, statement-sized, rows-long}
+use Rattle.declarations.proofs.Unmarked.{tokens-count, tokens-unmarked, texts-same, Begins, texts-begin, wiped-inner, part-apart, brackets-wiped}
+use Rattle.declarations.proofs.ValueLaws.{rows-room, texts-room, texts-bits}
+use Rattle.declarations.proofs.Views.{statement-back}
+
+-- a store that holds a text holds what it begins with
+held-begin : (l : List ℕ) (f : ℕ) (xs ys : List ℕ) → Begins xs ys → Held l f xs → Held l f ys
+held-begin l f xs ys b h = record { more = b .more ++ h .more; held = h .held ∙ ap (λ q. q ++ h .more) (b .whole) ∙ append-assoc ys (b .more) (h .more) }
+
+-- ---- a declaration's row and text
+-- its row, from the code's numbers
+row-is : (i s f : ℕ) (d : Decl) → rowBy i s f (declAnswer d) ≡ declRow i s f d
+unfolding rowBy rowValue declAnswer declOfNumbers declRow pick
+row-is i s f (color c) = refl
+row-is i s f (backgroundColor c) = refl
+row-is i s f (height z) = refl
+row-is i s f (maxHeight z) = refl
+row-is i s f (overflow o) = refl
+row-is i s f (overflowY o) = refl
+row-is i s f (display n) = refl
+row-is i s f (whiteSpace w) = refl
+row-is i s f (content t) = refl
+row-is i s f (unknown t) = refl
+
+-- one without a text has none, with names or without
+named-textless : (names : Bool) (d : Decl) → Textless d → declText (namedDecl names d) ≡ []
+unfolding namedDecl declText pick
+named-textless names (color c) h = refl
+named-textless names (backgroundColor c) h = refl
+named-textless names (height z) h = refl
+named-textless names (maxHeight z) h = refl
+named-textless names (overflow o) h = refl
+named-textless names (overflowY o) h = refl
+named-textless names (display n) h = refl
+named-textless names (whiteSpace w) h = refl
+named-textless names (content t) h = h .none
+named-textless true (unknown t) h = h .none
+named-textless false (unknown t) h = refl
+
+-- the text that the store holds: a name of n bytes at f, and behind it the texts of the value's tokens
+module _ (names : Bool) (z : List ℕ) (f n : ℕ) (name : List ℕ) (en : part z f n ≡ name) (long : length name ≡ n) (ks : List Token)
+    (ht : Held z (f + n) (textsMany textOf ks)) where
+  abbrev Keeps : Decl → Type 0
+  Keeps d = keptText (declAnswer (namedDecl names d)) z f n ≡ declText (namedDecl names d)
+
+  keeps-none : (d : Decl) → declText (namedDecl names d) ≡ [] → Keeps d
+  unfolding keptText part
+  keeps-none d e = let l = decl-length (namedDecl names d) ∙ ap length e in rw (l, e)
+
+  keeps-unknown : (b : Bool) → names ≡ b → Keeps (unknown name)
+  unfolding keptText shift declAnswer declOfNumbers namedDecl declText pick is part
+  keeps-unknown true e = rw (e, long, add-zero f) en
+  keeps-unknown false e = rw e
+
+  keeps-content : Keeps (content (textsMany textOf ks))
+  unfolding keptText shift declAnswer declOfNumbers namedDecl declText pick is
+  keeps-content = held-part z (f + n) (textsMany textOf ks) ht
+
+  keeps-text : Keeps (declOf name ks)
+  keeps-text = decl-text Keeps name ks (λ d h. keeps-none d (named-textless names d h)) (keeps-unknown names refl) keeps-content
+
+-- ---- the meaning, where the property was read
+module _ (s : List ℕ) (v : ℕ) (name : List ℕ) (e : propertyOf s ≡ ok v name) where
+  abbrev r : Statement
+  r = statementOf false (drop v s)
+
+  used-is : usedBy s ≡ record { tokens = length (r .tokens); bytes = length name + length (textsOf (r .tokens)) }
+  unfolding usedBy onParsed
+  used-is = rw e
+
+  declaration-err : r .balanced ≡ false → declarationOf s ≡ err
+  unfolding declarationOf valueBehind valueOf valueFrom onParsed pick
+  declaration-err h = rw (e, h)
+
+  declaration-ok : r .balanced ≡ true → declarationOf s ≡ ok (v + r .taken)
+      (record { decl = declOf name (withoutMark (tokensOf (r .tokens))); important = isImportant (tokensOf (r .tokens)); start = skipWhitespace s })
+  unfolding declarationOf valueBehind valueOf valueFrom onParsed pick
+  declaration-ok h = rw (e, h)
+
+-- ---- what is left
+module _ (names : Bool) (at : ℕ) (s rules : List ℕ) (place : ℕ) (tokens brackets store : List ℕ) (fill : ℕ) (u : Used) (eu : usedBy s ≡ u) where
+  -- of what does not read
+  left-err : declarationOf s ≡ err → (x b z : List ℕ) → x ≡ wiped 0 (tokenWidth * u .tokens) tokens → b ≡ wiped 0 (u .tokens) brackets → z ≡ wiped fill (u .bytes) store
+      → record { answer = answer.NoDeclaration; rules = rules; tokens = x; brackets = b; store = z } ≡ declarationLeft names at s rules place tokens brackets store fill
+  unfolding declarationLeft leaves declarationAnswer keptOf onParsed declarationRows declarationTexts rowsMany textsMany
+  left-err e x b z ex eb ez = rw (e, eu, ex, eb, ez)
+
+  -- of a declaration d
+  left-ok : (n : ℕ) (d : Declaration) → declarationOf s ≡ ok n d → (k : ℕ) → k ≡ textKept names d → (y x b z : List ℕ) → y ≡ sets rules place (declarationRow fill (kept names at d))
+      → x ≡ wiped 0 (tokenWidth * u .tokens) tokens → b ≡ wiped 0 (u .tokens) brackets → z ≡ sets (wiped fill (u .bytes) store) fill (declarationText (kept names at d))
+      → record { answer = answer.Declaration n k; rules = y; tokens = x; brackets = b; store = z } ≡ declarationLeft names at s rules place tokens brackets store fill
+  unfolding declarationLeft leaves declarationAnswer keptOf onParsed declarationRows declarationTexts rowsMany textsMany
+  left-ok n d e k ek y x b z ey ex eb ez =
+      rw (e, eu, ek, ey, ex, eb, ez, append-nil (declarationRow fill (kept names at d)), append-nil (declarationText (kept names at d)))
+
+-- ---- what the answer of `parse_value` says
+record Valued (r : Statement) (n k m : ℕ) (i : Bool) : Type 0 where
+  balanced : r .balanced ≡ true
+  taken : n ≡ r .taken
+  count : k ≡ length (r .tokens)
+  text : m ≡ length (textsOf (r .tokens))
+  important : i ≡ isImportant (tokensOf (r .tokens))
+
+valued-by : (b : Bool) (p q t n k m : ℕ) (j i : Bool) → value.Value n k m i ≡ pick b (value.Value p q t j) (value.NoValue q t)
+    → (b ≡ true) × (n ≡ p) × (k ≡ q) × (m ≡ t) × (i ≡ j)
+unfolding pick
+valued-by true p q t n k m j i e = (refl, cc, cc, cc, cc)
+valued-by false p q t n k m j i e = absurd (let z : _≡_ {A = ℕ} 0 1 = cc in omega arith)
+
+valued : (r : Statement) (n k m : ℕ) (i : Bool) → value.Value n k m i ≡ valueAnswer r → Valued r n k m i
+unfolding valueAnswer
+valued r n k m i e =
+    let p = valued-by (r .balanced) _ _ _ n k m _ i e in
+    record { balanced = p .0; taken = p .1; count = p .2; text = p .3; important = p .4 }
+
+record Unvalued (r : Statement) (k m : ℕ) : Type 0 where
+  balanced : r .balanced ≡ false
+  count : k ≡ length (r .tokens)
+  text : m ≡ length (textsOf (r .tokens))
+
+unvalued-by : (b : Bool) (p q t k m : ℕ) (j : Bool) → value.NoValue k m ≡ pick b (value.Value p q t j) (value.NoValue q t) → (b ≡ false) × (k ≡ q) × (m ≡ t)
+unfolding pick
+unvalued-by true p q t k m j e = absurd (let z : _≡_ {A = ℕ} 0 1 = cc in omega arith)
+unvalued-by false p q t k m j e = (refl, cc, cc)
+
+unvalued : (r : Statement) (k m : ℕ) → value.NoValue k m ≡ valueAnswer r → Unvalued r k m
+unfolding valueAnswer
+unvalued r k m e = let p = unvalued-by (r .balanced) _ _ _ k m _ e in record { balanced = p .0; count = p .1; text = p .2 }
+
+-- ---- `parse_declared`
+module _ (names : Bool) (at : ℕ) (s rules : List ℕ) (place : ℕ) (tokens brackets store : List ℕ) (fill v n : ℕ)
+    (room : RulesRoom s at rules place tokens brackets store fill) (read : PropertyRead s v n store fill) where
+  abbrev name : List ℕ
+  name = part store fill n
+
+  abbrev value-of : Statement
+  value-of = statementOf false (drop v s)
+
+  head : Headed s v name
+  head = headed s v name (read .reads)
+
+  pub value-within : v ≤ length s
+  value-within = head .within
+
+  name-short : n < v
+  name-short = omega (arith, head .short, read .long)
+
+  sized : Sized (drop v s) 0 value-of
+  sized = statement-sized false (drop v s)
+
+  -- the value has room
+  rest-room : Room (length (drop v s)) (fill + n) tokens brackets store
+  rest-room =
+      let l = length-drop v s in
+      let o = room .room in
+      let k = name-short in
+      let h = value-within in
+      record {
+        for-tokens = omega (arith, o .for-tokens);
+        for-brackets = omega (arith, o .for-brackets);
+        for-texts = omega (arith, o .for-texts);
+        bits = omega (arith, o .bits);
+      }
+
+  pub value-room : Room (length (take (length s - v) (drop v s))) (fill + n) tokens brackets store
+  value-room = rw (rest s v) rest-room
+
+  pub fill-fits : fill + n < 2 ^ 64
+  fill-fits = omega (arith, name-short, value-within, room .room .bits)
+
+  -- what `parse_value` left
+  module _ {a : ValueAnswer} {x b z : List ℕ}
+      (e : record { answer = a; rows = x; brackets = b; store = z } ≡ valueLeft (statementOf false (take (length s - v) (drop v s))) tokens brackets store (fill + n)) where
+    left-is : record { answer = a; rows = x; brackets = b; store = z } ≡ valueLeft value-of tokens brackets store (fill + n)
+    left-is = e ∙ ap (λ t. valueLeft (statementOf false t) tokens brackets store (fill + n)) (rest s v)
+
+    answer-is : a ≡ valueAnswer value-of
+    unfolding valueLeft
+    answer-is = ap (λ (l : ValueLeft). l .answer) left-is
+
+    tokens-are : x ≡ sets tokens 0 (rowsOf (fill + n) (value-of .tokens))
+    unfolding valueLeft left
+    tokens-are = ap (λ (l : ValueLeft). l .rows) left-is
+
+    brackets-are : b ≡ bracketsAfter (value-of .tokens) brackets 0
+    unfolding valueLeft left
+    brackets-are = ap (λ (l : ValueLeft). l .brackets) left-is
+
+    store-is : z ≡ sets store (fill + n) (textsOf (value-of .tokens))
+    unfolding valueLeft left
+    store-is = ap (λ (l : ValueLeft). l .store) left-is
+
+    -- wiped again
+    module _ {k m : ℕ} (ek : k ≡ length (value-of .tokens)) (em : m ≡ length (textsOf (value-of .tokens))) where
+      pub count-bits : tokenWidth * k < 2 ^ 64
+      count-bits = omega (arith, ek, sized .counted, sized .within, length-drop v s, value-within, room .room .bits)
+
+      pub text-bits : n + m < 2 ^ 64
+      text-bits = omega (arith, em, sized .text, length-drop v s, value-within, name-short, room .room .bits)
+
+      tokens-wiped : {x′ : List ℕ} → x′ ≡ wiped 0 (tokenWidth * k) x → x′ ≡ wiped 0 (tokenWidth * length (value-of .tokens)) tokens
+      tokens-wiped q =
+          q ∙ rw (ek, tokens-are) (wiped-over tokens 0 (tokenWidth * length (value-of .tokens)) (rowsOf (fill + n) (value-of .tokens)) (omega (arith, rows-long (value-of .tokens) (fill + n))))
+
+      brackets-zero : {b′ : List ℕ} → b′ ≡ wiped 0 k b → b′ ≡ wiped 0 (length (value-of .tokens)) brackets
+      brackets-zero q = q ∙ rw (ek, brackets-are) (brackets-wiped (value-of .tokens) brackets 0 (length (value-of .tokens)) (omega arith))
+
+      store-wiped : wiped fill (n + m) z ≡ wiped fill (length name + length (textsOf (value-of .tokens))) store
+      store-wiped = rw (em, read .long, store-is) (wiped-inner store fill n (length (textsOf (value-of .tokens))) (textsOf (value-of .tokens)) (omega arith))
+
+    -- a bracket is wrong
+    module _ {k m : ℕ} (ea : a ≡ value.NoValue k m) where
+      none-said : Unvalued value-of k m
+      none-said = unvalued value-of k m (sym ea ∙ answer-is)
+
+      pub none-count : tokenWidth * k < 2 ^ 64
+      none-count = count-bits (none-said .count) (none-said .text)
+
+      pub none-text : n + m < 2 ^ 64
+      none-text = text-bits (none-said .count) (none-said .text)
+
+      pub none-left : {x′ b′ z′ : List ℕ} → x′ ≡ wiped 0 (tokenWidth * k) x → b′ ≡ wiped 0 k b → z′ ≡ wiped fill (n + m) z
+          → record { answer = answer.NoDeclaration; rules = rules; tokens = x′; brackets = b′; store = z′ } ≡ declarationLeft names at s rules place tokens brackets store fill
+      none-left {x′} {b′} {z′} ex eb ez =
+          let u = none-said in
+          left-err names at s rules place tokens brackets store fill _ (used-is s v name (read .reads)) (declaration-err s v name (read .reads) (u .balanced)) x′ b′ z′
+          (tokens-wiped (u .count) (u .text) ex) (brackets-zero (u .count) (u .text) eb) (ez ∙ store-wiped (u .count) (u .text))
+
+    -- a value
+    module _ {t k m : ℕ} {i : Bool} (ea : a ≡ value.Value t k m i) where
+      some-said : Valued value-of t k m i
+      some-said = valued value-of t k m i (sym ea ∙ answer-is)
+
+      pub some-count : tokenWidth * k < 2 ^ 64
+      some-count = count-bits (some-said .count) (some-said .text)
+
+      pub some-taken : v + t < 2 ^ 64
+      some-taken = omega (arith, some-said .taken, sized .within, length-drop v s, value-within, room .room .bits)
+
+      -- its tokens, without the mark
+      abbrev ks : List Token
+      ks = withoutMark (tokensOf (value-of .tokens))
+
+      back : tokensAt x z k ≡ tokensOf (value-of .tokens)
+      unfolding left
+      back =
+          rw (tokens-are, store-is, some-said .count)
+          (statement-back false (drop v s) tokens brackets store (fill + n) (rows-room false (drop v s) tokens brackets store (fill + n) rest-room)
+          (texts-room false (drop v s) tokens brackets store (fill + n) rest-room) (texts-bits false (drop v s) tokens brackets store (fill + n) rest-room))
+
+      module _ {j : ℕ} (ej : j ≡ pick i (k - 2) k) where
+        tokens-left : tokensAt x z j ≡ ks
+        tokens-left = tokens-unmarked x z k (tokensOf (value-of .tokens)) back (some-said .count ∙ tokens-count (value-of .tokens)) j (ej ∙ ap (λ c. pick c (k - 2) k) (some-said .important))
+
+        unmarked-le : j ≤ k
+        unmarked-le = rw ej (pick-holds (λ c. c ≤ k) i _ _ (λ _. omega arith) (λ _. omega arith))
+
+        -- their texts are the first of the value's
+        begins : Begins (textsOf (value-of .tokens)) (textsMany textOf ks)
+        begins = rw (texts-same (value-of .tokens)) at (texts-begin (tokensOf (value-of .tokens)))
+
+        texts-le : length (textsMany textOf ks) ≤ m
+        texts-le = omega (arith, some-said .text, ap length (begins .whole), length-append (textsMany textOf ks) (begins .more))
+
+        store-long : length z ≡ length store
+        store-long = ap length store-is ∙ length-sets store (fill + n) (textsOf (value-of .tokens))
+
+        tokens-long : length x ≡ length tokens
+        tokens-long = ap length tokens-are ∙ length-sets tokens 0 (rowsOf (fill + n) (value-of .tokens))
+
+        texts-inside : fill + n + length (textsOf (value-of .tokens)) ≤ length store
+        texts-inside = texts-room false (drop v s) tokens brackets store (fill + n) rest-room
+
+        -- the start is behind white space
+        module _ {w : ℕ} (ew : w ≡ skipWhitespace s) where
+          pub put-room : PutRoom (at + w) x j z fill n m
+          put-room =
+              record {
+                for-tokens = omega (arith, unmarked-le, tokens-long, some-said .count, sized .counted, sized .within, length-drop v s, room .room .for-tokens);
+                texts = omega (arith, ap (λ (l : List Token). length (textsMany textOf l)) tokens-left, texts-le);
+                inside = omega (arith, store-long, some-said .text, texts-inside);
+                bits = omega (arith, some-said .text, texts-bits false (drop v s) tokens brackets store (fill + n) rest-room);
+                start-bits = omega (arith, ew, skip-le s, room .start-bits);
+              }
+
+          -- the declaration, and what the stores say
+          abbrev decl : Decl
+          decl = declOf name ks
+
+          abbrev declaration : Declaration
+          declaration = record { decl = decl; important = isImportant (tokensOf (value-of .tokens)); start = skipWhitespace s }
+
+          name-is : part z fill n ≡ name
+          name-is = rw store-is (part-apart store fill n (textsOf (value-of .tokens)))
+
+          said-is : declSaid names x j z fill n ≡ declAnswer (namedDecl names decl)
+          unfolding declSaid
+          said-is = rw (name-is, tokens-left)
+
+          held : Held z (fill + n) (textsMany textOf ks)
+          held = rw store-is (held-begin _ (fill + n) _ (textsMany textOf ks) begins (sets-held store (fill + n) (textsOf (value-of .tokens)) texts-inside))
+
+          text-is : keptText (declAnswer (namedDecl names decl)) z fill n ≡ declText (namedDecl names decl)
+          text-is = keeps-text names z fill n name name-is (read .long) ks held
+
+          pub some-left : {q : ℕ} {y x′ b′ z′ : List ℕ} → Put names i (at + w) x j rules place z fill n m q y z′ → x′ ≡ wiped 0 (tokenWidth * k) x → b′ ≡ wiped 0 k b
+              → record { answer = answer.Declaration (v + t) q; rules = y; tokens = x′; brackets = b′; store = z′ } ≡ declarationLeft names at s rules place tokens brackets store fill
+          unfolding textKept kept declarationText declarationRow
+          some-left {q} {y} {x′} {b′} {z′} put ex eb =
+              let u = some-said in
+              let D = namedDecl names decl in
+              let eq : q ≡ length (declText D) = put .kept ∙ ap (λ (d : declared.Decl). d .text) said-is ∙ decl-length D in
+              let er : rowBy (flag i) (at + w) fill (declAnswer D) ≡ declRow (flag (isImportant (tokensOf (value-of .tokens)))) (at + skipWhitespace s) fill D =
+              rw (u .important, ew) (row-is (flag (isImportant (tokensOf (value-of .tokens)))) (at + skipWhitespace s) fill D)
+              in
+              let ey : y ≡ sets rules place (declRow (flag (isImportant (tokensOf (value-of .tokens)))) (at + skipWhitespace s) fill D) =
+              put .row ∙ ap (λ d. sets rules place (rowBy (flag i) (at + w) fill d)) said-is
+              ∙ ap (λ l. sets rules place l) er
+              in
+              let ez : z′ ≡ sets (wiped fill (length name + length (textsOf (value-of .tokens))) store) fill (declText D) =
+              put .left ∙ ap (λ d. sets (wiped fill (n + m) z) fill (keptText d z fill n)) said-is ∙ rw (text-is, store-wiped (u .count) (u .text))
+              in
+              rw (u .taken)
+              (left-ok names at s rules place tokens brackets store fill _ (used-is s v name (read .reads)) (v + value-of .taken) declaration
+              (declaration-ok s v name (read .reads) (u .balanced)) q eq y x′ b′ z′ ey (tokens-wiped (u .count) (u .text) ex) (brackets-zero (u .count) (u .text) eb) ez)
+
+-- ---- `parse_declaration`: what the answer of `parse_property` says
+record Headword (p : Parsed (List ℕ)) (v n : ℕ) : Type 0 where
+  name : List ℕ
+  reads : p ≡ ok v name
+  long : n ≡ length name
+
+headword : (p : Parsed (List ℕ)) (m v n : ℕ) → property.Name v n ≡ onParsed p (λ w name. property.Name w (length name)) (property.NoName m) → Headword p v n
+unfolding onParsed
+headword (ok w b) m v n e = let q : v ≡ w = cc in record { name = b; reads = rw q; long = cc }
+headword err m v n e = absurd (let z : _≡_ {A = ℕ} 0 1 = cc in omega arith)
+
+headless : (p : Parsed (List ℕ)) (m n : ℕ) → property.NoName n ≡ onParsed p (λ w name. property.Name w (length name)) (property.NoName m) → (p ≡ err) × (n ≡ m)
+unfolding onParsed
+headless (ok w b) m n e = absurd (let z : _≡_ {A = ℕ} 0 1 = cc in omega arith)
+headless err m n e = (refl, cc)
+
+module _ (names : Bool) (at : ℕ) (s rules : List ℕ) (place : ℕ) (tokens brackets store : List ℕ) (fill : ℕ)
+    (room : RulesRoom s at rules place tokens brackets store fill) {p : Property} (ep : p ≡ propertyAnswer s) {z : List ℕ} (ez : z ≡ sets store fill (nameText (identOf s))) where
+  -- the store keeps its length, and so the room
+  z-long : length z ≡ length store
+  z-long = ap length ez ∙ length-sets store fill (nameText (identOf s))
+
+  pub named-room : RulesRoom s at rules place tokens brackets z fill
+  named-room =
+      let o = room .room in
+      record {
+        room = record { for-tokens = o .for-tokens; for-brackets = o .for-brackets; for-texts = omega (arith, z-long, o .for-texts); bits = o .bits };
+        for-rules = room .for-rules;
+        start-bits = room .start-bits;
+      }
+
+  -- a name and ':'
+  module _ {v n : ℕ} (ea : p ≡ property.Name v n) where
+    word : Headword (propertyOf s) v n
+    unfolding propertyAnswer
+    word = headword (propertyOf s) (length (nameText (identOf s))) v n (sym ea ∙ ep)
+
+    of-word : Headed s v (word .name)
+    of-word = headed s v (word .name) (word .reads)
+
+    z-is : z ≡ sets store fill (word .name)
+    z-is = ez ∙ ap (sets store fill) (of-word .named)
+
+    part-is : part z fill n ≡ word .name
+    part-is =
+        ap (λ y. part y fill n) z-is ∙ ap (λ j. part (sets store fill (word .name)) fill j) (word .long)
+        ∙ (held-part (sets store fill (word .name)) fill (word .name) (sets-held store fill (word .name) (omega (arith, of-word .short, of-word .within, room .room .for-texts))))
+
+    pub named-read : PropertyRead s v n z fill
+    named-read = record { reads = word .reads ∙ ap (ok v) (sym part-is); long = ap length part-is ∙ sym (word .long) }
+
+    -- the name is wiped with the rest
+    wiped-name : wiped fill (usedBy s .bytes) z ≡ wiped fill (usedBy s .bytes) store
+    wiped-name =
+        rw z-is (wiped-over store fill (usedBy s .bytes) (word .name) (omega (arith, ap (λ (u : Used). u .bytes) (used-is s v (word .name) (word .reads)))))
+
+    pub declared-left : {l : Leaves DeclarationAnswer} → l ≡ declarationLeft names at s rules place tokens brackets z fill → l ≡ declarationLeft names at s rules place tokens brackets store fill
+    unfolding declarationLeft leaves
+    declared-left e = e ∙ rw wiped-name
+
+  -- none
+  module _ {n : ℕ} (ea : p ≡ property.NoName n) where
+    lacks : (propertyOf s ≡ err) × (n ≡ length (nameText (identOf s)))
+    unfolding propertyAnswer
+    lacks = headless (propertyOf s) (length (nameText (identOf s))) n (sym ea ∙ ep)
+
+    used-name : usedBy s ≡ record { tokens = 0; bytes = n }
+    unfolding usedBy onParsed
+    used-name = rw (lacks .0, lacks .1)
+
+    unread : declarationOf s ≡ err
+    unfolding declarationOf onParsed
+    unread = rw (lacks .0)
+
+    pub unnamed-left : {z′ : List ℕ} → z′ ≡ wiped fill n z
+        → record { answer = answer.NoDeclaration; rules = rules; tokens = tokens; brackets = brackets; store = z′ } ≡ declarationLeft names at s rules place tokens brackets store fill
+    unnamed-left {z′} e =
+        left-err names at s rules place tokens brackets store fill _ used-name unread tokens brackets z′ (sym (wiped-none 0 tokens)) (sym (wiped-none 0 brackets))
+        (e ∙ rw ez (wiped-over store fill n (nameText (identOf s)) (omega (arith, lacks .1))))

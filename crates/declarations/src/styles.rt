@@ -1,0 +1,167 @@
+// Styles of declarations, from declaration rows to style rows.
+use combinators::stores::emit_number;
+use combinators::stores::number_at;
+use syntax::rows::BACKGROUND_COLOR;
+use syntax::rows::BACKGROUND_SLOT;
+use syntax::rows::COLOR;
+use syntax::rows::COLOUR_SLOT;
+use syntax::rows::CONTENT;
+use syntax::rows::CONTENT_SLOT;
+use syntax::rows::DECLARATION_IMPORTANT;
+use syntax::rows::DECLARATION_KIND;
+use syntax::rows::DECLARATION_SECOND;
+use syntax::rows::DECLARATION_VALUE;
+use syntax::rows::DECLARATION_WIDTH;
+use syntax::rows::DISPLAY;
+use syntax::rows::DISPLAY_SLOT;
+use syntax::rows::FLAG_FALSE;
+use syntax::rows::FLAG_TRUE;
+use syntax::rows::HEIGHT;
+use syntax::rows::MAX_HEIGHT;
+use syntax::rows::OVERFLOW;
+use syntax::rows::OVERFLOW_HIDDEN;
+use syntax::rows::OVERFLOW_Y;
+use syntax::rows::STYLE_WIDTH;
+use syntax::rows::WHITE_SPACE;
+use syntax::rows::WHITE_SPACE_SLOT;
+ghost use mathlib.Core.Path.{_≡_};
+ghost use mathlib.Core.List.{List, [], _∷_};
+ghost use Prim.Native.Nat.{ℕ, _+_, _≤_};
+ghost use lib.ListN.{drop};
+ghost use lib.Seq.{sets};
+ghost use Rattle.combinators.specs.Store.{emits};
+ghost use Rattle.syntax.specs.Layout.{declarationsAt, stylesAt};
+ghost use Rattle.declarations.specs.Styles.{stylesOf};
+ghost use Rattle.declarations.specs.StyleNumbers.{ownNumbers, ownRow, hasValue, zeroRow, hiddenRow, numbersBy, styleNumbers, styleCount, StylesRoom};
+
+// The row of the style that a declaration asks for by itself: its slot, whether it is important, and two numbers; or that it asks for none.
+pub enum OwnStyle {
+    Style(u32, u32, u32, u32),
+    NoStyle,
+}
+
+// The style that a declaration's kind and numbers ask for.
+fn own_style(kind: u32, important: u32, value: u32, second: u32) -> OwnStyle
+    ensures { λ r. ⌜ numbersBy r ≡ ownNumbers kind important value second ⌝ }
+{
+    if kind == COLOR {
+        return OwnStyle::Style(COLOUR_SLOT, important, value, 0);
+    }
+    if kind == BACKGROUND_COLOR {
+        return OwnStyle::Style(BACKGROUND_SLOT, important, value, 0);
+    }
+    if kind == DISPLAY {
+        if value == FLAG_TRUE {
+            return OwnStyle::Style(DISPLAY_SLOT, important, 0, 0);
+        }
+        return OwnStyle::NoStyle;
+    }
+    if kind == WHITE_SPACE {
+        return OwnStyle::Style(WHITE_SPACE_SLOT, important, value, 0);
+    }
+    if kind == CONTENT {
+        return OwnStyle::Style(CONTENT_SLOT, important, value, second);
+    }
+    OwnStyle::NoStyle
+}
+
+// The style that the declaration asks for whose row starts at `at`.
+fn own_style_at(rows: &[u32], at: usize) -> OwnStyle
+    ensures { λ r. ⌜ numbersBy r ≡ ownRow (drop at (now (rows .entry))) ⌝ }
+{
+    own_style(
+        number_at(rows, at, DECLARATION_KIND),
+        number_at(rows, at, DECLARATION_IMPORTANT),
+        number_at(rows, at, DECLARATION_VALUE),
+        number_at(rows, at, DECLARATION_SECOND),
+    )
+}
+
+// Writes the row of a style from `place` on; the place behind it.
+fn put_style(
+    slot: u32,
+    important: u32,
+    value: u32,
+    second: u32,
+    styles: &mut [u32],
+    place: usize,
+) -> usize
+    ensures { λ r. ⌜ record { bytes = now (styles .exit); fill = r }
+        ≡ emits (record { bytes = now (styles .entry); fill = place }) (slot ∷ important ∷ value ∷ second ∷ []) ⌝ }
+{
+    let after_slot = emit_number(slot, styles, place);
+    let after_important = emit_number(important, styles, after_slot);
+    let after_value = emit_number(value, styles, after_important);
+    emit_number(second, styles, after_value)
+}
+
+// Writes the row of the style that the declaration asks for whose row starts at `at`, if it asks for one; the place behind it.
+fn put_own_style(rows: &[u32], at: usize, styles: &mut [u32], place: usize) -> usize
+    ensures { λ r. ⌜ record { bytes = now (styles .exit); fill = r }
+        ≡ emits (record { bytes = now (styles .entry); fill = place }) (ownRow (drop at (now (rows .entry)))) ⌝ }
+{
+    match own_style_at(rows, at) {
+        OwnStyle::Style(slot, important, value, second) => {
+            return put_style(slot, important, value, second, styles, place);
+        }
+        OwnStyle::NoStyle => {
+            return place;
+        }
+    }
+}
+
+// Whether the declaration whose row starts at `at` is of the kind `kind` or `other`, with the value `value`.
+fn has_value(rows: &[u32], at: usize, kind: u32, other: u32, value: u32) -> bool
+    ensures { λ r. ⌜ r ≡ hasValue kind other value (drop at (now (rows .entry))) ⌝ }
+{
+    let found = number_at(rows, at, DECLARATION_KIND);
+    let is_value = number_at(rows, at, DECLARATION_VALUE) == value;
+    if found == kind {
+        return is_value;
+    }
+    if found == other {
+        return is_value;
+    }
+    false
+}
+
+// Whether it sets a height to zero.
+fn is_zero_height(rows: &[u32], at: usize) -> bool
+    ensures { λ r. ⌜ r ≡ zeroRow (drop at (now (rows .entry))) ⌝ }
+{
+    has_value(rows, at, HEIGHT, MAX_HEIGHT, FLAG_TRUE)
+}
+
+// Whether it hides what overflows.
+fn hides_overflow(rows: &[u32], at: usize) -> bool
+    ensures { λ r. ⌜ r ≡ hiddenRow (drop at (now (rows .entry))) ⌝ }
+{
+    has_value(rows, at, OVERFLOW, OVERFLOW_Y, OVERFLOW_HIDDEN)
+}
+
+// Writes the rows of the styles that the first `count` declarations of `rows` ask for to `styles` from 0 on; how many there are. A zero
+// height and a hidden overflow among them add `display: none`, which is never important.
+pub fn styles_from_properties(rows: &[u32], count: usize, styles: &mut [u32]) -> usize
+    requires { ⌜ StylesRoom (now rows) count (now styles) ⌝ }
+    ensures { λ _. ⌜ now (styles .exit) ≡ sets (now (styles .entry)) 0 (styleNumbers (now (rows .entry)) count) ⌝ }
+    ensures { λ r. ⌜ r ≡ styleCount (now (rows .entry)) count ⌝ }
+    ensures { λ r. ⌜ ((store : List ℕ) → stylesAt (now (styles .exit)) store r ≡ stylesOf (declarationsAt (now (rows .entry)) store count)) ⌝ }
+    ensures { λ r. ⌜ r ≤ count + 1 ⌝ }
+{
+    let mut place = 0;
+    let mut height_zero = false;
+    let mut overflow_hidden = false;
+    let mut at = 0;
+    let mut i = 0;
+    while i < count {
+        place = put_own_style(rows, at, styles, place);
+        height_zero = height_zero | is_zero_height(rows, at);
+        overflow_hidden = overflow_hidden | hides_overflow(rows, at);
+        at += DECLARATION_WIDTH;
+        i += 1;
+    }
+    if height_zero & overflow_hidden {
+        return put_style(DISPLAY_SLOT, FLAG_FALSE, 0, 0, styles, place) / STYLE_WIDTH;
+    }
+    place / STYLE_WIDTH
+}
