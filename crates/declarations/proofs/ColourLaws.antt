@@ -49,14 +49,14 @@ unfolding colourAnswer onFound
 no-colour f e = ap colourAnswer e
 
 -- a colour, as one number
-a-colour : (f : Found Colour) (c : Colour) (w : ℕ) → w ≡ colourNumber c → found c ≡ f → answer.the-variants.Colour w ≡ colourAnswer f
+pub a-colour : (f : Found Colour) (c : Colour) (w : ℕ) → w ≡ colourNumber c → found c ≡ f → answer.the-variants.Colour w ≡ colourAnswer f
 unfolding colourAnswer onFound
 a-colour f c w ew e = rw ew (ap colourAnswer e)
 
 -- what was found, from the answer
 module _ (x : NumberAnswer) (f : Found ℕ) (e : x ≡ numberAnswer f) where
   -- a number
-  number-found : (v : ℕ) → x ≡ Number v → f ≡ found v
+  pub number-found : (v : ℕ) → x ≡ Number v → f ≡ found v
   number-found v h = go f (sym e ∙ h)
     where
       go : (f : Found ℕ) → numberAnswer f ≡ Number v → f ≡ found v
@@ -64,7 +64,7 @@ module _ (x : NumberAnswer) (f : Found ℕ) (e : x ≡ numberAnswer f) where
       go missing k = absurd (let z : _≡_ {A = ℕ} 0 1 = unfold numberAnswer onFound in cc in omega arith)
 
   -- none
-  number-missing : x ≡ NoNumber → f ≡ missing
+  pub number-missing : x ≡ NoNumber → f ≡ missing
   number-missing h = go f (sym e ∙ h)
     where
       go : (f : Found ℕ) → numberAnswer f ≡ NoNumber → f ≡ missing
@@ -156,7 +156,7 @@ module _ (p : ℕ → Bool) (base : ℕ) (d : ℕ → ℕ) (most : ℕ) where
     none-read e = pick-true _ _ _ _ (is-yes _ _ e) refl
 
     -- a byte that is no digit
-    bad-read : ¬ (length t ≡ 0) → allOf p t ≡ false → missing ≡ digitsIn p base d most t
+    pub bad-read : ¬ (length t ≡ 0) → allOf p t ≡ false → missing ≡ digitsIn p base d most t
     unfolding digitsIn
     bad-read n e = pick-false _ _ _ _ (is-no _ _ n) (pick-false _ _ _ _ e refl)
 
@@ -173,7 +173,7 @@ module _ (p : ℕ → Bool) (base : ℕ) (d : ℕ → ℕ) (most : ℕ) where
     number-read n e v ev h = pick-false _ _ _ _ (is-no _ _ n) (pick-true _ _ _ _ e (rw ev (pick-true _ _ _ _ (le-leb v most h) refl)))
 
     -- so what is read is within it
-    read-le : (v : ℕ) → digitsIn p base d most t ≡ found v → v ≤ most
+    pub read-le : (v : ℕ) → digitsIn p base d most t ≡ found v → v ≤ most
     unfolding digitsIn
     read-le v =
         pick-holds (λ (r : Found ℕ). r ≡ found v → v ≤ most) _ _ _ (λ _ e. nothing e)
@@ -257,7 +257,7 @@ module _ (s : List ℕ) (r : Bool) (er : r ≡ is (getD s 0 0) plusSign) where
   behind-plus e = rest s 1 ∙ ap (λ n. drop n s) (pick-true _ _ _ _ (told _ _ _ er e) refl)
 
   -- a text without one is lent whole
-  no-plus : r ≡ false → s ≡ withoutPlus s
+  pub no-plus : r ≡ false → s ≡ withoutPlus s
   unfolding withoutPlus
   no-plus e = ap (λ n. drop n s) (pick-false 0 _ _ _ (told _ _ _ er e) refl)
 

@@ -2,6 +2,7 @@
 use mathlib.Core.Path.{_≡_, refl, sym, ap, _∙_}
 use mathlib.Core.Bool.{Bool, true, false}
 use mathlib.Core.List.{List, [], _∷_, _++_, append-assoc, append-nil}
+use mathlib.Core.Logic.{⊎-elim}
 use Prim.Native.Nat.{ℕ, _+_, _-_, _*_, _^_, _≤_, _<_}
 use native.Mathlib.Nat.{add-zero}
 use native.Mathlib.Omega.{arith}
@@ -12,7 +13,7 @@ use Rattle.combinators.specs.Choice.{pick, is}
 use Rattle.combinators.specs.Parsed.{Parsed, ok, err, onParsed}
 use Rattle.combinators.specs.Store.{wiped}
 use Rattle.combinators.proofs.Lists.{rest}
-use Rattle.combinators.proofs.Rules.{pick-holds}
+use Rattle.combinators.proofs.Rules.{pick-holds, lt-or-ge}
 use Rattle.combinators.proofs.Wiped.{wiped-none, wiped-over}
 use Rattle.lexer.specs.Name.{identOf, nameText}
 use Rattle.lexer.specs.Token.{Token, textOf}
@@ -393,6 +394,7 @@ module _ (names : Bool) (at : ℕ) (s rules : List ℕ) (place : ℕ) (tokens br
       record {
         room = record { for-tokens = o .for-tokens; for-brackets = o .for-brackets; for-texts = omega (arith, z-long, o .for-texts); bits = o .bits };
         for-rules = room .for-rules;
+        row-bits = room .row-bits;
         start-bits = room .start-bits;
       }
 
@@ -444,3 +446,78 @@ module _ (names : Bool) (at : ℕ) (s rules : List ℕ) (place : ℕ) (tokens br
     unnamed-left {z′} e =
         left-err names at s rules place tokens brackets store fill _ used-name unread tokens brackets z′ (sym (wiped-none 0 tokens)) (sym (wiped-none 0 brackets))
         (e ∙ rw ez (wiped-over store fill n (nameText (identOf s)) (omega (arith, lacks .1))))
+
+-- ---- what a declaration takes and keeps: a byte or more, no more than there are; its text is among what was used, and no longer than what
+-- it takes but for two bytes where it ends the text
+pub record Takes (names : Bool) (s : List ℕ) (n : ℕ) (d : Declaration) : Type 0 where
+  pub some : 1 ≤ n
+  pub within : n ≤ length s
+  pub used : textKept names d ≤ usedBy s .bytes
+  pub text : textKept names d ≤ n + 2
+  pub sharp : n < length s → textKept names d ≤ n
+
+-- its text is no longer than its name and the texts of its value
+module _ (names : Bool) (name : List ℕ) (ks : List Token) where
+  abbrev NoLonger : Decl → Type 0
+  NoLonger d = length (declText (namedDecl names d)) ≤ length name + length (textsMany textOf ks)
+
+  unknown-le : (b : Bool) → names ≡ b → NoLonger (unknown name)
+  unfolding namedDecl declText pick
+  unknown-le true e = rw e (omega arith)
+  unknown-le false e = rw e (omega arith)
+
+  content-le : NoLonger (content (textsMany textOf ks))
+  unfolding namedDecl declText
+  content-le = omega arith
+
+  text-le : NoLonger (declOf name ks)
+  text-le = decl-text NoLonger name ks (λ d h. omega (arith, ap length (named-textless names d h))) (unknown-le names refl) content-le
+
+module _ (names : Bool) (s : List ℕ) (v : ℕ) (name : List ℕ) (e : propertyOf s ≡ ok v name) where
+  abbrev said : Statement
+  said = statementOf false (drop v s)
+
+  takes-value : said .balanced ≡ true → Takes names s (v + said .taken)
+      (record { decl = declOf name (withoutMark (tokensOf (said .tokens))); important = isImportant (tokensOf (said .tokens)); start = skipWhitespace s })
+  unfolding textKept kept declarationText
+  takes-value h =
+      let g = headed s v name e in
+      let z = statement-sized false (drop v s) in
+      let l = length-drop v s in
+      let ks = withoutMark (tokensOf (said .tokens)) in
+      let b = texts-begin (tokensOf (said .tokens)) in
+      let t = text-le names name ks in
+      let o = ap length (texts-same (said .tokens)) in
+      let w = ap length (b .whole) ∙ length-append (textsMany textOf ks) (b .more) in
+      let u = ap (λ (x : Used). x .bytes) (used-is s v name e) in
+      record {
+        some = omega (arith, g .short);
+        within = omega (arith, g .within, z .within);
+        used = omega arith;
+        text = ⊎-elim (λ (k : said .taken < length (drop v s)). omega (arith, g .short, z .sharp (omega arith))) (λ k. omega (arith, g .short, z .text)) (lt-or-ge (said .taken) (length (drop v s)));
+        sharp = λ k. omega (arith, g .short, z .sharp (omega (arith, g .within)));
+      }
+
+-- where the same reads
+takes-as : (names : Bool) (s : List ℕ) (m n : ℕ) (x d : Declaration) → _≡_ {A = Parsed Declaration} (ok m x) (ok n d) → Takes names s m x → Takes names s n d
+takes-as names s m n x d e t =
+    let p : m ≡ n = cc in
+    let q : x ≡ d = cc in
+    rw (p, q) at t
+
+-- where there is no property
+property-err : (s : List ℕ) → propertyOf s ≡ err → declarationOf s ≡ err
+unfolding declarationOf onParsed
+property-err s e = rw e
+
+-- of every declaration that reads
+pub takes : (names : Bool) (s : List ℕ) (n : ℕ) (d : Declaration) → declarationOf s ≡ ok n d → Takes names s n d
+takes names s n d e = go (propertyOf s) refl
+  where
+    by : (v : ℕ) (name : List ℕ) (q : propertyOf s ≡ ok v name) (b : Bool) → statementOf false (drop v s) .balanced ≡ b → Takes names s n d
+    by v name q true h = takes-as names s _ n _ d (sym (declaration-ok s v name q h) ∙ e) (takes-value names s v name q h)
+    by v name q false h = absurd (let x : _≡_ {A = Parsed Declaration} err (ok n d) = sym (declaration-err s v name q h) ∙ e in let z : _≡_ {A = ℕ} 0 1 = cc in omega arith)
+
+    go : (p : Parsed (List ℕ)) → propertyOf s ≡ p → Takes names s n d
+    go (ok v name) q = by v name q _ refl
+    go err q = absurd (let x : _≡_ {A = Parsed Declaration} err (ok n d) = sym (property-err s q) ∙ e in let z : _≡_ {A = ℕ} 0 1 = cc in omega arith)

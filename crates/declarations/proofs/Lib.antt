@@ -1,6 +1,9 @@
 pub mod HeightLaws
 pub mod WordLaws
 pub mod ColourLaws
+pub mod PairLaws
+pub mod TrimEnd
+pub mod TrimCharacters
 pub mod Nesting
 pub mod Turns
 pub mod Views
@@ -21,3 +24,5 @@ pub mod DeclLaws
 pub mod Putting
 pub mod Unmarked
 pub mod Declaring
+pub mod RuleLaws
+pub mod RuleTurns

@@ -2,7 +2,7 @@
 use mathlib.Core.Path.{_≡_, refl}
 use mathlib.Core.Bool.{Bool, true, false}
 use mathlib.Core.List.{List, [], _∷_, _++_}
-use Prim.Native.Nat.{ℕ, zero, suc, _+_, _*_, _≤_}
+use Prim.Native.Nat.{ℕ, zero, suc, _+_, _*_, _≤_, _<_}
 use native.Mathlib.Omega.{arith}
 use lib.ListN.{length, drop, length-append, length-drop}
 use Rattle.combinators.specs.Parsed.{ok}
@@ -16,23 +16,29 @@ use Rattle.declarations.specs.Value.{Placed, bracketOf, stepOf, Statemen
 use Rattle.declarations.specs.Layout.{rowsOf, textsOf}
 use Rattle.declarations.proofs.Views.{step-holds}
 
--- a statement at `at`, of the bytes s: a byte or more for each token, and two bytes of text more than there are bytes at most
+-- a statement at `at`, of the bytes s: a byte or more for each token, and two bytes of text more than there are bytes at most,
+-- none more where the text goes on
 pub record Sized (s : List ℕ) (at : ℕ) (r : Statement) : Type 0 where
   pub counted : at + length (r .tokens) ≤ r .taken
   pub within : r .taken ≤ at + length s
   pub text : length (textsOf (r .tokens)) ≤ length s + 2
   pub none : length s ≡ 0 → length (textsOf (r .tokens)) ≡ 0
+  pub sharp : r .taken < at + length s → at + length (textsOf (r .tokens)) ≤ r .taken
 
 -- of no token
 stop-sized : (s : List ℕ) (at : ℕ) (b : Bool) → Sized s at (stop at b)
 unfolding stop textsMany
-stop-sized s at b = record { counted = omega arith; within = omega arith; text = omega arith; none = λ _. refl }
+stop-sized s at b = record { counted = omega arith; within = omega arith; text = omega arith; none = λ _. refl; sharp = λ _. omega arith }
 
 -- of a token and more
 module _ (s : List ℕ) (at n : ℕ) (t : Placed) (f : Fits s n (textOf (t .token))) (r : Statement) (h : Sized (drop n s) (at + n) r) where
   text-more : Bound s n (textOf (t .token)) → length (textOf (t .token)) + length (textsOf (r .tokens)) ≤ length s + 2
   text-more (short l) = omega (arith, h .text, length-drop n s, f .within-text)
   text-more (lone l e x) = omega (arith, h .none (omega (arith, length-drop n s)))
+
+  text-sharp : r .taken < at + length s → Bound s n (textOf (t .token)) → at + (length (textOf (t .token)) + length (textsOf (r .tokens))) ≤ r .taken
+  text-sharp o (short l) = omega (arith, h .sharp (omega (arith, length-drop n s, f .within-text)))
+  text-sharp o (lone l e x) = absurd (omega (arith, h .counted))
 
   cons-sized : Sized s at (cons t r)
   unfolding cons textsMany
@@ -42,6 +48,7 @@ module _ (s : List ℕ) (at n : ℕ) (t : Placed) (f : Fits s n (textOf (t .toke
         within = omega (arith, h .within, length-drop n s, f .within-text);
         text = omega (arith, length-append (textOf (t .token)) (textsOf (r .tokens)), text-more (f .bound));
         none = λ e. absurd (omega (arith, f .some, f .within-text));
+        sharp = λ l. omega (arith, length-append (textOf (t .token)) (textsOf (r .tokens)), text-sharp l (f .bound));
       }
 
 -- from any place on

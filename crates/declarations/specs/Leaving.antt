@@ -1,6 +1,6 @@
 -- What reading declarations leaves in the lent stores: the rows and texts of what was read; what was written on the way is zero again, and
 -- nothing else has changed.
-use Prim.Native.Nat.{ℕ, zero, suc, _+_, _*_, _^_, _≤_, _<_}
+use Prim.Native.Nat.{ℕ, zero, suc, _+_, _-_, _*_, _^_, _≤_, _<_}
 use mathlib.Core.Bool.{Bool, true, false}
 use mathlib.Core.Path.{_≡_}
 use mathlib.Core.List.{List, [], _∷_, map}
@@ -140,9 +140,24 @@ pub record Put (names important : Bool) (start : ℕ) (tokens : List ℕ) (count
 pub record RulesRoom (s : List ℕ) (at : ℕ) (rules : List ℕ) (place : ℕ) (tokens brackets store : List ℕ) (fill : ℕ) : Type 0 where
   pub room : Room (length s) fill tokens brackets store
   pub for-rules : place + declarationWidth * length s ≤ length rules
+  pub row-bits : place + declarationWidth * length s < 2 ^ 64
   pub start-bits : at + length s < 2 ^ 32
 
 -- a property that was read: its value starts at v, and its name of n bytes lies at f in the store
 pub record PropertyRead (s : List ℕ) (v n : ℕ) (store : List ℕ) (f : ℕ) : Type 0 where
   pub reads : propertyOf s ≡ ok v (part store f n)
   pub long : length (part store f n) ≡ n
+
+-- for declarations behind a first one, from a byte on; texts need room only where something is left to read
+pub record MoreRoom (s : List ℕ) (from at : ℕ) (rules : List ℕ) (place : ℕ) (tokens brackets store : List ℕ) (fill : ℕ) : Type 0 where
+  pub some : 1 ≤ from
+  pub within : from ≤ length s
+  pub room : from < length s → Room (length s - from) fill tokens brackets store
+  pub for-rules : place + declarationWidth * (length s - from) ≤ length rules
+  pub row-bits : place + declarationWidth * (length s - from) < 2 ^ 64
+  pub start-bits : at + length s < 2 ^ 32
+
+-- what was read behind a byte is no more than there is, but for two bytes of text
+pub record MoreRead (s : List ℕ) (from : ℕ) (r : RulesRead) : Type 0 where
+  pub count : from + r .count ≤ length s
+  pub text : from + r .text ≤ length s + 2

@@ -17,7 +17,7 @@ pub enum ColourAnswer {
 }
 
 // What a text of digits is worth, where it is a number within the bound.
-enum NumberAnswer {
+pub enum NumberAnswer {
     Number(u32),
     NoNumber,
 }
@@ -52,7 +52,7 @@ const DECIMAL: u32 = 10;
 
 const HEXADECIMAL: u32 = 16;
 
-const MAXIMUM_BYTE: u32 = 255;
+pub const MAXIMUM_BYTE: u32 = 255;
 
 const MAXIMUM_U32: u32 = 0xffffffff;
 
@@ -119,15 +119,15 @@ fn parse_u8(s: &[u8]) -> NumberAnswer
     parse_in(s, DECIMAL, MAXIMUM_BYTE)
 }
 
-// A hexadecimal number of up to 32 bits.
-fn parse_hex(s: &[u8]) -> NumberAnswer
-    ensures { λ r. ⌜ r ≡ numberAnswer (parseHex 0xffffffff (now (s .entry))) ⌝ }
+// A hexadecimal number up to `most`.
+pub fn parse_hex(s: &[u8], most: u32) -> NumberAnswer
+    ensures { λ r. ⌜ r ≡ numberAnswer (parseHex most (now (s .entry))) ⌝ }
 {
-    parse_in(s, HEXADECIMAL, MAXIMUM_U32)
+    parse_in(s, HEXADECIMAL, most)
 }
 
 // The colour as one number.
-fn colour_number(red: u8, green: u8, blue: u8) -> u32
+pub fn colour_number(red: u8, green: u8, blue: u8) -> u32
     ensures { λ r. ⌜ r ≡ colourNumber (rgb red green blue) ⌝ }
 {
     red as u32 * 65536 + green as u32 * 256 + blue as u32
@@ -157,7 +157,7 @@ fn six_digits(v: u32) -> u32
 pub fn hash_colour(s: &[u8]) -> ColourAnswer
     ensures { λ r. ⌜ r ≡ colourAnswer (hashColour (now (s .entry))) ⌝ }
 {
-    let NumberAnswer::Number(v) = parse_hex(s) else {
+    let NumberAnswer::Number(v) = parse_hex(s, MAXIMUM_U32) else {
         return ColourAnswer::NoColour;
     };
     if s.len() == 3 {

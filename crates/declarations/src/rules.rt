@@ -13,6 +13,7 @@ use lexer::names::Name;
 use lexer::names::parse_ident;
 use lexer::rows::TOKEN_WIDTH;
 use lexer::whitespace::skip_optional_whitespace;
+use syntax::rows::DECLARATION_WIDTH;
 use syntax::texts::part_of;
 ghost use mathlib.Core.Path.{_≡_};
 ghost use Prim.Native.Nat.{_+_, _-_, _*_, _^_, _≤_, _<_};
@@ -23,7 +24,7 @@ ghost use Rattle.combinators.specs.Store.{wiped};
 ghost use Rattle.lexer.specs.Name.{identOf, nameText};
 ghost use Rattle.lexer.specs.TokenRow.{tokenWidth};
 ghost use Rattle.lexer.specs.Whitespace.{skipWhitespace};
-ghost use Rattle.declarations.specs.Leaving.{propertyAnswer, PutRoom, Put, PropertyRead, RulesRoom, declarationLeft, moreLeft, rulesLeft};
+ghost use Rattle.declarations.specs.Leaving.{propertyAnswer, PutRoom, Put, PropertyRead, RulesRoom, MoreRoom, MoreRead, declarationLeft, moreLeft, rulesLeft};
 
 // Where the value of a property starts, and the length of its name; or the length of a name that no ':' follows.
 pub enum Property {
@@ -201,6 +202,101 @@ pub fn parse_declaration(
         Property::NoName(length) => {
             wipe_bytes(store, fill, length);
             return DeclarationAnswer::NoDeclaration;
+        }
+    }
+}
+
+fn rules_read(taken: usize, count: usize, text: usize) -> RulesRead
+    ensures { λ r. ⌜ r ≡ record { taken = taken; count = count; text = text } ⌝ }
+{
+    RulesRead { taken, count, text }
+}
+
+// Reads declarations behind a first one, each behind a ';', from the byte `from` of `s` on.
+fn more_rules(
+    s: &[u8],
+    from: usize,
+    names: bool,
+    at: usize,
+    rules: &mut [u32],
+    place: usize,
+    tokens: &mut [u32],
+    brackets: &mut [u8],
+    store: &mut [u8],
+    fill: usize,
+) -> RulesRead
+    requires { ⌜ MoreRoom (now s) from at (now rules) place (now tokens) (now brackets) (now store) fill ⌝ }
+    ensures { λ r. ⌜ record { answer = r; rules = now (rules .exit); tokens = now (tokens .exit); brackets = now (brackets .exit); store = now (store .exit) }
+        ≡ moreLeft names at (now (s .entry)) from (now (rules .entry)) place (now (tokens .entry)) (now (brackets .entry)) (now (store .entry)) fill ⌝ }
+    ensures { λ r. ⌜ MoreRead (now (s .entry)) from r ⌝ }
+{
+    let mut taken = from;
+    let mut count = 0;
+    let mut text = 0;
+    loop {
+        if byte_is(s, taken, b';') {
+            let w = skip_from(s, taken + 1);
+            let row = place + DECLARATION_WIDTH * count;
+            match parse_declaration(
+                &s[w..],
+                names,
+                at + w,
+                rules,
+                row,
+                tokens,
+                brackets,
+                store,
+                fill + text,
+            ) {
+                DeclarationAnswer::NoDeclaration => {
+                    return rules_read(taken, count, text);
+                }
+                DeclarationAnswer::Declaration(n, kept) => {
+                    taken = w + n;
+                    count += 1;
+                    text += kept;
+                }
+            }
+        } else {
+            return rules_read(taken, count, text);
+        }
+    }
+}
+
+// Reads declarations, parted by ';' and white space or none.
+pub fn parse_rules(
+    s: &[u8],
+    names: bool,
+    at: usize,
+    rules: &mut [u32],
+    place: usize,
+    tokens: &mut [u32],
+    brackets: &mut [u8],
+    store: &mut [u8],
+    fill: usize,
+) -> RulesRead
+    requires { ⌜ RulesRoom (now s) at (now rules) place (now tokens) (now brackets) (now store) fill ⌝ }
+    ensures { λ r. ⌜ record { answer = r; rules = now (rules .exit); tokens = now (tokens .exit); brackets = now (brackets .exit); store = now (store .exit) }
+        ≡ rulesLeft names at (now (s .entry)) (now (rules .entry)) place (now (tokens .entry)) (now (brackets .entry)) (now (store .entry)) fill ⌝ }
+{
+    match parse_declaration(s, names, at, rules, place, tokens, brackets, store, fill) {
+        DeclarationAnswer::NoDeclaration => {
+            return rules_read(0, 0, 0);
+        }
+        DeclarationAnswer::Declaration(n, kept) => {
+            let more = more_rules(
+                s,
+                n,
+                names,
+                at,
+                rules,
+                place + DECLARATION_WIDTH,
+                tokens,
+                brackets,
+                store,
+                fill + kept,
+            );
+            return rules_read(more.taken, more.count + 1, more.text + kept);
         }
     }
 }

@@ -1,0 +1,119 @@
+-- `parse_rules`: declarations one behind the other, in the meaning and in the stores.
+use mathlib.Core.Path.{_≡_, refl, sym, ap, _∙_}
+use mathlib.Core.Bool.{Bool, true, false}
+use mathlib.Core.List.{List, [], _∷_, _++_, append-nil, map}
+use mathlib.Core.Logic.{⊎-elim}
+use Prim.Native.Nat.{ℕ, zero, suc, _+_, _-_, _*_, _^_, _≤_, _<_}
+use native.Mathlib.Nat.{add-zero}
+use native.Mathlib.Omega.{arith}
+use lib.ListN.{length, getD, take, drop, length-append, length-drop}
+use lib.Seq.{sets, length-sets, drop-drop}
+use Rattle.combinators.specs.Ascii as ascii
+use Rattle.combinators.specs.Choice.{pick, is}
+use Rattle.combinators.specs.Parsed.{Parsed, ok, err, onParsed}
+use Rattle.combinators.specs.Store.{wiped, most}
+use Rattle.combinators.proofs.Lists.{rest, first}
+use Rattle.combinators.proofs.Rules.{lt-or-ge}
+use Rattle.combinators.proofs.Wiped.{sets-append, most-first, most-second, wiped-none, wiped-twice, wiped-kept, length-wiped}
+use Rattle.lexer.specs.TokenRow.{tokenWidth}
+use Rattle.lexer.specs.Whitespace.{skipWhitespace}
+use Rattle.syntax.specs.Declaration.{Decl, color, backgroundColor, height, maxHeight, overflow, overflowY, display, whiteSpace, content, unknown, Declaration}
+use Rattle.syntax.specs.Layout.{declarationWidth, declText, declarationText, declRow, declarationRow, declarationRows, declarationTexts}
+use Rattle.syntax.specs.Stream.{textsMany, rowsMany}
+use Rattle.declarations.specs.Layout.{Room}
+use Rattle.declarations.specs.Rules.{declarationOf, Rules, startsAt, moreRules, declarationsOf}
+use Rattle.declarations.specs.Leaving.{kept, keptOf, Used, unused, usedBy, usedThen, textKept, usedMore, usedRules, Leaves, leaves, declarationAnswer, declarationLeft, rulesAnswer, rulesOf, moreLeft, rulesLeft, RulesRoom, MoreRoom, MoreRead}
+use Rattle.declarations.specs.declared.rules.DeclarationAnswer.{DeclarationAnswer}
+use Rattle.declarations.specs.declared.rules.DeclarationAnswer.the-variants as answer
+use Rattle.declarations.specs.declared.rules.RulesRead.{RulesRead}
+
+-- ---- one declaration, and more behind it, in the stores
+-- a row has its width
+row-width : (i s f : ℕ) (d : Decl) → length (declRow i s f d) ≡ declarationWidth
+unfolding declRow
+row-width i s f (color c) = refl
+row-width i s f (backgroundColor c) = refl
+row-width i s f (height z) = refl
+row-width i s f (maxHeight z) = refl
+row-width i s f (overflow o) = refl
+row-width i s f (overflowY o) = refl
+row-width i s f (display n) = refl
+row-width i s f (whiteSpace w) = refl
+row-width i s f (content t) = refl
+row-width i s f (unknown t) = refl
+
+declaration-width : (f : ℕ) (d : Declaration) → length (declarationRow f d) ≡ declarationWidth
+unfolding declarationRow
+declaration-width f d = row-width _ _ f (d .decl)
+
+-- the greater of two numbers, times a width
+most-width : (a b : ℕ) → most (tokenWidth * a) (tokenWidth * b) ≡ tokenWidth * most a b
+most-width a b =
+    ⊎-elim
+    (λ h. most-first (tokenWidth * a) (tokenWidth * b) (omega arith) ∙ ap (λ m. tokenWidth * m) (sym (most-first a b h)))
+    (λ h. most-second (tokenWidth * a) (tokenWidth * b) (omega arith) ∙ ap (λ m. tokenWidth * m) (sym (most-second a b h)))
+    (lt-or-ge b a)
+
+module _ {A B : Type 0} (a₁ : A) (a₂ : B) (d : Declaration) (ds : List Declaration) (u w : Used) (rules : List ℕ) (place : ℕ) (tokens brackets store : List ℕ) (fill : ℕ)
+    (h : length (declarationText d) ≤ u .bytes) where
+  abbrev one : Leaves A
+  one = leaves a₁ (d ∷ []) u rules place tokens brackets store fill
+
+  pub leaves-then : leaves a₂ ds w (one .rules) (place + declarationWidth) (one .tokens) (one .brackets) (one .store) (fill + length (declarationText d))
+      ≡ leaves a₂ (d ∷ ds) (usedThen u (length (declarationText d)) w) rules place tokens brackets store fill
+  unfolding leaves usedThen declarationRows declarationTexts rowsMany textsMany
+  leaves-then =
+      rw (
+        append-nil (declarationRow fill d),
+        append-nil (declarationText d),
+        sets-append rules place (declarationRow fill d) (rowsMany declarationRow declarationText (fill + length (declarationText d)) ds),
+        declaration-width fill d,
+        wiped-twice 0 (tokenWidth * u .tokens) (tokenWidth * w .tokens) tokens,
+        most-width (u .tokens) (w .tokens),
+        wiped-twice 0 (u .tokens) (w .tokens) brackets,
+        wiped-kept store fill (u .bytes) (w .bytes) (declarationText d) (textsMany declarationText ds) h,
+      )
+
+-- ---- the meaning, step by step
+-- a declaration that starts at a byte of a part of the text
+pub kept-moved : (names : Bool) (at w : ℕ) (d : Declaration) → kept names at (startsAt w d) ≡ kept names (at + w) d
+unfolding kept startsAt
+kept-moved names at w d = let e : at + (w + d .start) ≡ at + w + d .start = omega arith in rw e
+
+module _ (names : Bool) (s : List ℕ) (i : ℕ) where
+  -- the rest at i, as the code has it: w is where a declaration is looked for
+  module _ (w : ℕ) (ew : w ≡ i + 1 + skipWhitespace (drop (i + 1) s)) where
+    skip-is : 1 + skipWhitespace (drop 1 (drop i s)) ≡ w - i
+    skip-is = let e = ap skipWhitespace (drop-drop 1 i s) in omega arith
+
+    drop-is : drop (w - i) (drop i s) ≡ drop w s
+    drop-is = let e : i + (w - i) ≡ w = omega arith in drop-drop (w - i) i s ∙ rw e
+
+    behind-is : (n : ℕ) → drop (w - i + n) (drop i s) ≡ drop (w + n) s
+    behind-is n = let e : i + (w - i + n) ≡ w + n = omega arith in drop-drop (w - i + n) i s ∙ rw e
+
+    at-is : (n : ℕ) → i + (w - i + n) ≡ w + n
+    at-is n = omega arith
+
+    from-is : i + (w - i) ≡ w
+    from-is = omega arith
+
+    -- ';' and a declaration
+    pub more-next : is (getD s i 0) ascii.semicolon ≡ true → (l n : ℕ) (d : Declaration) → declarationOf (drop w s) ≡ ok n d
+        → (moreRules (suc l) (drop i s) i ≡ record { declarations = startsAt w d ∷ moreRules l (drop (w + n) s) (w + n) .declarations; taken = moreRules l (drop (w + n) s) (w + n) .taken })
+        × (usedMore names (suc l) (drop i s) ≡ usedThen (usedBy (drop w s)) (textKept names d) (usedMore names l (drop (w + n) s)))
+    unfolding moreRules usedMore pick onParsed
+    more-next t l n d e = (rw (first s i, t, skip-is, drop-is, e, behind-is n, at-is n, from-is), rw (first s i, t, skip-is, drop-is, e, behind-is n))
+
+    -- ';' and none
+    pub more-none : is (getD s i 0) ascii.semicolon ≡ true → (l : ℕ) → declarationOf (drop w s) ≡ err
+        → (moreRules (suc l) (drop i s) i ≡ record { declarations = []; taken = i }) × (usedMore names (suc l) (drop i s) ≡ usedBy (drop w s))
+    unfolding moreRules usedMore pick onParsed
+    more-none t l e = (rw (first s i, t, skip-is, drop-is, e), rw (first s i, t, skip-is, drop-is, e))
+
+  -- no ';'
+  pub more-stop : is (getD s i 0) ascii.semicolon ≡ false → (l : ℕ)
+      → (moreRules l (drop i s) i ≡ record { declarations = []; taken = i }) × (usedMore names l (drop i s) ≡ unused)
+  unfolding moreRules usedMore pick
+  more-stop t zero = (refl, refl)
+  more-stop t (suc l) = (rw (first s i, t), rw (first s i, t))
