@@ -168,7 +168,7 @@ module _ (p : ℕ → Bool) (base : ℕ) (d : ℕ → ℕ) (most : ℕ) where
         (λ _. pick-holds (λ (r : Found ℕ). missing ≡ r) _ _ _ (λ _. pick-false _ _ _ _ (lt-leb _ _ h) refl) (λ _. refl))
 
     -- a number within it
-    number-read : ¬ (length t ≡ 0) → allOf p t ≡ true → (v : ℕ) → numeral base d 0 t ≡ v → v ≤ most → found v ≡ digitsIn p base d most t
+    pub number-read : ¬ (length t ≡ 0) → allOf p t ≡ true → (v : ℕ) → numeral base d 0 t ≡ v → v ≤ most → found v ≡ digitsIn p base d most t
     unfolding digitsIn
     number-read n e v ev h = pick-false _ _ _ _ (is-no _ _ n) (pick-true _ _ _ _ e (rw ev (pick-true _ _ _ _ (le-leb v most h) refl)))
 

@@ -26,7 +26,7 @@ use Rattle.syntax.specs.Stream.{textsMany, rowsMany, part}
 use Rattle.syntax.proofs.Streams.{Held, held-part, sets-held}
 use Rattle.declarations.specs.Value.{Statement, statementOf, tokensOf, isImportant, withoutMark, valueFrom, valueOf}
 use Rattle.declarations.specs.Layout.{rowsOf, textsOf, bracketsAfter, left, ValueLeft, valueAnswer, valueLeft, Room}
-use Rattle.declarations.specs.View.{tokensAt}
+use Rattle.declarations.specs.View.{Counted, tokensAt}
 use Rattle.declarations.specs.Property.{declOf}
 use Rattle.declarations.specs.Rules.{propertyOf, valueBehind, declarationOf}
 use Rattle.declarations.specs.DeclAnswer.{declOfNumbers, declAnswer, namedDecl, shift, keptText, rowValue, rowBy}
@@ -136,12 +136,12 @@ module _ (names : Bool) (at : ℕ) (s rules : List ℕ) (place : ℕ) (tokens br
       rw (e, eu, ek, ey, ex, eb, ez, append-nil (declarationRow fill (kept names at d)), append-nil (declarationText (kept names at d)))
 
 -- ---- what the answer of `parse_value` says
-record Valued (r : Statement) (n k m : ℕ) (i : Bool) : Type 0 where
-  balanced : r .balanced ≡ true
-  taken : n ≡ r .taken
-  count : k ≡ length (r .tokens)
-  text : m ≡ length (textsOf (r .tokens))
-  important : i ≡ isImportant (tokensOf (r .tokens))
+pub record Valued (r : Statement) (n k m : ℕ) (i : Bool) : Type 0 where
+  pub balanced : r .balanced ≡ true
+  pub taken : n ≡ r .taken
+  pub count : k ≡ length (r .tokens)
+  pub text : m ≡ length (textsOf (r .tokens))
+  pub important : i ≡ isImportant (tokensOf (r .tokens))
 
 valued-by : (b : Bool) (p q t n k m : ℕ) (j i : Bool) → value.Value n k m i ≡ pick b (value.Value p q t j) (value.NoValue q t)
     → (b ≡ true) × (n ≡ p) × (k ≡ q) × (m ≡ t) × (i ≡ j)
@@ -155,10 +155,10 @@ valued r n k m i e =
     let p = valued-by (r .balanced) _ _ _ n k m _ i e in
     record { balanced = p .0; taken = p .1; count = p .2; text = p .3; important = p .4 }
 
-record Unvalued (r : Statement) (k m : ℕ) : Type 0 where
-  balanced : r .balanced ≡ false
-  count : k ≡ length (r .tokens)
-  text : m ≡ length (textsOf (r .tokens))
+pub record Unvalued (r : Statement) (k m : ℕ) : Type 0 where
+  pub balanced : r .balanced ≡ false
+  pub count : k ≡ length (r .tokens)
+  pub text : m ≡ length (textsOf (r .tokens))
 
 unvalued-by : (b : Bool) (p q t k m : ℕ) (j : Bool) → value.NoValue k m ≡ pick b (value.Value p q t j) (value.NoValue q t) → (b ≡ false) × (k ≡ q) × (m ≡ t)
 unfolding pick
@@ -168,6 +168,81 @@ unvalued-by false p q t k m j e = (refl, cc, cc)
 unvalued : (r : Statement) (k m : ℕ) → value.NoValue k m ≡ valueAnswer r → Unvalued r k m
 unfolding valueAnswer
 unvalued r k m e = let p = unvalued-by (r .balanced) _ _ _ k m _ e in record { balanced = p .0; count = p .1; text = p .2 }
+
+-- ---- what `parse_value` left of a text
+module _ (s tokens brackets store : List ℕ) (fill : ℕ) {a : ValueAnswer} {x b z : List ℕ}
+    (e : record { answer = a; rows = x; brackets = b; store = z } ≡ valueLeft (statementOf false s) tokens brackets store fill) where
+  abbrev stated : Statement
+  stated = statementOf false s
+
+  -- its answer and its stores
+  answer-is : a ≡ valueAnswer stated
+  unfolding valueLeft
+  answer-is = ap (λ (l : ValueLeft). l .answer) e
+
+  tokens-are : x ≡ sets tokens 0 (rowsOf fill (stated .tokens))
+  unfolding valueLeft left
+  tokens-are = ap (λ (l : ValueLeft). l .rows) e
+
+  brackets-are : b ≡ bracketsAfter (stated .tokens) brackets 0
+  unfolding valueLeft left
+  brackets-are = ap (λ (l : ValueLeft). l .brackets) e
+
+  pub store-is : z ≡ sets store fill (textsOf (stated .tokens))
+  unfolding valueLeft left
+  store-is = ap (λ (l : ValueLeft). l .store) e
+
+  -- the answer's numbers, where a bracket is wrong
+  pub none-said : {k m : ℕ} → a ≡ value.NoValue k m → Unvalued stated k m
+  none-said {k} {m} ea = unvalued stated k m (sym ea ∙ answer-is)
+
+  -- those of a value
+  pub some-said : {t k m : ℕ} {i : Bool} → a ≡ value.Value t k m i → Valued stated t k m i
+  some-said {t} {k} {m} {i} ea = valued stated t k m i (sym ea ∙ answer-is)
+
+  module _ {k : ℕ} (ek : k ≡ length (stated .tokens)) where
+    -- the rows, wiped again
+    pub tokens-wiped : {x′ : List ℕ} → x′ ≡ wiped 0 (tokenWidth * k) x → x′ ≡ wiped 0 (tokenWidth * length (stated .tokens)) tokens
+    tokens-wiped q =
+        q ∙ rw (ek, tokens-are) (wiped-over tokens 0 (tokenWidth * length (stated .tokens)) (rowsOf fill (stated .tokens)) (omega (arith, rows-long (stated .tokens) fill)))
+
+    -- the brackets, wiped again
+    pub brackets-zero : {b′ : List ℕ} → b′ ≡ wiped 0 k b → b′ ≡ wiped 0 (length (stated .tokens)) brackets
+    brackets-zero q = q ∙ rw (ek, brackets-are) (brackets-wiped (stated .tokens) brackets 0 (length (stated .tokens)) (omega arith))
+
+    module _ (room : Room (length s) fill tokens brackets store) where
+      -- the text bounds the tokens
+      sized : Sized s 0 stated
+      sized = statement-sized false s
+
+      -- so the length of their rows fits a word
+      pub count-bits : tokenWidth * k < 2 ^ 64
+      count-bits = omega (arith, ek, sized .counted, sized .within, room .bits)
+
+      -- the tokens read back
+      back : tokensAt x z k ≡ tokensOf (stated .tokens)
+      unfolding left
+      back =
+          rw (tokens-are, store-is, ek)
+          (statement-back false s tokens brackets store fill (rows-room false s tokens brackets store fill room) (texts-room false s tokens brackets store fill room)
+          (texts-bits false s tokens brackets store fill room))
+
+      module _ {i : Bool} (ei : i ≡ isImportant (tokensOf (stated .tokens))) {j : ℕ} (ej : j ≡ pick i (k - 2) k) where
+        -- without the mark they are the first ones
+        pub tokens-left : tokensAt x z j ≡ withoutMark (tokensOf (stated .tokens))
+        tokens-left = tokens-unmarked x z k (tokensOf (stated .tokens)) back (ek ∙ tokens-count (stated .tokens)) j (ej ∙ ap (λ c. pick c (k - 2) k) ei)
+
+        -- of all
+        unmarked-le : j ≤ k
+        unmarked-le = rw ej (pick-holds (λ c. c ≤ k) i _ _ (λ _. omega arith) (λ _. omega arith))
+
+        -- the store of rows keeps its length
+        tokens-long : length x ≡ length tokens
+        tokens-long = ap length tokens-are ∙ length-sets tokens 0 (rowsOf fill (stated .tokens))
+
+        -- and holds them
+        pub left-counted : Counted x j
+        left-counted = record { inside = omega (arith, unmarked-le, tokens-long, ek, sized .counted, sized .within, room .for-tokens) }
 
 -- ---- `parse_declared`
 module _ (names : Bool) (at : ℕ) (s rules : List ℕ) (place : ℕ) (tokens brackets store : List ℕ) (fill v n : ℕ)
@@ -187,8 +262,8 @@ module _ (names : Bool) (at : ℕ) (s rules : List ℕ) (place : ℕ) (tokens br
   name-short : n < v
   name-short = omega (arith, head .short, read .long)
 
-  sized : Sized (drop v s) 0 value-of
-  sized = statement-sized false (drop v s)
+  sized-value : Sized (drop v s) 0 value-of
+  sized-value = statement-sized false (drop v s)
 
   -- the value has room
   rest-room : Room (length (drop v s)) (fill + n) tokens brackets store
@@ -216,99 +291,64 @@ module _ (names : Bool) (at : ℕ) (s rules : List ℕ) (place : ℕ) (tokens br
     left-is : record { answer = a; rows = x; brackets = b; store = z } ≡ valueLeft value-of tokens brackets store (fill + n)
     left-is = e ∙ ap (λ t. valueLeft (statementOf false t) tokens brackets store (fill + n)) (rest s v)
 
-    answer-is : a ≡ valueAnswer value-of
-    unfolding valueLeft
-    answer-is = ap (λ (l : ValueLeft). l .answer) left-is
+    stored : z ≡ sets store (fill + n) (textsOf (value-of .tokens))
+    stored = store-is (drop v s) tokens brackets store (fill + n) left-is
 
-    tokens-are : x ≡ sets tokens 0 (rowsOf (fill + n) (value-of .tokens))
-    unfolding valueLeft left
-    tokens-are = ap (λ (l : ValueLeft). l .rows) left-is
-
-    brackets-are : b ≡ bracketsAfter (value-of .tokens) brackets 0
-    unfolding valueLeft left
-    brackets-are = ap (λ (l : ValueLeft). l .brackets) left-is
-
-    store-is : z ≡ sets store (fill + n) (textsOf (value-of .tokens))
-    unfolding valueLeft left
-    store-is = ap (λ (l : ValueLeft). l .store) left-is
-
-    -- wiped again
-    module _ {k m : ℕ} (ek : k ≡ length (value-of .tokens)) (em : m ≡ length (textsOf (value-of .tokens))) where
-      pub count-bits : tokenWidth * k < 2 ^ 64
-      count-bits = omega (arith, ek, sized .counted, sized .within, length-drop v s, value-within, room .room .bits)
-
-      pub text-bits : n + m < 2 ^ 64
-      text-bits = omega (arith, em, sized .text, length-drop v s, value-within, name-short, room .room .bits)
-
-      tokens-wiped : {x′ : List ℕ} → x′ ≡ wiped 0 (tokenWidth * k) x → x′ ≡ wiped 0 (tokenWidth * length (value-of .tokens)) tokens
-      tokens-wiped q =
-          q ∙ rw (ek, tokens-are) (wiped-over tokens 0 (tokenWidth * length (value-of .tokens)) (rowsOf (fill + n) (value-of .tokens)) (omega (arith, rows-long (value-of .tokens) (fill + n))))
-
-      brackets-zero : {b′ : List ℕ} → b′ ≡ wiped 0 k b → b′ ≡ wiped 0 (length (value-of .tokens)) brackets
-      brackets-zero q = q ∙ rw (ek, brackets-are) (brackets-wiped (value-of .tokens) brackets 0 (length (value-of .tokens)) (omega arith))
+    -- the texts, wiped again
+    module _ {m : ℕ} (em : m ≡ length (textsOf (value-of .tokens))) where
+      text-bits : n + m < 2 ^ 64
+      text-bits = omega (arith, em, sized-value .text, length-drop v s, value-within, name-short, room .room .bits)
 
       store-wiped : wiped fill (n + m) z ≡ wiped fill (length name + length (textsOf (value-of .tokens))) store
-      store-wiped = rw (em, read .long, store-is) (wiped-inner store fill n (length (textsOf (value-of .tokens))) (textsOf (value-of .tokens)) (omega arith))
+      store-wiped = rw (em, read .long, stored) (wiped-inner store fill n (length (textsOf (value-of .tokens))) (textsOf (value-of .tokens)) (omega arith))
 
     -- a bracket is wrong
     module _ {k m : ℕ} (ea : a ≡ value.NoValue k m) where
-      none-said : Unvalued value-of k m
-      none-said = unvalued value-of k m (sym ea ∙ answer-is)
+      none-here : Unvalued value-of k m
+      none-here = none-said (drop v s) tokens brackets store (fill + n) left-is ea
 
       pub none-count : tokenWidth * k < 2 ^ 64
-      none-count = count-bits (none-said .count) (none-said .text)
+      none-count = count-bits (drop v s) tokens brackets store (fill + n) left-is (none-here .count) rest-room
 
       pub none-text : n + m < 2 ^ 64
-      none-text = text-bits (none-said .count) (none-said .text)
+      none-text = text-bits (none-here .text)
 
       pub none-left : {x′ b′ z′ : List ℕ} → x′ ≡ wiped 0 (tokenWidth * k) x → b′ ≡ wiped 0 k b → z′ ≡ wiped fill (n + m) z
           → record { answer = answer.NoDeclaration; rules = rules; tokens = x′; brackets = b′; store = z′ } ≡ declarationLeft names at s rules place tokens brackets store fill
       none-left {x′} {b′} {z′} ex eb ez =
-          let u = none-said in
+          let u = none-here in
           left-err names at s rules place tokens brackets store fill _ (used-is s v name (read .reads)) (declaration-err s v name (read .reads) (u .balanced)) x′ b′ z′
-          (tokens-wiped (u .count) (u .text) ex) (brackets-zero (u .count) (u .text) eb) (ez ∙ store-wiped (u .count) (u .text))
+          (tokens-wiped (drop v s) tokens brackets store (fill + n) left-is (u .count) ex)
+          (brackets-zero (drop v s) tokens brackets store (fill + n) left-is (u .count) eb) (ez ∙ store-wiped (u .text))
 
     -- a value
     module _ {t k m : ℕ} {i : Bool} (ea : a ≡ value.Value t k m i) where
-      some-said : Valued value-of t k m i
-      some-said = valued value-of t k m i (sym ea ∙ answer-is)
+      some-here : Valued value-of t k m i
+      some-here = some-said (drop v s) tokens brackets store (fill + n) left-is ea
 
       pub some-count : tokenWidth * k < 2 ^ 64
-      some-count = count-bits (some-said .count) (some-said .text)
+      some-count = count-bits (drop v s) tokens brackets store (fill + n) left-is (some-here .count) rest-room
 
       pub some-taken : v + t < 2 ^ 64
-      some-taken = omega (arith, some-said .taken, sized .within, length-drop v s, value-within, room .room .bits)
+      some-taken = omega (arith, some-here .taken, sized-value .within, length-drop v s, value-within, room .room .bits)
 
       -- its tokens, without the mark
       abbrev ks : List Token
       ks = withoutMark (tokensOf (value-of .tokens))
 
-      back : tokensAt x z k ≡ tokensOf (value-of .tokens)
-      unfolding left
-      back =
-          rw (tokens-are, store-is, some-said .count)
-          (statement-back false (drop v s) tokens brackets store (fill + n) (rows-room false (drop v s) tokens brackets store (fill + n) rest-room)
-          (texts-room false (drop v s) tokens brackets store (fill + n) rest-room) (texts-bits false (drop v s) tokens brackets store (fill + n) rest-room))
-
       module _ {j : ℕ} (ej : j ≡ pick i (k - 2) k) where
-        tokens-left : tokensAt x z j ≡ ks
-        tokens-left = tokens-unmarked x z k (tokensOf (value-of .tokens)) back (some-said .count ∙ tokens-count (value-of .tokens)) j (ej ∙ ap (λ c. pick c (k - 2) k) (some-said .important))
-
-        unmarked-le : j ≤ k
-        unmarked-le = rw ej (pick-holds (λ c. c ≤ k) i _ _ (λ _. omega arith) (λ _. omega arith))
+        tokens-read : tokensAt x z j ≡ ks
+        tokens-read = tokens-left (drop v s) tokens brackets store (fill + n) left-is (some-here .count) rest-room (some-here .important) ej
 
         -- their texts are the first of the value's
         begins : Begins (textsOf (value-of .tokens)) (textsMany textOf ks)
         begins = rw (texts-same (value-of .tokens)) at (texts-begin (tokensOf (value-of .tokens)))
 
         texts-le : length (textsMany textOf ks) ≤ m
-        texts-le = omega (arith, some-said .text, ap length (begins .whole), length-append (textsMany textOf ks) (begins .more))
+        texts-le = omega (arith, some-here .text, ap length (begins .whole), length-append (textsMany textOf ks) (begins .more))
 
         store-long : length z ≡ length store
-        store-long = ap length store-is ∙ length-sets store (fill + n) (textsOf (value-of .tokens))
-
-        tokens-long : length x ≡ length tokens
-        tokens-long = ap length tokens-are ∙ length-sets tokens 0 (rowsOf (fill + n) (value-of .tokens))
+        store-long = ap length stored ∙ length-sets store (fill + n) (textsOf (value-of .tokens))
 
         texts-inside : fill + n + length (textsOf (value-of .tokens)) ≤ length store
         texts-inside = texts-room false (drop v s) tokens brackets store (fill + n) rest-room
@@ -318,10 +358,10 @@ module _ (names : Bool) (at : ℕ) (s rules : List ℕ) (place : ℕ) (tokens br
           pub put-room : PutRoom (at + w) x j z fill n m
           put-room =
               record {
-                for-tokens = omega (arith, unmarked-le, tokens-long, some-said .count, sized .counted, sized .within, length-drop v s, room .room .for-tokens);
-                texts = omega (arith, ap (λ (l : List Token). length (textsMany textOf l)) tokens-left, texts-le);
-                inside = omega (arith, store-long, some-said .text, texts-inside);
-                bits = omega (arith, some-said .text, texts-bits false (drop v s) tokens brackets store (fill + n) rest-room);
+                for-tokens = left-counted (drop v s) tokens brackets store (fill + n) left-is (some-here .count) rest-room (some-here .important) ej .inside;
+                texts = omega (arith, ap (λ (l : List Token). length (textsMany textOf l)) tokens-read, texts-le);
+                inside = omega (arith, store-long, some-here .text, texts-inside);
+                bits = omega (arith, some-here .text, texts-bits false (drop v s) tokens brackets store (fill + n) rest-room);
                 start-bits = omega (arith, ew, skip-le s, room .start-bits);
               }
 
@@ -333,14 +373,14 @@ module _ (names : Bool) (at : ℕ) (s rules : List ℕ) (place : ℕ) (tokens br
           declaration = record { decl = decl; important = isImportant (tokensOf (value-of .tokens)); start = skipWhitespace s }
 
           name-is : part z fill n ≡ name
-          name-is = rw store-is (part-apart store fill n (textsOf (value-of .tokens)))
+          name-is = rw stored (part-apart store fill n (textsOf (value-of .tokens)))
 
           said-is : declSaid names x j z fill n ≡ declAnswer (namedDecl names decl)
           unfolding declSaid
-          said-is = rw (name-is, tokens-left)
+          said-is = rw (name-is, tokens-read)
 
           held : Held z (fill + n) (textsMany textOf ks)
-          held = rw store-is (held-begin _ (fill + n) _ (textsMany textOf ks) begins (sets-held store (fill + n) (textsOf (value-of .tokens)) texts-inside))
+          held = rw stored (held-begin _ (fill + n) _ (textsMany textOf ks) begins (sets-held store (fill + n) (textsOf (value-of .tokens)) texts-inside))
 
           text-is : keptText (declAnswer (namedDecl names decl)) z fill n ≡ declText (namedDecl names decl)
           text-is = keeps-text names z fill n name name-is (read .long) ks held
@@ -349,7 +389,7 @@ module _ (names : Bool) (at : ℕ) (s rules : List ℕ) (place : ℕ) (tokens br
               → record { answer = answer.Declaration (v + t) q; rules = y; tokens = x′; brackets = b′; store = z′ } ≡ declarationLeft names at s rules place tokens brackets store fill
           unfolding textKept kept declarationText declarationRow
           some-left {q} {y} {x′} {b′} {z′} put ex eb =
-              let u = some-said in
+              let u = some-here in
               let D = namedDecl names decl in
               let eq : q ≡ length (declText D) = put .kept ∙ ap (λ (d : declared.Decl). d .text) said-is ∙ decl-length D in
               let er : rowBy (flag i) (at + w) fill (declAnswer D) ≡ declRow (flag (isImportant (tokensOf (value-of .tokens)))) (at + skipWhitespace s) fill D =
@@ -360,11 +400,12 @@ module _ (names : Bool) (at : ℕ) (s rules : List ℕ) (place : ℕ) (tokens br
               ∙ ap (λ l. sets rules place l) er
               in
               let ez : z′ ≡ sets (wiped fill (length name + length (textsOf (value-of .tokens))) store) fill (declText D) =
-              put .left ∙ ap (λ d. sets (wiped fill (n + m) z) fill (keptText d z fill n)) said-is ∙ rw (text-is, store-wiped (u .count) (u .text))
+              put .left ∙ ap (λ d. sets (wiped fill (n + m) z) fill (keptText d z fill n)) said-is ∙ rw (text-is, store-wiped (u .text))
               in
               rw (u .taken)
               (left-ok names at s rules place tokens brackets store fill _ (used-is s v name (read .reads)) (v + value-of .taken) declaration
-              (declaration-ok s v name (read .reads) (u .balanced)) q eq y x′ b′ z′ ey (tokens-wiped (u .count) (u .text) ex) (brackets-zero (u .count) (u .text) eb) ez)
+              (declaration-ok s v name (read .reads) (u .balanced)) q eq y x′ b′ z′ ey (tokens-wiped (drop v s) tokens brackets store (fill + n) left-is (u .count) ex)
+              (brackets-zero (drop v s) tokens brackets store (fill + n) left-is (u .count) eb) ez)
 
 -- ---- `parse_declaration`: what the answer of `parse_property` says
 record Headword (p : Parsed (List ℕ)) (v n : ℕ) : Type 0 where

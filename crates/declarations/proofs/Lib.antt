@@ -26,3 +26,8 @@ pub mod Unmarked
 pub mod Declaring
 pub mod RuleLaws
 pub mod RuleTurns
+pub mod LeastLengths
+pub mod CssColour
+pub mod AttributeLaws
+pub mod StyleAttribute
+pub mod RulesBack

@@ -13,7 +13,7 @@ use Rattle.lexer.specs.Name.{identOf, nameAnswer, nameText}
 use Rattle.lexer.specs.Whitespace.{skipWhitespace}
 use Rattle.lexer.specs.declared.names.Name.{Name}
 use Rattle.lexer.specs.declared.names.Name.the-variants as code
-use Rattle.lexer.proofs.Bounds.{Fits, bound-short}
+use Rattle.lexer.proofs.Bounds.{Fits, bound-two, bound-short}
 use Rattle.lexer.proofs.Comments.{skip-le}
 use Rattle.lexer.proofs.IdentBounds.{ident-fits}
 use Rattle.declarations.specs.Rules.{colonBehind, propertyOf}
@@ -139,3 +139,12 @@ headed s v name ep = go (identOf s) refl
     go : (p : Parsed (List ℕ)) → identOf s ≡ p → Headed s v name
     go (ok n b) e = headed-by s n b e _ refl v name ep
     go err e = absurd (let q : _≡_ {A = Parsed (List ℕ)} err (ok v name) = sym (no-name s e) ∙ ep in let z : _≡_ {A = ℕ} 0 1 = cc in omega arith)
+
+-- a name, or none, is two bytes longer than the text at most
+pub name-sized : (s : List ℕ) → length (nameText (identOf s)) ≤ length s + 2
+unfolding nameText
+name-sized s = go (identOf s) refl
+  where
+    go : (p : Parsed (List ℕ)) → identOf s ≡ p → length (nameText p) ≤ length s + 2
+    go (ok n b) e = let f = ident-fits s n b e in omega (arith, f .within-text, bound-two (f .bound))
+    go err e = omega arith

@@ -42,7 +42,8 @@ row-width i s f (whiteSpace w) = refl
 row-width i s f (content t) = refl
 row-width i s f (unknown t) = refl
 
-declaration-width : (f : ℕ) (d : Declaration) → length (declarationRow f d) ≡ declarationWidth
+-- so has a declaration's
+pub declaration-width : (f : ℕ) (d : Declaration) → length (declarationRow f d) ≡ declarationWidth
 unfolding declarationRow
 declaration-width f d = row-width _ _ f (d .decl)
 

@@ -1,12 +1,14 @@
 -- Colours and numbers as the code answers them.
 use Prim.Native.Nat.{ℕ}
 use mathlib.Core.Bool.{Bool}
+use mathlib.Core.List.{List}
 use lib.Dec.{ltb}
 use Rattle.combinators.specs.Choice.{and}
 use Rattle.lexer.specs.Name.{isHexDigit, hexDigit}
 use Rattle.syntax.specs.Declaration.{Colour}
 use Rattle.syntax.specs.Layout.{colourNumber}
 use Rattle.declarations.specs.Words.{Found, onFound}
+use Rattle.declarations.specs.Attribute.{faultyColour, trimmed}
 use Rattle.declarations.specs.declared.colours.ColourAnswer as answer
 use Rattle.declarations.specs.declared.colours.ColourAnswer.the-variants.{NoColour}
 use Rattle.declarations.specs.declared.colours.NumberAnswer.{NumberAnswer}
@@ -21,3 +23,8 @@ numberAnswer f = onFound f Number NoNumber
 
 unfoldable pub colourAnswer : Found Colour → answer.ColourAnswer
 colourAnswer f = onFound f (λ c. answer.the-variants.Colour (colourNumber c)) NoColour
+
+-- the answer, or else that of a text that lacks its '#'
+unfoldable pub orFaultyBy : answer.ColourAnswer → List ℕ → answer.ColourAnswer
+orFaultyBy (answer.the-variants.Colour v) s = answer.the-variants.Colour v
+orFaultyBy NoColour s = colourAnswer (faultyColour (trimmed s))

@@ -16,7 +16,8 @@ use Rattle.lexer.specs.Whitespace.{skipWhitespace}
 use Rattle.lexer.specs.Token.{textOf}
 use Rattle.syntax.specs.Declaration.{Declaration}
 use Rattle.syntax.specs.Stream.{textsMany, part}
-use Rattle.syntax.specs.Layout.{declarationWidth, flag, declarationText, declarationRows, declarationTexts}
+use Rattle.syntax.specs.Layout.{declarationWidth, flag, declarationText, declarationRows, declarationTexts, styleWidth, styleRows, styleTexts}
+use Rattle.syntax.specs.Style.{StyleDecl}
 use Rattle.declarations.specs.Value.{statementOf}
 use Rattle.declarations.specs.Layout.{textsOf, Room}
 use Rattle.declarations.specs.Rules.{propertyOf, declarationOf, Rules, startsAt, moreRules, declarationsOf}
@@ -24,6 +25,10 @@ use Rattle.declarations.specs.Property.{declOf}
 use Rattle.declarations.specs.View.{tokensAt}
 use Rattle.declarations.specs.DeclAnswer.{declAnswer, namedDecl, keptText, rowBy}
 use Rattle.declarations.specs.declared.properties.Decl as declared
+use Rattle.declarations.specs.Attribute.{styleAttribute, colourAttribute}
+use Rattle.declarations.specs.ColourAnswer.{colourAnswer}
+use Rattle.declarations.specs.declared.attributes.StylesRead.{StylesRead}
+use Rattle.declarations.specs.declared.colours.ColourAnswer.{ColourAnswer}
 use Rattle.declarations.specs.declared.rules.Property.{Property}
 use Rattle.declarations.specs.declared.rules.Property.the-variants as property
 use Rattle.declarations.specs.declared.rules.DeclarationAnswer.{DeclarationAnswer}
@@ -161,3 +166,40 @@ pub record MoreRoom (s : List ℕ) (from at : ℕ) (rules : List ℕ) (place : �
 pub record MoreRead (s : List ℕ) (from : ℕ) (r : RulesRead) : Type 0 where
   pub count : from + r .count ≤ length s
   pub text : from + r .text ≤ length s + 2
+
+-- ---- by `parse_color_attribute`: nothing in the stores
+pub record ColourLeft : Type 0 where
+  pub answer : ColourAnswer
+  pub tokens : List ℕ
+  pub brackets : List ℕ
+  pub store : List ℕ
+
+unfoldable pub colourLeft : List ℕ → List ℕ → List ℕ → List ℕ → ℕ → ColourLeft
+colourLeft s tokens brackets store fill =
+    let ts = statementOf false s .tokens in
+    record {
+      answer = colourAnswer (colourAttribute s);
+      tokens = wiped 0 (tokenWidth * length ts) tokens;
+      brackets = wiped 0 (length ts) brackets;
+      store = wiped fill (length (textsOf ts)) store;
+    }
+
+-- ---- by `parse_style_attribute`: the rows of its styles in the store of tokens, and the texts of their contents
+unfoldable pub stylesAnswer : List StyleDecl → StylesRead
+stylesAnswer ds = record { count = length ds; text = length (styleTexts ds) }
+
+unfoldable pub styleLeft : List ℕ → List ℕ → List ℕ → List ℕ → List ℕ → ℕ → Leaves StylesRead
+styleLeft s rules tokens brackets store fill =
+    let ds = styleAttribute s in
+    let u = usedRules false s in
+    record {
+      answer = stylesAnswer ds;
+      rules = wiped 0 (declarationWidth * length (declarationsOf s .declarations)) rules;
+      tokens = sets (wiped 0 (tokenWidth * u .tokens) tokens) 0 (styleRows fill ds);
+      brackets = wiped 0 (u .tokens) brackets;
+      store = sets (wiped fill (u .bytes) store) fill (styleTexts ds);
+    }
+
+pub record StyleRoom (s rules tokens brackets store : List ℕ) (fill : ℕ) : Type 0 where
+  pub for-declarations : RulesRoom s 0 rules 0 tokens brackets store fill
+  pub for-styles : styleWidth * (length s + 1) ≤ length tokens

@@ -7,9 +7,9 @@ pub mod heights; // heights.rt: heights, and numbers that are zero
 pub mod keywords; // keywords.rt: the first name of a value that a table has
 pub mod contents; // contents.rt: the length of the strings of a value
 pub mod values; // values.rt: colours of values
-pub mod attributes; // attributes.rt: colours of attributes
 pub mod properties; // properties.rt: declarations of a property with a value
 pub mod texts; // texts.rt: texts moved within the store
 pub mod rows; // rows.rt: declarations written to rows, and their texts kept
 pub mod rules; // rules.rt: declarations, one and many
 pub mod styles; // styles.rt: styles of declarations
+pub mod attributes; // attributes.rt: style attributes, and colour attributes

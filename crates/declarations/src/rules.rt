@@ -74,7 +74,7 @@ fn parse_property(s: &[u8], store: &mut [u8], fill: usize) -> Property
 }
 
 // The tokens of a value, without the mark `!important`.
-fn unmarked(count: usize, important: bool) -> usize
+pub fn unmarked(count: usize, important: bool) -> usize
     ensures { λ r. ⌜ r ≡ pick important (count - 2) count ⌝ }
 {
     if important {
@@ -87,7 +87,7 @@ fn unmarked(count: usize, important: bool) -> usize
 }
 
 // Zeros over the rows of `count` tokens, and over as many brackets.
-fn wipe_work(tokens: &mut [u32], brackets: &mut [u8], count: usize)
+pub fn wipe_work(tokens: &mut [u32], brackets: &mut [u8], count: usize)
     requires { ⌜ tokenWidth * count < 2 ^ 64 ⌝ }
     ensures { λ _. ⌜ now (tokens .exit) ≡ wiped 0 (tokenWidth * count) (now (tokens .entry)) ⌝ }
     ensures { λ _. ⌜ now (brackets .exit) ≡ wiped 0 count (now (brackets .entry)) ⌝ }
