@@ -6,6 +6,9 @@ use mathlib.Core.Path.{_≡_}
 use lib.ListN.{replicate}
 use Rattle.combinators.specs.Ascii.{fullStop, digitZero}
 use Rattle.combinators.specs.Parsed.{ok, onParsed}
+use Rattle.cascade.specs.Cases.{red, blue, byType, byClass, byId, rule, byAuthor}
+use Rattle.cascade.specs.Record.{mainRecord, slotIn, emptyStyle, crateCascade}
+use Rattle.cascade.specs.Slot.{agentOrigin, authorOrigin, held}
 use Rattle.declarations.specs.Attribute.{colourAttribute}
 use Rattle.declarations.specs.Colour.{rgb}
 use Rattle.declarations.specs.Property.{heightOf}
@@ -13,7 +16,12 @@ use Rattle.declarations.specs.Rules.{declarationsOf}
 use Rattle.declarations.specs.Value.{valueOf}
 use Rattle.declarations.specs.Words.{Found, found, missing}
 use Rattle.lexer.specs.Name.{identOf}
-use Rattle.syntax.specs.Declaration.{unknown}
+use Rattle.sheets.specs.Outcome.{reads}
+use Rattle.sheets.specs.Selector.{selectorOf}
+use Rattle.sheets.specs.Sheet.{sheetOf}
+use Rattle.syntax.specs.Declaration.{color, unknown}
+use Rattle.syntax.specs.Layout.{colourSlot}
+use Rattle.syntax.specs.Selector.{element, descendant, none}
 use Rattle.unicode.specs.Literal.{text}
 
 -- every statement of a list
@@ -31,8 +39,21 @@ tinyHeight r = onParsed (valueOf (fullStop ∷ (zeros ++ r))) (λ n v. heightOf 
 
 abbrev pub cases : List (Type 0)
 cases =
+    -- `p{color:red}`: one rule, stop 12
+    (sheetOf (text "p{color:red}")
+    ≡ reads 12
+    (record {
+      selectors = record { components = element (text "p") ∷ []; pseudo = none } ∷ [];
+      declarations = record { decl = color (rgb 255 0 0); important = false; start = 2 } ∷ [];
+      start = 0;
+    }
+    ∷ []))
+    -- `p{color:red;;color:blue}q{color:lime}`: no rule, stop 0
+    ∷ (sheetOf (text "p{color:red;;color:blue}q{color:lime}") ≡ reads 0 [])
+    -- `a/**/b` is a descendant selector
+    ∷ (selectorOf (text "a/**/b") ≡ reads 6 (record { components = element (text "b") ∷ descendant ∷ element (text "a") ∷ []; pseudo = none }))
     -- Colour `#\+ff` is (0, 255, 255)
-    (colourAttribute (text "#\\+ff") ≡ found (rgb 0 255 255))
+    ∷ (colourAttribute (text "#\\+ff") ≡ found (rgb 0 255 255))
     -- `\41` ending the text names U+0004, `1`; before a space it names `A`
     ∷ ((identOf (text "\\41") ≡ ok 3 (text "\u{4}1")) × (identOf (text "\\41 ") ≡ ok 3 (text "A")))
     -- Height `.`, 45 zeros, `7px` is zero; with `8` it is not
@@ -40,4 +61,10 @@ cases =
     -- `height:0.0px`: unknown declaration
     ∷ (declarationsOf (text "height:0.0px")
     ≡ record { declarations = record { decl = unknown (text "height"); important = false; start = 0 } ∷ []; taken = 12 })
+    -- Crate's cascade: agent normal, then author important: agent stays
+    ∷ (slotIn (crateCascade emptyStyle (record { agent = rule mainRecord byType false red ∷ []; user = []; author = rule mainRecord byType true blue ∷ []; attributes = [] })) mainRecord colourSlot
+    ≡ held (record { important = false; origin = agentOrigin; spec = byType; value = red; second = 0 }))
+    -- Crate's cascade: parent coloured by `#id`, child by class, both normal author: the parent's colour stays
+    ∷ (slotIn (crateCascade (crateCascade emptyStyle (byAuthor (rule mainRecord byId false red ∷ []) [])) (byAuthor (rule mainRecord byClass false blue ∷ []) [])) mainRecord colourSlot
+    ≡ held (record { important = false; origin = authorOrigin; spec = byId; value = red; second = 0 }))
     ∷ []

@@ -70,6 +70,9 @@ semicolon = 0x3b
 abbrev pub lessThanSign : ℕ
 lessThanSign = 0x3c
 
+abbrev pub equalsSign : ℕ
+equalsSign = 0x3d
+
 abbrev pub greaterThanSign : ℕ
 greaterThanSign = 0x3e
 
@@ -102,6 +105,9 @@ smallA = 0x61
 
 abbrev pub smallF : ℕ
 smallF = 0x66
+
+abbrev pub smallN : ℕ
+smallN = 0x6e
 
 abbrev pub smallZ : ℕ
 smallZ = 0x7a

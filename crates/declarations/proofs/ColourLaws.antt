@@ -13,7 +13,7 @@ use lib.Seq.{drop-cons}
 use Rattle.combinators.specs.Ascii.{plusSign, digitZero, digitNine}
 use Rattle.combinators.specs.Choice.{or, and, is}
 use Rattle.combinators.proofs.Lists.{rest, there}
-use Rattle.combinators.proofs.Rules.{pick-true, pick-false, pick-holds, is-yes, is-no, is-true, and-gives, and-gives-false, and-left, and-both, and-true, or-left, same-test, within-true, told}
+use Rattle.combinators.proofs.Rules.{never, pick-true, pick-false, pick-holds, is-yes, is-no, is-true, and-gives, and-gives-false, and-left, and-both, and-true, or-left, same-test, within-true, told}
 use Rattle.lexer.specs.Name.{isHexDigit, hexDigit}
 use Rattle.lexer.specs.Number.{isDigit}
 use Rattle.lexer.proofs.Escapes.{digit-le}
@@ -26,10 +26,6 @@ use Rattle.declarations.specs.declared.colours.ColourAnswer as answer
 use Rattle.declarations.specs.declared.colours.ColourAnswer.the-variants.{NoColour}
 use Rattle.declarations.specs.declared.colours.NumberAnswer.{NumberAnswer}
 use Rattle.declarations.specs.declared.colours.NumberAnswer.the-variants.{Number, NoNumber}
-
--- a test does not both hold and fail
-never : {A : Type 0} → true ≡ false → A
-never e = absurd (let z : _≡_ {A = ℕ} 0 1 = cc in omega arith)
 
 -- ---- answers
 
@@ -94,14 +90,14 @@ base-pos base x e = let h = ltb-true (hexDigit x) base (and-true (isHexDigit x) 
 letter-worth : (x : ℕ) → isDigit x ≡ false → isHexDigit x ≡ true → 10 ≤ hexDigit x
 unfolding isDigit isHexDigit hexDigit or
 letter-worth x e h =
-    pick-holds (λ (y : ℕ). 10 ≤ y) _ _ _ (λ t. never (sym t ∙ e))
+    pick-holds (λ (y : ℕ). 10 ≤ y) _ _ _ (λ t. never (sym e ∙ t))
     (λ f. pick-holds (λ (y : ℕ). 10 ≤ y) _ _ _ (λ _. omega arith)
-    (λ g. pick-holds (λ (y : ℕ). 10 ≤ y) _ _ _ (λ _. omega arith) (λ k. never (sym h ∙ rw (f, g, k)))))
+    (λ g. pick-holds (λ (y : ℕ). 10 ≤ y) _ _ _ (λ _. omega arith) (λ k. never (sym (sym h ∙ rw (f, g, k))))))
 
 -- a decimal digit is worth 9 at most
 digit-worth : (x : ℕ) → isDigit x ≡ true → hexDigit x < 10
 unfolding isDigit hexDigit
-digit-worth x e = pick-holds (λ (y : ℕ). y < 10) _ _ _ (λ t. omega (arith, within-true x digitZero digitNine t)) (λ f. never (sym e ∙ f))
+digit-worth x e = pick-holds (λ (y : ℕ). y < 10) _ _ _ (λ t. omega (arith, within-true x digitZero digitNine t)) (λ f. never (sym f ∙ e))
 
 -- a decimal digit is a hex digit
 digit-hex : (x : ℕ) → isDigit x ≡ true → isHexDigit x ≡ true

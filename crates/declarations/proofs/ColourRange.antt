@@ -1,7 +1,7 @@
 -- Every colour that is read is made of bytes.
 use Prim.Native.Nat.{ℕ, _<_}
 use mathlib.Core.Path.{_≡_, refl, sym, ap}
-use mathlib.Core.Bool.{Bool, true, false}
+use mathlib.Core.Bool.{Bool, true}
 use mathlib.Core.List.{List, [], _∷_}
 use native.Mathlib.Omega.{arith}
 use borrow.Author.Tests.{ltb-true}
@@ -11,10 +11,11 @@ use Rattle.combinators.proofs.Rules.{pick-holds, and-true}
 use Rattle.lexer.specs.Token.{Token, textOf}
 use Rattle.syntax.specs.Declaration.{Colour}
 use Rattle.syntax.proofs.Back.{OfBytes}
-use Rattle.declarations.specs.Words.{same, Entry, Found, found, missing, foundOr, lookup, onFound}
+use Rattle.declarations.specs.Words.{same, Entry, Found, found, missing, lookup, onFound}
 use Rattle.declarations.specs.Colour.{rgb, colours, parseU8, parseHex, threeDigits, sixDigits, hashColour, threeNumbers, rgbColour, oneToken, colourOf, behindComma, backgroundOf}
 use Rattle.declarations.specs.ColourAnswer.{numberAnswer}
 use Rattle.declarations.proofs.ColourLaws.{byte-le}
+use Rattle.declarations.proofs.WordLaws.{found-holds, or-holds}
 
 -- what is found is made of bytes
 abbrev Bytes : Found Colour → Type 0
@@ -37,9 +38,7 @@ of-two t f g p q = pick-holds Bytes t f g (λ _. p) (λ _. q)
 
 -- by a number, where there is one
 by-number : (n : Found ℕ) (f : ℕ → Found Colour) → ((v : ℕ) → n ≡ found v → Bytes (f v)) → Bytes (onFound n f missing)
-unfolding onFound
-by-number (found v) f p = p v refl
-by-number missing f p = none
+by-number n f p = found-holds Bytes n f missing p none
 
 -- three bytes
 rgb-of : (r g b : ℕ) → r < 256 → g < 256 → b < 256 → Bytes (found (rgb r g b))
@@ -65,19 +64,13 @@ small-bytes c e =
     let q = and-true (ltb (c .green) 256) _ (p .1) in
     record { red = ltb-true _ _ (p .0); green = ltb-true _ _ (q .0); blue = ltb-true _ _ (q .1) }
 
--- a row, or one behind it
-row-bytes : (t : Bool) (c : Colour) (f : Found Colour) → OfBytes c → Bytes f → Bytes (foundOr t c f)
-unfolding foundOr
-row-bytes true c f h p = one c h
-row-bytes false c f h p = p
-
 -- a table whose rows all pass
 table-bytes : (w : List ℕ) (es : List (Entry Colour)) → allSmall es ≡ true → Bytes (lookup w es)
 unfolding lookup allSmall
 table-bytes w [] e = none
 table-bytes w (r ∷ es) e =
     let p = and-true (small (r .means)) (allSmall es) e in
-    row-bytes (same w (r .word)) (r .means) (lookup w es) (small-bytes (r .means) (p .0)) (table-bytes w es (p .1))
+    or-holds Bytes (same w (r .word)) (r .means) (lookup w es) (one (r .means) (small-bytes (r .means) (p .0))) (table-bytes w es (p .1))
 
 -- the seventeen names do
 names-small : allSmall colours ≡ true

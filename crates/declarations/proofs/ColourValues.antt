@@ -5,7 +5,7 @@ use mathlib.Core.Bool.{Bool, true, false}
 use mathlib.Core.List.{List, [], _∷_}
 use native.Mathlib.Nat.{zero-add}
 use native.Mathlib.Omega.{arith}
-use lib.ListN.{length, getD, take, drop, drop-of-length-le}
+use lib.ListN.{length, take, drop, drop-of-length-le}
 use lib.Seq.{drop-drop}
 use Rattle.combinators.specs.Choice.{pick, and}
 use Rattle.combinators.proofs.Lists.{rest}
@@ -13,9 +13,9 @@ use Rattle.combinators.proofs.Rules.{pick-true, pick-false, pick-holds, and-giv
 use Rattle.unicode.specs.Literal.{text}
 use Rattle.unicode.specs.Utf8.{utf8, continuation}
 use Rattle.lexer.specs.Token.{Token, textOf}
-use Rattle.lexer.specs.TokenRow.{tokenWidth, startColumn, firstColumn, identKind, functionKind, hashKind, numberKind, commaKind, closeRoundKind}
+use Rattle.lexer.specs.TokenRow.{tokenWidth, identKind, functionKind, hashKind, numberKind, commaKind, closeRoundKind}
 use Rattle.syntax.specs.Declaration.{Colour}
-use Rattle.syntax.specs.Stream.{readMany, part}
+use Rattle.syntax.specs.Stream.{readMany}
 use Rattle.declarations.specs.Words.{same, Found, missing, lookup, isKind}
 use Rattle.declarations.specs.Colour.{colours, hashColour, threeNumbers, rgbColour, oneToken, colourOf, behindComma, backgroundOf}
 use Rattle.declarations.specs.ColourAnswer.{colourAnswer}
@@ -24,7 +24,7 @@ use Rattle.declarations.specs.View.{readToken, tokenHere, firstText, tok
 use Rattle.declarations.specs.declared.colours.ColourAnswer.{ColourAnswer}
 use Rattle.declarations.specs.declared.colours.ColourAnswer.the-variants.{NoColour}
 use Rattle.declarations.proofs.ColourLaws.{no-colour}
-use Rattle.declarations.proofs.TokenViews.{Kind, ident-text, function-text, hash-text, number-text, comma-kind, close-round-kind, here-kind, here-text, tokens-here, tokens-none}
+use Rattle.declarations.proofs.TokenViews.{Kind, ident-text, function-text, hash-text, number-text, comma-kind, close-round-kind, here-kind, kind-told, here-text, tokens-here, tokens-none}
 
 -- ---- tokens by their number
 
@@ -59,20 +59,8 @@ unfolding tokensAt readMany readToken
 tokens-length rows store zero = refl
 tokens-length rows store (suc n) = ap suc (tokens-length (drop tokenWidth rows) store n)
 
--- ---- `text_at`
-
--- the text by the two numbers of its row
-pub text-here : (rows store : List ℕ) (p s n : ℕ) → s ≡ getD rows (p + startColumn) 0 → n ≡ getD rows (p + firstColumn) 0
-    → (t : List ℕ) → t ≡ part store s n → t ≡ firstText rows store p
-unfolding firstText
-text-here rows store p s n es en t et = et ∙ rw (es, en)
-
 -- ---- `one_token`
 module _ (rows store : List ℕ) where
-  -- what a call said of the kind of the first token
-  kind-told : (n : ℕ) → Kind n → (r v : Bool) → r ≡ kindAt rows 0 n → r ≡ v → isKind n (tokenHere rows store 0) ≡ v
-  kind-told n q r v er h = here-kind rows store 0 n q ∙ told _ _ _ er h
-
   module _ (r : Bool) (er : r ≡ kindAt rows 0 identKind) where
     -- a name
     pub one-named : r ≡ true → (t : List ℕ) → t ≡ firstText rows store 0 → (x : ColourAnswer) → x ≡ colourAnswer (lookup t colours)
@@ -80,7 +68,7 @@ module _ (rows store : List ℕ) where
     unfolding oneToken
     one-named h t et x ex =
         let s : t ≡ textOf (tokenHere rows store 0) = et ∙ sym (here-text rows store 0 identKind ident-text (told _ _ _ er h)) in
-        ex ∙ ap colourAnswer (pick-true _ _ _ _ (kind-told identKind (ident-text .kind) r true er h) (ap (λ u. lookup u colours) s))
+        ex ∙ ap colourAnswer (pick-true _ _ _ _ (kind-told rows store 0 identKind (ident-text .kind) r true er h) (ap (λ u. lookup u colours) s))
 
     module _ (h : r ≡ false) (l : Bool) (el : l ≡ kindAt rows 0 hashKind) where
       -- what stands behind '#'
@@ -91,16 +79,16 @@ module _ (rows store : List ℕ) where
           let s : t ≡ textOf (tokenHere rows store 0) = et ∙ sym (here-text rows store 0 hashKind hash-text (told _ _ _ el g)) in
           ex
           ∙ ap colourAnswer
-          (pick-false _ _ _ _ (kind-told identKind (ident-text .kind) r false er h)
-          (pick-true _ _ _ _ (kind-told hashKind (hash-text .kind) l true el g) (ap hashColour s)))
+          (pick-false _ _ _ _ (kind-told rows store 0 identKind (ident-text .kind) r false er h)
+          (pick-true _ _ _ _ (kind-told rows store 0 hashKind (hash-text .kind) l true el g) (ap hashColour s)))
 
       -- any other token
       pub one-other : l ≡ false → NoColour ≡ colourAnswer (oneToken (tokenHere rows store 0))
       unfolding oneToken
       one-other g =
           no-colour _
-          (pick-false _ _ _ _ (kind-told identKind (ident-text .kind) r false er h)
-          (pick-false _ _ _ _ (kind-told hashKind (hash-text .kind) l false el g) refl))
+          (pick-false _ _ _ _ (kind-told rows store 0 identKind (ident-text .kind) r false er h)
+          (pick-false _ _ _ _ (kind-told rows store 0 hashKind (hash-text .kind) l false el g) refl))
 
 -- ---- two tests in turn
 

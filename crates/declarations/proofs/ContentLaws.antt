@@ -17,7 +17,7 @@ use Rattle.declarations.specs.Words.{Found, found, missing, onFound, isK
 use Rattle.declarations.specs.View.{tokenHere, firstText, tokensAt}
 use Rattle.declarations.specs.Property.{contentOf}
 use Rattle.declarations.specs.ValueAnswer.{ContentRoom, contentAnswer}
-use Rattle.declarations.proofs.TokenViews.{string-text, here-kind, here-text, tokens-here, tokens-none}
+use Rattle.declarations.proofs.TokenViews.{string-text, kind-told, here-text, tokens-here, tokens-none}
 
 -- the answer where strings of n bytes stand before a content
 unfoldable pub contentBehind : ℕ → Found (List ℕ) → ContentAnswer
@@ -68,7 +68,7 @@ module _ (rows store : List ℕ) (count at left n : ℕ) (c : Joining rows store
 
     -- the test of the token is that of its row
     told-string : (v : Bool) → b ≡ v → isKind stringKind token ≡ v
-    told-string v p = here-kind rows store at stringKind (string-text .kind) ∙ told _ _ _ e p
+    told-string v p = kind-told rows store at stringKind (string-text .kind) b v e p
 
     -- the content by this token and those behind it
     turn : whole ≡ contentBehind n (pick (isKind stringKind token) (onFound (contentOf after) (λ b. found (textOf token ++ b)) missing) missing)

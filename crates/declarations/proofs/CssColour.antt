@@ -1,24 +1,23 @@
 -- Colours as CSS 2.1, section 4.3.6, defines them, where the crate agrees: the hexadecimal notation, the names, and rgb() of three integers.
 use mathlib.Core.Path.{_≡_, refl, sym, ap, _∙_}
-use mathlib.Core.Bool.{Bool, true, false}
+use mathlib.Core.Bool.{true, false}
 use mathlib.Core.List.{List, [], _∷_}
 use Prim.Native.Nat.{ℕ, _+_, _*_, _/_, _%_, _≤_, _<_}
 use native.Mathlib.Omega.{arith}
-use lib.ListN.{length, getD, drop}
+use lib.ListN.{length}
 use Rattle.combinators.specs.Ascii.{plusSign}
 use Rattle.combinators.specs.Choice as choice
-use Rattle.combinators.specs.Choice.{pick, and, is}
+use Rattle.combinators.specs.Choice.{pick, is}
 use Rattle.combinators.proofs.Rules.{is-no, and-both, and-true, never}
 use Rattle.unicode.specs.Literal.{text}
 use Rattle.unicode.specs.Utf8.{utf8, continuation}
 use Rattle.lexer.specs.Name.{isHexDigit, hexDigit}
 use Rattle.lexer.specs.Number.{isDigit}
-use Rattle.lexer.specs.Token.{Token, function, number, comma, closeRound, coded, textOf}
+use Rattle.lexer.specs.Token.{function, number, comma, closeRound, coded, textOf}
 use Rattle.lexer.specs.TokenRow.{columnsOf}
 use Rattle.lexer.proofs.Escapes.{digit-le}
-use Rattle.syntax.specs.Declaration.{Colour}
 use Rattle.syntax.proofs.Streams.{All}
-use Rattle.declarations.specs.Words.{same, kindOf, isKind, Entry, Found, found, missing, foundOr, lookup, onFound}
+use Rattle.declarations.specs.Words.{same, kindOf, isKind, Entry, found, foundOr, lookup, onFound}
 use Rattle.declarations.specs.Colour.{rgb, colours, allOf, numeral, withoutPlus, digitsIn, parseU8, parseHex, threeDigits, sixDigits, hashColour, threeNumbers, rgbColour, colourOf}
 use Rattle.declarations.proofs.ColourLaws.{number-read}
 

@@ -1,26 +1,23 @@
--- The declaration of a property with a value: by the code's answers, its range, and where its text lies.
-use Prim.Native.Nat.{ℕ, zero, suc, _+_, _≤_, _<_}
+-- The declaration of a property with a value: by the code's answers, its range and its text.
+use Prim.Native.Nat.{ℕ, _≤_}
 use mathlib.Core.Path.{_≡_, refl, sym, ap, _∙_}
-use mathlib.Core.Bool.{Bool, true, false}
+use mathlib.Core.Bool.{Bool}
 use mathlib.Core.List.{List, [], _∷_, _++_}
-use native.Mathlib.Nat.{add-zero}
 use native.Mathlib.Omega.{arith}
 use lib.ListN.{length}
-use Rattle.combinators.specs.Choice.{pick, is}
-use Rattle.combinators.proofs.Rules.{pick-false, pick-holds, is-no}
+use Rattle.combinators.proofs.Rules.{pick-holds}
 use Rattle.lexer.specs.Token.{Token, textOf}
 use Rattle.lexer.specs.TokenRow.{stringKind}
 use Rattle.syntax.specs.Declaration.{Colour, Overflow, Decl, color, backgroundColor, height, maxHeight, overflow, overflowY, display, whiteSpace, content, unknown}
 use Rattle.syntax.specs.Layout.{colorKind, backgroundColorKind, heightKind, maxHeightKind, overflowKind, overflowYKind, displayKind, whiteSpaceKind, contentKind, flag, overflowNumber, whiteSpaceNumber, colourNumber, declText}
-use Rattle.syntax.specs.Stream.{textsMany, part}
+use Rattle.syntax.specs.Stream.{textsMany}
 use Rattle.syntax.proofs.Back.{DeclFits}
-use Rattle.syntax.proofs.Streams.{All}
-use Rattle.declarations.specs.Words.{same, Entry, Found, found, missing, foundOr, lookup, onFound, rowAt, isKind, split, placeOf}
+use Rattle.declarations.specs.Words.{Found, found, missing, onFound, rowAt, isKind, split, placeOf}
 use Rattle.declarations.specs.Colour.{colourOf, backgroundOf}
 use Rattle.declarations.specs.ColourAnswer.{colourAnswer}
 use Rattle.declarations.specs.Property.{heightOf, overflowOf, displayOf, whiteSpaceOf, contentOf, properties, declOf}
 use Rattle.declarations.specs.ValueAnswer.{heightAnswer, overflowAnswer, contentAnswer}
-use Rattle.declarations.specs.DeclAnswer.{declOfNumbers, declAnswer, unknownDecl, colourDecl, heightDecl, wordDecl, contentDecl, backgroundColorPlace, backgroundPlace, colorPlace, heightPlace, maxHeightPlace, overflowPlace, overflowYPlace, displayPlace, whiteSpacePlace, contentPlace, declAt, Among, shift, keptText}
+use Rattle.declarations.specs.DeclAnswer.{declOfNumbers, declAnswer, unknownDecl, colourDecl, heightDecl, wordDecl, contentDecl, backgroundColorPlace, backgroundPlace, colorPlace, heightPlace, maxHeightPlace, overflowPlace, overflowYPlace, displayPlace, whiteSpacePlace, contentPlace, declAt, Among}
 use Rattle.declarations.specs.declared.properties.Decl as declared
 use Rattle.declarations.specs.declared.colours.ColourAnswer as colours
 use Rattle.declarations.specs.declared.colours.ColourAnswer.the-variants.{NoColour}
@@ -30,7 +27,7 @@ use Rattle.declarations.specs.declared.keywords.WordAnswer.{WordAnswer}
 use Rattle.declarations.specs.declared.keywords.WordAnswer.the-variants.{Word, NoWord}
 use Rattle.declarations.specs.declared.contents.ContentAnswer.{ContentAnswer}
 use Rattle.declarations.specs.declared.contents.ContentAnswer.the-variants.{Content, NoContent}
-use Rattle.declarations.proofs.WordLaws.{joinedOf, lengthsOf, table-place}
+use Rattle.declarations.proofs.WordLaws.{found-holds, lookup-holds, wordsOf, row-none, joinedOf, lengthsOf, table-place}
 use Rattle.declarations.proofs.ColourRange.{colour-bytes, background-bytes}
 
 -- ---- `with_colour` and its like: the arms of an answer a
@@ -104,13 +101,6 @@ module _ (name : List ℕ) where
   unfolding contentDecl contentAnswer onFound unknownDecl declAnswer
   content-told (found t) = refl
   content-told missing = refl
-
--- past the last row of a table there is none
-row-none : {A : Type 0} (es : List (Entry A)) (p : ℕ) → length es ≤ p → rowAt es p ≡ missing
-unfolding rowAt
-row-none [] p h = refl
-row-none (e ∷ es) zero h = absurd (omega arith)
-row-none (e ∷ es) (suc p) h = row-none es p (omega arith)
 
 -- ---- the property at a place p, and the declaration r by the answer a for the value
 module _ (p : ℕ) (name : List ℕ) (ks : List Token) where
@@ -192,7 +182,7 @@ module _ (p : ℕ) (name : List ℕ) (ks : List Token) where
   -- none of the ten
   pub unknown-at : displayPlace ≤ p → ¬ (p ≡ displayPlace) → ¬ (p ≡ whiteSpacePlace) → ¬ (p ≡ contentPlace) → (r : declared.Decl)
       → r ≡ unknownDecl (length name) → r ≡ whole
-  unfolding declAt onFound declAnswer unknownDecl
+  unfolding declAt onFound declAnswer unknownDecl wordsOf
   unknown-at l h i j r er = er ∙ ap (λ f. declAnswer (onFound f (λ read. read name ks) (unknown name))) (sym (row-none properties p (omega arith)))
 
 -- ---- `decl_of`: at the place p that the code finds
@@ -202,16 +192,6 @@ unfolding declAt declOf
 decl-placed name ks p e r er = er ∙ ap (λ f. declAnswer (onFound f (λ read. read name ks) (unknown name))) (table-place properties name p e)
 
 -- ---- what holds of every declaration
-
--- what holds of every row of a table, and where there is none
-lookup-holds : {A : Type 0} (P : Found A → Type 0) (w : List ℕ) (es : List (Entry A)) → All (λ e. P (found (e .means))) es → P missing → P (lookup w es)
-unfolding lookup foundOr
-lookup-holds P w [] h m = m
-lookup-holds P w (e ∷ es) h m = row (same w (e .word)) (h .0) (lookup-holds P w es (h .1) m)
-  where
-    row : (t : Bool) → P (found (e .means)) → P (lookup w es) → P (foundOr t (e .means) (lookup w es))
-    row true a b = a
-    row false a b = b
 
 -- what holds of the declaration of every row, and of the unknown one
 module _ (P : Decl → Type 0) (name : List ℕ) (ks : List Token) where
@@ -223,12 +203,6 @@ module _ (P : Decl → Type 0) (name : List ℕ) (ks : List Token) where
   unfolding declOf onFound
   decl-holds a b c d e f g h i j u =
       lookup-holds (λ x. P (onFound x (λ read. read name ks) (unknown name))) name properties (a, (b, (c, (d, (e, (f, (g, (h, (i, (j, tt)))))))))) u
-
--- what holds of whatever is found, and where nothing is
-found-holds : {A : Type 0} (P : Decl → Type 0) (x : Found A) (f : A → Decl) (d : Decl) → ((a : A) → x ≡ found a → P (f a)) → P d → P (onFound x f d)
-unfolding onFound
-found-holds P (found a) f d h m = h a refl
-found-holds P missing f d h m = m
 
 -- every declaration fits its row: colours are of bytes
 pub decl-fits : (name : List ℕ) (ks : List Token) → DeclFits (declOf name ks)
@@ -258,23 +232,15 @@ content-holds P (k ∷ ks) m h =
     (λ _. content-holds (λ f. P (onFound f (λ b. found (textOf k ++ b)) missing)) ks m h)
     (λ _. m)
 
--- so that is the content, where there is one
-pub content-among : (ks : List Token) (t : List ℕ) → contentOf ks ≡ found t → t ≡ textsMany textOf ks
-content-among ks t =
-    content-holds (λ f. f ≡ found t → t ≡ textsMany textOf ks) ks (λ e. absurd (let z : _≡_ {A = ℕ} 0 1 = cc in omega arith))
-    (λ e. cc)
-
--- a declaration without a text: its kind comes before those that have one
+-- a declaration without a text
 pub record Textless (d : Decl) : Type 0 where
   pub none : declText d ≡ []
-  pub short : declAnswer d .text ≡ 0
-  pub before : declAnswer d .kind < contentKind
 
 -- what holds of declarations without a text, of the unknown one and of the value's content
 module _ (P : Decl → Type 0) (name : List ℕ) (ks : List Token) (h : (d : Decl) → Textless d → P d) (u : P (unknown name)) (m : P (content (textsMany textOf ks))) where
   -- one without a text
-  bare : (d : Decl) → declText d ≡ [] → declAnswer d .text ≡ 0 → declAnswer d .kind < contentKind → P d
-  bare d n s b = h d (record { none = n; short = s; before = b })
+  bare : (d : Decl) → declText d ≡ [] → P d
+  bare d n = h d (record { none = n })
 
   -- or the unknown one
   maybe : {A : Type 0} (x : Found A) (f : A → Decl) → ((a : A) → P (f a)) → P (onFound x f (unknown name))
@@ -282,18 +248,18 @@ module _ (P : Decl → Type 0) (name : List ℕ) (ks : List Token) (h : (d : Dec
 
   -- holds of the declaration of a property with a value
   pub decl-text : P (declOf name ks)
-  unfolding declText declAnswer declOfNumbers onFound
+  unfolding declText onFound
   decl-text =
       decl-holds P name ks
-      (maybe (colourOf ks) backgroundColor (λ c. bare (backgroundColor c) refl refl (omega arith)))
-      (maybe (backgroundOf ks) backgroundColor (λ c. bare (backgroundColor c) refl refl (omega arith)))
-      (maybe (colourOf ks) color (λ c. bare (color c) refl refl (omega arith)))
-      (maybe (heightOf ks) height (λ z. bare (height z) refl refl (omega arith)))
-      (maybe (heightOf ks) maxHeight (λ z. bare (maxHeight z) refl refl (omega arith)))
-      (maybe (overflowOf ks) overflow (λ o. bare (overflow o) refl refl (omega arith)))
-      (maybe (overflowOf ks) overflowY (λ o. bare (overflowY o) refl refl (omega arith)))
-      (bare (display (displayOf ks)) refl refl (omega arith))
-      (bare (whiteSpace (whiteSpaceOf ks)) refl refl (omega arith))
+      (maybe (colourOf ks) backgroundColor (λ c. bare (backgroundColor c) refl))
+      (maybe (backgroundOf ks) backgroundColor (λ c. bare (backgroundColor c) refl))
+      (maybe (colourOf ks) color (λ c. bare (color c) refl))
+      (maybe (heightOf ks) height (λ z. bare (height z) refl))
+      (maybe (heightOf ks) maxHeight (λ z. bare (maxHeight z) refl))
+      (maybe (overflowOf ks) overflow (λ o. bare (overflow o) refl))
+      (maybe (overflowOf ks) overflowY (λ o. bare (overflowY o) refl))
+      (bare (display (displayOf ks)) refl)
+      (bare (whiteSpace (whiteSpaceOf ks)) refl)
       (content-holds (λ f. P (onFound f content (unknown name))) ks u m)
       u
 
@@ -310,37 +276,3 @@ decl-length (display n) = refl
 decl-length (whiteSpace w) = refl
 decl-length (content t) = refl
 decl-length (unknown t) = refl
-
--- a declaration without a text has none behind its name
-shift-before : (d : Decl) → Textless d → (n : ℕ) → shift (declAnswer d) n ≡ 0
-unfolding shift
-shift-before d t n = sym (pick-false _ _ _ _ (is-no _ _ (λ e. absurd (omega (arith, t .before, e)))) refl)
-
--- no bytes of a store
-part-none : (store : List ℕ) (a : ℕ) → part store a 0 ≡ []
-unfolding part
-part-none store a = refl
-
--- ---- the text behind a name, and the value's texts behind it
-module _ (name : List ℕ) (ks : List Token) where
-  abbrev values : List ℕ
-  values = textsMany textOf ks
-
-  -- it is among them
-  pub decl-among : shift (declAnswer (declOf name ks)) (length name) + declAnswer (declOf name ks) .text ≤ length name + length values
-  unfolding shift declAnswer declOfNumbers pick is
-  decl-among =
-      decl-text (λ d. shift (declAnswer d) (length name) + declAnswer d .text ≤ length name + length values) name ks
-      (λ d t. omega (arith, shift-before d t (length name), t .short))
-      (omega arith)
-      (omega arith)
-
-  -- and where they lie at f in a store, it is what is kept
-  pub decl-kept : (store : List ℕ) (f : ℕ) → part store f (length name) ≡ name → part store (f + length name) (length values) ≡ values
-      → keptText (declAnswer (declOf name ks)) store f (length name) ≡ declText (declOf name ks)
-  unfolding keptText shift declAnswer declOfNumbers declText pick is
-  decl-kept store f en ev =
-      decl-text (λ d. keptText (declAnswer d) store f (length name) ≡ declText d) name ks
-      (λ d t. ap (part store (f + shift (declAnswer d) (length name))) (t .short) ∙ part-none store (f + shift (declAnswer d) (length name)) ∙ sym (t .none))
-      (ap (λ a. part store a (length name)) (add-zero f) ∙ en)
-      ev

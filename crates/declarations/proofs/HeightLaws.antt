@@ -22,7 +22,7 @@ use Rattle.declarations.specs.Words.{same, Found, found, missing, onFoun
 use Rattle.declarations.specs.View.{tokenHere, firstText, secondText, tokensAt}
 use Rattle.declarations.specs.Property.{unsignedZero, numberZero, units, anyOf, heightOf}
 use Rattle.declarations.specs.ValueAnswer.{heightAnswer}
-use Rattle.declarations.proofs.TokenViews.{number-text, dimension-kind, here-kind, here-text, here-number, here-unit, tokens-here, tokens-none}
+use Rattle.declarations.proofs.TokenViews.{number-text, dimension-kind, kind-told, here-text, here-number, here-unit, tokens-here, tokens-none}
 
 -- ---- a number without a sign, with n digits before its point
 module _ (t : List ℕ) (n : ℕ) (e : n ≡ digits t) (r : Bool) where
@@ -108,7 +108,7 @@ module _ (rows store : List ℕ) (n : ℕ) (e : n ≡ 1) (d : Bool) (ed : d ≡ 
 
   -- the test of the token is that of its row
   kind : (v : Bool) → d ≡ v → isKind dimensionKind token ≡ v
-  kind v p = here-kind rows store 0 dimensionKind dimension-kind ∙ told _ _ _ ed p
+  kind v p = kind-told rows store 0 dimensionKind dimension-kind d v ed p
 
   -- the height is f
   height-as : (f : Found Bool) → f ≡ heightOf (token ∷ []) → heightAnswer f ≡ whole
@@ -140,7 +140,7 @@ module _ (rows store : List ℕ) (n : ℕ) (e : n ≡ 1) (d : Bool) (ed : d ≡ 
   module _ (p : d ≡ false) (k : Bool) (ek : k ≡ is (getD rows kindColumn 0) numberKind) where
     -- the test of the token is that of its row
     number-kind : (v : Bool) → k ≡ v → isKind numberKind token ≡ v
-    number-kind v q = here-kind rows store 0 numberKind (number-text .kind) ∙ told _ _ _ ek q
+    number-kind v q = kind-told rows store 0 numberKind (number-text .kind) k v ek q
 
     -- it is; z that the number is zero
     module _ (q : k ≡ true) (z : Bool) (ez : z ≡ numberZero (firstText rows store 0)) where

@@ -19,8 +19,8 @@ use Rattle.declarations.specs.View.{tokenHere, firstText, tokensAt, Coun
 use Rattle.declarations.specs.Property.{firstWord, overflows, overflowOf, displays, displayOf, whiteSpaces, whiteSpaceOf}
 use Rattle.declarations.specs.ValueAnswer.{namePlace, firstPlace, overflowAnswer}
 use Rattle.declarations.specs.declared.keywords.WordAnswer.the-variants.{Word, NoWord}
-use Rattle.declarations.proofs.TokenViews.{ident-text, here-kind, here-text, tokens-here, tokens-none}
-use Rattle.declarations.proofs.WordLaws.{wordsOf, lookup-place, joinedOf, lengthsOf, numbersOf, split-joined, row-there, row-missing}
+use Rattle.declarations.proofs.TokenViews.{ident-text, kind-told, here-text, tokens-here, tokens-none}
+use Rattle.declarations.proofs.WordLaws.{wordsOf, row-none, lookup-place, joinedOf, lengthsOf, numbersOf, split-joined, row-there, row-missing}
 
 -- as many words as lengths
 pub length-split : (joined lengths : List ℕ) → length (split joined lengths) ≡ length lengths
@@ -32,7 +32,7 @@ length-split joined (n ∷ ns) = ap suc (length-split (drop n joined) ns)
 module _ (rows store : List ℕ) (at : ℕ) (table : List (List ℕ)) (b : Bool) (e : b ≡ is (getD rows (at + kindColumn) 0) identKind) where
   -- the test of the token is that of its row
   named : (v : Bool) → b ≡ v → isKind identKind (tokenHere rows store at) ≡ v
-  named v p = here-kind rows store at identKind (ident-text .kind) ∙ told _ _ _ e p
+  named v p = kind-told rows store at identKind (ident-text .kind) b v e p
 
   -- it is one, with the text w
   pub name-there : b ≡ true → (w : List ℕ) → w ≡ firstText rows store at → (r : ℕ) → r ≡ placeOf w table → r ≡ namePlace table (tokenHere rows store at)
@@ -89,12 +89,6 @@ module _ (joined lengths rows store : List ℕ) (count at left : ℕ) (c : Findi
 
 -- ---- the first word of a value by a table is what the row at its place stands for
 module _ {A : Type 0} where
-  -- a row past the last is none
-  row-past : (es : List (Entry A)) → missing ≡ rowAt es (length (wordsOf es))
-  unfolding rowAt wordsOf
-  row-past [] = refl
-  row-past (e ∷ es) = row-past es
-
   -- what the row at p stands for, where there is one
   row-or : (es : List (Entry A)) (p : ℕ) (r : Found A)
       → onFound (rowAt es p) (λ a. found a) r ≡ pick (ltb p (length (wordsOf es))) (rowAt es p) r
@@ -120,7 +114,7 @@ module _ {A : Type 0} where
   -- so for all tokens
   pub word-place : (es : List (Entry A)) (ks : List Token) → firstWord es ks ≡ rowAt es (firstPlace (wordsOf es) ks)
   unfolding firstWord firstPlace namePlace
-  word-place es [] = row-past es
+  word-place es [] = sym (row-none es (length (wordsOf es)) (omega arith))
   word-place es (k ∷ ks) = rw (word-place es ks, lookup-place (textOf k) es) (word-step es (isKind identKind k) _ _)
 
   -- the place i that the code found, by the table as it has it

@@ -1,5 +1,5 @@
 -- The stores' lengths, for all texts together: what reading declarations uses never passes the least lengths of document 01.
-use mathlib.Core.Path.{_≡_, refl, sym, ap, _∙_}
+use mathlib.Core.Path.{_≡_, refl, ap}
 use mathlib.Core.Bool.{Bool, true, false}
 use mathlib.Core.List.{List, [], _∷_}
 use mathlib.Core.Logic.{⊎-elim}
@@ -8,20 +8,18 @@ use native.Mathlib.Omega.{arith}
 use lib.ListN.{length, getD, drop, length-drop}
 use Rattle.combinators.specs.Ascii as ascii
 use Rattle.combinators.specs.Choice.{pick, is}
-use Rattle.combinators.specs.Parsed.{Parsed, ok, err, onParsed}
+use Rattle.combinators.specs.Parsed.{ok}
 use Rattle.combinators.specs.Store.{most}
 use Rattle.combinators.proofs.Lists.{byte-there}
 use Rattle.combinators.proofs.Rules.{pick-holds, lt-or-ge, is-no}
-use Rattle.lexer.specs.Name.{identOf, nameText}
 use Rattle.lexer.specs.Whitespace.{skipWhitespace}
 use Rattle.lexer.proofs.Comments.{skip-le}
 use Rattle.lexer.proofs.TokenBounds.{on-holds}
 use Rattle.syntax.specs.Declaration.{Declaration}
-use Rattle.declarations.specs.Value.{statementOf}
-use Rattle.declarations.specs.Layout.{textsOf, Room}
+use Rattle.declarations.specs.Layout.{Room}
 use Rattle.declarations.specs.Rules.{propertyOf, declarationOf}
-use Rattle.declarations.specs.Leaving.{Used, unused, usedBy, usedThen, textKept, usedMore, usedRules, RulesRoom, StyleRoom}
-use Rattle.declarations.proofs.Declaring.{Takes, takes}
+use Rattle.declarations.specs.Leaving.{Used, unused, usedBy, usedThen, textKept, usedMore, usedRules, StyleRoom}
+use Rattle.declarations.proofs.Declaring.{takes}
 use Rattle.declarations.proofs.PropertyLaws.{headed, name-sized}
 use Rattle.declarations.proofs.Sizes.{statement-sized}
 

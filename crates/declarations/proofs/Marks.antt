@@ -4,18 +4,16 @@ use mathlib.Core.Bool.{Bool, true, false}
 use mathlib.Core.List.{List, _∷_}
 use Prim.Native.Nat.{ℕ, zero, suc, _+_, _-_, _*_, _≤_, _<_}
 use native.Mathlib.Omega.{arith}
-use lib.ListN.{length, getD, drop}
+use lib.ListN.{getD, drop}
 use Rattle.combinators.specs.Ascii.{exclamationMark}
-use Rattle.combinators.specs.Choice.{and, is}
+use Rattle.combinators.specs.Choice.{is}
 use Rattle.combinators.proofs.Rules.{and-both, and-left, and-right, and-gives, is-yes, is-no, told}
 use Rattle.unicode.specs.Literal.{text}
-use Rattle.lexer.specs.Token.{textOf}
-use Rattle.lexer.specs.TokenRow.{tokenWidth, kindColumn, startColumn, firstColumn, identKind, delimKind}
-use Rattle.syntax.specs.Stream.{part}
-use Rattle.declarations.specs.Words.{same, firstOf, isKind, isWord, isDelim}
+use Rattle.lexer.specs.TokenRow.{tokenWidth, kindColumn, firstColumn, identKind, delimKind}
+use Rattle.declarations.specs.Words.{same, firstOf, isWord, isDelim}
 use Rattle.declarations.specs.Value.{isMark, isImportant}
 use Rattle.declarations.specs.View.{tokenHere, firstText, tokensAt}
-use Rattle.declarations.proofs.TokenViews.{here-kind, here-text, here-delim, tokens-here, tokens-none, ident-text, delim-kind}
+use Rattle.declarations.proofs.TokenViews.{kind-told, here-text, here-delim, tokens-here, tokens-none, ident-text, delim-kind}
 
 module _ (rows store : List ℕ) where
   -- the last two of two tokens and more, from p on
@@ -53,7 +51,7 @@ module _ (rows store : List ℕ) where
     module _ (d : Bool) (ed : d ≡ is (getD rows (m + kindColumn) 0) delimKind) where
       pub mark-no-delim : d ≡ false → false ≡ isImportant (tokensAt rows store n)
       unfolding isMark isDelim
-      mark-no-delim e = sym (mark-is ∙ and-left _ _ (and-left _ _ (here-kind rows store m delimKind delim-kind ∙ told _ _ _ ed e)))
+      mark-no-delim e = sym (mark-is ∙ and-left _ _ (and-left _ _ (kind-told rows store m delimKind delim-kind d false ed e)))
 
       -- of this scalar value
       module _ (e : d ≡ true) (x : ℕ) (ex : x ≡ getD rows (m + firstColumn) 0) where
@@ -68,15 +66,15 @@ module _ (rows store : List ℕ) where
         module _ (k : x ≡ exclamationMark) (i : Bool) (ei : i ≡ is (getD rows (m + tokenWidth + kindColumn) 0) identKind) where
           pub mark-no-name : i ≡ false → false ≡ isImportant (tokensAt rows store n)
           unfolding isMark isWord
-          mark-no-name f = sym (mark-is ∙ and-right _ _ (and-left _ _ (here-kind rows store (m + tokenWidth) identKind (ident-text .kind) ∙ told _ _ _ ei f)))
+          mark-no-name f = sym (mark-is ∙ and-right _ _ (and-left _ _ (kind-told rows store (m + tokenWidth) identKind (ident-text .kind) i false ei f)))
 
           -- with this text
-          pub mark-name : i ≡ true → (r : Bool) (a b : ℕ) → a ≡ getD rows (m + tokenWidth + startColumn) 0 → b ≡ getD rows (m + tokenWidth + firstColumn) 0
-              → (v : List ℕ) → v ≡ part store a b → r ≡ same v (text "important") → r ≡ isImportant (tokensAt rows store n)
-          unfolding isMark isDelim isWord firstText
-          mark-name f r a b ea eb v ev er =
+          pub mark-name : i ≡ true → (r : Bool) (v : List ℕ) → v ≡ firstText rows store (m + tokenWidth) → r ≡ same v (text "important")
+              → r ≡ isImportant (tokensAt rows store n)
+          unfolding isMark isDelim isWord
+          mark-name f r v ev er =
               let w = m + tokenWidth in
-              let t = here-kind rows store w identKind (ident-text .kind) ∙ told _ _ _ ei f in
+              let t = kind-told rows store w identKind (ident-text .kind) i true ei f in
               let x = here-text rows store w identKind ident-text (told _ _ _ ei f) in
-              let g = and-both _ _ (here-kind rows store m delimKind delim-kind ∙ told _ _ _ ed e) (is-yes _ _ (sign-is ∙ k)) in
-              er ∙ rw (ev, ea, eb, ← x) (and-gives _ _ _ g (and-gives _ _ _ t refl)) ∙ sym mark-is
+              let g = and-both _ _ (kind-told rows store m delimKind delim-kind d true ed e) (is-yes _ _ (sign-is ∙ k)) in
+              er ∙ rw (ev, ← x) (and-gives _ _ _ g (and-gives _ _ _ t refl)) ∙ sym mark-is

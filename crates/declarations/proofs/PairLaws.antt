@@ -16,12 +16,11 @@ use Rattle.declarations.specs.declared.colours.ColourAnswer.the-variants
 use Rattle.declarations.specs.declared.colours.NumberAnswer.{NumberAnswer}
 use Rattle.declarations.specs.declared.colours.NumberAnswer.the-variants.{Number, NoNumber}
 use Rattle.declarations.proofs.ColourLaws.{no-colour, a-colour, number-found, number-missing, read-le}
+use Rattle.declarations.proofs.WordLaws.{found-holds}
 
 -- what is missing whatever the number is, is missing
 none-of : (f : Found ℕ) (g : ℕ → Found Colour) → ((v : ℕ) → g v ≡ missing) → onFound f g missing ≡ missing
-unfolding onFound
-none-of (found v) g h = h v
-none-of missing g h = refl
+none-of f g h = found-holds (λ (x : Found Colour). x ≡ missing) f g missing (λ v _. h v) refl
 
 module _ (t : List ℕ) where
   -- one of the pairs is no number: the first

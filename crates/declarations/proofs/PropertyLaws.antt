@@ -1,7 +1,7 @@
 -- A property's name and what stands between it and its value.
 use mathlib.Core.Path.{_≡_, refl, sym, ap, _∙_}
 use mathlib.Core.Bool.{Bool, true, false}
-use mathlib.Core.List.{List, []}
+use mathlib.Core.List.{List}
 use Prim.Native.Nat.{ℕ, _+_, _-_, _≤_, _<_}
 use native.Mathlib.Omega.{arith}
 use lib.ListN.{length, getD, take, drop, length-drop}
@@ -18,7 +18,6 @@ use Rattle.lexer.proofs.Comments.{skip-le}
 use Rattle.lexer.proofs.IdentBounds.{ident-fits}
 use Rattle.declarations.specs.Rules.{colonBehind, propertyOf}
 use Rattle.declarations.specs.Leaving.{propertyAnswer}
-use Rattle.declarations.specs.declared.rules.Property.{Property}
 use Rattle.declarations.specs.declared.rules.Property.the-variants as property
 
 -- ---- `skip_from`

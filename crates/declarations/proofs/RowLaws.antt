@@ -2,16 +2,16 @@
 use mathlib.Core.Path.{_≡_, refl, sym, ap, _∙_}
 use mathlib.Core.Bool.{Bool, true, false}
 use mathlib.Core.List.{List, [], _∷_}
-use Prim.Native.Nat.{ℕ, _+_, _-_, _≤_}
+use Prim.Native.Nat.{ℕ, _+_, _-_}
 use native.Mathlib.Omega.{arith}
-use lib.ListN.{length, take, drop, replicate, length-replicate, length-drop}
+use lib.ListN.{length, drop, replicate, length-replicate, length-drop}
 use lib.Seq.{sets, length-take-le}
-use Rattle.combinators.specs.Choice.{pick, is}
-use Rattle.combinators.specs.Store.{Store, emits, wiped}
+use Rattle.combinators.specs.Choice.{pick}
+use Rattle.combinators.specs.Store.{emits, wiped}
 use Rattle.combinators.proofs.Emitted.{then, sets-emitted}
-use Rattle.combinators.proofs.Rules.{pick-true, pick-false, is-yes, is-no}
+use Rattle.combinators.proofs.Rules.{is-yes, is-no}
 use Rattle.combinators.proofs.Wiped.{sets-over, wiped-apart, wiped-add}
-use Rattle.syntax.specs.Layout.{unknownKind, flag}
+use Rattle.syntax.specs.Layout.{unknownKind}
 use Rattle.syntax.specs.Stream.{part}
 use Rattle.declarations.specs.Moved.{Downward}
 use Rattle.declarations.specs.DeclAnswer.{declOfNumbers, namedBy, shift, keptText, Keeping, rowValue, rowBy}

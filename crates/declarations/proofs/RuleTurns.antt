@@ -25,6 +25,7 @@ use Rattle.declarations.specs.declared.rules.DeclarationAnswer.{Declarat
 use Rattle.declarations.specs.declared.rules.DeclarationAnswer.the-variants as answer
 use Rattle.declarations.specs.declared.rules.RulesRead.{RulesRead}
 use Rattle.declarations.proofs.Declaring.{Takes, takes}
+use Rattle.declarations.proofs.Turns.{more-turns}
 use Rattle.declarations.proofs.RuleLaws.{leaves-then, kept-moved, more-next, more-none, more-stop}
 
 -- ---- what is left to read leaves, where c declarations with t bytes of text were read
@@ -112,11 +113,6 @@ begin names at s from rules place tokens brackets store fill o =
       brackets-long = refl;
       store-long = refl;
     }
-
--- the turns are not used up
-more-turns : (n taken l : ℕ) → n < taken + l → taken ≤ n → (j : ℕ) × (suc j ≡ l)
-more-turns n taken zero h g = absurd (omega arith)
-more-turns n taken (suc j) h g = (j, refl)
 
 -- what the answer of `parse_declaration` says
 record Declared (names : Bool) (p : Parsed Declaration) (n k : ℕ) : Type 0 where

@@ -1,18 +1,16 @@
 -- How many tokens a statement has, and how long their texts are: once for all texts.
 use mathlib.Core.Path.{_≡_, refl}
 use mathlib.Core.Bool.{Bool, true, false}
-use mathlib.Core.List.{List, [], _∷_, _++_}
+use mathlib.Core.List.{List, [], _∷_}
 use Prim.Native.Nat.{ℕ, zero, suc, _+_, _*_, _≤_, _<_}
 use native.Mathlib.Omega.{arith}
 use lib.ListN.{length, drop, length-append, length-drop}
-use Rattle.combinators.specs.Parsed.{ok}
-use Rattle.lexer.specs.Token.{Token, tokenOf, textOf}
+use Rattle.lexer.specs.Token.{tokenOf, textOf}
 use Rattle.lexer.specs.TokenRow.{tokenWidth, rowOf, tokenRow}
-use Rattle.lexer.specs.Whitespace.{skipWhitespace}
 use Rattle.lexer.proofs.Bounds.{Bound, short, lone, Fits}
 use Rattle.lexer.proofs.TokenBounds.{token-fits, on-holds}
 use Rattle.syntax.specs.Stream.{rowsMany, textsMany}
-use Rattle.declarations.specs.Value.{Placed, bracketOf, stepOf, Statement, stop, cons, onStep, scan, statementOf}
+use Rattle.declarations.specs.Value.{Placed, bracketOf, stepOf, Statement, stop, cons, scan, statementOf}
 use Rattle.declarations.specs.Layout.{rowsOf, textsOf}
 use Rattle.declarations.proofs.Views.{step-holds}
 

@@ -13,7 +13,7 @@ use Rattle.syntax.specs.Layout as layout
 use Rattle.syntax.specs.Layout.{colorKind, backgroundColorKind, heightKind, maxHeightKind, overflowKind, overflowYKind, displayKind, whiteSpaceKind, contentKind, flag, flagOf, overflowNumber, overflowOf, declarationWidth, declText, declarationText, declRow, declarationRow, declOf, readDeclaration, declarationRows, declarationTexts, declarationsAt, colourSlot, backgroundSlot, displaySlot, whiteSpaceSlot, contentSlot, styleWidth, styleTextOf, styleText, styleRowOf, styleRow, readStyle, styleRows, styleTexts, stylesAt}
 use Rattle.syntax.specs.Stream.{Read, readMany, textsMany, rowsMany}
 use Rattle.syntax.specs.Style as style
-use Rattle.syntax.specs.Style.{Style, StyleDecl}
+use Rattle.syntax.specs.Style.{StyleDecl}
 use Rattle.syntax.proofs.Streams.{All}
 use Rattle.declarations.specs.Styles.{one, styleOf, hides, hidesOverflow, zeroHeight, anyDecl, ownStyles, stylesOf}
 use Rattle.declarations.specs.StyleNumbers.{ownNumbers, ownRow, hasValue, zeroRow, hiddenRow, ownRows, anyRow, addedRow, styleNumbers, styleCount}

@@ -1,19 +1,19 @@
 -- What the code reads off a token's row: its kind, its texts, and the rows behind it.
 use mathlib.Core.Path.{_≡_, refl, sym, ap, _∙_}
-use mathlib.Core.Bool.{Bool, true, false}
-use mathlib.Core.List.{List, [], _∷_, _++_}
-use Prim.Native.Nat.{ℕ, zero, suc, _+_, _*_, _≤_}
+use mathlib.Core.Bool.{Bool, true}
+use mathlib.Core.List.{List, [], _∷_}
+use Prim.Native.Nat.{ℕ, suc, _+_}
 use native.Mathlib.Omega.{arith}
-use lib.ListN.{length, getD, take, drop, length-append}
+use lib.ListN.{getD, drop}
 use lib.Seq.{getD-drop, drop-drop, take-append-seam, drop-append-seam}
 use Rattle.combinators.specs.Choice.{pick, is}
-use Rattle.combinators.proofs.Rules.{pick-holds, is-yes, is-no, is-true, same-test}
-use Rattle.lexer.specs.Token.{Token, coded, textOf}
+use Rattle.combinators.proofs.Rules.{pick-holds, is-yes, is-true, same-test, told}
+use Rattle.lexer.specs.Token.{coded, textOf}
 use Rattle.lexer.specs.TokenRow.{tokenWidth, kindColumn, startColumn, firstColumn, secondColumn, identKind, functionKind, hashKind, stringKind, badStringKind, delimKind, numberKind, dimensionKind, percentageKind, cdoKind, cdcKind, colonKind, semicolonKind, commaKind, openSquareKind, closeSquareKind, openRoundKind, closeRoundKind, openBraceKind, closeBraceKind, columnsOf, markFrom, tokenFrom, tokenIn}
 use Rattle.lexer.specs.declared.tokens.Token as lexer
 use Rattle.lexer.specs.declared.tokens.Token.the-variants as code
 use Rattle.syntax.specs.Stream.{readMany, part}
-use Rattle.declarations.specs.Words.{kindOf, firstOf, numberOf, unitOf, isKind, isDelim}
+use Rattle.declarations.specs.Words.{kindOf, firstOf, numberOf, unitOf, isKind}
 use Rattle.declarations.specs.View.{tokenWith, readToken, tokenHere, firstText, secondText, tokensAt}
 
 -- ---- kinds
@@ -135,6 +135,10 @@ module _ (rows store : List ℕ) (p : ℕ) where
   here-kind n q =
       same-test _ _ (λ e. is-yes kind n (from-kind kind first second n (q .other) (sym here-kind-of ∙ is-true _ n e)))
       (λ e. is-yes _ n (here-kind-of ∙ ap (λ m. columnsOf (tokenFrom m first second) .kind) (is-true kind n e) ∙ q .same first second))
+
+  -- so is what the code was told of it
+  pub kind-told : (n : ℕ) → Kind n → (r v : Bool) → r ≡ is kind n → r ≡ v → isKind n (tokenHere rows store p) ≡ v
+  kind-told n q r v er h = here-kind n q ∙ told _ _ _ er h
 
   -- its text, where it has one
   pub here-text : (n : ℕ) → OneText n → is kind n ≡ true → textOf (tokenHere rows store p) ≡ firstText rows store p

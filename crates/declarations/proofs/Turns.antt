@@ -1,6 +1,6 @@
 -- Turns of `parse_to_end_of_statement`: what is left to read, into the stores as they are, leaves what the whole statement leaves.
 use mathlib.Core.Path.{_≡_, refl, ap, sym, _∙_}
-use mathlib.Core.List.{List, [], _∷_, _++_}
+use mathlib.Core.List.{List, _++_}
 use mathlib.Core.Bool.{Bool, true, false}
 use Prim.Native.Nat.{ℕ, zero, suc, _+_, _-_, _^_, _<_, _≤_}
 use native.Mathlib.Nat.{add-zero}
@@ -184,7 +184,7 @@ begin s include rows brackets store fill =
     }
 
 -- the turns are not used up
-more-turns : (n taken l : ℕ) → n < taken + l → taken ≤ n → (j : ℕ) × (suc j ≡ l)
+pub more-turns : (n taken l : ℕ) → n < taken + l → taken ≤ n → (j : ℕ) × (suc j ≡ l)
 more-turns n taken zero h g = absurd (omega arith)
 more-turns n taken (suc j) h g = (j, refl)
 

@@ -2,7 +2,7 @@
 use mathlib.Core.Path.{_≡_, refl, sym, ap, _∙_}
 use mathlib.Core.Bool.{Bool, true, false}
 use mathlib.Core.List.{List, [], _∷_, _++_, append-assoc, append-nil}
-use Prim.Native.Nat.{ℕ, zero, suc, _+_, _-_, _*_, _≤_, _<_}
+use Prim.Native.Nat.{ℕ, zero, suc, _+_, _-_, _≤_, _<_}
 use native.Mathlib.Omega.{arith}
 use lib.ListN.{length, take, drop, replicate, set, length-replicate}
 use lib.Seq.{sets, take-nil, take-set-le}
@@ -11,10 +11,11 @@ use Rattle.combinators.specs.Store.{wiped}
 use Rattle.combinators.proofs.Rules.{pick-holds}
 use Rattle.combinators.proofs.Wiped.{sets-apart, wiped-over, wiped-add}
 use Rattle.lexer.specs.Token.{Token, textOf}
+use Rattle.lexer.specs.TokenRow.{tokenWidth}
 use Rattle.syntax.specs.Stream.{textsMany, part}
 use Rattle.declarations.specs.Value.{Placed, Bracket, opens, closes, ends, none, bracketOf, isMark, isImportant, withoutMark, tokensOf}
 use Rattle.declarations.specs.Layout.{pushed, depth, textsOf, bracketsAfter}
-use Rattle.declarations.specs.View.{tokenHere, tokensAt}
+use Rattle.declarations.specs.View.{tokensAt}
 use Rattle.declarations.proofs.Nesting.{depth-le}
 use Rattle.declarations.proofs.TokenViews.{tokens-here, tokens-none}
 
@@ -53,7 +54,7 @@ module _ (rows store : List ℕ) where
   tokens-take : (m n p : ℕ) → m ≤ n → tokensAt (drop p rows) store m ≡ take m (tokensAt (drop p rows) store n)
   tokens-take zero n p h = tokens-none (drop p rows) store
   tokens-take (suc m) zero p h = absurd (omega arith)
-  tokens-take (suc m) (suc n) p h = rw (tokens-here rows store p m, tokens-here rows store p n, tokens-take m n (p + 5) (omega arith))
+  tokens-take (suc m) (suc n) p h = rw (tokens-here rows store p m, tokens-here rows store p n, tokens-take m n (p + tokenWidth) (omega arith))
 
   pub tokens-unmarked : (n : ℕ) (ks : List Token) → tokensAt rows store n ≡ ks → n ≡ length ks → (m : ℕ) → m ≡ pick (isImportant ks) (n - 2) n → tokensAt rows store m ≡ withoutMark ks
   tokens-unmarked n ks e en m em =

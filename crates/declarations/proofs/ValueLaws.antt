@@ -2,14 +2,13 @@
 use mathlib.Core.Path.{_≡_, refl, sym, ap, _∙_}
 use mathlib.Core.Bool.{Bool, true, false}
 use mathlib.Core.List.{List}
-use Prim.Native.Nat.{ℕ, _+_, _*_, _^_, _≤_, _<_}
+use Prim.Native.Nat.{ℕ, _+_, _^_, _≤_, _<_}
 use native.Mathlib.Omega.{arith}
 use lib.ListN.{length}
-use lib.Seq.{sets, length-sets}
+use lib.Seq.{length-sets}
 use Rattle.combinators.specs.Choice.{pick}
-use Rattle.lexer.specs.TokenRow.{tokenWidth}
 use Rattle.declarations.specs.Value.{Statement, statementOf, tokensOf, isImportant}
-use Rattle.declarations.specs.Layout.{rowsOf, textsOf, Left, left, ValueLeft, valueAnswer, valueLeft, Room}
+use Rattle.declarations.specs.Layout.{rowsOf, textsOf, Left, left, valueAnswer, valueLeft, Room}
 use Rattle.declarations.specs.View.{Counted, tokensAt}
 use Rattle.declarations.specs.declared.statements.StatementAnswer.{StatementAnswer}
 use Rattle.declarations.specs.declared.statements.StatementAnswer.the-variants as answer

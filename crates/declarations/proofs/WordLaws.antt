@@ -12,7 +12,8 @@ use lib.Seq.{drop-cons, drop-drop, take-all, take-at, drop-at}
 use Rattle.combinators.specs.Choice.{pick, is}
 use Rattle.combinators.specs.Word.{startsWith}
 use Rattle.combinators.proofs.Rules.{pick-true, pick-false, by-order, and-right, told}
-use Rattle.declarations.specs.Words.{same, Entry, foundOr, lookup, onFound, rowAt, split, placeOf}
+use Rattle.syntax.proofs.Streams.{All}
+use Rattle.declarations.specs.Words.{same, Entry, Found, found, missing, foundOr, lookup, onFound, rowAt, split, placeOf}
 
 -- ---- two texts
 
@@ -103,12 +104,39 @@ module _ (s joined lengths : List ℕ) (at i : ℕ) (c : Placing s joined length
             inside = placing-end;
           }
 
+-- ---- what is found
+
+-- what holds by whatever is found, and where nothing is
+pub found-holds : {A B : Type 0} (P : B → Type 0) (x : Found A) (f : A → B) (b : B) → ((a : A) → x ≡ found a → P (f a)) → P b → P (onFound x f b)
+unfolding onFound
+found-holds P (found a) f b h m = h a refl
+found-holds P missing f b h m = m
+
+-- what holds of a row, and of what is found behind it
+pub or-holds : {A : Type 0} (P : Found A → Type 0) (t : Bool) (a : A) (x : Found A) → P (found a) → P x → P (foundOr t a x)
+unfolding foundOr
+or-holds P true a x h m = h
+or-holds P false a x h m = m
+
+-- what holds of every row of a table, and where there is none
+pub lookup-holds : {A : Type 0} (P : Found A → Type 0) (w : List ℕ) (es : List (Entry A)) → All (λ e. P (found (e .means))) es → P missing → P (lookup w es)
+unfolding lookup
+lookup-holds P w [] h m = m
+lookup-holds P w (e ∷ es) h m = or-holds P (same w (e .word)) (e .means) (lookup w es) (h .0) (lookup-holds P w es (h .1) m)
+
 -- ---- tables
 
 -- the words of a table
 unfoldable pub wordsOf : {A : Type 0} → List (Entry A) → List (List ℕ)
 wordsOf [] = []
 wordsOf (e ∷ es) = e .word ∷ wordsOf es
+
+-- past the last row there is none
+pub row-none : {A : Type 0} (es : List (Entry A)) (p : ℕ) → length (wordsOf es) ≤ p → rowAt es p ≡ missing
+unfolding rowAt wordsOf
+row-none [] p h = refl
+row-none (e ∷ es) zero h = absurd (omega arith)
+row-none (e ∷ es) (suc p) h = row-none es p (omega arith)
 
 -- the first row, or one behind it: p is the place among those
 row-first : {A : Type 0} (t : Bool) (e : Entry A) (es : List (Entry A)) (p : ℕ)

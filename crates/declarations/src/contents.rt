@@ -1,11 +1,8 @@
 // Contents: the length of the strings of a value.
 use crate::tokens::is_kind;
-use crate::tokens::place_at;
+use crate::tokens::text_at;
 use lexer::rows::STRING;
-use lexer::rows::TOKEN_FIRST;
-use lexer::rows::TOKEN_START;
 use lexer::rows::TOKEN_WIDTH;
-use syntax::texts::part_of;
 ghost use mathlib.Core.Path.{_≡_};
 ghost use Rattle.declarations.specs.Property.{contentOf};
 ghost use Rattle.declarations.specs.View.{tokensAt};
@@ -27,9 +24,7 @@ pub fn parse_content(rows: &[u32], count: usize, store: &[u8]) -> ContentAnswer
     let mut length = 0;
     while left > 0 {
         if is_kind(rows, at, STRING) {
-            let start = place_at(rows, at, TOKEN_START);
-            let string = part_of(store, start, place_at(rows, at, TOKEN_FIRST));
-            length += string.len();
+            length += text_at(rows, at, store).len();
             at += TOKEN_WIDTH;
             left -= 1;
         } else {

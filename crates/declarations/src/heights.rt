@@ -2,6 +2,7 @@
 // or a full stop and digits.
 use crate::tokens::is_kind;
 use crate::tokens::place_at;
+use crate::tokens::text_at;
 use crate::words::place_of;
 use combinators::stores::number_at;
 use decimal::rounds_to_zero;
@@ -43,7 +44,7 @@ fn unsigned_is_zero(t: &[u8]) -> bool
 }
 
 // Whether a number is zero, its sign aside: both zeros are.
-pub fn number_is_zero(n: &[u8]) -> bool
+fn number_is_zero(n: &[u8]) -> bool
     ensures { λ r. ⌜ r ≡ numberZero (now (n .entry)) ⌝ }
 {
     let w = skip_optional_whitespace(n);
@@ -56,8 +57,7 @@ pub fn number_is_zero(n: &[u8]) -> bool
 fn token_is_zero(rows: &[u32], at: usize, store: &[u8]) -> bool
     ensures { λ r. ⌜ r ≡ numberZero (firstText (now (rows .entry)) (now (store .entry)) at) ⌝ }
 {
-    let start = place_at(rows, at, TOKEN_START);
-    number_is_zero(part_of(store, start, place_at(rows, at, TOKEN_FIRST)))
+    number_is_zero(text_at(rows, at, store))
 }
 
 // Whether the unit of the dimension whose row starts at `at` is one of a length's. It lies behind the number.

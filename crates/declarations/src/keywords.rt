@@ -1,12 +1,9 @@
 // Keywords: the first name of a value that a table has.
 use crate::tokens::is_kind;
-use crate::tokens::place_at;
+use crate::tokens::text_at;
 use crate::words::place_of;
 use lexer::rows::IDENT;
-use lexer::rows::TOKEN_FIRST;
-use lexer::rows::TOKEN_START;
 use lexer::rows::TOKEN_WIDTH;
-use syntax::texts::part_of;
 ghost use mathlib.Core.Path.{_≡_};
 ghost use Rattle.syntax.specs.Layout.{whiteSpaceNumber};
 ghost use Rattle.declarations.specs.Words.{split};
@@ -40,9 +37,7 @@ fn name_place(rows: &[u32], at: usize, store: &[u8], joined: &[u8], lengths: &[u
     ensures { λ r. ⌜ r ≡ namePlace (split (now (joined .entry)) (now (lengths .entry))) (tokenHere (now (rows .entry)) (now (store .entry)) at) ⌝ }
 {
     if is_kind(rows, at, IDENT) {
-        let start = place_at(rows, at, TOKEN_START);
-        let name = part_of(store, start, place_at(rows, at, TOKEN_FIRST));
-        return place_of(name, joined, lengths);
+        return place_of(text_at(rows, at, store), joined, lengths);
     }
     lengths.len()
 }

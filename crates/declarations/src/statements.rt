@@ -1,17 +1,16 @@
 // Statements: tokens read to the end of a statement, into rows and a store of texts.
 use crate::tokens::is_kind;
 use crate::tokens::place_at;
+use crate::tokens::text_at;
 use crate::words::same_text;
 use lexer::rows::DELIM;
 use lexer::rows::IDENT;
 use lexer::rows::TOKEN_FIRST;
-use lexer::rows::TOKEN_START;
 use lexer::rows::TOKEN_WIDTH;
 use lexer::rows::put_token;
 use lexer::tokens::Lexed;
 use lexer::tokens::Token;
 use lexer::tokens::parse_token;
-use syntax::texts::part_of;
 ghost use mathlib.Core.Path.{_≡_};
 ghost use mathlib.Core.Bool.{false};
 ghost use Prim.Native.Nat.{_-_, _^_, _≤_, _<_};
@@ -214,9 +213,7 @@ fn is_important(rows: &[u32], count: usize, store: &[u8]) -> bool
     if is_kind(rows, mark, DELIM) {
         if place_at(rows, mark, TOKEN_FIRST) == EXCLAMATION_MARK {
             if is_kind(rows, word, IDENT) {
-                let start = place_at(rows, word, TOKEN_START);
-                let n = place_at(rows, word, TOKEN_FIRST);
-                return same_text(part_of(store, start, n), b"important");
+                return same_text(text_at(rows, word, store), b"important");
             }
             return false;
         }

@@ -4,7 +4,7 @@ use crate::colours::hash_colour;
 use crate::colours::named_colour;
 use crate::colours::rgb_colour;
 use crate::tokens::is_kind;
-use crate::tokens::place_at;
+use crate::tokens::text_at;
 use crate::words::same_text;
 use lexer::rows::CLOSE_ROUND;
 use lexer::rows::COMMA;
@@ -12,15 +12,12 @@ use lexer::rows::FUNCTION;
 use lexer::rows::HASH;
 use lexer::rows::IDENT;
 use lexer::rows::NUMBER;
-use lexer::rows::TOKEN_FIRST;
-use lexer::rows::TOKEN_START;
 use lexer::rows::TOKEN_WIDTH;
-use syntax::texts::part_of;
 ghost use mathlib.Core.Path.{_≡_};
 ghost use Prim.Native.Nat.{_≤_};
 ghost use Rattle.declarations.specs.Colour.{oneToken, colourOf, backgroundOf};
 ghost use Rattle.declarations.specs.ColourAnswer.{colourAnswer};
-ghost use Rattle.declarations.specs.View.{firstText, tokenHere, tokensAt, Counted};
+ghost use Rattle.declarations.specs.View.{tokenHere, tokensAt, Counted};
 ghost use Rattle.declarations.specs.ColourRows.{rgbCount, rgbName, numberBefore, rgbKinds, rgbHere, lastPart};
 
 // The name of the function, and the tokens of a call of it.
@@ -40,17 +37,6 @@ const SECOND_COMMA: usize = 4 * TOKEN_WIDTH;
 const BLUE: usize = 5 * TOKEN_WIDTH;
 
 const CLOSING: usize = 6 * TOKEN_WIDTH;
-
-// The text that the row at `at` names.
-pub fn text_at<'a>(rows: &[u32], at: usize, store: &'a [u8]) -> &'a [u8]
-    ensures { λ r. ⌜ now r ≡ firstText (now (rows .entry)) (now (store .entry)) at ⌝ }
-{
-    part_of(
-        store,
-        place_at(rows, at, TOKEN_START),
-        place_at(rows, at, TOKEN_FIRST),
-    )
-}
 
 // The colour of one token.
 fn one_token(rows: &[u32], store: &[u8]) -> ColourAnswer

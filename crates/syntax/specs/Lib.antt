@@ -1,4 +1,5 @@
 pub mod Declaration
 pub mod Style
 pub mod Stream
+pub mod Selector
 pub mod Layout

@@ -1,5 +1,4 @@
 use native.Mathlib.Omega.{arith}
-use Rattle.declarations.proofs.TokenViews as views
 use Rattle.declarations.proofs.ContentLaws as laws
 use borrow.Author.Needs.{needs}
 use Rattle.declarations.proofs.contents.parse_content.Statement.{statement}
@@ -17,20 +16,13 @@ loop-holds c = laws.joining-begin _ _ _ (c .before .before .pre)
 is-kind-requires : tie.Need-is-kind-requires Inv-loop μ-loop
 is-kind-requires c κs = search needs
 
-place-at-requires : tie.Need-place-at-requires Inv-loop μ-loop
-place-at-requires c κs = search needs
-
-place-at-requires-2 : tie.Need-place-at-requires-2 Inv-loop μ-loop
-place-at-requires-2 c κs = search needs
-
-part-of-requires : tie.Need-part-of-requires Inv-loop μ-loop
-part-of-requires c κs = search needs
+text-at-requires : tie.Need-text-at-requires Inv-loop μ-loop
+text-at-requires c κs = search needs
 
 add-length : tie.Need-add-length Inv-loop μ-loop
-add-length c = let t = c .before in
-    let k = t .before .before .before in
+add-length c = let k = c .before .before in
     let d = k .before in
-    omega (arith, laws.joining-room _ _ _ _ _ _ (d .before .loop .inv) (d .loop-test .taken) _ (k .is-kind .ensures) (t .before .before .if1 .taken) _ (views.text-cut _ _ _ _ _ (t .before .place-at .ensures) (t .place-at2 .ensures) _ (c .part-of .ensures)))
+    omega (arith, laws.joining-room _ _ _ _ _ _ (d .before .loop .inv) (d .loop-test .taken) _ (k .is-kind .ensures) (c .before .if1 .taken) _ (c .text-at .ensures))
 
 add-at : tie.Need-add-at Inv-loop μ-loop
 add-at c = search needs
@@ -42,10 +34,9 @@ loop-less : tie.Need-loop-less Inv-loop μ-loop
 loop-less c = search needs
 
 loop-again : tie.Need-loop-again Inv-loop μ-loop
-loop-again c = let t = c .before in
-    let k = t .before .before .before in
+loop-again c = let k = c .before .before in
     let d = k .before in
-    laws.joining-more _ _ _ _ _ _ (d .before .loop .inv) (d .loop-test .taken) _ (k .is-kind .ensures) (t .before .before .if1 .taken) _ (views.text-cut _ _ _ _ _ (t .before .place-at .ensures) (t .place-at2 .ensures) _ (c .part-of .ensures))
+    laws.joining-more _ _ _ _ _ _ (d .before .loop .inv) (d .loop-test .taken) _ (k .is-kind .ensures) (c .before .if1 .taken) _ (c .text-at .ensures)
 
 returns : tie.Need-returns Inv-loop μ-loop
 returns c = let k = c .before in
@@ -63,9 +54,7 @@ parse-content-spec =
     μ-loop
     loop-holds
     is-kind-requires
-    place-at-requires
-    place-at-requires-2
-    part-of-requires
+    text-at-requires
     add-length
     add-at
     sub-left

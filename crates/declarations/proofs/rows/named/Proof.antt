@@ -1,5 +1,4 @@
 use Rattle.declarations.proofs.RowLaws as laws
-use borrow.Author.Needs.{needs}
 use Rattle.declarations.proofs.rows.named.Statement.{statement}
 use Rattle.declarations.proofs.rows.named.Tie as tie
 

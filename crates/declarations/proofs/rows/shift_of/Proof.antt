@@ -1,7 +1,5 @@
 use Rattle.combinators.proofs.Rules.{cases}
 use Rattle.declarations.specs.DeclAnswer.{shift}
-use mathlib.Core.Path.{refl}
-use borrow.Author.Needs.{needs}
 use Rattle.declarations.proofs.rows.shift_of.Statement.{statement}
 use Rattle.declarations.proofs.rows.shift_of.Tie as tie
 

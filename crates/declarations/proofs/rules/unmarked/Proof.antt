@@ -1,5 +1,4 @@
 use Rattle.declarations.proofs.Putting as laws
-use borrow.Author.Needs.{needs}
 use Rattle.declarations.proofs.rules.unmarked.Statement.{statement}
 use Rattle.declarations.proofs.rules.unmarked.Tie as tie
 

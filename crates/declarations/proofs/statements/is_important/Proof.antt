@@ -24,14 +24,8 @@ place-at-requires c κs = search needs
 is-kind-requires-2 : tie.Need-is-kind-requires-2
 is-kind-requires-2 c κs = search needs
 
-place-at-requires-2 : tie.Need-place-at-requires-2
-place-at-requires-2 c κs = search needs
-
-place-at-requires-3 : tie.Need-place-at-requires-3
-place-at-requires-3 c κs = search needs
-
-part-of-requires : tie.Need-part-of-requires
-part-of-requires c κs = search needs
+text-at-requires : tie.Need-text-at-requires
+text-at-requires c κs = search needs
 
 slice-aggregate-same-text : tie.Need-slice-aggregate-same-text
 slice-aggregate-same-text c = search needs
@@ -41,11 +35,11 @@ same-text-requires c κs = search needs
 
 returns-2 : tie.Need-returns-2
 unfolding text utf8 continuation pick
-returns-2 c = let i = c .before .before .before .before .before in
+returns-2 c = let t = c .before .before in
+    let i = t .before in
     let k = i .before .before in
     let x = k .before .before in
-    laws.mark-name _ _ _ (x .before .before .if1 .left) _ (x .before .is-kind .ensures) (x .if2 .taken) _ (k .before .place-at .ensures) (k .if3 .taken) _ (i .before .is-kind2 .ensures) (i .if4 .taken) _ _ _
-    (c .before .before .before .before .place-at2 .ensures) (c .before .before .before .place-at3 .ensures) _ (c .before .before .part-of .ensures) (c .same-text .ensures)
+    laws.mark-name _ _ _ (x .before .before .if1 .left) _ (x .before .is-kind .ensures) (x .if2 .taken) _ (k .before .place-at .ensures) (k .if3 .taken) _ (i .before .is-kind2 .ensures) (i .if4 .taken) _ _ (t .text-at .ensures) (c .same-text .ensures)
 
 returns-3 : tie.Need-returns-3
 returns-3 c = let k = c .before .before in
@@ -69,9 +63,7 @@ is-important-spec =
     is-kind-requires
     place-at-requires
     is-kind-requires-2
-    place-at-requires-2
-    place-at-requires-3
-    part-of-requires
+    text-at-requires
     slice-aggregate-same-text
     same-text-requires
     returns-2

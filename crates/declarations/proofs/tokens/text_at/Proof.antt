@@ -1,7 +1,7 @@
-use Rattle.declarations.proofs.ColourValues as laws
+use Rattle.declarations.proofs.TokenViews as views
 use borrow.Author.Needs.{needs}
-use Rattle.declarations.proofs.values.text_at.Statement.{statement}
-use Rattle.declarations.proofs.values.text_at.Tie as tie
+use Rattle.declarations.proofs.tokens.text_at.Statement.{statement}
+use Rattle.declarations.proofs.tokens.text_at.Tie as tie
 
 place-at-requires : tie.Need-place-at-requires
 place-at-requires c κs = search needs
@@ -14,7 +14,7 @@ part-of-requires c κs = search needs
 
 returns : tie.Need-returns
 returns c = let n = c .before in
-    laws.text-here _ _ _ _ _ (n .before .place-at .ensures) (n .place-at2 .ensures) _ (c .part-of .ensures)
+    views.text-cut _ _ _ _ _ (n .before .place-at .ensures) (n .place-at2 .ensures) _ (c .part-of .ensures)
 
 pub text-at-spec : {M : Type 1} → statement M
 text-at-spec = tie.close (tie.spec place-at-requires place-at-requires-2 part-of-requires returns)

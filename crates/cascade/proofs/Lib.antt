@@ -1,0 +1,10 @@
+pub mod Orders
+pub mod SlotLaws
+pub mod Winners
+pub mod Windows
+pub mod RowLaws
+pub mod Rewriting
+pub mod Merging
+pub mod RowBack
+pub mod Cascading
+pub mod Inheriting

@@ -1,0 +1,337 @@
+-- Rows that are copied, cleared or rewritten slot by slot, number by number and as styles. Assumes nothing.
+use mathlib.Core.Path.{_≡_, refl, sym, ap, _∙_}
+use mathlib.Core.Bool.{true}
+use mathlib.Core.List.{List, [], _∷_, map}
+use Prim.Native.Nat.{ℕ, zero, suc, _+_, _-_, _*_, _≤_, _<_}
+use native.Mathlib.Nat.{add-zero}
+use native.Mathlib.Omega.{arith}
+use lib.ListN.{length, getD, set, take, drop, replicate, length-set, length-replicate, length-drop}
+use lib.Seq.{sets, length-sets, length-take-le, getD-set-same, getD-set-other, getD-take, getD-drop, drop-cons, take-set-le}
+use Rattle.combinators.specs.Choice.{is}
+use Rattle.combinators.specs.Store.{wiped}
+use Rattle.syntax.specs.Layout.{flagOf}
+use Rattle.cascade.specs.declared.slots.Slot.{Slot}
+use Rattle.cascade.specs.Specificity.{noSpecificity, specificityOf}
+use Rattle.cascade.specs.Slot.{emptySlot, inheritedSlot}
+use Rattle.cascade.specs.Record.{slotCount, mainRecord, beforeRecord, afterRecord, Record, emptyRecord, emptyStyle, inherit, inheritRecord, inheritInBookOrder}
+use Rattle.cascade.specs.Row.{slotWidth, recordWidth, styleRowWidth, recordPlace, slotNumbers, reads, readSlot, slotAt, windows, recordAt, styleAt, RowRoom, TwoRooms, presentFlag, inheritRow, inheritRowInPlace, inheritRowWithin, rewrites, rewriteRecord, inheritRowInBookOrder, Inherited, InheritedInPlace, InheritedWithin, InheritedInBookOrder, Emptied}
+use Rattle.cascade.proofs.Windows.{reads-same, reads-sets, sets-low, sets-high}
+use Rattle.cascade.proofs.RowLaws.{cons-same, record-same, style-same, flag-one, slot-width, slots-back, same-windows, same-record}
+
+-- what was stored there, number by number
+pub sets-there : (vs xs : List ℕ) (i p : ℕ) → p < length vs → i + length vs ≤ length xs → getD (sets xs i vs) (i + p) 0 ≡ getD vs p 0
+sets-there [] xs i p h l = absurd (omega arith)
+sets-there (v ∷ vs) xs i zero h l =
+    rw (add-zero i) (sets-low vs (set xs i v) (suc i) i (omega arith) ∙ getD-set-same xs i v 0 (omega arith))
+sets-there (v ∷ vs) xs i (suc p) h l =
+    let e : i + suc p ≡ suc i + p = omega arith in
+    rw e (sets-there vs (set xs i v) (suc i) p (omega arith) (omega (arith, length-set xs i v)))
+
+-- the same from the start on
+pub sets-first : (vs xs : List ℕ) (p : ℕ) → p < length vs → length vs ≤ length xs → getD (sets xs 0 vs) p 0 ≡ getD vs p 0
+sets-first vs xs p h l = let e : 0 + p ≡ p = omega arith in rw e at (sets-there vs xs 0 p h (omega arith))
+
+-- ---- the parent's numbers, but for the presence of the main record, are the inherited style
+inherit-main : (zs parent : List ℕ) → ((p : ℕ) → 0 < p → p < styleRowWidth → getD zs p 0 ≡ getD parent p 0) → getD zs 0 0 ≡ presentFlag
+    → recordAt zs 0 ≡ record { present = true; slots = recordAt parent 0 .slots }
+unfolding recordAt
+inherit-main zs parent f e = record-same _ _ _ _ (ap flagOf e ∙ flag-one) (ap (map readSlot) (same-windows slotCount zs parent 1 (λ p a b. f p (omega arith) (omega arith))))
+
+-- so the row holds that style
+pub inherit-by : (zs parent : List ℕ) → ((p : ℕ) → 0 < p → p < styleRowWidth → getD zs p 0 ≡ getD parent p 0) → getD zs 0 0 ≡ presentFlag → styleAt zs ≡ inherit (styleAt parent)
+unfolding styleAt inherit
+inherit-by zs parent f e =
+    style-same _ _ _ _ _ _ (inherit-main zs parent f e)
+    (same-record zs parent recordWidth (λ p a b. f p (omega arith) (omega arith)))
+    (same-record zs parent (2 * recordWidth) (λ p a b. f p (omega arith) (omega arith)))
+
+-- ---- a row over another
+module _ (parent : List ℕ) (h : styleRowWidth ≤ length parent) where
+  -- the loop: what is left to copy, onto what is copied so far, gives the whole
+  pub copy-more : (row : List ℕ) (i : ℕ) → i < styleRowWidth → sets row i (take (styleRowWidth - i) (drop i parent)) ≡ sets (set row i (getD parent i 0)) (i + 1) (take (styleRowWidth - (i + 1)) (drop (i + 1) parent))
+  copy-more row i k =
+      let z : styleRowWidth - i ≡ suc (styleRowWidth - (i + 1)) = omega arith in
+      let y : i + 1 ≡ suc i = omega arith in
+      rw (z, y, drop-cons parent i 0 (omega arith))
+
+-- and where nothing is left, the row is the whole
+pub copy-done : (parent row : List ℕ) (i : ℕ) → styleRowWidth ≤ i → sets row i (take (styleRowWidth - i) (drop i parent)) ≡ row
+copy-done parent row i k = let z : styleRowWidth - i ≡ 0 = omega arith in rw z
+
+module _ (parent xs : List ℕ) (h : styleRowWidth ≤ length parent) (l : styleRowWidth ≤ length xs) where
+  -- its numbers are the parent's, but for the presence of the main record
+  pub inherit-number : (p : ℕ) → 0 < p → p < styleRowWidth → getD (inheritRow parent xs) p 0 ≡ getD parent p 0
+  unfolding inheritRow
+  inherit-number p a b =
+      let vs = take styleRowWidth parent in
+      let n : length vs ≡ styleRowWidth = length-take-le styleRowWidth parent h in
+      getD-set-other (sets xs 0 vs) 0 p 1 0 (λ e. omega arith)
+      ∙ sets-first vs xs p (omega (arith, n)) (omega (arith, n))
+      ∙ getD-take styleRowWidth parent p 0 b
+
+  -- which is set
+  pub inherit-presence : getD (inheritRow parent xs) 0 0 ≡ 1
+  unfolding inheritRow
+  inherit-presence = getD-set-same (sets xs 0 (take styleRowWidth parent)) 0 1 0 (omega (arith, length-sets xs 0 (take styleRowWidth parent)))
+
+  -- the style in a row that was inherited is the parent's, with the main record present
+  pub inherit-view : styleAt (inheritRow parent xs) ≡ inherit (styleAt parent)
+  inherit-view = inherit-by (inheritRow parent xs) parent inherit-number inherit-presence
+
+-- in place
+pub inherit-in-place-view : (xs : List ℕ) → styleRowWidth ≤ length xs → styleAt (inheritRowInPlace xs) ≡ inherit (styleAt xs)
+unfolding inheritRowInPlace
+inherit-in-place-view xs h = inherit-by (set xs 0 1) xs (λ p a b. getD-set-other xs 0 p 1 0 (λ e. omega arith)) (getD-set-same xs 0 1 0 (omega arith))
+
+-- ---- a row over one that stands behind it in the same store
+module _ (xs : List ℕ) (from to : ℕ) (h : TwoRooms xs from to) where
+  -- the loop: what is left to copy, onto what is copied so far, gives the whole, and the parent's row stays
+  pub within-more : (ys : List ℕ) (i : ℕ) → i < styleRowWidth → take to ys ≡ take to xs
+      → sets (set ys (to + i) (getD ys (from + i) 0)) (to + (i + 1)) (take (styleRowWidth - (i + 1)) (drop (from + (i + 1)) xs)) ≡ sets ys (to + i) (take (styleRowWidth - i) (drop (from + i) xs))
+  within-more ys i k e =
+      let n : getD ys (from + i) 0 ≡ getD xs (from + i) 0 = sym (getD-take to ys (from + i) 0 (omega (arith, h .apart))) ∙ ap (λ (l : List ℕ). getD l (from + i) 0) e ∙ getD-take to xs (from + i) 0 (omega (arith, h .apart)) in
+      let z : styleRowWidth - i ≡ suc (styleRowWidth - (i + 1)) = omega arith in
+      let y : to + (i + 1) ≡ suc (to + i) = omega arith in
+      let x : from + (i + 1) ≡ suc (from + i) = omega arith in
+      rw (n, z, y, x, drop-cons xs (from + i) 0 (omega (arith, h .apart, h .room)))
+
+  -- which lies before what is written
+  pub within-kept : (ys : List ℕ) (i v : ℕ) → take to ys ≡ take to xs → take to (set ys (to + i) v) ≡ take to xs
+  within-kept ys i v e = take-set-le to ys (to + i) v (omega arith) ∙ e
+
+  -- at the start all is left
+  pub within-begin : sets xs (to + 0) (take (styleRowWidth - 0) (drop (from + 0) xs)) ≡ sets xs to (take styleRowWidth (drop from xs))
+  within-begin = rw (add-zero to, add-zero from)
+
+  -- and where nothing is left, the store is the whole
+  pub within-done : (ys : List ℕ) (i : ℕ) → styleRowWidth ≤ i → sets ys (to + i) (take (styleRowWidth - i) (drop (from + i) xs)) ≡ ys
+  within-done ys i k = let z : styleRowWidth - i ≡ 0 = omega arith in rw z
+
+  within-number : (p : ℕ) → 0 < p → p < styleRowWidth → getD (drop to (inheritRowWithin xs from to)) p 0 ≡ getD (drop from xs) p 0
+  unfolding inheritRowWithin
+  within-number p a b =
+      let vs = take styleRowWidth (drop from xs) in
+      let n : length vs ≡ styleRowWidth = length-take-le styleRowWidth (drop from xs) (omega (arith, length-drop from xs, h .apart, h .room)) in
+      getD-drop to (set (sets xs to vs) to 1) p 0
+      ∙ getD-set-other (sets xs to vs) to (to + p) 1 0 (λ e. omega arith)
+      ∙ sets-there vs xs to p (omega (arith, n)) (omega (arith, n, h .room))
+      ∙ getD-take styleRowWidth (drop from xs) p 0 b
+
+  within-presence : getD (drop to (inheritRowWithin xs from to)) 0 0 ≡ presentFlag
+  unfolding inheritRowWithin
+  within-presence =
+      let vs = take styleRowWidth (drop from xs) in
+      getD-drop to (set (sets xs to vs) to 1) 0 0
+      ∙ ap (λ (p : ℕ). getD (set (sets xs to vs) to 1) p 0) (add-zero to)
+      ∙ getD-set-same (sets xs to vs) to 1 0 (omega (arith, length-sets xs to vs, h .room))
+
+  -- the style in the child's row is the parent's, with the main record present
+  pub within-view : styleAt (drop to (inheritRowWithin xs from to)) ≡ inherit (styleAt (drop from xs))
+  within-view = inherit-by (drop to (inheritRowWithin xs from to)) (drop from xs) within-number within-presence
+
+-- ---- slots rewritten one after the other
+pub rewrites-long : (u : Slot → Slot) (n i : ℕ) (xs : List ℕ) → length (rewrites u i n xs) ≡ length xs
+unfolding rewrites
+rewrites-long u zero i xs = refl
+rewrites-long u (suc n) i xs = rewrites-long u n (i + slotWidth) (sets xs i (slotNumbers (u (slotAt xs i)))) ∙ length-sets xs i (slotNumbers (u (slotAt xs i)))
+
+-- numbers before them stay
+pub rewrites-low : (u : Slot → Slot) (n i : ℕ) (xs : List ℕ) (p : ℕ) → p < i → getD (rewrites u i n xs) p 0 ≡ getD xs p 0
+unfolding rewrites
+rewrites-low u zero i xs p h = refl
+rewrites-low u (suc n) i xs p h =
+    let vs = slotNumbers (u (slotAt xs i)) in
+    rewrites-low u n (i + slotWidth) (sets xs i vs) p (omega arith) ∙ sets-low vs xs i p h
+
+-- and those behind them
+pub rewrites-high : (u : Slot → Slot) (n i : ℕ) (xs : List ℕ) (p : ℕ) → i + n * slotWidth ≤ p → getD (rewrites u i n xs) p 0 ≡ getD xs p 0
+unfolding rewrites
+rewrites-high u zero i xs p h = refl
+rewrites-high u (suc n) i xs p h =
+    let vs = slotNumbers (u (slotAt xs i)) in
+    rewrites-high u n (i + slotWidth) (sets xs i vs) p (omega arith) ∙ sets-high vs xs i p (omega (arith, slot-width (u (slotAt xs i))))
+
+-- the slots are then the rewritten ones, number by number
+pub rewrites-windows : (u : Slot → Slot) (n i : ℕ) (xs : List ℕ) → i + n * slotWidth ≤ length xs
+    → windows (rewrites u i n xs) i n ≡ map slotNumbers (map u (map readSlot (windows xs i n)))
+unfolding rewrites windows
+rewrites-windows u zero i xs h = refl
+rewrites-windows u (suc n) i xs h =
+    let s = u (slotAt xs i) in
+    let vs = slotNumbers s in
+    let ys = sets xs i vs in
+    let zs = rewrites u (i + slotWidth) n ys in
+    cons-same (reads zs i 0 slotWidth) (slotNumbers (u (readSlot (reads xs i 0 slotWidth)))) (windows zs (i + slotWidth) n) (map slotNumbers (map u (map readSlot (windows xs (i + slotWidth) n))))
+    (reads-same slotWidth zs ys i 0 (λ p a b. rewrites-low u n (i + slotWidth) ys p (omega arith)) ∙ there xs i s (omega arith) ∙ here xs i)
+    (rewrites-windows u n (i + slotWidth) ys (omega (arith, length-sets xs i vs))
+    ∙ ap (λ (w : List (List ℕ)). map slotNumbers (map u (map readSlot w))) (same-windows n ys xs (i + slotWidth) (λ p a b. sets-high vs xs i p (omega (arith, slot-width s)))))
+  where
+    there : (xs : List ℕ) (i : ℕ) (s : Slot) → i + slotWidth ≤ length xs → reads (sets xs i (slotNumbers s)) i 0 slotWidth ≡ slotNumbers s
+    there xs i s h = rw (slot-width s) at (reads-sets (slotNumbers s) xs i (omega (arith, slot-width s)))
+
+    here : (xs : List ℕ) (i : ℕ) → slotNumbers (u (slotAt xs i)) ≡ slotNumbers (u (readSlot (reads xs i 0 slotWidth)))
+    here xs i = unfold slotAt in refl
+
+-- and as slots
+pub rewrites-slots : (u : Slot → Slot) (n i : ℕ) (xs : List ℕ) → i + n * slotWidth ≤ length xs → map readSlot (windows (rewrites u i n xs) i n) ≡ map u (map readSlot (windows xs i n))
+rewrites-slots u n i xs h = ap (map readSlot) (rewrites-windows u n i xs h) ∙ slots-back (map u (map readSlot (windows xs i n)))
+
+-- the record in the row is then the rewritten one, and as present as before
+module _ (u : Slot → Slot) (r : ℕ) (xs : List ℕ) where
+  -- the row stays as long as it is
+  pub rewritten-long : length (rewriteRecord u r xs) ≡ length xs
+  unfolding rewriteRecord
+  rewritten-long = rewrites-long u slotCount (recordPlace r + 1) xs
+
+  -- its slots are rewritten
+  pub rewritten-here : recordPlace r + recordWidth ≤ length xs
+      → recordAt (rewriteRecord u r xs) (recordPlace r) ≡ record { present = recordAt xs (recordPlace r) .present; slots = map u (recordAt xs (recordPlace r) .slots) }
+  unfolding recordAt rewriteRecord
+  rewritten-here h =
+      record-same _ _ _ _ (ap flagOf (rewrites-low u slotCount (recordPlace r + 1) xs (recordPlace r) (omega arith))) (rewrites-slots u slotCount (recordPlace r + 1) xs (omega arith))
+
+  -- the other records stay
+  pub rewritten-before : (b : ℕ) → b + recordWidth ≤ recordPlace r → recordAt (rewriteRecord u r xs) b ≡ recordAt xs b
+  unfolding rewriteRecord
+  rewritten-before b h = same-record (rewrites u (recordPlace r + 1) slotCount xs) xs b (λ p a c. rewrites-low u slotCount (recordPlace r + 1) xs p (omega arith))
+
+  -- and so do those behind it
+  pub rewritten-behind : (b : ℕ) → recordPlace r + recordWidth ≤ b → recordAt (rewriteRecord u r xs) b ≡ recordAt xs b
+  unfolding rewriteRecord
+  rewritten-behind b h = same-record (rewrites u (recordPlace r + 1) slotCount xs) xs b (λ p a c. rewrites-high u slotCount (recordPlace r + 1) xs p (omega arith))
+
+-- the first of the slots that are left
+pub rewrites-more : (u : Slot → Slot) (i left : ℕ) (xs : List ℕ) → 0 < left → rewrites u (i + slotWidth) (left - 1) (sets xs i (slotNumbers (u (slotAt xs i)))) ≡ rewrites u i left xs
+unfolding rewrites
+rewrites-more u i zero xs h = absurd (omega arith)
+rewrites-more u i (suc n) xs h = let z : suc n - 1 ≡ n = omega arith in rw z
+
+-- and where none is left, the row is the whole
+pub rewrites-done : (u : Slot → Slot) (i left : ℕ) (xs : List ℕ) → left ≤ 0 → rewrites u i left xs ≡ xs
+unfolding rewrites
+rewrites-done u i zero xs h = refl
+rewrites-done u i (suc n) xs h = absurd (omega arith)
+
+-- the loop: s is taken out, n put back; what is left to rewrite, in what is rewritten so far, gives the whole
+pub rewrite-turn : (u : Slot → Slot) (i left : ℕ) (xs ys w : List ℕ) (s n : Slot) → 0 < left → s ≡ slotAt xs i → n ≡ u s → ys ≡ sets xs i (slotNumbers n)
+    → rewrites u i left xs ≡ w → rewrites u (i + slotWidth) (left - 1) ys ≡ w
+rewrite-turn u i left xs ys w s n h e f g k =
+    ap (rewrites u (i + slotWidth) (left - 1)) (g ∙ ap (λ (t : Slot). sets xs i (slotNumbers t)) (f ∙ ap u e)) ∙ rewrites-more u i left xs h ∙ k
+
+-- ---- the main record made present
+module _ (xs : List ℕ) (h : styleRowWidth ≤ length xs) where
+  -- the other numbers stay
+  pub present-number : (p : ℕ) → 0 < p → getD (set xs 0 1) p 0 ≡ getD xs p 0
+  present-number p a = getD-set-other xs 0 p 1 0 (λ e. omega arith)
+
+  -- its slots stay
+  pub present-main : recordAt (set xs 0 1) 0 ≡ record { present = true; slots = recordAt xs 0 .slots }
+  unfolding recordAt
+  present-main =
+      record-same _ _ _ _ (ap flagOf (getD-set-same xs 0 1 0 (omega arith)) ∙ flag-one)
+      (ap (map readSlot) (same-windows slotCount (set xs 0 1) xs 1 (λ p a b. present-number p (omega arith))))
+
+  -- and so do the other records
+  pub present-other : (b : ℕ) → 0 < b → recordAt (set xs 0 1) b ≡ recordAt xs b
+  present-other b a = same-record (set xs 0 1) xs b (λ p c d. present-number p (omega arith))
+
+-- ---- the style in a row that was rewritten is the inherited one
+module _ (xs : List ℕ) (h : styleRowWidth ≤ length xs) where
+  abbrev u : Slot → Slot
+  u = inheritedSlot
+
+  abbrev one : List ℕ
+  one = rewriteRecord u mainRecord xs
+
+  abbrev two : List ℕ
+  two = rewriteRecord u beforeRecord one
+
+  abbrev three : List ℕ
+  three = rewriteRecord u afterRecord two
+
+  long-one : length one ≡ length xs
+  long-one = rewritten-long u mainRecord xs
+
+  long-two : length two ≡ length xs
+  long-two = rewritten-long u beforeRecord one ∙ long-one
+
+  long-three : length three ≡ length xs
+  long-three = rewritten-long u afterRecord two ∙ long-two
+
+  main-three : recordAt three 0 ≡ inheritRecord (recordAt xs 0)
+  unfolding inheritRecord
+  main-three = rewritten-before u afterRecord two 0 (omega arith) ∙ rewritten-before u beforeRecord one 0 (omega arith) ∙ rewritten-here u mainRecord xs (omega arith)
+
+  before-one : recordAt two recordWidth ≡ inheritRecord (recordAt one recordWidth)
+  unfolding inheritRecord
+  before-one = rewritten-here u beforeRecord one (omega (arith, long-one))
+
+  before-three : recordAt three recordWidth ≡ inheritRecord (recordAt xs recordWidth)
+  before-three = rewritten-before u afterRecord two recordWidth (omega arith) ∙ before-one ∙ ap inheritRecord (rewritten-behind u mainRecord xs recordWidth (omega arith))
+
+  after-two : recordAt three (2 * recordWidth) ≡ inheritRecord (recordAt two (2 * recordWidth))
+  unfolding inheritRecord
+  after-two = rewritten-here u afterRecord two (omega (arith, long-two))
+
+  after-three : recordAt three (2 * recordWidth) ≡ inheritRecord (recordAt xs (2 * recordWidth))
+  after-three = after-two ∙ ap inheritRecord (rewritten-behind u beforeRecord one (2 * recordWidth) (omega arith) ∙ rewritten-behind u mainRecord xs (2 * recordWidth) (omega arith))
+
+  -- each slot as a normal author value of specificity 0
+  pub inherit-book-view : styleAt (inheritRowInBookOrder xs) ≡ inheritInBookOrder (styleAt xs)
+  unfolding styleAt inheritInBookOrder inheritRowInBookOrder
+  inherit-book-view =
+      style-same _ _ _ _ _ _
+      (present-main three (omega (arith, long-three)) ∙ ap (λ (p : Record). record { present = true; slots = p .slots }) main-slots)
+      (present-other three (omega (arith, long-three)) recordWidth (omega arith) ∙ before-three)
+      (present-other three (omega (arith, long-three)) (2 * recordWidth) (omega arith) ∙ after-three)
+    where
+      main-slots : recordAt three 0 ≡ record { present = recordAt xs 0 .present; slots = map inheritedSlot (recordAt xs 0 .slots) }
+      main-slots = unfold inheritRecord in main-three
+
+-- ---- a row of zeros
+zeros-number : (n : ℕ) (xs : List ℕ) (p : ℕ) → n ≤ length xs → p < n → getD (sets xs 0 (replicate n 0)) p 0 ≡ getD (replicate n 0) p 0
+zeros-number n xs p h l = let e : length (replicate {A = ℕ} n 0) ≡ n = length-replicate n 0 in sets-first (replicate n 0) xs p (omega (arith, e)) (omega (arith, e))
+
+-- nothing is declared in it
+pub empty-row : styleAt (replicate styleRowWidth 0) ≡ emptyStyle
+unfolding styleAt recordAt windows readSlot emptyStyle emptyRecord emptySlot noSpecificity specificityOf flagOf is
+empty-row = refl
+
+-- nor in a row over which zeros were written
+pub empty-view : (xs : List ℕ) → styleRowWidth ≤ length xs → styleAt (wiped 0 styleRowWidth xs) ≡ emptyStyle
+empty-view xs h = all-same ∙ empty-row
+  where
+    all-same : styleAt (wiped 0 styleRowWidth xs) ≡ styleAt (replicate styleRowWidth 0)
+    all-same =
+        unfold styleAt in unfold wiped in
+        style-same _ _ _ _ _ _
+        (same-record (sets xs 0 (replicate styleRowWidth 0)) (replicate styleRowWidth 0) 0 (λ p a b. zeros-number styleRowWidth xs p h (omega arith)))
+        (same-record (sets xs 0 (replicate styleRowWidth 0)) (replicate styleRowWidth 0) recordWidth (λ p a b. zeros-number styleRowWidth xs p h (omega arith)))
+        (same-record (sets xs 0 (replicate styleRowWidth 0)) (replicate styleRowWidth 0) (2 * recordWidth) (λ p a b. zeros-number styleRowWidth xs p h (omega arith)))
+
+-- ---- what the functions leave
+pub inherited : (parent xs row ys : List ℕ) → RowRoom parent → RowRoom xs → row ≡ sets xs 0 (take styleRowWidth parent) → ys ≡ set row 0 1 → Inherited parent xs ys
+inherited parent xs row ys h l e f =
+    let n : ys ≡ inheritRow parent xs = unfold inheritRow in (f ∙ ap (λ (r : List ℕ). set r 0 1) e) in
+    record { numbers = n; meaning = ap styleAt n ∙ inherit-view parent xs (h .room) (l .room) }
+
+-- the main record made present
+pub inherited-in-place : (xs ys : List ℕ) → RowRoom xs → ys ≡ set xs 0 presentFlag → InheritedInPlace xs ys
+inherited-in-place xs ys h e = let n : ys ≡ inheritRowInPlace xs = unfold inheritRowInPlace in e in record { numbers = n; meaning = ap styleAt n ∙ inherit-in-place-view xs (h .room) }
+
+-- copied within a store
+pub inherited-within : (xs row ys : List ℕ) (from to : ℕ) → TwoRooms xs from to → row ≡ sets xs to (take styleRowWidth (drop from xs)) → ys ≡ set row to presentFlag → InheritedWithin xs from to ys
+inherited-within xs row ys from to h e f =
+    let n : ys ≡ inheritRowWithin xs from to = unfold inheritRowWithin in (f ∙ ap (λ (r : List ℕ). set r to presentFlag) e) in
+    record { numbers = n; meaning = ap (λ (r : List ℕ). styleAt (drop to r)) n ∙ within-view xs from to h }
+
+-- the three records rewritten, and the main one present
+pub inherited-in-book-order : (xs a b c ys : List ℕ) → RowRoom xs → a ≡ rewriteRecord inheritedSlot mainRecord xs → b ≡ rewriteRecord inheritedSlot beforeRecord a
+    → c ≡ rewriteRecord inheritedSlot afterRecord b → ys ≡ set c 0 1 → InheritedInBookOrder xs ys
+inherited-in-book-order xs a b c ys h e f g k =
+    let n : ys ≡ inheritRowInBookOrder xs = unfold inheritRowInBookOrder in (k ∙ ap (λ (r : List ℕ). set r 0 1) (g ∙ ap (rewriteRecord inheritedSlot afterRecord) (f ∙ ap (rewriteRecord inheritedSlot beforeRecord) e))) in
+    record { numbers = n; meaning = ap styleAt n ∙ inherit-book-view xs (h .room) }
+
+-- zeros over the row
+pub emptied : (xs ys : List ℕ) → RowRoom xs → ys ≡ wiped 0 styleRowWidth xs → Emptied xs ys
+emptied xs ys h e = record { numbers = e; meaning = ap styleAt e ∙ empty-view xs (h .room) }

@@ -1,0 +1,54 @@
+use mathlib.Core.Path.{refl}
+use Rattle.cascade.proofs.Merging.{no-record, no-slot, crate-merged, crate-nothing}
+use borrow.Author.Needs.{needs}
+use Rattle.cascade.proofs.rows.merge_computed_style.Statement.{statement}
+use Rattle.cascade.proofs.rows.merge_computed_style.Tie as tie
+
+returns : tie.Need-returns
+returns c = crate-nothing _ _ _ (c .before .before .pre) (no-record _ _ (c .if1 .taken)) refl
+
+returns-2 : tie.Need-returns-2
+returns-2 c = crate-nothing _ _ _ (c .before .before .before .pre) (no-slot _ _ (c .if2 .taken)) refl
+
+mul-at : tie.Need-mul-at
+mul-at c = search needs
+
+add-at : tie.Need-add-at
+add-at c = search needs
+
+mul-at-2 : tie.Need-mul-at-2
+mul-at-2 c = search needs
+
+add-at-2 : tie.Need-add-at-2
+add-at-2 c = search needs
+
+read-slot-requires : tie.Need-read-slot-requires
+read-slot-requires c κs = search needs
+
+maybe-update-requires : tie.Need-maybe-update-requires
+maybe-update-requires c κs = search needs
+
+put-back-requires : tie.Need-put-back-requires
+put-back-requires c κs = search needs
+
+same-length : tie.Need-same-length
+same-length c = search needs
+
+returns-3 : tie.Need-returns-3
+returns-3 c = crate-merged _ _ _ (c .before .before .before .before .before .before .before .before .before .before .pre) _ _ (c .before .before .before .before .before .before .before .before .if1 .left) (c .before .before .before .before .before .before .before .if2 .left) (c .before .before .before .before .before .read-slot .ensures) (c .before .before .before .before .maybe-update .ensures) (c .before .before .put-back .ensures)
+
+pub merge-computed-style-spec : {M : Type 1} → statement M
+merge-computed-style-spec =
+    tie.close
+    (tie.spec
+    returns
+    returns-2
+    mul-at
+    add-at
+    mul-at-2
+    add-at-2
+    read-slot-requires
+    maybe-update-requires
+    put-back-requires
+    same-length
+    returns-3)

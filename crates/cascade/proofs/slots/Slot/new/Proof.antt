@@ -1,0 +1,11 @@
+use mathlib.Core.Path.{refl}
+use Rattle.cascade.specs.Slot.{held}
+use Rattle.cascade.proofs.slots.Slot.new.Statement.{statement}
+use Rattle.cascade.proofs.slots.Slot.new.Tie as tie
+
+returns : tie.Need-returns
+unfolding held
+returns c = refl
+
+pub new-spec : {M : Type 1} → statement M
+new-spec = tie.close (tie.spec returns)

@@ -1,0 +1,5 @@
+pub mod Specificity
+pub mod Slot
+pub mod Record
+pub mod Row
+pub mod Cases

@@ -1,0 +1,80 @@
+-- Sheets: `parse_ruleset`, `parse_at_rule`, `parse_statement` and `parse_stylesheet` of src/css/parser.rs.
+use Prim.Native.Nat.{ℕ, zero, suc, _+_}
+use mathlib.Core.Bool.{Bool, true, false}
+use mathlib.Core.List.{List, [], _∷_, _++_, map}
+use lib.ListN.{length, getD, drop}
+use Rattle.combinators.specs.Ascii as ascii
+use Rattle.combinators.specs.Choice.{pick, is}
+use Rattle.combinators.specs.Parsed.{onParsed}
+use Rattle.lexer.specs.Name.{identOf}
+use Rattle.lexer.specs.Whitespace.{skipWhitespace}
+use Rattle.syntax.specs.Selector.{Selector, RuleSet}
+use Rattle.declarations.specs.Value.{statementOf}
+use Rattle.declarations.specs.Rules.{startsAt, declarationsOf}
+use Rattle.sheets.specs.Outcome.{Outcome, reads, fails, panics, onOutcome, behind, orElse}
+use Rattle.sheets.specs.Selector.{selectorOf}
+
+-- the place behind white space and comments from i on
+unfoldable pub spaced : List ℕ → ℕ → ℕ
+spaced t i = i + skipWhitespace (drop i t)
+
+-- ---- selectors, parted by ',' and white space or none; it stops before a ',' that no selector follows
+unfoldable pub moreSelectors : ℕ → List ℕ → Outcome (List Selector)
+moreSelectors zero t = reads 0 []
+moreSelectors (suc l) t =
+    let w = 1 + skipWhitespace (drop 1 t) in
+    pick (is (getD t 0 0) ascii.comma)
+    (onOutcome (selectorOf (drop w t)) (λ n s. behind (w + n) (moreSelectors l (drop (w + n) t)) (λ ss. s ∷ ss)) (reads 0 []) (λ p. panics (w + p)))
+    (reads 0 [])
+
+unfoldable pub selectorsOf : List ℕ → Outcome (List Selector)
+selectorsOf t =
+    onOutcome (selectorOf t) (λ n s. behind n (moreSelectors (length t) (drop n t)) (λ ss. s ∷ ss)) (reads 0 []) (λ p. panics p)
+
+-- ---- `parse_ruleset`. Behind n bytes: '{', declarations, ';' or none, '}', with white space or none between them and behind
+unfoldable pub blockOf : List ℕ → ℕ → ℕ → List Selector → Outcome RuleSet
+blockOf t start n ss =
+    let o = spaced t n in
+    let d = spaced t (o + 1) in
+    let r = declarationsOf (drop d t) in
+    let e = spaced t (d + r .taken) in
+    let f = spaced t (pick (is (getD t e 0) ascii.semicolon) (e + 1) e) in
+    pick (is (getD t o 0) ascii.leftCurlyBracket)
+    (pick (is (getD t f 0) ascii.rightCurlyBracket)
+    (reads (spaced t (f + 1)) (record { selectors = ss; declarations = map (startsAt d) (r .declarations); start = start })) fails)
+    fails
+
+unfoldable pub rulesetOf : List ℕ → Outcome RuleSet
+rulesetOf t =
+    let w = skipWhitespace t in
+    onOutcome (selectorsOf (drop w t)) (λ n ss. blockOf t w (w + n) ss) fails (λ p. panics (w + p))
+
+-- ---- `parse_at_rule`: '@', a name, and all to the end of the statement, its ';' included
+unfoldable pub atRuleOf : List ℕ → Outcome (List RuleSet)
+atRuleOf t =
+    let a = skipWhitespace t in
+    let i = spaced t (a + 1) in
+    pick (is (getD t a 0) ascii.commercialAt)
+    (onParsed (identOf (drop i t))
+    (λ n name. let r = statementOf true (drop (i + n) t) in pick (r .balanced) (reads (i + n + r .taken) []) fails) fails)
+    fails
+
+-- `parse_statement`: a rule, or an at-rule, which says nothing
+unfoldable pub statementsOf : List ℕ → Outcome (List RuleSet)
+statementsOf t = orElse (behind 0 (rulesetOf t) (λ r. r ∷ [])) (atRuleOf t)
+
+-- a rule that stands at a byte
+unfoldable pub movedBy : ℕ → RuleSet → RuleSet
+movedBy at r = record { selectors = r .selectors; declarations = map (startsAt at) (r .declarations); start = at + r .start }
+
+-- ---- `parse_stylesheet`: statements as long as they read, from the rest t on, which starts at `at`; the first number is more than the bytes
+-- left. It reads to the first byte not read, or the crate panics; it never fails.
+unfoldable pub sheetFrom : ℕ → List ℕ → ℕ → Outcome (List RuleSet)
+sheetFrom zero t at = reads at []
+sheetFrom (suc l) t at =
+    onOutcome (statementsOf t)
+    (λ n rs. onOutcome (sheetFrom l (drop n t) (at + n)) (λ stop more. reads stop (map (movedBy at) rs ++ more)) fails (λ p. panics p))
+    (reads at []) (λ p. panics (at + p))
+
+unfoldable pub sheetOf : List ℕ → Outcome (List RuleSet)
+sheetOf s = sheetFrom (length s + 1) s 0
