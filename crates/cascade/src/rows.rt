@@ -2,13 +2,12 @@
 use crate::slots::Slot;
 use crate::specificity::Specificity;
 use combinators::stores::wipe_numbers;
-use syntax::rows::FLAG_FALSE;
 use syntax::rows::FLAG_TRUE;
+use syntax::rows::flag_of;
 ghost use mathlib.Core.Path.{_≡_};
 ghost use Prim.Native.Nat.{_+_, _*_, _<_};
 ghost use lib.ListN.{set, take, drop};
 ghost use lib.Seq.{sets};
-ghost use Rattle.syntax.specs.Layout.{flag};
 ghost use Rattle.cascade.specs.Slot.{inheritedSlot};
 ghost use Rattle.cascade.specs.Record.{recordCount};
 ghost use Rattle.cascade.specs.Row.{slotAt, slotNumbers, recordPlace, presentFlag, styleRowWidth, rewriteRecord, RowRoom, SlotRoom, Merged, MergedInBookOrder, Inherited, InheritedInPlace, InheritedWithin, TwoRooms, InheritedInBookOrder, Emptied};
@@ -51,15 +50,6 @@ pub const BEFORE: usize = 1;
 pub const AFTER: usize = 2;
 
 pub const STYLE_ROW_WIDTH: usize = RECORD_COUNT * RECORD_WIDTH;
-
-fn flag_of(b: bool) -> u32
-    ensures { λ r. ⌜ r ≡ flag b ⌝ }
-{
-    if b {
-        return FLAG_TRUE;
-    }
-    FLAG_FALSE
-}
 
 // The slot that begins at a place.
 fn read_slot(row: &[u32], at: usize) -> Slot

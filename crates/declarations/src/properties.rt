@@ -15,17 +15,15 @@ use syntax::rows::BACKGROUND_COLOR;
 use syntax::rows::COLOR;
 use syntax::rows::CONTENT;
 use syntax::rows::DISPLAY;
-use syntax::rows::FLAG_FALSE;
-use syntax::rows::FLAG_TRUE;
 use syntax::rows::HEIGHT;
 use syntax::rows::MAX_HEIGHT;
 use syntax::rows::OVERFLOW;
 use syntax::rows::OVERFLOW_Y;
 use syntax::rows::UNKNOWN;
 use syntax::rows::WHITE_SPACE;
+use syntax::rows::flag_of;
 ghost use mathlib.Core.Path.{_≡_};
 ghost use Prim.Native.Nat.{_≤_};
-ghost use Rattle.syntax.specs.Layout.{flag};
 ghost use Rattle.declarations.specs.Property.{declOf};
 ghost use Rattle.declarations.specs.View.{tokensAt, Counted};
 ghost use Rattle.declarations.specs.ValueAnswer.{ContentRoom};
@@ -64,13 +62,6 @@ const DISPLAY_PLACE: usize = 7;
 const WHITE_SPACE_PLACE: usize = 8;
 
 const CONTENT_PLACE: usize = 9;
-
-// The number of a flag.
-pub fn flag_of(b: bool) -> u32
-    ensures { λ r. ⌜ r ≡ flag b ⌝ }
-{
-    if b { FLAG_TRUE } else { FLAG_FALSE }
-}
 
 // The unknown declaration, whose name has `name` bytes.
 fn unknown_decl(name: usize) -> Decl

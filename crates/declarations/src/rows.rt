@@ -1,11 +1,11 @@
 // Declarations written to lent rows, and their texts kept in the store.
 use crate::properties::Decl;
-use crate::properties::flag_of;
 use crate::texts::move_down;
 use combinators::stores::emit_number;
 use combinators::stores::wipe_bytes;
 use syntax::rows::CONTENT;
 use syntax::rows::UNKNOWN;
+use syntax::rows::flag_of;
 ghost use mathlib.Core.Path.{_≡_};
 ghost use Prim.Native.Nat.{_+_, _^_, _<_};
 ghost use lib.Seq.{sets};

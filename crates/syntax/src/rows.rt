@@ -1,4 +1,6 @@
 // Rows of declarations and of styles: their columns, and the numbers for what stands in them.
+ghost use mathlib.Core.Path.{_≡_};
+ghost use Rattle.syntax.specs.Layout.{flag};
 
 // Numbers in the row of a declaration: its kind, whether it is important, the byte where it starts, and two more.
 pub const DECLARATION_WIDTH: usize = 5;
@@ -38,6 +40,13 @@ pub const UNKNOWN: u32 = 10;
 pub const FLAG_FALSE: u32 = 0;
 
 pub const FLAG_TRUE: u32 = 1;
+
+// The number of a flag.
+pub fn flag_of(b: bool) -> u32
+    ensures { λ r. ⌜ r ≡ flag b ⌝ }
+{
+    if b { FLAG_TRUE } else { FLAG_FALSE }
+}
 
 // The words of `overflow` and of `white-space`.
 pub const OVERFLOW_VISIBLE: u32 = 0;

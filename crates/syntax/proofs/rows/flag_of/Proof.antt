@@ -1,7 +1,7 @@
 use Rattle.syntax.specs.Layout.{flag}
 use borrow.Author.Needs.{needs}
-use Rattle.declarations.proofs.properties.flag_of.Statement.{statement}
-use Rattle.declarations.proofs.properties.flag_of.Tie as tie
+use Rattle.syntax.proofs.rows.flag_of.Statement.{statement}
+use Rattle.syntax.proofs.rows.flag_of.Tie as tie
 
 returns : tie.Need-returns
 unfolding flag
