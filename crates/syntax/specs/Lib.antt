@@ -3,3 +3,5 @@ pub mod Style
 pub mod Stream
 pub mod Selector
 pub mod Layout
+pub mod Signed
+pub mod RuleLayout

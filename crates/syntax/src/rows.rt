@@ -1,4 +1,4 @@
-// Rows of declarations and of styles: their columns, and the numbers for what stands in them.
+// Rows of components, selectors, rules, declarations and styles: their columns, and the numbers for what stands in them.
 ghost use mathlib.Core.Path.{_≡_};
 ghost use Rattle.syntax.specs.Layout.{flag};
 
@@ -84,3 +84,56 @@ pub const DISPLAY_SLOT: u32 = 2;
 pub const WHITE_SPACE_SLOT: u32 = 3;
 
 pub const CONTENT_SLOT: u32 = 4;
+
+// Numbers in the row of a component: its kind, where its texts start, and two more.
+pub const COMPONENT_WIDTH: usize = 4;
+
+pub const COMPONENT_KIND: usize = 0;
+
+pub const COMPONENT_TEXT: usize = 1;
+
+pub const COMPONENT_FIRST: usize = 2;
+
+pub const COMPONENT_SECOND: usize = 3;
+
+// The kinds, which are those of the compiled sheet.
+pub const STAR: u32 = 0;
+
+pub const CLASS: u32 = 1;
+
+pub const ELEMENT: u32 = 2;
+
+pub const HASH: u32 = 3;
+
+pub const CHILD: u32 = 4;
+
+pub const DESCENDANT: u32 = 5;
+
+pub const NTH: u32 = 6;
+
+pub const ATTRIBUTE: u32 = 7;
+
+pub const ATTRIBUTE_EQUAL: u32 = 8;
+
+// Numbers before the components of a selector: how many they are, and its pseudo element.
+pub const SELECTOR_HEAD: usize = 2;
+
+pub const SELECTOR_COMPONENTS: usize = 0;
+
+pub const SELECTOR_PSEUDO: usize = 1;
+
+// The pseudo elements.
+pub const PSEUDO_NONE: u32 = 0;
+
+pub const PSEUDO_BEFORE: u32 = 1;
+
+pub const PSEUDO_AFTER: u32 = 2;
+
+// Numbers before the selectors of a rule: its first byte, how many selectors it has, and how many declarations, which stand behind them.
+pub const RULE_HEAD: usize = 3;
+
+pub const RULE_START: usize = 0;
+
+pub const RULE_SELECTORS: usize = 1;
+
+pub const RULE_DECLARATIONS: usize = 2;

@@ -1,0 +1,1 @@
+// Pages: rows of nodes and attributes over one byte text, and the path of an element.
