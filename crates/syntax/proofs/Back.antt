@@ -9,7 +9,7 @@ use lib.Seq.{sets}
 use Rattle.combinators.specs.Choice.{pick, is}
 use Rattle.syntax.specs.Declaration.{Colour, Overflow, visible, hidden, scroll, auto, WhiteSpace, normal, pre, preWrap, Decl, color, backgroundColor, height, maxHeight, overflow, overflowY, display, whiteSpace, content, unknown, Declaration}
 use Rattle.syntax.specs.Layout.{flag, flagOf, overflowNumber, overflowOf, whiteSpaceNumber, whiteSpaceOf, colourNumber, colourOf, declText, declarationText, declRow, declarationRow, declOf, readDeclaration, declarationRows, declarationTexts, declarationsAt, styleTextOf, styleText, styleRowOf, styleRow, styleOf, readStyle, styleRows, styleTexts, stylesAt}
-use Rattle.syntax.specs.Stream.{Read, textsMany}
+use Rattle.syntax.specs.Stream.{Read, readMany, textsMany}
 use Rattle.syntax.specs.Style as style
 use Rattle.syntax.specs.Style.{Style, StyleDecl}
 use Rattle.syntax.proofs.Streams.{Held, held-part, All, many-back, sets-drop, sets-held}
@@ -94,14 +94,18 @@ module _ (store : List ℕ) where
   unfolding declarationRow declarationText
   declaration-back f d t u h = rw (decl-back (flag (d .important)) (d .start) f (d .decl) t u h, flag-back (d .important))
 
-  -- declarations that were written behind f bytes of text are read back, whatever stands behind them
+  -- declarations that were written behind f bytes of text are read back, and what stands behind them is left
+  pub declarations-read : (ds : List Declaration) (f : ℕ) (t : List ℕ) → DeclarationsFit ds → Held store f (declarationTexts ds)
+      → readMany (readDeclaration store) (length ds) (declarationRows f ds ++ t) ≡ record { value = ds; rest = t }
+  unfolding declarationRows declarationTexts
+  declarations-read ds f t u h =
+      many-back store declarationRow declarationText (readDeclaration store) (λ d. d) (λ d. DeclFits (d .decl)) (f + length (textsMany declarationText ds)) (λ f d t u h _. declaration-back f d t u h) ds f t u h (omega arith)
+      ∙ rw (map-id ds)
+
   pub declarations-back : (ds : List Declaration) (f : ℕ) (t : List ℕ) → DeclarationsFit ds → Held store f (declarationTexts ds)
       → declarationsAt (declarationRows f ds ++ t) store (length ds) ≡ ds
-  unfolding declarationsAt declarationRows declarationTexts
-  declarations-back ds f t u h =
-      ap (λ (r : Read (List Declaration)). r .value)
-      (many-back store declarationRow declarationText (readDeclaration store) (λ d. d) (λ d. DeclFits (d .decl)) (f + length (textsMany declarationText ds)) (λ f d t u h _. declaration-back f d t u h) ds f t u h (omega arith))
-      ∙ map-id ds
+  unfolding declarationsAt
+  declarations-back ds f t u h = ap (λ (r : Read (List Declaration)). r .value) (declarations-read ds f t u h)
 
   -- ---- one style
   style-of-back : (i f : ℕ) (d : Style) (t : List ℕ) → StyleFits d → Held store f (styleTextOf d)

@@ -1,3 +1,6 @@
 pub mod Parts
 pub mod Streams
 pub mod Back
+pub mod SignedBack
+pub mod RuleRows
+pub mod RowSizes

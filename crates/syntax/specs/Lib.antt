@@ -5,3 +5,4 @@ pub mod Selector
 pub mod Layout
 pub mod Signed
 pub mod RuleLayout
+pub mod RuleSize
