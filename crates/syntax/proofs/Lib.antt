@@ -4,3 +4,4 @@ pub mod Back
 pub mod SignedBack
 pub mod RuleRows
 pub mod RowSizes
+pub mod Writes

@@ -6,3 +6,4 @@ pub mod Layout
 pub mod Signed
 pub mod RuleLayout
 pub mod RuleSize
+pub mod Writing

@@ -1,4 +1,5 @@
-// Rules, selectors, declarations and styles: what they are (specs/), how they lie in rows (specs/Layout.antt, specs/RuleLayout.antt), and the
-// texts that rows name.
+// Rules, selectors, declarations and styles: what they are (specs/), how they lie in rows (specs/Layout.antt, specs/RuleLayout.antt), the
+// texts that rows name, and writers of rows.
 pub mod rows; // rows.rt: the columns of rows, and the numbers for what stands in them
 pub mod texts; // texts.rt: a part of the text store
+pub mod writers; // writers.rt: the rows of components, and the heads of selectors and rules
