@@ -18,11 +18,11 @@ use Rattle.lexer.specs.TokenRow as row
 use Rattle.lexer.specs.Whitespace as whitespace
 use Rattle.decimal.specs.Decimal as decimal
 use Rattle.declarations.specs.Attribute as attribute
-use Rattle.declarations.specs.Colour as colour
-use Rattle.declarations.specs.Property as property
+use Rattle.values.specs.Colour as colour
+use Rattle.values.specs.Property as property
 use Rattle.declarations.specs.Rules as rules
-use Rattle.declarations.specs.Value as value
-use Rattle.declarations.specs.Words as words
+use Rattle.values.specs.Value as value
+use Rattle.values.specs.Words as words
 use Rattle.declarations.specs.Styles as styles
 use Rattle.syntax.specs.Declaration.{normal, color, content, unknown}
 use Rattle.syntax.specs.Style as style

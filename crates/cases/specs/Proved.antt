@@ -10,11 +10,11 @@ use Rattle.cascade.specs.Cases.{red, blue, byType, byClass, byId, rule, byAutho
 use Rattle.cascade.specs.Record.{mainRecord, slotIn, emptyStyle, crateCascade}
 use Rattle.cascade.specs.Slot.{agentOrigin, authorOrigin, held}
 use Rattle.declarations.specs.Attribute.{colourAttribute}
-use Rattle.declarations.specs.Colour.{rgb}
-use Rattle.declarations.specs.Property.{heightOf}
+use Rattle.values.specs.Colour.{rgb}
+use Rattle.values.specs.Property.{heightOf}
 use Rattle.declarations.specs.Rules.{declarationsOf}
-use Rattle.declarations.specs.Value.{valueOf}
-use Rattle.declarations.specs.Words.{Found, found, missing}
+use Rattle.values.specs.Value.{valueOf}
+use Rattle.values.specs.Words.{Found, found, missing}
 use Rattle.lexer.specs.Name.{identOf}
 use Rattle.sheets.specs.Outcome.{reads}
 use Rattle.sheets.specs.Selector.{selectorOf}

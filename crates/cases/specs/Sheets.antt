@@ -17,11 +17,11 @@ use Rattle.lexer.specs.Token as token
 use Rattle.lexer.specs.TokenRow as row
 use Rattle.lexer.specs.Whitespace as whitespace
 use Rattle.decimal.specs.Decimal as decimal
-use Rattle.declarations.specs.Colour as colour
-use Rattle.declarations.specs.Property as property
+use Rattle.values.specs.Colour as colour
+use Rattle.values.specs.Property as property
 use Rattle.declarations.specs.Rules as rules
-use Rattle.declarations.specs.Value as value
-use Rattle.declarations.specs.Words as words
+use Rattle.values.specs.Value as value
+use Rattle.values.specs.Words as words
 use Rattle.syntax.specs.Selector.{star, class, element, child, nth, attributeEqual, none, before, RuleSet}
 use Rattle.sheets.specs.Outcome as outcome
 use Rattle.sheets.specs.Selector as selector

@@ -11,17 +11,17 @@ use Rattle.combinators.specs.Store.{wiped}
 use Rattle.combinators.proofs.Wiped.{wiped-over}
 use Rattle.lexer.specs.TokenRow.{tokenWidth}
 use Rattle.syntax.specs.Declaration.{Colour}
-use Rattle.declarations.specs.Words.{Found, found, missing, onFound}
-use Rattle.declarations.specs.Value.{Statement, statementOf, tokensOf, withoutMark, valueFrom, valueOf}
-use Rattle.declarations.specs.Layout.{textsOf, valueLeft, Room}
-use Rattle.declarations.specs.View.{Counted, tokensAt}
-use Rattle.declarations.specs.Colour.{colourOf}
-use Rattle.declarations.specs.Attribute.{trimmed, faultyColour, orFaulty, colourAttribute}
-use Rattle.declarations.specs.ColourAnswer.{colourAnswer, orFaultyBy}
+use Rattle.values.specs.Words.{Found, found, missing, onFound}
+use Rattle.values.specs.Value.{Statement, statementOf, tokensOf, withoutMark, valueFrom, valueOf}
+use Rattle.values.specs.Layout.{textsOf, valueLeft, Room}
+use Rattle.values.specs.View.{Counted, tokensAt}
+use Rattle.values.specs.Colour.{colourOf}
+use Rattle.values.specs.ColourAnswer.{colourAnswer}
+use Rattle.values.specs.declared.colours.ColourAnswer as answer
+use Rattle.values.specs.declared.statements.ValueAnswer.{ValueAnswer}
+use Rattle.values.specs.declared.statements.ValueAnswer.the-variants as value
+use Rattle.declarations.specs.Attribute.{trimmed, faultyColour, orFaulty, orFaultyBy, colourAttribute}
 use Rattle.declarations.specs.Leaving.{colourLeft}
-use Rattle.declarations.specs.declared.colours.ColourAnswer as answer
-use Rattle.declarations.specs.declared.statements.ValueAnswer.{ValueAnswer}
-use Rattle.declarations.specs.declared.statements.ValueAnswer.the-variants as value
 use Rattle.declarations.proofs.Declaring as declaring
 
 -- ---- `or_faulty`: a colour stays

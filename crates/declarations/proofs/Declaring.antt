@@ -24,26 +24,27 @@ use Rattle.syntax.specs.Declaration.{Decl, color, backgroundColor, height, maxH
 use Rattle.syntax.specs.Layout.{flag, declText, declarationText, declRow, declarationRow, declarationRows, declarationTexts}
 use Rattle.syntax.specs.Stream.{textsMany, rowsMany, part}
 use Rattle.syntax.proofs.Streams.{Held, held-part, sets-held}
-use Rattle.declarations.specs.Value.{Statement, statementOf, tokensOf, isImportant, withoutMark, valueFrom, valueOf}
-use Rattle.declarations.specs.Layout.{rowsOf, textsOf, bracketsAfter, left, ValueLeft, valueAnswer, valueLeft, Room}
-use Rattle.declarations.specs.View.{Counted, tokensAt}
-use Rattle.declarations.specs.Property.{declOf}
+use Rattle.values.specs.Value.{Statement, statementOf, tokensOf, isImportant, withoutMark, valueFrom, valueOf}
+use Rattle.values.specs.Layout.{rowsOf, textsOf, bracketsAfter, left, ValueLeft, valueAnswer, valueLeft, Room}
+use Rattle.values.specs.View.{Counted, tokensAt}
+use Rattle.values.specs.Property.{declOf}
+use Rattle.values.specs.DeclAnswer.{declOfNumbers, declAnswer}
+use Rattle.values.specs.declared.properties.Decl as declared
+use Rattle.values.specs.declared.statements.ValueAnswer.{ValueAnswer}
+use Rattle.values.specs.declared.statements.ValueAnswer.the-variants as value
+use Rattle.values.proofs.DeclLaws.{Textless, decl-text, decl-length}
+use Rattle.values.proofs.Sizes.{Sized, statement-sized, rows-long}
+use Rattle.values.proofs.ValueLaws.{rows-room, texts-room, texts-bits}
+use Rattle.values.proofs.Views.{statement-back}
+use Rattle.values.proofs.Unmarked.{tokens-count, tokens-unmarked, texts-same, Begins, texts-begin, wiped-inner, part-apart, brackets-wiped}
 use Rattle.declarations.specs.Rules.{propertyOf, valueBehind, declarationOf}
-use Rattle.declarations.specs.DeclAnswer.{declOfNumbers, declAnswer, namedDecl, shift, keptText, rowValue, rowBy}
+use Rattle.declarations.specs.DeclRow.{namedDecl, shift, keptText, rowValue, rowBy}
 use Rattle.declarations.specs.Leaving.{kept, keptOf, Used, usedBy, textKept, Leaves, leaves, propertyAnswer, declarationAnswer, declarationLeft, PutRoom, declSaid, Put, PropertyRead, RulesRoom}
-use Rattle.declarations.specs.declared.properties.Decl as declared
-use Rattle.declarations.specs.declared.statements.ValueAnswer.{ValueAnswer}
-use Rattle.declarations.specs.declared.statements.ValueAnswer.the-variants as value
 use Rattle.declarations.specs.declared.rules.Property.{Property}
 use Rattle.declarations.specs.declared.rules.Property.the-variants as property
 use Rattle.declarations.specs.declared.rules.DeclarationAnswer.{DeclarationAnswer}
 use Rattle.declarations.specs.declared.rules.DeclarationAnswer.the-variants as answer
-use Rattle.declarations.proofs.DeclLaws.{Textless, decl-text, decl-length}
 use Rattle.declarations.proofs.PropertyLaws.{Headed, headed}
-use Rattle.declarations.proofs.Sizes.{Sized, statement-sized, rows-long}
-use Rattle.declarations.proofs.Unmarked.{tokens-count, tokens-unmarked, texts-same, Begins, texts-begin, wiped-inner, part-apart, brackets-wiped}
-use Rattle.declarations.proofs.ValueLaws.{rows-room, texts-room, texts-bits}
-use Rattle.declarations.proofs.Views.{statement-back}
 
 -- a store that holds a text holds what it begins with
 held-begin : (l : List ℕ) (f : ℕ) (xs ys : List ℕ) → Begins xs ys → Held l f xs → Held l f ys

@@ -16,12 +16,12 @@ use Rattle.lexer.specs.Whitespace.{skipWhitespace}
 use Rattle.lexer.proofs.Comments.{skip-le}
 use Rattle.lexer.proofs.TokenBounds.{on-holds}
 use Rattle.syntax.specs.Declaration.{Declaration}
-use Rattle.declarations.specs.Layout.{Room}
+use Rattle.values.specs.Layout.{Room}
+use Rattle.values.proofs.Sizes.{statement-sized}
 use Rattle.declarations.specs.Rules.{propertyOf, declarationOf}
 use Rattle.declarations.specs.Leaving.{Used, unused, usedBy, usedThen, textKept, usedMore, usedRules, StyleRoom}
 use Rattle.declarations.proofs.Declaring.{takes}
 use Rattle.declarations.proofs.PropertyLaws.{headed, name-sized}
-use Rattle.declarations.proofs.Sizes.{statement-sized}
 
 -- ---- what is used of n bytes: a token for each at most, and two bytes of text more
 pub record Small (n : ℕ) (u : Used) : Type 0 where

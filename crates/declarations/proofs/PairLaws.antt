@@ -7,16 +7,16 @@ use Rattle.combinators.proofs.Rules.{at-most, above}
 use Rattle.lexer.specs.Name.{isHexDigit, hexDigit}
 use Rattle.syntax.specs.Declaration.{Colour}
 use Rattle.syntax.specs.Layout.{colourNumber}
-use Rattle.declarations.specs.Words.{Found, found, missing, onFound}
-use Rattle.declarations.specs.Colour.{rgb, withoutPlus, parseHex}
+use Rattle.values.specs.Words.{Found, found, missing, onFound}
+use Rattle.values.specs.Colour.{rgb, withoutPlus, parseHex}
+use Rattle.values.specs.ColourAnswer.{numberAnswer, colourAnswer}
+use Rattle.values.specs.declared.colours.ColourAnswer as answer
+use Rattle.values.specs.declared.colours.ColourAnswer.the-variants.{NoColour}
+use Rattle.values.specs.declared.colours.NumberAnswer.{NumberAnswer}
+use Rattle.values.specs.declared.colours.NumberAnswer.the-variants.{Number, NoNumber}
+use Rattle.values.proofs.ColourLaws.{no-colour, a-colour, number-found, number-missing, read-le}
+use Rattle.values.proofs.WordLaws.{found-holds}
 use Rattle.declarations.specs.Attribute.{pairs, faultyColour}
-use Rattle.declarations.specs.ColourAnswer.{numberAnswer, colourAnswer}
-use Rattle.declarations.specs.declared.colours.ColourAnswer as answer
-use Rattle.declarations.specs.declared.colours.ColourAnswer.the-variants.{NoColour}
-use Rattle.declarations.specs.declared.colours.NumberAnswer.{NumberAnswer}
-use Rattle.declarations.specs.declared.colours.NumberAnswer.the-variants.{Number, NoNumber}
-use Rattle.declarations.proofs.ColourLaws.{no-colour, a-colour, number-found, number-missing, read-le}
-use Rattle.declarations.proofs.WordLaws.{found-holds}
 
 -- what is missing whatever the number is, is missing
 none-of : (f : Found ℕ) (g : ℕ → Found Colour) → ((v : ℕ) → g v ≡ missing) → onFound f g missing ≡ missing

@@ -12,12 +12,13 @@ use Rattle.lexer.specs.Token.{Token, textOf}
 use Rattle.syntax.specs.Declaration.{Decl, color, backgroundColor, height, maxHeight, overflow, overflowY, display, whiteSpace, content, unknown}
 use Rattle.syntax.specs.Layout.{flag, declText}
 use Rattle.syntax.specs.Stream.{textsMany, part}
-use Rattle.declarations.specs.Property.{declOf}
-use Rattle.declarations.specs.View.{tokensAt}
-use Rattle.declarations.specs.DeclAnswer.{declOfNumbers, declAnswer, namedDecl, namedBy, shift, keptText, Keeping, rowBy, Narrow}
+use Rattle.values.specs.Property.{declOf}
+use Rattle.values.specs.View.{tokensAt}
+use Rattle.values.specs.DeclAnswer.{declOfNumbers, declAnswer}
+use Rattle.values.specs.declared.properties.Decl as declared
+use Rattle.values.proofs.DeclLaws.{Textless, decl-text}
+use Rattle.declarations.specs.DeclRow.{namedDecl, namedBy, shift, keptText, Keeping, rowBy, Narrow}
 use Rattle.declarations.specs.Leaving.{PutRoom, declSaid, Put}
-use Rattle.declarations.specs.declared.properties.Decl as declared
-use Rattle.declarations.proofs.DeclLaws.{Textless, decl-text}
 
 -- ---- `unmarked`
 module _ (count : ℕ) where

@@ -13,9 +13,10 @@ use Rattle.combinators.proofs.Rules.{is-yes, is-no}
 use Rattle.combinators.proofs.Wiped.{sets-over, wiped-apart, wiped-add}
 use Rattle.syntax.specs.Layout.{unknownKind}
 use Rattle.syntax.specs.Stream.{part}
+use Rattle.values.specs.DeclAnswer.{declOfNumbers}
+use Rattle.values.specs.declared.properties.Decl as declared
 use Rattle.declarations.specs.Moved.{Downward}
-use Rattle.declarations.specs.DeclAnswer.{declOfNumbers, namedBy, shift, keptText, Keeping, rowValue, rowBy}
-use Rattle.declarations.specs.declared.properties.Decl as declared
+use Rattle.declarations.specs.DeclRow.{namedBy, shift, keptText, Keeping, rowValue, rowBy}
 
 -- ---- `named`
 module _ (d : declared.Decl) (names : Bool) where

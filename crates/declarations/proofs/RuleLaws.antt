@@ -20,7 +20,7 @@ use Rattle.lexer.specs.Whitespace.{skipWhitespace}
 use Rattle.syntax.specs.Declaration.{Decl, color, backgroundColor, height, maxHeight, overflow, overflowY, display, whiteSpace, content, unknown, Declaration}
 use Rattle.syntax.specs.Layout.{declarationWidth, declText, declarationText, declRow, declarationRow, declarationRows, declarationTexts}
 use Rattle.syntax.specs.Stream.{textsMany, rowsMany}
-use Rattle.declarations.specs.Layout.{Room}
+use Rattle.values.specs.Layout.{Room}
 use Rattle.declarations.specs.Rules.{declarationOf, Rules, startsAt, moreRules, declarationsOf}
 use Rattle.declarations.specs.Leaving.{kept, keptOf, Used, unused, usedBy, usedThen, textKept, usedMore, usedRules, Leaves, leaves, declarationAnswer, declarationLeft, rulesAnswer, rulesOf, moreLeft, rulesLeft, RulesRoom, MoreRoom, MoreRead}
 use Rattle.declarations.specs.declared.rules.DeclarationAnswer.{DeclarationAnswer}

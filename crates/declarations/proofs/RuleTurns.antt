@@ -18,14 +18,14 @@ use Rattle.lexer.specs.Whitespace.{skipWhitespace}
 use Rattle.syntax.specs.Declaration.{Declaration}
 use Rattle.syntax.specs.Layout.{declarationWidth, declarationText, declarationRow, declarationRows, declarationTexts}
 use Rattle.syntax.specs.Stream.{textsMany, rowsMany}
-use Rattle.declarations.specs.Layout.{Room}
+use Rattle.values.specs.Layout.{Room}
+use Rattle.values.proofs.Turns.{more-turns}
 use Rattle.declarations.specs.Rules.{declarationOf, Rules, startsAt, moreRules, declarationsOf}
 use Rattle.declarations.specs.Leaving.{kept, keptOf, Used, unused, usedBy, usedThen, textKept, usedMore, usedRules, Leaves, leaves, declarationAnswer, declarationLeft, rulesAnswer, rulesOf, moreLeft, rulesLeft, RulesRoom, MoreRoom, MoreRead}
 use Rattle.declarations.specs.declared.rules.DeclarationAnswer.{DeclarationAnswer}
 use Rattle.declarations.specs.declared.rules.DeclarationAnswer.the-variants as answer
 use Rattle.declarations.specs.declared.rules.RulesRead.{RulesRead}
 use Rattle.declarations.proofs.Declaring.{Takes, takes}
-use Rattle.declarations.proofs.Turns.{more-turns}
 use Rattle.declarations.proofs.RuleLaws.{leaves-then, kept-moved, more-next, more-none, more-stop}
 
 -- ---- what is left to read leaves, where c declarations with t bytes of text were read

@@ -12,7 +12,7 @@ use Rattle.syntax.specs.Declaration.{Decl, color, backgroundColor, height, maxH
 use Rattle.syntax.specs.Layout.{declarationWidth, declarationText, declarationRows, declarationTexts, declarationsAt}
 use Rattle.syntax.specs.Stream.{textsMany}
 use Rattle.syntax.proofs.Back.{DeclFits, DeclarationsFit, declarations-written}
-use Rattle.declarations.specs.DeclAnswer.{namedDecl}
+use Rattle.declarations.specs.DeclRow.{namedDecl}
 use Rattle.declarations.specs.Rules.{declarationsOf}
 use Rattle.declarations.specs.Leaving.{kept, usedRules, rulesOf, leaves, rulesLeft, RulesRoom}
 use Rattle.declarations.proofs.StyleAttribute.{bounded, rows-width}

@@ -25,15 +25,15 @@ use Rattle.syntax.specs.Style as style
 use Rattle.syntax.specs.Style.{Style, StyleDecl}
 use Rattle.syntax.proofs.Streams.{All, sets-drop}
 use Rattle.syntax.proofs.Back.{DeclFits, StyleFits, DeclarationsFit, StylesFit, styles-written}
+use Rattle.values.specs.Value.{valueOf}
+use Rattle.values.proofs.DeclLaws.{decl-fits}
 use Rattle.declarations.specs.Attribute.{styleAttribute}
-use Rattle.declarations.specs.DeclAnswer.{namedDecl}
+use Rattle.declarations.specs.DeclRow.{namedDecl}
 use Rattle.declarations.specs.Rules.{propertyOf, valueBehind, declarationOf, Rules, startsAt, moreRules, declarationsOf}
-use Rattle.declarations.specs.Value.{valueOf}
 use Rattle.declarations.specs.Leaving.{kept, textKept, usedRules, Leaves, leaves, rulesAnswer, rulesOf, rulesLeft, stylesAnswer, styleLeft, StyleRoom}
 use Rattle.declarations.specs.StyleNumbers.{styleNumbers, styleCount, StylesRoom}
 use Rattle.declarations.specs.Styles.{one, styleOf, hidesOverflow, zeroHeight, anyDecl, ownStyles, stylesOf}
 use Rattle.declarations.specs.declared.rules.RulesRead.{RulesRead}
-use Rattle.declarations.proofs.DeclLaws.{decl-fits}
 use Rattle.declarations.proofs.Declaring.{takes}
 use Rattle.declarations.proofs.RuleLaws.{declaration-width}
 use Rattle.declarations.proofs.StyleLaws.{NamelessDecl, Nameless, numbers-long, own-rows, own-texts}

@@ -19,7 +19,7 @@ use Rattle.unicode.proofs.Scalars.{utf8-some, continuation-range}
 use Rattle.unicode.proofs.RoundTrip.{read-back}
 use Rattle.unicode.proofs.Reading.{at-none}
 use Rattle.unicode.proofs.Trimming.{white-value, white-none}
-use Rattle.declarations.specs.Colour.{allOf}
+use Rattle.values.specs.Colour.{allOf}
 use Rattle.declarations.specs.Attribute.{allWhite, trimmedEnd}
 
 -- characters without those of White_Space at the end

@@ -21,13 +21,13 @@ use Rattle.unicode.proofs.Scalars.{utf8-ascii, scalar-low}
 use Rattle.unicode.proofs.RoundTrip.{read-back}
 use Rattle.unicode.proofs.Trimming.{white-value}
 use Rattle.lexer.specs.Name.{isHexDigit, hexDigit}
-use Rattle.declarations.specs.Words.{missing}
-use Rattle.declarations.specs.Colour.{allOf, withoutPlus, digitsIn, parseHex}
+use Rattle.values.specs.Words.{missing}
+use Rattle.values.specs.Colour.{allOf, withoutPlus, digitsIn, parseHex}
+use Rattle.values.specs.ColourAnswer.{colourAnswer}
+use Rattle.values.specs.declared.colours.ColourAnswer.{ColourAnswer}
+use Rattle.values.specs.declared.colours.ColourAnswer.the-variants.{NoColour}
+use Rattle.values.proofs.ColourLaws.{no-colour, bad-read, no-plus}
 use Rattle.declarations.specs.Attribute.{trimmedStart, allWhite, trimmedEnd, trimmed, pairs, faultyColour}
-use Rattle.declarations.specs.ColourAnswer.{colourAnswer}
-use Rattle.declarations.specs.declared.colours.ColourAnswer.{ColourAnswer}
-use Rattle.declarations.specs.declared.colours.ColourAnswer.the-variants.{NoColour}
-use Rattle.declarations.proofs.ColourLaws.{no-colour, bad-read, no-plus}
 use Rattle.declarations.proofs.PairLaws.{first-missing, second-missing, third-missing, short, long}
 
 -- ---- bytes that no pair has

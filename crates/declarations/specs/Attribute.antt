@@ -15,9 +15,12 @@ use Rattle.unicode.specs.WhiteSpace.{isWhiteSpace, member}
 use Rattle.lexer.specs.Name.{isHexDigit, hexDigit}
 use Rattle.syntax.specs.Declaration.{Colour}
 use Rattle.syntax.specs.Style.{StyleDecl}
-use Rattle.declarations.specs.Words.{Found, found, missing, onFound}
-use Rattle.declarations.specs.Value as values
-use Rattle.declarations.specs.Colour.{allOf, colourOf, digitsIn, numeral, parseHex, rgb, withoutPlus}
+use Rattle.values.specs.Words.{Found, found, missing, onFound}
+use Rattle.values.specs.Value as values
+use Rattle.values.specs.Colour.{allOf, colourOf, digitsIn, numeral, parseHex, rgb, withoutPlus}
+use Rattle.values.specs.ColourAnswer.{colourAnswer}
+use Rattle.values.specs.declared.colours.ColourAnswer as answer
+use Rattle.values.specs.declared.colours.ColourAnswer.the-variants.{NoColour}
 use Rattle.declarations.specs.Rules.{declarationsOf}
 use Rattle.declarations.specs.Styles.{stylesOf}
 
@@ -64,6 +67,11 @@ test-faulty = (refl, refl)
 unfoldable pub orFaulty : Found Colour → List ℕ → Found Colour
 orFaulty (found c) s = found c
 orFaulty missing s = faultyColour (trimmed s)
+
+-- on a colour as the code answers it: the answer, or else that of a text that lacks its '#'
+unfoldable pub orFaultyBy : answer.ColourAnswer → List ℕ → answer.ColourAnswer
+orFaultyBy (answer.the-variants.Colour v) s = answer.the-variants.Colour v
+orFaultyBy NoColour s = colourAnswer (faultyColour (trimmed s))
 
 -- `parse_color_attribute`
 unfoldable pub colourAttribute : List ℕ → Found Colour

@@ -18,17 +18,18 @@ use Rattle.syntax.specs.Declaration.{Declaration}
 use Rattle.syntax.specs.Stream.{textsMany, part}
 use Rattle.syntax.specs.Layout.{declarationWidth, flag, declarationText, declarationRows, declarationTexts, styleWidth, styleRows, styleTexts}
 use Rattle.syntax.specs.Style.{StyleDecl}
-use Rattle.declarations.specs.Value.{statementOf}
-use Rattle.declarations.specs.Layout.{textsOf, Room}
+use Rattle.values.specs.Value.{statementOf}
+use Rattle.values.specs.Layout.{textsOf, Room}
+use Rattle.values.specs.Property.{declOf}
+use Rattle.values.specs.View.{tokensAt}
+use Rattle.values.specs.DeclAnswer.{declAnswer}
+use Rattle.values.specs.declared.properties.Decl as declared
+use Rattle.values.specs.ColourAnswer.{colourAnswer}
+use Rattle.values.specs.declared.colours.ColourAnswer.{ColourAnswer}
 use Rattle.declarations.specs.Rules.{propertyOf, declarationOf, Rules, startsAt, moreRules, declarationsOf}
-use Rattle.declarations.specs.Property.{declOf}
-use Rattle.declarations.specs.View.{tokensAt}
-use Rattle.declarations.specs.DeclAnswer.{declAnswer, namedDecl, keptText, rowBy}
-use Rattle.declarations.specs.declared.properties.Decl as declared
+use Rattle.declarations.specs.DeclRow.{namedDecl, keptText, rowBy}
 use Rattle.declarations.specs.Attribute.{styleAttribute, colourAttribute}
-use Rattle.declarations.specs.ColourAnswer.{colourAnswer}
 use Rattle.declarations.specs.declared.attributes.StylesRead.{StylesRead}
-use Rattle.declarations.specs.declared.colours.ColourAnswer.{ColourAnswer}
 use Rattle.declarations.specs.declared.rules.Property.{Property}
 use Rattle.declarations.specs.declared.rules.Property.the-variants as property
 use Rattle.declarations.specs.declared.rules.DeclarationAnswer.{DeclarationAnswer}

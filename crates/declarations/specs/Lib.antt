@@ -1,16 +1,7 @@
-pub mod Words
-pub mod Value
-pub mod Layout
-pub mod View
-pub mod Colour
-pub mod ColourAnswer
-pub mod Property
-pub mod ValueAnswer
 pub mod Rules
-pub mod DeclAnswer
+pub mod DeclRow
 pub mod Leaving
 pub mod Styles
 pub mod StyleNumbers
 pub mod Attribute
 pub mod Moved
-pub mod ColourRows

@@ -1,27 +1,27 @@
 // Attributes: `parse_style_attribute` and `parse_color_attribute`, and the colour of a text that lacks its '#'.
-use crate::colours::ColourAnswer;
-use crate::colours::MAXIMUM_BYTE;
-use crate::colours::NumberAnswer;
-use crate::colours::colour_number;
-use crate::colours::parse_hex;
 use crate::rules::parse_rules;
 use crate::rules::unmarked;
 use crate::rules::wipe_work;
-use crate::statements::ValueAnswer;
-use crate::statements::parse_value;
 use crate::styles::styles_from_properties;
-use crate::values::parse_color;
 use combinators::stores::wipe_bytes;
 use combinators::stores::wipe_numbers;
 use syntax::rows::DECLARATION_WIDTH;
 use unicode::trim::trim_start;
+use values::colour_values::parse_color;
+use values::colours::ColourAnswer;
+use values::colours::MAXIMUM_BYTE;
+use values::colours::NumberAnswer;
+use values::colours::colour_number;
+use values::colours::parse_hex;
+use values::statements::ValueAnswer;
+use values::statements::parse_value;
 ghost use mathlib.Core.Path.{_≡_};
 ghost use Prim.Native.Nat.{_≤_};
 ghost use lib.ListN.{length};
-ghost use Rattle.declarations.specs.Attribute.{pairs, faultyColour, trimmed};
-ghost use Rattle.declarations.specs.Layout.{Room};
+ghost use Rattle.values.specs.Layout.{Room};
+ghost use Rattle.values.specs.ColourAnswer.{colourAnswer};
+ghost use Rattle.declarations.specs.Attribute.{pairs, faultyColour, trimmed, orFaultyBy};
 ghost use Rattle.declarations.specs.Leaving.{colourLeft, styleLeft, StyleRoom};
-ghost use Rattle.declarations.specs.ColourAnswer.{colourAnswer, orFaultyBy};
 
 // The count of styles, and the bytes of text that they keep.
 pub struct StylesRead {

@@ -1,17 +1,17 @@
 // Declarations written to lent rows, and their texts kept in the store.
-use crate::properties::Decl;
 use crate::texts::move_down;
 use combinators::stores::emit_number;
 use combinators::stores::wipe_bytes;
 use syntax::rows::CONTENT;
 use syntax::rows::UNKNOWN;
 use syntax::rows::flag_of;
+use values::properties::Decl;
 ghost use mathlib.Core.Path.{_≡_};
 ghost use Prim.Native.Nat.{_+_, _^_, _<_};
 ghost use lib.Seq.{sets};
 ghost use Rattle.combinators.specs.Store.{wiped};
 ghost use Rattle.syntax.specs.Layout.{flag};
-ghost use Rattle.declarations.specs.DeclAnswer.{namedBy, shift, keptText, Keeping, rowValue, rowBy, Narrow};
+ghost use Rattle.declarations.specs.DeclRow.{namedBy, shift, keptText, Keeping, rowValue, rowBy, Narrow};
 
 // The declaration, without its name where it is unknown and names are not kept.
 pub fn named(decl: Decl, names: bool) -> Decl

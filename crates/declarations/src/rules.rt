@@ -1,11 +1,8 @@
 // Declarations: `parse_declaration` and `parse_rules`. Each writes the rows of what it read to `rules` from `place` on and its texts to
 // `store` from `fill` on; `tokens`, `brackets` and the rest of what was used of `store` are zero again.
-use crate::properties::decl_of;
 use crate::rows::keep_text;
 use crate::rows::named;
 use crate::rows::put_declaration;
-use crate::statements::ValueAnswer;
-use crate::statements::parse_value;
 use combinators::bytes::byte_is;
 use combinators::stores::wipe_bytes;
 use combinators::stores::wipe_numbers;
@@ -15,6 +12,9 @@ use lexer::rows::TOKEN_WIDTH;
 use lexer::whitespace::skip_optional_whitespace;
 use syntax::rows::DECLARATION_WIDTH;
 use syntax::texts::part_of;
+use values::properties::decl_of;
+use values::statements::ValueAnswer;
+use values::statements::parse_value;
 ghost use mathlib.Core.Path.{_≡_};
 ghost use Prim.Native.Nat.{_+_, _-_, _*_, _^_, _≤_, _<_};
 ghost use lib.ListN.{length, drop};

@@ -17,8 +17,8 @@ use Rattle.lexer.specs.Token.{Token, stringOf, textOf}
 use Rattle.lexer.specs.TokenRow.{stringKind}
 use Rattle.lexer.specs.Whitespace.{skipWhitespace}
 use Rattle.syntax.specs.Selector.{Component, star, class, element, hash, child, descendant, nth, attribute, attributeEqual, PseudoElement, none, before, after, Selector}
-use Rattle.declarations.specs.Colour.{numeral}
-use Rattle.declarations.specs.Words.{same, isKind}
+use Rattle.values.specs.Colour.{numeral}
+use Rattle.values.specs.Words.{same, isKind}
 use Rattle.sheets.specs.Outcome.{Outcome, reads, fails, panics, onOutcome, behind, parsed, orElse}
 
 -- ---- components

@@ -9,7 +9,7 @@ use Rattle.combinators.specs.Parsed.{onParsed}
 use Rattle.lexer.specs.Name.{identOf}
 use Rattle.lexer.specs.Whitespace.{skipWhitespace}
 use Rattle.syntax.specs.Selector.{Selector, RuleSet}
-use Rattle.declarations.specs.Value.{statementOf}
+use Rattle.values.specs.Value.{statementOf}
 use Rattle.declarations.specs.Rules.{startsAt, declarationsOf}
 use Rattle.sheets.specs.Outcome.{Outcome, reads, fails, panics, onOutcome, behind, orElse}
 use Rattle.sheets.specs.Selector.{selectorOf}

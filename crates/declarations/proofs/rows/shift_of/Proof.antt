@@ -1,5 +1,5 @@
 use Rattle.combinators.proofs.Rules.{cases}
-use Rattle.declarations.specs.DeclAnswer.{shift}
+use Rattle.declarations.specs.DeclRow.{shift}
 use Rattle.declarations.proofs.rows.shift_of.Statement.{statement}
 use Rattle.declarations.proofs.rows.shift_of.Tie as tie
 

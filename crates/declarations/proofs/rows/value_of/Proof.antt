@@ -1,5 +1,5 @@
 use Rattle.combinators.proofs.Rules.{at-most, above}
-use Rattle.declarations.specs.DeclAnswer.{rowValue}
+use Rattle.declarations.specs.DeclRow.{rowValue}
 use mathlib.Core.Path.{refl}
 use borrow.Author.Needs.{needs}
 use Rattle.declarations.proofs.rows.value_of.Statement.{statement}

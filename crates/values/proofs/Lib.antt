@@ -1,0 +1,17 @@
+pub mod HeightLaws
+pub mod WordLaws
+pub mod ColourLaws
+pub mod Nesting
+pub mod Turns
+pub mod Views
+pub mod TokenViews
+pub mod Sizes
+pub mod Marks
+pub mod ValueLaws
+pub mod Unmarked
+pub mod KeywordLaws
+pub mod ContentLaws
+pub mod ColourValues
+pub mod ColourRange
+pub mod DeclLaws
+pub mod CssColour

@@ -1,0 +1,10 @@
+pub mod Words
+pub mod Value
+pub mod Layout
+pub mod View
+pub mod Colour
+pub mod ColourAnswer
+pub mod Property
+pub mod ValueAnswer
+pub mod DeclAnswer
+pub mod ColourRows
