@@ -32,17 +32,17 @@ module _ (s : List ℕ) (at : ℕ) where
   skipped-le h e = omega (arith, skipped-from e, skip-from-le h)
 
 -- ---- what the answer of `parse_ident` says
-record Named (p : Parsed (List ℕ)) (n m : ℕ) : Type 0 where
-  name : List ℕ
-  reads : p ≡ ok n name
-  long : m ≡ length name
+pub record Named (p : Parsed (List ℕ)) (n m : ℕ) : Type 0 where
+  pub name : List ℕ
+  pub reads : p ≡ ok n name
+  pub long : m ≡ length name
 
-named-from : (p : Parsed (List ℕ)) (n m : ℕ) → code.Text n m ≡ nameAnswer p → Named p n m
+pub named-from : (p : Parsed (List ℕ)) (n m : ℕ) → code.Text n m ≡ nameAnswer p → Named p n m
 unfolding nameAnswer
 named-from (ok i b) n m e = let q : n ≡ i = cc in record { name = b; reads = rw q; long = cc }
 named-from err n m e = absurd (let z : _≡_ {A = ℕ} 0 1 = cc in omega arith)
 
-unnamed-from : (p : Parsed (List ℕ)) → code.NoName ≡ nameAnswer p → p ≡ err
+pub unnamed-from : (p : Parsed (List ℕ)) → code.NoName ≡ nameAnswer p → p ≡ err
 unfolding nameAnswer
 unnamed-from (ok i b) e = absurd (let z : _≡_ {A = ℕ} 0 1 = cc in omega arith)
 unnamed-from err e = refl

@@ -1,52 +1,30 @@
 -- `parse_rules`: declarations one behind the other, in the meaning and in the stores.
 use mathlib.Core.Path.{_≡_, refl, sym, ap, _∙_}
 use mathlib.Core.Bool.{Bool, true, false}
-use mathlib.Core.List.{List, [], _∷_, _++_, append-nil, map}
+use mathlib.Core.List.{List, [], _∷_, append-nil}
 use mathlib.Core.Logic.{⊎-elim}
-use Prim.Native.Nat.{ℕ, zero, suc, _+_, _-_, _*_, _^_, _≤_, _<_}
-use native.Mathlib.Nat.{add-zero}
+use Prim.Native.Nat.{ℕ, zero, suc, _+_, _-_, _*_, _≤_}
 use native.Mathlib.Omega.{arith}
-use lib.ListN.{length, getD, take, drop, length-append, length-drop}
-use lib.Seq.{sets, length-sets, drop-drop}
+use lib.ListN.{length, getD, drop}
+use lib.Seq.{drop-drop}
 use Rattle.combinators.specs.Ascii as ascii
 use Rattle.combinators.specs.Choice.{pick, is}
-use Rattle.combinators.specs.Parsed.{Parsed, ok, err, onParsed}
-use Rattle.combinators.specs.Store.{wiped, most}
-use Rattle.combinators.proofs.Lists.{rest, first}
+use Rattle.combinators.specs.Parsed.{ok, err, onParsed}
+use Rattle.combinators.specs.Store.{most}
+use Rattle.combinators.proofs.Lists.{first}
 use Rattle.combinators.proofs.Rules.{lt-or-ge}
-use Rattle.combinators.proofs.Wiped.{sets-append, most-first, most-second, wiped-none, wiped-twice, wiped-kept, length-wiped}
+use Rattle.combinators.proofs.Wiped.{sets-append, most-first, most-second, wiped-twice, wiped-kept}
 use Rattle.lexer.specs.TokenRow.{tokenWidth}
 use Rattle.lexer.specs.Whitespace.{skipWhitespace}
-use Rattle.syntax.specs.Declaration.{Decl, color, backgroundColor, height, maxHeight, overflow, overflowY, display, whiteSpace, content, unknown, Declaration}
-use Rattle.syntax.specs.Layout.{declarationWidth, declText, declarationText, declRow, declarationRow, declarationRows, declarationTexts}
+use Rattle.syntax.specs.Declaration.{Declaration}
+use Rattle.syntax.specs.Layout.{declarationWidth, declarationText, declarationRow, declarationRows, declarationTexts}
 use Rattle.syntax.specs.Stream.{textsMany, rowsMany}
-use Rattle.values.specs.Layout.{Room}
-use Rattle.declarations.specs.Rules.{declarationOf, Rules, startsAt, moreRules, declarationsOf}
-use Rattle.declarations.specs.Leaving.{kept, keptOf, Used, unused, usedBy, usedThen, textKept, usedMore, usedRules, Leaves, leaves, declarationAnswer, declarationLeft, rulesAnswer, rulesOf, moreLeft, rulesLeft, RulesRoom, MoreRoom, MoreRead}
-use Rattle.declarations.specs.declared.rules.DeclarationAnswer.{DeclarationAnswer}
+use Rattle.syntax.proofs.RowSizes.{length-declaration}
+use Rattle.declarations.specs.Rules.{declarationOf, startsAt, moreRules}
+use Rattle.declarations.specs.Leaving.{kept, Used, unused, usedBy, usedThen, textKept, usedMore, Leaves, leaves}
 use Rattle.declarations.specs.declared.rules.DeclarationAnswer.the-variants as answer
-use Rattle.declarations.specs.declared.rules.RulesRead.{RulesRead}
 
 -- ---- one declaration, and more behind it, in the stores
--- a row has its width
-row-width : (i s f : ℕ) (d : Decl) → length (declRow i s f d) ≡ declarationWidth
-unfolding declRow
-row-width i s f (color c) = refl
-row-width i s f (backgroundColor c) = refl
-row-width i s f (height z) = refl
-row-width i s f (maxHeight z) = refl
-row-width i s f (overflow o) = refl
-row-width i s f (overflowY o) = refl
-row-width i s f (display n) = refl
-row-width i s f (whiteSpace w) = refl
-row-width i s f (content t) = refl
-row-width i s f (unknown t) = refl
-
--- so has a declaration's
-pub declaration-width : (f : ℕ) (d : Declaration) → length (declarationRow f d) ≡ declarationWidth
-unfolding declarationRow
-declaration-width f d = row-width _ _ f (d .decl)
-
 -- the greater of two numbers, times a width
 most-width : (a b : ℕ) → most (tokenWidth * a) (tokenWidth * b) ≡ tokenWidth * most a b
 most-width a b =
@@ -68,7 +46,7 @@ module _ {A B : Type 0} (a₁ : A) (a₂ : B) (d : Declaration) (ds : List Decla
         append-nil (declarationRow fill d),
         append-nil (declarationText d),
         sets-append rules place (declarationRow fill d) (rowsMany declarationRow declarationText (fill + length (declarationText d)) ds),
-        declaration-width fill d,
+        length-declaration fill d,
         wiped-twice 0 (tokenWidth * u .tokens) (tokenWidth * w .tokens) tokens,
         most-width (u .tokens) (w .tokens),
         wiped-twice 0 (u .tokens) (w .tokens) brackets,

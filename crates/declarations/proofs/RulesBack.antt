@@ -1,21 +1,21 @@
 -- What `parse_rules` leaves reads back: the rows and texts are those of the declarations that the text means.
-use mathlib.Core.Path.{_≡_, refl, sym, ap, _∙_}
+use mathlib.Core.Path.{_≡_, refl, ap}
 use mathlib.Core.Bool.{Bool}
 use mathlib.Core.List.{List, [], _∷_, map}
-use Prim.Native.Nat.{ℕ, _+_, _*_, _≤_}
+use Prim.Native.Nat.{ℕ, _+_, _≤_}
 use native.Mathlib.Omega.{arith}
 use lib.ListN.{length, drop, length-map}
-use lib.Seq.{sets}
 use Rattle.combinators.specs.Store.{wiped}
 use Rattle.combinators.proofs.Wiped.{length-wiped}
 use Rattle.syntax.specs.Declaration.{Decl, color, backgroundColor, height, maxHeight, overflow, overflowY, display, whiteSpace, content, unknown, Declaration}
-use Rattle.syntax.specs.Layout.{declarationWidth, declarationText, declarationRows, declarationTexts, declarationsAt}
+use Rattle.syntax.specs.Layout.{declarationText, declarationTexts, declarationsAt}
 use Rattle.syntax.specs.Stream.{textsMany}
 use Rattle.syntax.proofs.Back.{DeclFits, DeclarationsFit, declarations-written}
+use Rattle.syntax.proofs.RowSizes.{length-declarations}
 use Rattle.declarations.specs.DeclRow.{namedDecl}
 use Rattle.declarations.specs.Rules.{declarationsOf}
 use Rattle.declarations.specs.Leaving.{kept, usedRules, rulesOf, leaves, rulesLeft, RulesRoom}
-use Rattle.declarations.proofs.StyleAttribute.{bounded, rows-width}
+use Rattle.declarations.proofs.StyleAttribute.{bounded}
 
 -- a declaration that fits a row fits it without its name
 named-fits : (names : Bool) (d : Decl) → DeclFits d → DeclFits (namedDecl names d)
@@ -57,5 +57,5 @@ rules-back names at s rules place tokens brackets store fill o =
     let t : declarationTexts ds ≡ declarationTexts (map (kept names 0) (r .declarations)) = kept-texts names at (r .declarations) in
     let x : length (declarationTexts (map (kept names 0) (r .declarations))) ≤ length s + 2 = unfold rulesOf in omega (arith, b .text, b .within) in
     declarations-written ds rules place (wiped fill (u .bytes) store) fill (kept-fit names at (r .declarations) (b .fit))
-    (omega (arith, rows-width fill ds, n, b .count, b .within, o .for-rules))
+    (omega (arith, length-declarations fill ds, n, b .count, b .within, o .for-rules))
     (omega (arith, ap length t, length-wiped fill (u .bytes) store, o .room .for-texts))

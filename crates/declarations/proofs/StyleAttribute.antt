@@ -4,7 +4,6 @@ use mathlib.Core.Bool.{Bool, true, false}
 use mathlib.Core.List.{List, [], _∷_, _++_, map}
 use mathlib.Core.Logic.{⊎-elim}
 use Prim.Native.Nat.{ℕ, zero, suc, _+_, _-_, _*_, _^_, _≤_, _<_}
-use native.Mathlib.Nat.{mul-zero, mul-suc}
 use native.Mathlib.Omega.{arith}
 use lib.ListN.{length, getD, drop, length-append, length-drop, length-map}
 use lib.Seq.{sets, length-sets}
@@ -19,11 +18,11 @@ use Rattle.lexer.specs.TokenRow.{tokenWidth}
 use Rattle.lexer.specs.Whitespace.{skipWhitespace}
 use Rattle.lexer.proofs.Comments.{skip-le}
 use Rattle.syntax.specs.Declaration.{Decl, color, backgroundColor, height, maxHeight, overflow, overflowY, display, whiteSpace, content, unknown, Declaration}
-use Rattle.syntax.specs.Layout.{declarationWidth, declarationText, declarationRow, declarationRows, declarationTexts, styleWidth, styleText, styleRowOf, styleRow, styleRows, styleTexts, stylesAt}
-use Rattle.syntax.specs.Stream.{textsMany, rowsMany}
+use Rattle.syntax.specs.Layout.{declarationWidth, declarationText, declarationRows, declarationTexts, styleRows, styleTexts, stylesAt}
+use Rattle.syntax.specs.Stream.{textsMany}
 use Rattle.syntax.specs.Style as style
-use Rattle.syntax.specs.Style.{Style, StyleDecl}
 use Rattle.syntax.proofs.Streams.{All, sets-drop}
+use Rattle.syntax.proofs.RowSizes.{length-declarations, length-styles}
 use Rattle.syntax.proofs.Back.{DeclFits, StyleFits, DeclarationsFit, StylesFit, styles-written}
 use Rattle.values.specs.Value.{valueOf}
 use Rattle.values.proofs.DeclLaws.{decl-fits}
@@ -35,7 +34,6 @@ use Rattle.declarations.specs.StyleNumbers.{styleNumbers, styleCount, St
 use Rattle.declarations.specs.Styles.{one, styleOf, hidesOverflow, zeroHeight, anyDecl, ownStyles, stylesOf}
 use Rattle.declarations.specs.declared.rules.RulesRead.{RulesRead}
 use Rattle.declarations.proofs.Declaring.{takes}
-use Rattle.declarations.proofs.RuleLaws.{declaration-width}
 use Rattle.declarations.proofs.StyleLaws.{NamelessDecl, Nameless, numbers-long, own-rows, own-texts}
 
 -- ---- what is kept of declarations without the names of unknown ones
@@ -94,35 +92,6 @@ module _ (names : Bool) where
     styles-kept ds = rw (own-kept ds, any-kept zeroHeight (λ a b. refl) ds, any-kept hidesOverflow (λ a b. refl) ds)
 
 -- ---- what declarations take and keep
-
--- rows of one width
-module _ {A : Type 0} (w : ℕ → A → List ℕ) (x : A → List ℕ) (k : ℕ) (h : (f : ℕ) (a : A) → length (w f a) ≡ k) where
-  rows-wide : (xs : List A) (f : ℕ) → length (rowsMany w x f xs) ≡ k * length xs
-  unfolding rowsMany
-  rows-wide [] f = rw (mul-zero k)
-  rows-wide (a ∷ xs) f =
-      let g = f + length (x a) in
-      omega (arith, length-append (w f a) (rowsMany w x g xs), h f a, rows-wide xs g, mul-suc k (length xs))
-
--- of declarations
-pub rows-width : (f : ℕ) (ds : List Declaration) → length (declarationRows f ds) ≡ declarationWidth * length ds
-unfolding declarationRows
-rows-width f ds = rows-wide declarationRow declarationText declarationWidth declaration-width ds f
-
--- a style's row has its width
-style-width : (i f : ℕ) (d : Style) → length (styleRowOf i f d) ≡ styleWidth
-unfolding styleRowOf
-style-width i f (style.colour c) = refl
-style-width i f (style.background c) = refl
-style-width i f style.displayNone = refl
-style-width i f (style.whiteSpace w) = refl
-style-width i f (style.content t) = refl
-
--- of styles
-pub style-rows-width : (f : ℕ) (ds : List StyleDecl) → length (styleRows f ds) ≡ styleWidth * length ds
-unfolding styleRows styleRow
-style-rows-width f ds = rows-wide styleRow styleText styleWidth (λ f d. style-width _ f (d .style)) ds f
-
 -- by cases of a reader's answer
 parsed-holds : {A B : Type 0} (P : B → Type 0) (p : Parsed A) (f : ℕ → A → B) (b : B) → ((n : ℕ) (a : A) → p ≡ ok n a → P (f n a)) → P b → P (onParsed p f b)
 unfolding onParsed
@@ -290,7 +259,7 @@ module _ (s : List ℕ) where
   module _ (rules tokens brackets store : List ℕ) (fill : ℕ) (o : StyleRoom s rules tokens brackets store fill) where
     -- there is room for their rows
     rows-fit : 0 + length (declarationRows fill ds) ≤ length rules
-    rows-fit = omega (arith, rows-width fill ds, ds-long, declarations-count s, o .for-declarations .for-rules)
+    rows-fit = omega (arith, length-declarations fill ds, ds-long, declarations-count s, o .for-declarations .for-rules)
 
     -- what `parse_rules` left
     module _ {r : RulesRead} {y x b z : List ℕ}
@@ -334,7 +303,7 @@ module _ (s : List ℕ) where
       -- their count
       styles-are : styleCount y (r .count) ≡ length (styleAttribute s)
       unfolding styleCount
-      styles-are = omega (arith, ap length numbers-are, style-rows-width fill (styleAttribute s))
+      styles-are = omega (arith, ap length numbers-are, length-styles fill (styleAttribute s))
 
       -- what is left, where the styles were written and the declarations wiped
       pub style-left : {n : ℕ} {x′ y′ : List ℕ} → x′ ≡ sets x 0 (styleNumbers y (r .count)) → n ≡ styleCount y (r .count) → y′ ≡ wiped 0 (declarationWidth * r .count) y
@@ -345,7 +314,7 @@ module _ (s : List ℕ) where
           let eb : b ≡ wiped 0 (usedRules false s .tokens) brackets = ap (λ (l : Leaves RulesRead). l .brackets) e in
           let ez : z ≡ sets (wiped fill (usedRules false s .bytes) store) fill (declarationTexts ds) = ap (λ (l : Leaves RulesRead). l .store) e in
           let ew : y′ ≡ wiped 0 (declarationWidth * length ds) rules =
-          ey ∙ rw (rules-are, count-is) (wiped-over rules 0 (declarationWidth * length ds) (declarationRows fill ds) (omega (arith, rows-width fill ds)))
+          ey ∙ rw (rules-are, count-is) (wiped-over rules 0 (declarationWidth * length ds) (declarationRows fill ds) (omega (arith, length-declarations fill ds)))
           in
           rw (en, styles-are, et, ew, ex, tokens-are, numbers-are, eb, ez, ds-texts, ds-long)
 

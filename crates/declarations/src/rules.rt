@@ -46,7 +46,7 @@ pub struct RulesRead {
 }
 
 // The place behind white space and comments that stand from `at` on.
-fn skip_from(s: &[u8], at: usize) -> usize
+pub fn skip_from(s: &[u8], at: usize) -> usize
     requires { ⌜ at ≤ length (now s) ⌝ }
     ensures { λ r. ⌜ r ≡ at + skipWhitespace (drop at (now (s .entry))) ⌝ }
     ensures { λ r. ⌜ r ≤ length (now (s .entry)) ⌝ }

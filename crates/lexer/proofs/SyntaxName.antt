@@ -17,7 +17,7 @@ use Rattle.combinators.proofs.Repeats.{many-stop, texts-stop}
 use Rattle.unicode.specs.Utf8.{takenOf}
 use Rattle.unicode.specs.declared.utf8.Scalar.the-variants.{Value, NoScalar}
 use Rattle.lexer.specs.Whitespace.{commentOf, whitespaceItem, skipWhitespace}
-use Rattle.lexer.specs.Name.{isNmstart, isNmchar, lower, nmcharCharOf, nmstartOf, nmcharOf, charTaken, charText, charsEnd, charsText, dash, nameOf, identOf}
+use Rattle.lexer.specs.Name.{isNmstart, isNmchar, lower, nmcharCharOf, nmstartOf, nmcharOf, charTaken, charText, charsEnd, charsText, charsOf, dash, nameOf, identOf, identstringOf}
 use Rattle.lexer.proofs.Comments.{above-space}
 use Rattle.lexer.proofs.SyntaxWhitespace.{skips-blank}
 use Rattle.lexer.proofs.SyntaxWhitespace as blanks
@@ -72,7 +72,7 @@ unfolding identCodePoint isNmchar
 code-point-is x = ap (λ b. or b (or (within x digitZero digitNine) (is x hyphenMinus))) (start-is x)
 
 -- an ident-start code point is an ident code point
-start-code-point : (x : ℕ) → identStart x ≡ true → identCodePoint x ≡ true
+pub start-code-point : (x : ℕ) → identStart x ≡ true → identCodePoint x ≡ true
 unfolding identCodePoint
 start-code-point x e = or-left _ _ e
 
@@ -94,12 +94,16 @@ no-blank x e =
     (λ w. let l = within-true x digitZero digitNine w .0 in (omega arith, λ q. omega arith))
     (λ w. let l = is-true x hyphenMinus w in (omega arith, λ q. omega arith)))
 
--- so nothing is skipped before one
-unskipped : (x : ℕ) (l : List ℕ) → identCodePoint x ≡ true → skipWhitespace (x ∷ l) ≡ 0
+-- so no white space and no comment begins with one
+pub code-point-item : (x : ℕ) (l : List ℕ) → identCodePoint x ≡ true → whitespaceItem (x ∷ l) ≡ 0
 unfolding whitespaceItem commentOf
-unskipped x l e =
+code-point-item x l e =
     let b = no-blank x e in
-    skips-blank [] (x ∷ l) blanks.none (sym (pick-false _ _ _ _ (above-space x (b .0)) (pick-false _ _ _ _ (is-no _ _ (b .1)) refl)))
+    sym (pick-false _ _ _ _ (above-space x (b .0)) (pick-false _ _ _ _ (is-no _ _ (b .1)) refl))
+
+-- and nothing is skipped before one
+unskipped : (x : ℕ) (l : List ℕ) → identCodePoint x ≡ true → skipWhitespace (x ∷ l) ≡ 0
+unskipped x l e = skips-blank [] (x ∷ l) blanks.none (code-point-item x l e)
 
 -- where neither an ident code point nor a backslash follows
 module _ (t : List ℕ) (e : identCodePoint (getD t 0 0) ≡ false) (d : ¬ (getD t 0 0 ≡ reverseSolidus)) where
@@ -136,7 +140,7 @@ module _ (t : List ℕ) (e : identCodePoint (getD t 0 0) ≡ false) (d : ¬ (get
       (chars-step _ 1 _ k ∙ omega (arith, g .0), chars-text-step _ 1 _ k ∙ ap (λ b. b ++ charsText (r ++ t)) u ∙ ap (λ l. lower x ∷ l) (g .1))
 
 -- a '-' is an ident code point
-hyphen-code-point : identCodePoint hyphenMinus ≡ true
+pub hyphen-code-point : identCodePoint hyphenMinus ≡ true
 unfolding identCodePoint identStart letter or and within is
 hyphen-code-point = refl
 
@@ -146,7 +150,7 @@ all-code-points (started {x} e r) = more (start-code-point x e) r
 all-code-points (dashed {x} e r) = more hyphen-code-point (more (start-code-point x e) r)
 
 -- and nothing is skipped before it
-sequence-unskipped : {name : List ℕ} → IdentSequence name → (t : List ℕ) → skipWhitespace (name ++ t) ≡ 0
+pub sequence-unskipped : {name : List ℕ} → IdentSequence name → (t : List ℕ) → skipWhitespace (name ++ t) ≡ 0
 sequence-unskipped (started {x} {r} e _) t = unskipped x (r ++ t) (start-code-point x e)
 sequence-unskipped (dashed {x} {r} e _) t = unskipped hyphenMinus (x ∷ (r ++ t)) hyphen-code-point
 
@@ -186,6 +190,28 @@ pub ident-sequence : (name t : List ℕ) → IdentSequence name → identCodePoi
 ident-sequence name t h e d =
     let c = characters t e d (all-code-points h) in
     behind-none (name ++ t) (sequence-unskipped h t) _ _ (sequence-named h t ∙ rw (c .0, c .1))
+
+-- characters of a name, where there are some
+chars-some : (t : List ℕ) (n : ℕ) (b : List ℕ) → charsEnd t ≡ n → charsText t ≡ b → ¬ (n ≡ 0) → charsOf t ≡ ok n b
+unfolding charsOf
+chars-some t n b e p d = sym (pick-false _ _ _ _ (is-no _ _ (λ z. d (sym e ∙ z))) (rw (e, p)))
+
+-- where nothing is skipped, they are read from the start
+string-behind-none : (s : List ℕ) → skipWhitespace s ≡ 0 → (n : ℕ) (b : List ℕ) → charsOf s ≡ ok n b → identstringOf s ≡ ok n b
+unfolding identstringOf behind
+string-behind-none s z n b e = rw (z, e, zero-add)
+
+-- an ident sequence is not empty
+sequence-some : {name : List ℕ} → IdentSequence name → ¬ (length name ≡ 0)
+sequence-some (started e r) z = omega arith
+sequence-some (dashed e r) z = omega arith
+
+-- the same sequence is the name behind a number sign
+pub ident-string : (name t : List ℕ) → IdentSequence name → identCodePoint (getD t 0 0) ≡ false → ¬ (getD t 0 0 ≡ reverseSolidus)
+    → identstringOf (name ++ t) ≡ ok (length name) (map lower name)
+ident-string name t h e d =
+    let c = characters t e d (all-code-points h) in
+    string-behind-none (name ++ t) (sequence-unskipped h t) _ _ (chars-some (name ++ t) _ _ (c .0) (c .1) (sequence-some h))
 
 -- `-Ab_1;`, and `-A` at the end of the text
 test-sequence : (identOf (45 ∷ 65 ∷ 98 ∷ 95 ∷ 49 ∷ 59 ∷ []) ≡ ok 5 (45 ∷ 97 ∷ 98 ∷ 95 ∷ 49 ∷ [])) × (identOf (45 ∷ 65 ∷ []) ≡ ok 2 (45 ∷ 97 ∷ []))

@@ -2,6 +2,7 @@
 use mathlib.Core.Path.{_≡_, refl, ap, sym, _∙_}
 use mathlib.Core.List.{List, [], _∷_, _++_, map, append-assoc}
 use Prim.Native.Nat.{ℕ, _+_, _≤_}
+use native.Mathlib.Nat.{add-zero}
 use native.Mathlib.Omega.{arith}
 use lib.ListN.{length, take, drop, length-append}
 use lib.Seq.{sets, sets-eq, length-take-le, drop-at, take-append-seam, drop-append-seam, drop-drop}
@@ -58,3 +59,20 @@ module _ (l : List ℕ) (i : ℕ) (xs : List ℕ) (h : i + length xs ≤ length 
 
   pub sets-held : Held (sets l i xs) i xs
   sets-held = record { more = drop (i + length xs) l; held = sets-drop }
+
+-- the texts and the rows of two lists, one behind the other
+module _ {A : Type 0} (w : ℕ → A → List ℕ) (x : A → List ℕ) where
+  -- texts
+  pub texts-append : (xs ys : List A) → textsMany x (xs ++ ys) ≡ textsMany x xs ++ textsMany x ys
+  unfolding textsMany
+  texts-append [] ys = refl
+  texts-append (a ∷ xs) ys = rw (texts-append xs ys) (sym (append-assoc (x a) (textsMany x xs) (textsMany x ys)))
+
+  -- rows, whose second texts start behind the first
+  pub rows-append : (xs ys : List A) (f : ℕ) → rowsMany w x f (xs ++ ys) ≡ rowsMany w x f xs ++ rowsMany w x (f + length (textsMany x xs)) ys
+  unfolding rowsMany textsMany
+  rows-append [] ys f = ap (λ n. rowsMany w x n ys) (sym (add-zero f))
+  rows-append (a ∷ xs) ys f =
+      let g = f + length (x a) in
+      let e : f + length (x a ++ textsMany x xs) ≡ g + length (textsMany x xs) = omega (arith, length-append (x a) (textsMany x xs)) in
+      rw (rows-append xs ys g, e) (sym (append-assoc (w f a) (rowsMany w x g xs) (rowsMany w x (g + length (textsMany x xs)) ys)))

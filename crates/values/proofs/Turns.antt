@@ -104,7 +104,7 @@ module _ (include : Bool) (s : List ℕ) (at : ℕ) (cs : List ℕ) where
 
 -- ---- how much longer texts can be
 -- two bytes where a backslash ends the text
-slack-here : (s : List ℕ) (n : ℕ) → n ≡ length s → getD s (n - 1) 0 ≡ reverseSolidus → slack s n ≡ 2
+pub slack-here : (s : List ℕ) (n : ℕ) → n ≡ length s → getD s (n - 1) 0 ≡ reverseSolidus → slack s n ≡ 2
 unfolding slack
 slack-here s n e h = sym (pick-true _ _ _ _ (and-both _ _ (is-yes _ _ e) (is-yes _ _ h)) refl)
 

@@ -48,7 +48,7 @@ const VALUES: [u32; 17] = [
     0xffff00, // yellow
 ];
 
-const DECIMAL: u32 = 10;
+pub const DECIMAL: u32 = 10;
 
 const HEXADECIMAL: u32 = 16;
 
@@ -78,7 +78,7 @@ fn is_digit_in(base: u32, b: u8) -> bool
 }
 
 // The number that `t` writes in the base, up to `most`. Above that, digits that follow only make it more.
-fn digits_in(t: &[u8], base: u32, most: u32) -> NumberAnswer
+pub fn digits_in(t: &[u8], base: u32, most: u32) -> NumberAnswer
     ensures { λ r. ⌜ r ≡ numberAnswer (digitsIn (isDigitIn base) base hexDigit most (now (t .entry))) ⌝ }
 {
     if t.len() == 0 {
