@@ -1,0 +1,11 @@
+pub mod Numbers
+pub mod Ancestry
+pub mod Children
+pub mod TextLaws
+pub mod FirstFault
+pub mod RowLaws
+pub mod PageLaws
+pub mod AcceptedPages
+pub mod RowFacts
+pub mod Paths
+pub mod Sums

@@ -1,0 +1,23 @@
+use Rattle.page.proofs.Numbers as laws
+use borrow.Author.Needs.{needs}
+use Rattle.page.proofs.rows.node_number.Statement.{statement}
+use Rattle.page.proofs.rows.node_number.Tie as tie
+
+mul-number-at : tie.Need-mul-number-at
+mul-number-at c = search needs
+
+number-at-requires : tie.Need-number-at-requires
+number-at-requires c κs = search needs
+
+cast-result : tie.Need-cast-result
+cast-result c = search needs
+
+returns : tie.Need-returns
+returns c = (laws.node-there _ _ _ _ (c .number-at .ensures), search needs)
+
+returns-2 : tie.Need-returns-2
+returns-2 c = (laws.node-past _ _ _ 0 (c .if1 .left), search needs)
+
+pub node-number-spec : {M : Type 1} → statement M
+node-number-spec =
+    tie.close (tie.spec mul-number-at number-at-requires cast-result returns returns-2)
