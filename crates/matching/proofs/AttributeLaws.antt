@@ -1,0 +1,123 @@
+-- A loop over the attributes of an element: any that passes, or the first of a name.
+use Prim.Native.Nat.{ℕ, suc, _+_, _-_, _≤_, _<_}
+use mathlib.Core.Bool.{Bool, true, false}
+use mathlib.Core.List.{List, [], _∷_}
+use mathlib.Core.Path.{_≡_, refl, sym, ap, ap₂, _∙_}
+use native.Mathlib.Omega.{arith}
+use Rattle.combinators.specs.Choice.{pick, or, and}
+use Rattle.combinators.proofs.Rules.{pick-true, pick-false, or-left, or-gives, and-gives, and-gives-false}
+use Rattle.unicode.specs.Literal.{text}
+use Rattle.unicode.specs.Utf8.{utf8}
+use Rattle.page.specs.Path.{Attribute}
+use Rattle.page.specs.PathOf.{attributesFrom}
+use Rattle.page.specs.Rows.{attributeName, attributeValue}
+use Rattle.matching.specs.Matches.{anyAttribute, isNamed, isClass, isId, firstIs}
+use Rattle.matching.specs.Rows.{attributeOf}
+use Rattle.matching.specs.Texts.{sameText, hasWord}
+
+-- ---- one attribute: n is its name, v its value
+module _ (attributes names : List ℕ) (row : ℕ) where
+  -- it has a name
+  pub named : (w n : List ℕ) → n ≡ attributeName attributes names row → (r : Bool) → r ≡ sameText n w → r ≡ isNamed w (attributeOf attributes names row)
+  unfolding isNamed attributeOf
+  named w n e r p = p ∙ ap (λ (l : List ℕ). sameText l w) e
+
+  class-name : text "class" ≡ 0x63 ∷ 0x6c ∷ 0x61 ∷ 0x73 ∷ 0x73 ∷ []
+  unfolding text utf8 pick
+  class-name = refl
+
+  id-name : text "id" ≡ 0x69 ∷ 0x64 ∷ []
+  unfolding text utf8 pick
+  id-name = refl
+
+  -- it is a `class`, and its words decide
+  module _ (c : List ℕ) (t : Bool) (e : t ≡ isNamed (0x63 ∷ 0x6c ∷ 0x61 ∷ 0x73 ∷ 0x73 ∷ []) (attributeOf attributes names row)) where
+    class-test : isNamed (text "class") (attributeOf attributes names row) ≡ t
+    class-test = ap (λ (l : List ℕ). isNamed l (attributeOf attributes names row)) class-name ∙ sym e
+
+    pub class-named : t ≡ true → (v : List ℕ) → v ≡ attributeValue attributes names row → (r : Bool) → r ≡ hasWord c v → r ≡ isClass c (attributeOf attributes names row)
+    unfolding isClass attributeOf
+    class-named h v p r q = and-gives _ _ r (class-test ∙ h) (q ∙ ap (hasWord c) p)
+
+    pub class-other : t ≡ false → false ≡ isClass c (attributeOf attributes names row)
+    unfolding isClass
+    class-other h = and-gives-false _ _ (class-test ∙ h)
+
+  -- it is an `id`, and its value decides
+  module _ (c : List ℕ) (t : Bool) (e : t ≡ isNamed (0x69 ∷ 0x64 ∷ []) (attributeOf attributes names row)) where
+    id-test : isNamed (text "id") (attributeOf attributes names row) ≡ t
+    id-test = ap (λ (l : List ℕ). isNamed l (attributeOf attributes names row)) id-name ∙ sym e
+
+    pub id-named : t ≡ true → (v : List ℕ) → v ≡ attributeValue attributes names row → (r : Bool) → r ≡ sameText v c → r ≡ isId c (attributeOf attributes names row)
+    unfolding isId attributeOf
+    id-named h v p r q = and-gives _ _ r (id-test ∙ h) (q ∙ ap (λ (l : List ℕ). sameText l c) p)
+
+    pub id-other : t ≡ false → false ≡ isId c (attributeOf attributes names row)
+    unfolding isId
+    id-other h = and-gives-false _ _ (id-test ∙ h)
+
+-- ---- all of them: `ask` is what is asked of the list
+
+-- at the i-th: what is left answers for the whole
+pub record Looking (ask : List Attribute → Bool) (attributes names : List ℕ) (at count i : ℕ) : Type 0 where
+  pub within-count : i ≤ count
+  pub left : ask (attributesFrom attributes names (count - i) (at + i)) ≡ ask (attributesFrom attributes names count at)
+
+module _ (ask : List Attribute → Bool) (attributes names : List ℕ) (at count : ℕ) where
+  pub look-begin : Looking ask attributes names at count 0
+  look-begin =
+      let n : count - 0 ≡ count = omega arith in
+      let k : at + 0 ≡ at = omega arith in
+      record { within-count = omega arith; left = ap₂ (λ (x y : ℕ). ask (attributesFrom attributes names x y)) n k }
+
+  -- all were asked
+  looked : (i : ℕ) → Looking ask attributes names at count i → count ≤ i → ask [] ≡ ask (attributesFrom attributes names count at)
+  unfolding attributesFrom
+  looked i v h = let z : count - i ≡ 0 = omega arith in sym (ap (λ (k : ℕ). ask (attributesFrom attributes names k (at + i))) z) ∙ v .left
+
+  -- one is asked, and those behind it
+  opened : (i : ℕ) → Looking ask attributes names at count i → i < count
+      → ask (attributeOf attributes names (at + i) ∷ attributesFrom attributes names (count - (i + 1)) (at + (i + 1))) ≡ ask (attributesFrom attributes names count at)
+  unfolding attributesFrom attributeOf
+  opened i v h =
+      let z : count - i ≡ suc (count - (i + 1)) = omega arith in
+      let y : at + (i + 1) ≡ at + i + 1 = omega arith in
+      ap (λ (k : ℕ). ask (attributeOf attributes names (at + i) ∷ attributesFrom attributes names (count - (i + 1)) k)) y
+      ∙ sym (ap (λ (k : ℕ). ask (attributesFrom attributes names k (at + i))) z) ∙ v .left
+
+-- any attribute that passes
+module _ (f : Attribute → Bool) (attributes names : List ℕ) (at count i : ℕ) (v : Looking (anyAttribute f) attributes names at count i) where
+  pub any-end : count ≤ i → false ≡ anyAttribute f (attributesFrom attributes names count at)
+  unfolding anyAttribute
+  any-end h = looked (anyAttribute f) attributes names at count i v h
+
+  module _ (h : i < count) (t : Bool) (e : t ≡ f (attributeOf attributes names (at + i))) where
+    pub any-found : t ≡ true → true ≡ anyAttribute f (attributesFrom attributes names count at)
+    unfolding anyAttribute
+    any-found p = sym (or-left _ _ (sym e ∙ p)) ∙ opened (anyAttribute f) attributes names at count i v h
+
+    pub any-more : t ≡ false → Looking (anyAttribute f) attributes names at count (i + 1)
+    unfolding anyAttribute
+    any-more p = record { within-count = omega arith; left = or-gives _ _ _ (sym e ∙ p) refl ∙ opened (anyAttribute f) attributes names at count i v h }
+
+-- the first attribute of a name
+module _ (n w : List ℕ) (attributes names : List ℕ) (at count i : ℕ) (v : Looking (firstIs n w) attributes names at count i) where
+  pub first-end : count ≤ i → false ≡ firstIs n w (attributesFrom attributes names count at)
+  unfolding firstIs
+  first-end h = looked (firstIs n w) attributes names at count i v h
+
+  module _ (h : i < count) (t : Bool) (e : t ≡ isNamed n (attributeOf attributes names (at + i))) where
+    pub first-found : t ≡ true → (x : List ℕ) → x ≡ attributeValue attributes names (at + i) → (r : Bool) → r ≡ sameText x w
+        → r ≡ firstIs n w (attributesFrom attributes names count at)
+    unfolding firstIs attributeOf
+    first-found p x q r s =
+        pick-true _ _ _ (isNamed n (attributeOf attributes names (at + i))) (sym e ∙ p) (s ∙ ap (λ (l : List ℕ). sameText l w) q)
+        ∙ opened (firstIs n w) attributes names at count i v h
+
+    pub first-more : t ≡ false → Looking (firstIs n w) attributes names at count (i + 1)
+    unfolding firstIs
+    first-more p =
+        record {
+          within-count = omega arith;
+          left = pick-false _ _ _ (isNamed n (attributeOf attributes names (at + i))) (sym e ∙ p) refl ∙ opened (firstIs n w) attributes names at count i v h;
+        }

@@ -1,0 +1,10 @@
+pub mod Multiples
+pub mod Selectors
+pub mod Signed
+pub mod Words
+pub mod ComponentLaws
+pub mod AttributeLaws
+pub mod PathLaws
+pub mod PassLaws
+pub mod MatchLaws
+pub mod Roots

@@ -1,0 +1,155 @@
+-- What a simple component asks: of an element, by its kind and texts; of the document; and that what is left is asked beside it.
+use Prim.Native.Nat.{ℕ, _+_}
+use mathlib.Core.Bool.{Bool, true, false}
+use mathlib.Core.List.{List, [], _∷_}
+use mathlib.Core.Path.{_≡_, refl, sym, ap, _∙_}
+use Rattle.combinators.specs.Choice.{pick, and, is}
+use Rattle.combinators.proofs.Rules.{pick-holds, pick-true, pick-false, is-true, is-yes, is-no}
+use Rattle.syntax.specs.RuleLayout.{starKind, classKind, elementKind, hashKind, childKind, descendantKind, nthKind, attributeKind, componentKindAt, componentFirstAt, componentSecondAt, componentFrom}
+use Rattle.syntax.specs.Selector.{Component, star, class, element, hash, child, descendant, nth, attribute, attributeEqual}
+use Rattle.syntax.specs.Signed.{signedOf}
+use Rattle.syntax.specs.Stream.{part}
+use Rattle.page.specs.Ancestors.{placeOf}
+use Rattle.page.specs.Path.{Element, Path}
+use Rattle.page.specs.PathOf.{attributesFrom, elementAt}
+use Rattle.page.specs.Rows.{nodeAt, nameOf}
+use Rattle.matching.specs.Matches.{hasClass, hasId, hasAttribute, attributeIs, nameIs, here, onParent, onAncestors, step, matches}
+use Rattle.matching.specs.Nth.{nthMatches}
+use Rattle.matching.specs.Rows.{componentNumber, firstText, secondText, attributesPass, elementPasses}
+use Rattle.matching.specs.Texts.{sameText}
+
+and-yes : (x : Bool) → and x true ≡ x
+unfolding and
+and-yes true = refl
+and-yes false = refl
+
+beside : (x y : Bool) → and x y ≡ and (and x true) y
+beside x y = ap (λ (z : Bool). and z y) (sym (and-yes x))
+
+-- ---- the returns of `element_passes`
+module _ (store components nodes attributes text : List ℕ) (i row k : ℕ) (ek : k ≡ componentNumber components i componentKindAt) where
+  pub nth-passes : k ≡ nthKind → (r : Bool)
+      → r ≡ nthMatches (signedOf (componentNumber components i componentFirstAt)) (signedOf (componentNumber components i componentSecondAt)) (placeOf nodes row)
+      → r ≡ elementPasses store components i (elementAt nodes attributes text row)
+  unfolding elementPasses elementAt
+  nth-passes e r p = pick-true _ _ _ (is (componentNumber components i componentKindAt) nthKind) (is-yes _ _ (sym ek ∙ e)) p
+
+  module _ (no-nth : ¬ (k ≡ nthKind)) (name : List ℕ) (en : name ≡ firstText store components i) where
+    not-nth : is (componentNumber components i componentKindAt) nthKind ≡ false
+    not-nth = is-no _ _ (λ z. no-nth (ek ∙ z))
+
+    pub name-passes : k ≡ elementKind → (own : List ℕ) → own ≡ nameOf nodes text row → (r : Bool) → r ≡ sameText own name
+        → r ≡ elementPasses store components i (elementAt nodes attributes text row)
+    unfolding elementPasses elementAt nameIs
+    name-passes e own eo r p =
+        pick-false _ _ _ (is (componentNumber components i componentKindAt) nthKind) not-nth
+        (pick-true _ _ _ (is (componentNumber components i componentKindAt) elementKind) (is-yes _ _ (sym ek ∙ e))
+        (p ∙ ap (λ (l : List ℕ). sameText l name) eo ∙ ap (sameText (nameOf nodes text row)) en))
+
+    pub attributes-passes : ¬ (k ≡ elementKind) → (value : List ℕ) → value ≡ secondText store components i → (at : ℕ) → at ≡ nodeAt nodes row .firstAttribute
+        → (count : ℕ) → count ≡ nodeAt nodes row .attributeCount → (r : Bool) → r ≡ attributesPass k name value (attributesFrom attributes text count at)
+        → r ≡ elementPasses store components i (elementAt nodes attributes text row)
+    unfolding elementPasses elementAt
+    attributes-passes d value ev at ea count ec r p =
+        pick-false _ _ _ (is (componentNumber components i componentKindAt) nthKind) not-nth
+        (pick-false _ _ _ (is (componentNumber components i componentKindAt) elementKind) (is-no _ _ (λ z. d (ek ∙ z)))
+        (rw (← ek, ← en, ← ev, ← ea, ← ec) p))
+
+-- ---- a component by its numbers
+module _ (store : List ℕ) (k f a b : ℕ) where
+  -- the numbers name a combinator or star
+  pub from-child : k ≡ childKind → componentFrom store k f a b ≡ child
+  unfolding componentFrom pick is
+  from-child e = rw e
+
+  pub from-descendant : k ≡ descendantKind → componentFrom store k f a b ≡ descendant
+  unfolding componentFrom pick is
+  from-descendant e = rw e
+
+  pub from-star : (p : Path) → k ≡ starKind → true ≡ matches (componentFrom store k f a b ∷ []) p
+  unfolding componentFrom matches step pick is
+  from-star p e = rw e
+
+  -- the document passes nothing but star
+  abbrev FailsThere : Component → Type 0
+  FailsThere c = false ≡ matches (c ∷ []) []
+
+  pub document-fails : ¬ (k ≡ starKind) → FailsThere (componentFrom store k f a b)
+  unfolding componentFrom matches step here onParent onAncestors and
+  document-fails no-star =
+      pick-holds FailsThere (is k starKind) _ _ (λ e. absurd (no-star (is-true k starKind e)))
+      (λ e0. pick-holds FailsThere (is k classKind) _ _ (λ e. refl)
+      (λ e1. pick-holds FailsThere (is k elementKind) _ _ (λ e. refl)
+      (λ e2. pick-holds FailsThere (is k hashKind) _ _ (λ e. refl)
+      (λ e3. pick-holds FailsThere (is k childKind) _ _ (λ e. refl)
+      (λ e4. pick-holds FailsThere (is k descendantKind) _ _ (λ e. refl)
+      (λ e5. pick-holds FailsThere (is k nthKind) _ _ (λ e. refl)
+      (λ e6. pick-holds FailsThere (is k attributeKind) _ _ (λ e. refl) (λ e7. refl))))))))
+
+  module _ (no-child : ¬ (k ≡ childKind)) (no-descendant : ¬ (k ≡ descendantKind)) where
+    -- a simple component, beside what is left
+    abbrev Simple : Component → Type 0
+    Simple c = (cs : List Component) (p : Path) → matches (c ∷ cs) p ≡ and (matches (c ∷ []) p) (matches cs p)
+
+    pub simple-beside : Simple (componentFrom store k f a b)
+    unfolding componentFrom matches step and
+    simple-beside =
+        pick-holds Simple (is k starKind) _ _ (λ e cs p. refl)
+        (λ e0. pick-holds Simple (is k classKind) _ _ (λ e cs p. beside (here (hasClass (part store f a)) p) (matches cs p))
+        (λ e1. pick-holds Simple (is k elementKind) _ _ (λ e cs p. beside (here (nameIs (part store f a)) p) (matches cs p))
+        (λ e2. pick-holds Simple (is k hashKind) _ _ (λ e cs p. beside (here (hasId (part store f a)) p) (matches cs p))
+        (λ e3. pick-holds Simple (is k childKind) _ _ (λ e. absurd (no-child (is-true k childKind e)))
+        (λ e4. pick-holds Simple (is k descendantKind) _ _ (λ e. absurd (no-descendant (is-true k descendantKind e)))
+        (λ e5. pick-holds Simple (is k nthKind) _ _
+        (λ e cs p. beside (here (λ (x : Element). nthMatches (signedOf a) (signedOf b) (x .place)) p) (matches cs p))
+        (λ e6. pick-holds Simple (is k attributeKind) _ _ (λ e cs p. beside (here (hasAttribute (part store f a)) p) (matches cs p))
+        (λ e7 cs p. beside (here (attributeIs (part store f a) (part store (f + a) b)) p) (matches cs p)))))))))
+
+    -- of an element its own tests are asked
+    module _ (no-star : ¬ (k ≡ starKind)) (x : Element) (up : Path) where
+      abbrev Asked : Bool
+      Asked =
+          pick (is k nthKind) (nthMatches (signedOf a) (signedOf b) (x .place))
+          (pick (is k elementKind) (nameIs (part store f a) x)
+          (attributesPass k (part store f a) (part store (f + a) b) (x .attributes)))
+
+      abbrev Agrees : Component → Type 0
+      Agrees c = Asked ≡ matches (c ∷ []) (x ∷ up)
+
+      at-class : k ≡ classKind → Agrees (class (part store f a))
+      unfolding matches step here hasClass attributesPass pick is
+      at-class e = rw e (sym (and-yes _))
+
+      at-element : k ≡ elementKind → Agrees (element (part store f a))
+      unfolding matches step here pick is
+      at-element e = rw e (sym (and-yes _))
+
+      at-hash : k ≡ hashKind → Agrees (hash (part store f a))
+      unfolding matches step here hasId attributesPass pick is
+      at-hash e = rw e (sym (and-yes _))
+
+      at-nth : k ≡ nthKind → Agrees (nth (signedOf a) (signedOf b))
+      unfolding matches step here pick is
+      at-nth e = rw e (sym (and-yes _))
+
+      at-attribute : k ≡ attributeKind → Agrees (attribute (part store f a))
+      unfolding matches step here hasAttribute attributesPass pick is
+      at-attribute e = rw e (sym (and-yes _))
+
+      at-equal : is k classKind ≡ false → is k elementKind ≡ false → is k hashKind ≡ false → is k nthKind ≡ false → is k attributeKind ≡ false
+          → Agrees (attributeEqual (part store f a) (part store (f + a) b))
+      unfolding matches step here attributeIs attributesPass pick
+      at-equal e1 e2 e3 e6 e7 = rw (e6, e2, e1, e3, e7) (sym (and-yes _))
+
+      pub asked-of-element : Agrees (componentFrom store k f a b)
+      unfolding componentFrom
+      asked-of-element =
+          pick-holds Agrees (is k starKind) _ _ (λ e. absurd (no-star (is-true k starKind e)))
+          (λ e0. pick-holds Agrees (is k classKind) _ _ (λ e. at-class (is-true k classKind e))
+          (λ e1. pick-holds Agrees (is k elementKind) _ _ (λ e. at-element (is-true k elementKind e))
+          (λ e2. pick-holds Agrees (is k hashKind) _ _ (λ e. at-hash (is-true k hashKind e))
+          (λ e3. pick-holds Agrees (is k childKind) _ _ (λ e. absurd (no-child (is-true k childKind e)))
+          (λ e4. pick-holds Agrees (is k descendantKind) _ _ (λ e. absurd (no-descendant (is-true k descendantKind e)))
+          (λ e5. pick-holds Agrees (is k nthKind) _ _ (λ e. at-nth (is-true k nthKind e))
+          (λ e6. pick-holds Agrees (is k attributeKind) _ _ (λ e. at-attribute (is-true k attributeKind e))
+          (λ e7. at-equal e1 e2 e3 e6 e7))))))))

@@ -1,0 +1,51 @@
+use Prim.Native.Nat.{_-_}
+use Rattle.matching.specs.Matches.{anyAttribute, isNamed}
+use Rattle.matching.proofs.AttributeLaws.{Looking, look-begin, any-found, any-more, any-end}
+use borrow.Author.Needs.{needs}
+use Rattle.matching.proofs.elements.has_attribute.Statement.{statement}
+use Rattle.matching.proofs.elements.has_attribute.Tie as tie
+
+abbrev Inv-loop : tie.InvT-loop
+Inv-loop attributes text at count name i₀ i = Looking (anyAttribute (isNamed name)) attributes text at count i
+
+abbrev μ-loop : tie.MeasureT-loop
+μ-loop attributes text at count name i₀ i = count - i
+
+loop-holds : tie.Need-loop-holds Inv-loop μ-loop
+loop-holds c = look-begin _ _ _ _ _
+
+add-is-named : tie.Need-add-is-named Inv-loop μ-loop
+add-is-named c = search needs
+
+is-named-requires : tie.Need-is-named-requires Inv-loop μ-loop
+is-named-requires c κs = search needs
+
+returns : tie.Need-returns Inv-loop μ-loop
+returns c = search (needs, any-found)
+
+add-i : tie.Need-add-i Inv-loop μ-loop
+add-i c = search needs
+
+loop-less : tie.Need-loop-less Inv-loop μ-loop
+loop-less c = search needs
+
+loop-again : tie.Need-loop-again Inv-loop μ-loop
+loop-again c = search (needs, any-more)
+
+returns-2 : tie.Need-returns-2 Inv-loop μ-loop
+returns-2 c = search (needs, any-end)
+
+pub has-attribute-spec : {M : Type 1} → statement M
+has-attribute-spec =
+    tie.close
+    (tie.spec
+    Inv-loop
+    μ-loop
+    loop-holds
+    add-is-named
+    is-named-requires
+    returns
+    add-i
+    loop-less
+    loop-again
+    returns-2)

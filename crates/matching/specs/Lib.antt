@@ -1,0 +1,6 @@
+pub mod Texts
+pub mod Nth
+pub mod Matches
+pub mod Specificity
+pub mod Selectors
+pub mod Rows

@@ -1,0 +1,136 @@
+// What a simple selector asks of an element: its name, and `count` attributes from row `at` on. Names and values asked for are texts, whether rule
+// rows or compiled bytes name them.
+use crate::texts::has_word;
+use crate::texts::same_text;
+use page::rows::attribute_name;
+use page::rows::attribute_value;
+use syntax::rows::ATTRIBUTE;
+use syntax::rows::CLASS;
+use syntax::rows::HASH;
+ghost use mathlib.Core.Path.{_≡_};
+ghost use Rattle.page.specs.PathOf.{attributesFrom};
+ghost use Rattle.matching.specs.Matches.{anyAttribute, isClass, isId, isNamed, firstIs};
+ghost use Rattle.matching.specs.Rows.{attributeOf, Countable, attributesPass};
+
+const CLASS_NAME: [u8; 5] = *b"class";
+
+const ID_NAME: [u8; 2] = *b"id";
+
+// Whether an attribute has a name.
+fn is_named(attributes: &[u32], text: &[u8], row: usize, name: &[u8]) -> bool
+    ensures { λ r. ⌜ r ≡ isNamed (now (name .entry)) (attributeOf (now (attributes .entry)) (now (text .entry)) row) ⌝ }
+{
+    same_text(attribute_name(attributes, text, row), name)
+}
+
+// Whether an attribute is a `class` and `class` one of its words.
+fn is_class(attributes: &[u32], text: &[u8], row: usize, class: &[u8]) -> bool
+    ensures { λ r. ⌜ r ≡ isClass (now (class .entry)) (attributeOf (now (attributes .entry)) (now (text .entry)) row) ⌝ }
+{
+    if is_named(attributes, text, row, &CLASS_NAME) {
+        return has_word(attribute_value(attributes, text, row), class);
+    }
+    false
+}
+
+// Whether an attribute is an `id` and `hash` its value.
+fn is_id(attributes: &[u32], text: &[u8], row: usize, hash: &[u8]) -> bool
+    ensures { λ r. ⌜ r ≡ isId (now (hash .entry)) (attributeOf (now (attributes .entry)) (now (text .entry)) row) ⌝ }
+{
+    if is_named(attributes, text, row, &ID_NAME) {
+        return same_text(attribute_value(attributes, text, row), hash);
+    }
+    false
+}
+
+// Whether `class` is a word of any `class`.
+pub fn has_class(attributes: &[u32], text: &[u8], at: usize, count: usize, class: &[u8]) -> bool
+    requires { ⌜ Countable at count ⌝ }
+    ensures { λ r. ⌜ r ≡ anyAttribute (isClass (now (class .entry))) (attributesFrom (now (attributes .entry)) (now (text .entry)) count at) ⌝ }
+{
+    let mut i = 0;
+    while i < count {
+        if is_class(attributes, text, at + i, class) {
+            return true;
+        }
+        i += 1;
+    }
+    false
+}
+
+// Whether any `id` is `hash`.
+pub fn has_id(attributes: &[u32], text: &[u8], at: usize, count: usize, hash: &[u8]) -> bool
+    requires { ⌜ Countable at count ⌝ }
+    ensures { λ r. ⌜ r ≡ anyAttribute (isId (now (hash .entry))) (attributesFrom (now (attributes .entry)) (now (text .entry)) count at) ⌝ }
+{
+    let mut i = 0;
+    while i < count {
+        if is_id(attributes, text, at + i, hash) {
+            return true;
+        }
+        i += 1;
+    }
+    false
+}
+
+// Whether there is an attribute of a name.
+pub fn has_attribute(attributes: &[u32], text: &[u8], at: usize, count: usize, name: &[u8]) -> bool
+    requires { ⌜ Countable at count ⌝ }
+    ensures { λ r. ⌜ r ≡ anyAttribute (isNamed (now (name .entry))) (attributesFrom (now (attributes .entry)) (now (text .entry)) count at) ⌝ }
+{
+    let mut i = 0;
+    while i < count {
+        if is_named(attributes, text, at + i, name) {
+            return true;
+        }
+        i += 1;
+    }
+    false
+}
+
+// Whether the first attribute of a name has a value.
+pub fn attribute_is(
+    attributes: &[u32],
+    text: &[u8],
+    at: usize,
+    count: usize,
+    name: &[u8],
+    value: &[u8],
+) -> bool
+    requires { ⌜ Countable at count ⌝ }
+    ensures { λ r. ⌜ r ≡ firstIs (now (name .entry)) (now (value .entry)) (attributesFrom (now (attributes .entry)) (now (text .entry)) count at) ⌝ }
+{
+    let mut i = 0;
+    while i < count {
+        if is_named(attributes, text, at + i, name) {
+            return same_text(attribute_value(attributes, text, at + i), value);
+        }
+        i += 1;
+    }
+    false
+}
+
+// What a component of a kind that is neither star, element nor nth asks of an element's attributes.
+pub fn attributes_pass(
+    kind: u32,
+    name: &[u8],
+    value: &[u8],
+    attributes: &[u32],
+    text: &[u8],
+    at: usize,
+    count: usize,
+) -> bool
+    requires { ⌜ Countable at count ⌝ }
+    ensures { λ r. ⌜ r ≡ attributesPass kind (now (name .entry)) (now (value .entry)) (attributesFrom (now (attributes .entry)) (now (text .entry)) count at) ⌝ }
+{
+    if kind == CLASS {
+        return has_class(attributes, text, at, count, name);
+    }
+    if kind == HASH {
+        return has_id(attributes, text, at, count, name);
+    }
+    if kind == ATTRIBUTE {
+        return has_attribute(attributes, text, at, count, name);
+    }
+    attribute_is(attributes, text, at, count, name, value)
+}

@@ -1,0 +1,137 @@
+// Whether a selector, in component rows, matches a row of a page (`Selector::do_matches`). Row 0 is the document.
+use crate::components::first_number;
+use crate::components::first_text;
+use crate::components::kind_at;
+use crate::components::second_number;
+use crate::components::second_text;
+use crate::elements::attributes_pass;
+use crate::nth::nth;
+use crate::nth::signed_of;
+use crate::texts::same_text;
+use page::ancestors::place_among;
+use page::rows::attribute_count;
+use page::rows::first_attribute;
+use page::rows::kind_of;
+use page::rows::name_of;
+use page::rows::parent_of;
+use syntax::rows::CHILD;
+use syntax::rows::DESCENDANT;
+use syntax::rows::ELEMENT;
+use syntax::rows::NTH;
+use syntax::rows::STAR;
+ghost use mathlib.Core.Path.{_≡_};
+ghost use mathlib.Core.List.{[], _∷_};
+ghost use Rattle.page.specs.Ancestors.{placeOf};
+ghost use Rattle.page.specs.PathOf.{elementAt, pathOf};
+ghost use Rattle.syntax.specs.RuleLayout.{componentKindAt, componentFirstAt, componentSecondAt};
+ghost use Rattle.syntax.specs.Signed.{signedOf};
+ghost use Rattle.matching.specs.Matches.{matches};
+ghost use Rattle.matching.specs.Nth.{nthMatches};
+ghost use Rattle.matching.specs.Rows.{componentNumber, componentAt, componentsAt, SimpleAt, Rooted, elementPasses};
+
+// Whether an nth-child holds of a row's place among its siblings.
+fn is_nth(components: &[u32], i: usize, nodes: &[u32], row: usize) -> bool
+    ensures { λ r. ⌜ r ≡ nthMatches (signedOf (componentNumber (now (components .entry)) i componentFirstAt)) (signedOf (componentNumber (now (components .entry)) i componentSecondAt)) (placeOf (now (nodes .entry)) row) ⌝ }
+{
+    let a = signed_of(first_number(components, i));
+    let b = signed_of(second_number(components, i));
+    nth(a, b, place_among(nodes, row))
+}
+
+// Whether an element passes a component that is neither star nor combinator.
+fn element_passes(
+    components: &[u32],
+    store: &[u8],
+    i: usize,
+    nodes: &[u32],
+    attributes: &[u32],
+    text: &[u8],
+    row: usize,
+) -> bool
+    ensures { λ r. ⌜ r ≡ elementPasses (now (store .entry)) (now (components .entry)) i (elementAt (now (nodes .entry)) (now (attributes .entry)) (now (text .entry)) row) ⌝ }
+{
+    let kind = kind_at(components, i);
+    if kind == NTH {
+        return is_nth(components, i, nodes, row);
+    }
+    let name = first_text(components, store, i);
+    if kind == ELEMENT {
+        return same_text(name_of(nodes, text, row), name);
+    }
+    let value = second_text(components, store, i);
+    let at = first_attribute(nodes, row);
+    attributes_pass(
+        kind,
+        name,
+        value,
+        attributes,
+        text,
+        at,
+        attribute_count(nodes, row),
+    )
+}
+
+// Whether a row passes a component that is no combinator. The document passes star alone.
+fn passes(
+    components: &[u32],
+    store: &[u8],
+    i: usize,
+    nodes: &[u32],
+    attributes: &[u32],
+    text: &[u8],
+    row: usize,
+) -> bool
+    requires { ⌜ SimpleAt (now components) i ⌝ }
+    requires { ⌜ Rooted (now nodes) row ⌝ }
+    ensures { λ r. ⌜ r ≡ matches (componentAt (now (store .entry)) (now (components .entry)) i ∷ []) (pathOf (now (nodes .entry)) (now (attributes .entry)) (now (text .entry)) row) ⌝ }
+{
+    if kind_at(components, i) == STAR {
+        return true;
+    }
+    if kind_of(nodes, row) == page::rows::ELEMENT {
+        return element_passes(components, store, i, nodes, attributes, text, row);
+    }
+    false
+}
+
+// Whether the first `left` components match a row, the last of them first. The row is the document or an element, and parents lead from it to the
+// document; on an accepted page they do from every element (law `accepted-element`).
+pub fn do_matches(
+    components: &[u32],
+    store: &[u8],
+    left: usize,
+    nodes: &[u32],
+    attributes: &[u32],
+    text: &[u8],
+    row: usize,
+) -> bool
+    requires { ⌜ Rooted (now nodes) row ⌝ }
+    ensures { λ r. ⌜ r ≡ matches (componentsAt (now (store .entry)) (now (components .entry)) left) (pathOf (now (nodes .entry)) (now (attributes .entry)) (now (text .entry)) row) ⌝ }
+{
+    if left == 0 {
+        return true;
+    }
+    let next = left - 1;
+    let kind = kind_at(components, next);
+    if kind == CHILD {
+        if row == 0 {
+            return false;
+        }
+        let above = parent_of(nodes, row);
+        return do_matches(components, store, next, nodes, attributes, text, above);
+    }
+    if kind == DESCENDANT {
+        if row == 0 {
+            return false;
+        }
+        let parent = parent_of(nodes, row);
+        if do_matches(components, store, next, nodes, attributes, text, parent) {
+            return true;
+        }
+        return do_matches(components, store, left, nodes, attributes, text, parent);
+    }
+    if passes(components, store, next, nodes, attributes, text, row) {
+        return do_matches(components, store, next, nodes, attributes, text, row);
+    }
+    false
+}
