@@ -1,0 +1,142 @@
+-- Styles: what is written is read back wherever it lies.
+use mathlib.Core.Path.{_≡_, refl, sym, ap, _∙_}
+use mathlib.Core.Bool.{Bool, true, false}
+use mathlib.Core.List.{List, [], _∷_, _++_, append-nil}
+use Prim.Native.Nat.{ℕ, _+_, _*_, _≤_, _<_}
+use native.Mathlib.Nat.{add-zero}
+use native.Mathlib.Omega.{arith}
+use lib.ListN.{length, getD, drop, length-append}
+use Rattle.combinators.specs.Choice.{pick, is}
+use Rattle.syntax.specs.Declaration.{Colour, WhiteSpace, normal, pre, preWrap}
+use Rattle.syntax.specs.Layout as layout
+use Rattle.syntax.specs.Layout.{flag, colourNumber, whiteSpaceNumber, colourSlot, contentSlot, styleTextOf, styleText, styleRowOf, styleRow, readStyle, styleRows, styleTexts}
+use Rattle.syntax.specs.Stream.{readMany, rowsMany, textsMany}
+use Rattle.syntax.specs.Style as style
+use Rattle.syntax.specs.Style.{Style, StyleDecl}
+use Rattle.syntax.proofs.Back as back
+use Rattle.syntax.proofs.Back.{OfBytes}
+use Rattle.syntax.proofs.Streams.{Held, held-left, held-right}
+use Rattle.compiled.specs.Decoded.{read, andThen, mapped}
+use Rattle.compiled.specs.Number.{numberBytes, rangedAt}
+use Rattle.compiled.specs.Text.{spanAt}
+use Rattle.compiled.specs.Style.{greatestColour, greatestWhiteSpace, styleSlotOf, styleBody, styleBytes, styleNumbers, contentAt, numberUpTo, valueAt, slotAt, styleNumbersAt, styleIn, styleAt}
+use Rattle.compiled.proofs.Fits.{Bytes, TextFits, StyleFits}
+use Rattle.compiled.proofs.Following.{then-read, mapped-read, ends-at, all-append}
+use Rattle.compiled.proofs.NumberBack.{number-some, number-bytes, ranged-back}
+use Rattle.compiled.proofs.TextBack.{text-bytes, span, span-back, text-held}
+
+-- ---- numbers in their ranges
+-- a slot is one of five
+slot-le : (s : Style) → styleSlotOf s ≤ contentSlot
+unfolding styleSlotOf
+slot-le (style.colour c) = omega arith
+slot-le (style.background c) = omega arith
+slot-le style.displayNone = omega arith
+slot-le (style.whiteSpace w) = omega arith
+slot-le (style.content x) = omega arith
+
+flag-le : (b : Bool) → flag b ≤ 1
+unfolding flag
+flag-le true = omega arith
+flag-le false = omega arith
+
+colour-le : (c : Colour) → OfBytes c → colourNumber c ≤ greatestColour
+unfolding colourNumber
+colour-le c h = sum (c .red) (c .green) (c .blue) (h .red) (h .green) (h .blue)
+  where
+    sum : (r g b : ℕ) → r < 256 → g < 256 → b < 256 → r * 65536 + g * 256 + b ≤ greatestColour
+    sum r g b hr hg hb = omega arith
+
+white-space-le : (w : WhiteSpace) → whiteSpaceNumber w ≤ greatestWhiteSpace
+unfolding whiteSpaceNumber
+white-space-le normal = omega arith
+white-space-le pre = omega arith
+white-space-le preWrap = omega arith
+
+-- ---- bytes
+body-bytes : (s : Style) → back.StyleFits s → TextFits (styleTextOf s) → Bytes (styleBody s)
+unfolding styleBody styleTextOf back.StyleFits
+body-bytes (style.colour c) u f = number-bytes (colourNumber c) (omega (arith, colour-le c u))
+body-bytes (style.background c) u f = number-bytes (colourNumber c) (omega (arith, colour-le c u))
+body-bytes style.displayNone u f = tt
+body-bytes (style.whiteSpace w) u f = number-bytes (whiteSpaceNumber w) (omega (arith, white-space-le w))
+body-bytes (style.content x) u f = text-bytes x f
+
+-- the bytes of a style are bytes
+pub style-bytes : (d : StyleDecl) → StyleFits d → Bytes (styleBytes d)
+unfolding styleBytes styleText
+style-bytes d h =
+    all-append _ (numberBytes (flag (d .important))) (numberBytes (styleSlotOf (d .style)) ++ styleBody (d .style))
+    (number-bytes (flag (d .important)) (omega (arith, flag-le (d .important))))
+    (all-append _ (numberBytes (styleSlotOf (d .style))) (styleBody (d .style))
+    (number-bytes (styleSlotOf (d .style)) (omega (arith, slot-le (d .style)))) (body-bytes (d .style) (h .colour) (h .text)))
+
+-- a style takes a byte
+pub style-some : (d : StyleDecl) → 1 ≤ length (styleBytes d)
+unfolding styleBytes
+style-some d =
+    omega (arith, length-append (numberBytes (flag (d .important))) (numberBytes (styleSlotOf (d .style)) ++ styleBody (d .style)), number-some (flag (d .important)))
+
+-- ---- read back
+-- the first of some styles
+abbrev firstOf : List StyleDecl → StyleDecl
+firstOf ds = getD ds 0 (record { style = style.displayNone; important = false })
+
+module _ (t : List ℕ) where
+  -- nothing lies anywhere
+  held-none : (f : ℕ) → Held t f []
+  held-none f = record { more = drop f t; held = refl }
+
+  -- the text of one style
+  held-one : (d : StyleDecl) (f : ℕ) → Held t f (styleText d) → Held t f (styleTexts (d ∷ []))
+  unfolding styleTexts textsMany
+  held-one d f h = rw append-nil h
+
+  -- the numbers of a style's row say the style
+  row-back : (d : StyleDecl) (f : ℕ) → back.StyleFits (d .style) → Held t f (styleText d) → layout.stylesAt (styleRows f (d ∷ []) ++ []) t 1 ≡ d ∷ []
+  row-back d f u h = back.styles-back t (d ∷ []) f [] (u, tt) (held-one d f h)
+
+  in-back : (i : Bool) (f : ℕ) (s : Style) → back.StyleFits s → Held t f (styleTextOf s)
+      → styleIn t (styleNumbers (flag i) (styleSlotOf s) (getD (styleRowOf (flag i) f s) 2 0) (getD (styleRowOf (flag i) f s) 3 0)) ≡ record { style = s; important = i }
+  unfolding styleIn styleNumbers styleSlotOf styleRowOf layout.stylesAt styleRows rowsMany readMany readStyle styleRow styleText
+  in-back i f (style.colour c) u h = ap firstOf (row-back (record { style = (style.colour c); important = i }) f u h)
+  in-back i f (style.background c) u h = ap firstOf (row-back (record { style = (style.background c); important = i }) f u h)
+  in-back i f style.displayNone u h = ap firstOf (row-back (record { style = style.displayNone; important = i }) f u h)
+  in-back i f (style.whiteSpace w) u h = ap firstOf (row-back (record { style = (style.whiteSpace w); important = i }) f u h)
+  in-back i f (style.content x) u h = ap firstOf (row-back (record { style = (style.content x); important = i }) f u h)
+
+  -- what stands behind the slot is read back
+  body-back : (i : Bool) (s : Style) (n : ℕ) → back.StyleFits s → TextFits (styleTextOf s) → Held t n (styleBody s)
+      → mapped (styleIn t) (valueAt t (flag i) (styleSlotOf s) n) ≡ read (n + length (styleBody s)) (record { style = s; important = i })
+  unfolding valueAt contentAt numberUpTo styleSlotOf styleBody styleTextOf styleRowOf back.StyleFits pick is
+  body-back i (style.colour c) n u f h =
+      mapped-read (styleIn t) _ _ _ (mapped-read _ (rangedAt t n 0 greatestColour) _ _ (ranged-back t n 0 greatestColour (colourNumber c) (omega (arith, colour-le c u)) (omega arith) (colour-le c u) h))
+      ∙ rw (in-back i n (style.colour c) u (held-none n))
+  body-back i (style.background c) n u f h =
+      mapped-read (styleIn t) _ _ _ (mapped-read _ (rangedAt t n 0 greatestColour) _ _ (ranged-back t n 0 greatestColour (colourNumber c) (omega (arith, colour-le c u)) (omega arith) (colour-le c u) h))
+      ∙ rw (in-back i n (style.background c) u (held-none n))
+  body-back i style.displayNone n u f h =
+      mapped-read (styleIn t) _ _ _ refl ∙ rw (in-back i n style.displayNone u (held-none n)) (ends-at _ _ _ (sym (add-zero n)))
+  body-back i (style.whiteSpace w) n u f h =
+      mapped-read (styleIn t) _ _ _ (mapped-read _ (rangedAt t n 0 greatestWhiteSpace) _ _ (ranged-back t n 0 greatestWhiteSpace (whiteSpaceNumber w) (omega (arith, white-space-le w)) (omega arith) (white-space-le w) h))
+      ∙ rw (in-back i n (style.whiteSpace w) u (held-none n))
+  body-back i (style.content x) n u f h =
+      mapped-read (styleIn t) _ _ _ (mapped-read _ (spanAt t n) _ (span t n x h) (span-back t n x h (f .short)))
+      ∙ rw (in-back i (n + length (numberBytes (length x))) (style.content x) u (text-held t n x h))
+
+  -- a style is read back
+  pub style-back : (d : StyleDecl) (i : ℕ) → StyleFits d → Held t i (styleBytes d) → styleAt t i ≡ read (i + length (styleBytes d)) d
+  unfolding styleAt styleNumbersAt slotAt styleBytes styleText
+  style-back d i f h =
+      let a : List ℕ = numberBytes (flag (d .important)) in
+      let b : List ℕ = numberBytes (styleSlotOf (d .style)) in
+      let c : List ℕ = styleBody (d .style) in
+      let r = held-right t i a (b ++ c) h in
+      let e : i + length a + length b + length c ≡ i + length (a ++ (b ++ c)) = omega (arith, length-append a (b ++ c), length-append b c) in
+      ap (mapped (styleIn t))
+      (then-read (rangedAt t i 0 1) (λ n important. andThen (rangedAt t n colourSlot contentSlot) (λ m slot. valueAt t important slot m)) _ (flag (d .important))
+      (ranged-back t i 0 1 (flag (d .important)) (omega (arith, flag-le (d .important))) (omega arith) (flag-le (d .important)) (held-left t i a (b ++ c) h))
+      ∙ then-read (rangedAt t (i + length a) colourSlot contentSlot) (λ m slot. valueAt t (flag (d .important)) slot m) _ (styleSlotOf (d .style))
+      (ranged-back t (i + length a) colourSlot contentSlot (styleSlotOf (d .style)) (omega (arith, slot-le (d .style))) (omega arith) (slot-le (d .style)) (held-left t (i + length a) b c r)))
+      ∙ body-back (d .important) (d .style) (i + length a + length b) (f .colour) (f .text) (held-right t (i + length a) b c r)
+      ∙ ends-at d _ _ e

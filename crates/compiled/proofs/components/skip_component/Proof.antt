@@ -1,0 +1,53 @@
+use Rattle.compiled.proofs.ComponentCode as laws
+use borrow.Author.Needs.{needs}
+use Rattle.compiled.proofs.components.skip_component.Statement.{statement}
+use Rattle.compiled.proofs.components.skip_component.Tie as tie
+
+read-component-requires : tie.Need-read-component-requires
+read-component-requires c κs = search needs
+
+enum-known-next : tie.Need-enum-known-next
+enum-known-next c = search needs
+
+returns : tie.Need-returns
+returns c = let n = c .before in laws.component-skipped _ _ _ _ (n .before .before .read-component .ensures .0) (n .next .given .1)
+
+enum-known-next-2 : tie.Need-enum-known-next-2
+enum-known-next-2 c = search needs
+
+returns-2 : tie.Need-returns-2
+returns-2 c = let n = c .before in laws.component-skipped _ _ _ _ (n .before .before .read-component .ensures .0) (n .next2 .given .1)
+
+enum-known-next-3 : tie.Need-enum-known-next-3
+enum-known-next-3 c = search needs
+
+returns-3 : tie.Need-returns-3
+returns-3 c = let n = c .before in laws.component-skipped _ _ _ _ (n .before .before .read-component .ensures .0) (n .next3 .given .1)
+
+enum-known-next-4 : tie.Need-enum-known-next-4
+enum-known-next-4 c = search needs
+
+returns-4 : tie.Need-returns-4
+returns-4 c = let n = c .before in laws.component-skipped _ _ _ _ (n .before .before .read-component .ensures .0) (n .next4 .given .1)
+
+enum-known-place : tie.Need-enum-known-place
+enum-known-place c = search needs
+
+returns-5 : tie.Need-returns-5
+returns-5 c = let n = c .before in laws.component-skipped _ _ _ _ (n .before .before .read-component .ensures .0) (n .place .given .1)
+
+pub skip-component-spec : {M : Type 1} → statement M
+skip-component-spec =
+    tie.close
+    (tie.spec
+    read-component-requires
+    enum-known-next
+    returns
+    enum-known-next-2
+    returns-2
+    enum-known-next-3
+    returns-3
+    enum-known-next-4
+    returns-4
+    enum-known-place
+    returns-5)

@@ -1,0 +1,103 @@
+-- What the readers of compiled bytes answer for each reading, and how far it reaches into the bytes.
+use Prim.Native.Nat.{ℕ, _+_, _≤_}
+use mathlib.Core.Path.{_≡_}
+use mathlib.Core.List.{List}
+use Rattle.compiled.specs.Decoded.{Decoded, read, fault}
+use Rattle.compiled.specs.Text.{Span}
+use Rattle.compiled.specs.Component.{Written, mark, name, numbers, names}
+use Rattle.compiled.specs.Style.{StyleNumbers, greatestColour}
+use Rattle.compiled.specs.Sheet.{CompiledSelector, Head}
+use Rattle.compiled.specs.declared.places.PlaceAnswer.{PlaceAnswer}
+use Rattle.compiled.specs.declared.places.PlaceAnswer.the-variants as place
+use Rattle.compiled.specs.declared.numbers.NumberAnswer.{NumberAnswer}
+use Rattle.compiled.specs.declared.numbers.NumberAnswer.the-variants as number
+use Rattle.compiled.specs.declared.texts.TextAnswer.{TextAnswer}
+use Rattle.compiled.specs.declared.texts.TextAnswer.the-variants as text
+use Rattle.compiled.specs.declared.components.ComponentAnswer.{ComponentAnswer}
+use Rattle.compiled.specs.declared.components.ComponentAnswer.the-variants as component
+use Rattle.compiled.specs.declared.styles.StyleAnswer.{StyleAnswer}
+use Rattle.compiled.specs.declared.styles.StyleAnswer.the-variants as style
+use Rattle.compiled.specs.declared.sheets.HeadAnswer.{HeadAnswer}
+use Rattle.compiled.specs.declared.sheets.HeadAnswer.the-variants as head
+use Rattle.compiled.specs.declared.sheets.SelectorAnswer.{SelectorAnswer}
+use Rattle.compiled.specs.declared.sheets.SelectorAnswer.the-variants as selector
+use Rattle.compiled.specs.declared.sheets.CheckAnswer.{CheckAnswer}
+use Rattle.compiled.specs.declared.sheets.CheckAnswer.the-variants as check
+
+-- ---- numbers
+unfoldable pub numberAnswer : Decoded ℕ → NumberAnswer
+numberAnswer (read n v) = number.Number n v
+numberAnswer (fault p) = number.Fault p
+
+-- what was read ends within the bytes
+unfoldable pub numberWithin : ℕ → NumberAnswer → Type 0
+numberWithin len (number.Number n v) = n ≤ len
+numberWithin len (number.Fault p) = Unit
+
+-- ---- texts
+unfoldable pub textAnswer : Decoded Span → TextAnswer
+textAnswer (read n x) = text.Text n (x .start) (x .size)
+textAnswer (fault p) = text.Fault p
+
+-- it ends where what was read ends
+unfoldable pub textWithin : ℕ → TextAnswer → Type 0
+textWithin len (text.Text n start size) = (n ≤ len) × (start + size ≡ n)
+textWithin len (text.Fault p) = Unit
+
+-- ---- what is only passed over
+unfoldable pub placeAnswer : {A : Type 0} → Decoded A → PlaceAnswer
+placeAnswer (read n a) = place.At n
+placeAnswer (fault p) = place.Fault p
+
+-- ---- components
+unfoldable pub writtenAnswer : ℕ → Written → ComponentAnswer
+writtenAnswer n (mark kind) = component.Mark n kind
+writtenAnswer n (name kind x) = component.Name n kind (x .start) (x .size)
+writtenAnswer n (numbers a b) = component.Numbers n a b
+writtenAnswer n (names x y) = component.Names n (x .start) (x .size) (y .start) (y .size)
+
+unfoldable pub componentAnswer : Decoded Written → ComponentAnswer
+componentAnswer (read n w) = writtenAnswer n w
+componentAnswer (fault p) = component.Fault p
+
+-- it ends within the bytes, and so do its texts
+unfoldable pub componentWithin : ℕ → ComponentAnswer → Type 0
+componentWithin len (component.Mark n kind) = n ≤ len
+componentWithin len (component.Name n kind start size) = (n ≤ len) × (start + size ≤ len)
+componentWithin len (component.Numbers n a b) = n ≤ len
+componentWithin len (component.Names n a b start size) = (n ≤ len) × (a + b ≤ len) × (start + size ≤ len)
+componentWithin len (component.Fault p) = Unit
+
+-- ---- styles
+unfoldable pub styleAnswer : Decoded StyleNumbers → StyleAnswer
+styleAnswer (read n x) = style.Style n (x .slot) (x .important) (x .value) (x .second)
+styleAnswer (fault p) = style.Fault p
+
+-- it ends within the bytes, and so does a content; another value is at most the greatest colour
+unfoldable pub styleWithin : ℕ → StyleAnswer → Type 0
+styleWithin len (style.Style n slot important value second) = (n ≤ len) × (value ≤ greatestColour + len) × (second ≤ len)
+styleWithin len (style.Fault p) = Unit
+
+-- ---- the numbers before the components of a selector
+unfoldable pub headAnswer : Decoded Head → HeadAnswer
+headAnswer (read n h) = head.Head n (h .origin) (h .pseudo) (h .count)
+headAnswer (fault p) = head.Fault p
+
+unfoldable pub headWithin : ℕ → HeadAnswer → Type 0
+headWithin len (head.Head n origin pseudo count) = n ≤ len
+headWithin len (head.Fault p) = Unit
+
+-- ---- a selector that is passed over, with its origin
+unfoldable pub selectorAnswer : Decoded CompiledSelector → SelectorAnswer
+selectorAnswer (read n s) = selector.Selector n (s .origin)
+selectorAnswer (fault p) = selector.Fault p
+
+-- ---- a sheet: that the bytes are one, or the place of the fault
+unfoldable pub checkAnswer : Decoded (List CompiledSelector) → CheckAnswer
+checkAnswer (read n ss) = check.Sheet
+checkAnswer (fault p) = check.Fault p
+
+-- the fault lies within the bytes or at their end
+unfoldable pub checkWithin : ℕ → CheckAnswer → Type 0
+checkWithin len check.Sheet = Unit
+checkWithin len (check.Fault p) = p ≤ len

@@ -1,0 +1,273 @@
+// Components of a compiled sheet: a kind, then what the component has.
+use crate::numbers::NumberAnswer;
+use crate::numbers::emit_number;
+use crate::numbers::read_number;
+use crate::numbers::read_ranged;
+use crate::places::PlaceAnswer;
+use crate::texts::TextAnswer;
+use crate::texts::emit_text;
+use crate::texts::read_text;
+use syntax::rows::ATTRIBUTE;
+use syntax::rows::ATTRIBUTE_EQUAL;
+use syntax::rows::CHILD;
+use syntax::rows::CLASS;
+use syntax::rows::DESCENDANT;
+use syntax::rows::ELEMENT;
+use syntax::rows::HASH;
+use syntax::rows::NTH;
+use syntax::rows::STAR;
+ghost use mathlib.Core.Path.{_≡_};
+ghost use mathlib.Core.List.{_++_};
+ghost use Prim.Native.Nat.{_<_};
+ghost use lib.ListN.{length};
+ghost use Rattle.combinators.specs.Store.{emits};
+ghost use Rattle.syntax.specs.RuleLayout.{nthKind, attributeEqualKind};
+ghost use Rattle.compiled.specs.Number.{numberLimit, numberBytes};
+ghost use Rattle.compiled.specs.Text.{textBytes};
+ghost use Rattle.compiled.specs.Decoded.{counted};
+ghost use Rattle.compiled.specs.Component.{isMark, nameAt, secondNumberAt, numbersAt, secondNameAt, namesAt, bodyAt, writtenAt, componentAt, nameKind, componentFrom, ComponentTexts, componentBytes};
+ghost use Rattle.compiled.specs.Answer.{placeAnswer, componentAnswer, componentWithin};
+
+// A component, each with the place behind it first: star, child and descendant with their kind; class, element, hash and attribute with their kind,
+// where their text starts and how long it is; the two numbers of nth; the two texts of an attribute that is equal to a value. Or the place of the
+// fault.
+pub enum ComponentAnswer {
+    Mark(usize, u32),
+    Name(usize, u32, usize, usize),
+    Numbers(usize, u32, u32),
+    Names(usize, usize, usize, usize, usize),
+    Fault(usize),
+}
+
+// Whether a component is its kind alone.
+pub fn is_mark(kind: u32) -> bool
+    ensures { λ r. ⌜ r ≡ isMark kind ⌝ }
+{
+    if kind == STAR {
+        return true;
+    }
+    if kind == CHILD {
+        return true;
+    }
+    kind == DESCENDANT
+}
+
+// Behind the kind, the text.
+fn read_name(s: &[u8], at: usize, kind: u32) -> ComponentAnswer
+    ensures { λ r. ⌜ r ≡ componentAnswer (nameAt (now (s .entry)) kind at) ⌝ }
+{
+    match read_text(s, at) {
+        TextAnswer::Text(next, start, size) => {
+            return ComponentAnswer::Name(next, kind, start, size);
+        }
+        TextAnswer::Fault(place) => {
+            return ComponentAnswer::Fault(place);
+        }
+    }
+}
+
+// The second number of nth, where the first is `a`.
+fn read_second_number(s: &[u8], at: usize, a: u32) -> ComponentAnswer
+    ensures { λ r. ⌜ r ≡ componentAnswer (secondNumberAt (now (s .entry)) a at) ⌝ }
+{
+    match read_number(s, at) {
+        NumberAnswer::Number(next, b) => {
+            return ComponentAnswer::Numbers(next, a, b);
+        }
+        NumberAnswer::Fault(place) => {
+            return ComponentAnswer::Fault(place);
+        }
+    }
+}
+
+// Behind the kind, the two numbers of nth.
+fn read_numbers(s: &[u8], at: usize) -> ComponentAnswer
+    ensures { λ r. ⌜ r ≡ componentAnswer (numbersAt (now (s .entry)) at) ⌝ }
+{
+    match read_number(s, at) {
+        NumberAnswer::Number(next, a) => {
+            return read_second_number(s, next, a);
+        }
+        NumberAnswer::Fault(place) => {
+            return ComponentAnswer::Fault(place);
+        }
+    }
+}
+
+// The second text of an attribute that is equal to a value, where the first starts at `start` and has `size` bytes.
+fn read_second_name(s: &[u8], at: usize, start: usize, size: usize) -> ComponentAnswer
+    ensures { λ r. ⌜ r ≡ componentAnswer (secondNameAt (now (s .entry)) (record { start = start; size = size }) at) ⌝ }
+{
+    match read_text(s, at) {
+        TextAnswer::Text(next, second, second_size) => {
+            return ComponentAnswer::Names(next, start, size, second, second_size);
+        }
+        TextAnswer::Fault(place) => {
+            return ComponentAnswer::Fault(place);
+        }
+    }
+}
+
+// Behind the kind, the two texts.
+fn read_names(s: &[u8], at: usize) -> ComponentAnswer
+    ensures { λ r. ⌜ r ≡ componentAnswer (namesAt (now (s .entry)) at) ⌝ }
+{
+    match read_text(s, at) {
+        TextAnswer::Text(next, start, size) => {
+            return read_second_name(s, next, start, size);
+        }
+        TextAnswer::Fault(place) => {
+            return ComponentAnswer::Fault(place);
+        }
+    }
+}
+
+// What stands behind the kind.
+fn read_body(s: &[u8], at: usize, kind: u32) -> ComponentAnswer
+    ensures { λ r. ⌜ r ≡ componentAnswer (bodyAt (now (s .entry)) kind at) ⌝ }
+{
+    if is_mark(kind) {
+        return ComponentAnswer::Mark(at, kind);
+    }
+    if kind == NTH {
+        return read_numbers(s, at);
+    }
+    if kind == ATTRIBUTE_EQUAL {
+        return read_names(s, at);
+    }
+    read_name(s, at, kind)
+}
+
+// The component at `at`.
+pub fn read_component(s: &[u8], at: usize) -> ComponentAnswer
+    ensures { λ r. ⌜ r ≡ componentAnswer (writtenAt (now (s .entry)) at) ⌝ }
+    ensures { λ r. ⌜ componentWithin (length (now (s .entry))) r ⌝ }
+{
+    match read_ranged(s, at, STAR, ATTRIBUTE_EQUAL) {
+        NumberAnswer::Number(next, kind) => {
+            return read_body(s, next, kind);
+        }
+        NumberAnswer::Fault(place) => {
+            return ComponentAnswer::Fault(place);
+        }
+    }
+}
+
+// The place behind the component at `at`.
+pub fn skip_component(s: &[u8], at: usize) -> PlaceAnswer
+    ensures { λ r. ⌜ r ≡ placeAnswer (componentAt (now (s .entry)) at) ⌝ }
+{
+    match read_component(s, at) {
+        ComponentAnswer::Mark(next, _) => {
+            return PlaceAnswer::At(next);
+        }
+        ComponentAnswer::Name(next, _, _, _) => {
+            return PlaceAnswer::At(next);
+        }
+        ComponentAnswer::Numbers(next, _, _) => {
+            return PlaceAnswer::At(next);
+        }
+        ComponentAnswer::Names(next, _, _, _, _) => {
+            return PlaceAnswer::At(next);
+        }
+        ComponentAnswer::Fault(place) => {
+            return PlaceAnswer::Fault(place);
+        }
+    }
+}
+
+// The place behind `count` components from `at` on.
+pub fn skip_components(s: &[u8], at: usize, count: u32) -> PlaceAnswer
+    ensures { λ r. ⌜ r ≡ placeAnswer (counted (componentAt (now (s .entry))) count at) ⌝ }
+{
+    let mut i = at;
+    let mut left = count;
+    while left > 0 {
+        match skip_component(s, i) {
+            PlaceAnswer::At(next) => {
+                i = next;
+            }
+            PlaceAnswer::Fault(place) => {
+                return PlaceAnswer::Fault(place);
+            }
+        }
+        left -= 1;
+    }
+    PlaceAnswer::At(i)
+}
+
+// The kind of a component that has one text: class, element, hash, or else attribute.
+fn name_kind(kind: u32) -> u32
+    ensures { λ r. ⌜ r ≡ nameKind kind ⌝ }
+{
+    if kind == CLASS {
+        return CLASS;
+    }
+    if kind == ELEMENT {
+        return ELEMENT;
+    }
+    if kind == HASH {
+        return HASH;
+    }
+    ATTRIBUTE
+}
+
+// Writes a kind and a text; the fill behind them.
+fn emit_name(kind: u32, text: &[u8], store: &mut [u8], fill: usize) -> usize
+    requires { ⌜ length (now text) < numberLimit ⌝ }
+    ensures { λ r. ⌜ record { bytes = now (store .exit); fill = r }
+        ≡ emits (record { bytes = now (store .entry); fill = fill }) (numberBytes kind ++ textBytes (now (text .entry))) ⌝ }
+{
+    let behind = emit_number(kind, store, fill);
+    emit_text(text, store, behind)
+}
+
+// Writes the kind of nth and its two numbers; the fill behind them.
+fn emit_nth(a: u32, b: u32, store: &mut [u8], fill: usize) -> usize
+    ensures { λ r. ⌜ record { bytes = now (store .exit); fill = r }
+        ≡ emits (record { bytes = now (store .entry); fill = fill }) (numberBytes nthKind ++ (numberBytes a ++ numberBytes b)) ⌝ }
+{
+    let behind_kind = emit_number(NTH, store, fill);
+    let behind_a = emit_number(a, store, behind_kind);
+    emit_number(b, store, behind_a)
+}
+
+// Writes the kind of an attribute that is equal to a value, and its two texts; the fill behind them.
+fn emit_attribute_equal(name: &[u8], value: &[u8], store: &mut [u8], fill: usize) -> usize
+    requires { ⌜ ComponentTexts (now name) (now value) ⌝ }
+    ensures { λ r. ⌜ record { bytes = now (store .exit); fill = r }
+        ≡ emits (record { bytes = now (store .entry); fill = fill })
+        (numberBytes attributeEqualKind ++ (textBytes (now (name .entry)) ++ textBytes (now (value .entry)))) ⌝ }
+{
+    let behind_kind = emit_number(ATTRIBUTE_EQUAL, store, fill);
+    let behind_name = emit_text(name, store, behind_kind);
+    emit_text(value, store, behind_name)
+}
+
+// Writes the component of a kind: with `first` where it has a text, also with `second` where it has two, with `a` and `b` where it is nth. The
+// fill behind it.
+pub fn emit_component(
+    kind: u32,
+    first: &[u8],
+    second: &[u8],
+    a: u32,
+    b: u32,
+    store: &mut [u8],
+    fill: usize,
+) -> usize
+    requires { ⌜ ComponentTexts (now first) (now second) ⌝ }
+    ensures { λ r. ⌜ record { bytes = now (store .exit); fill = r }
+        ≡ emits (record { bytes = now (store .entry); fill = fill })
+        (componentBytes (componentFrom kind (now (first .entry)) (now (second .entry)) a b)) ⌝ }
+{
+    if is_mark(kind) {
+        return emit_number(kind, store, fill);
+    }
+    if kind == NTH {
+        return emit_nth(a, b, store, fill);
+    }
+    if kind == ATTRIBUTE_EQUAL {
+        return emit_attribute_equal(first, second, store, fill);
+    }
+    emit_name(name_kind(kind), first, store, fill)
+}

@@ -1,0 +1,179 @@
+// Selectors of a compiled sheet, and the check that bytes are a sheet.
+use crate::components::skip_components;
+use crate::numbers::NumberAnswer;
+use crate::numbers::emit_number;
+use crate::numbers::read_number;
+use crate::numbers::read_ranged;
+use crate::places::PlaceAnswer;
+use crate::styles::skip_styles;
+use syntax::rows::PSEUDO_AFTER;
+use syntax::rows::PSEUDO_NONE;
+ghost use mathlib.Core.Path.{_≡_};
+ghost use lib.ListN.{length};
+ghost use Rattle.combinators.specs.Store.{emits};
+ghost use Rattle.compiled.specs.Sheet.{headBytes, countAt, pseudoAt, headAt, partsAt, selectorAt, selectorsAt, wholeAt, decode};
+ghost use Rattle.compiled.specs.Answer.{placeAnswer, headAnswer, headWithin, selectorAnswer, checkAnswer, checkWithin};
+
+// Origins are 1 agent, 2 user, 3 author.
+pub const LEAST_ORIGIN: u32 = 1;
+
+pub const GREATEST_ORIGIN: u32 = 3;
+
+// The place behind the numbers before a selector's components: its origin, its pseudo element and how many components it has. Or the place of the
+// fault.
+pub enum HeadAnswer {
+    Head(usize, u32, u32, u32),
+    Fault(usize),
+}
+
+// The place behind a selector, and its origin; or the place of the fault.
+pub enum SelectorAnswer {
+    Selector(usize, u32),
+    Fault(usize),
+}
+
+// That bytes are a sheet, or the place of the fault.
+pub enum CheckAnswer {
+    Sheet,
+    Fault(usize),
+}
+
+// Behind the origin and the pseudo element, the count.
+fn read_count(s: &[u8], at: usize, origin: u32, pseudo: u32) -> HeadAnswer
+    ensures { λ r. ⌜ r ≡ headAnswer (countAt (now (s .entry)) origin pseudo at) ⌝ }
+{
+    match read_number(s, at) {
+        NumberAnswer::Number(next, count) => {
+            return HeadAnswer::Head(next, origin, pseudo, count);
+        }
+        NumberAnswer::Fault(place) => {
+            return HeadAnswer::Fault(place);
+        }
+    }
+}
+
+// Behind the origin, the pseudo element and the count.
+fn read_pseudo(s: &[u8], at: usize, origin: u32) -> HeadAnswer
+    ensures { λ r. ⌜ r ≡ headAnswer (pseudoAt (now (s .entry)) origin at) ⌝ }
+{
+    match read_ranged(s, at, PSEUDO_NONE, PSEUDO_AFTER) {
+        NumberAnswer::Number(next, pseudo) => {
+            return read_count(s, next, origin, pseudo);
+        }
+        NumberAnswer::Fault(place) => {
+            return HeadAnswer::Fault(place);
+        }
+    }
+}
+
+// The numbers at `at` before a selector's components, where the selector before is of the origin `least`.
+pub fn read_head(s: &[u8], at: usize, least: u32) -> HeadAnswer
+    ensures { λ r. ⌜ r ≡ headAnswer (headAt (now (s .entry)) least at) ⌝ }
+    ensures { λ r. ⌜ headWithin (length (now (s .entry))) r ⌝ }
+{
+    match read_ranged(s, at, least, GREATEST_ORIGIN) {
+        NumberAnswer::Number(next, origin) => {
+            return read_pseudo(s, next, origin);
+        }
+        NumberAnswer::Fault(place) => {
+            return HeadAnswer::Fault(place);
+        }
+    }
+}
+
+// The place behind `count` components at `at` and the styles behind them.
+pub fn skip_parts(s: &[u8], at: usize, count: u32) -> PlaceAnswer
+    ensures { λ r. ⌜ r ≡ placeAnswer (partsAt (now (s .entry)) count at) ⌝ }
+{
+    match skip_components(s, at, count) {
+        PlaceAnswer::At(next) => {
+            return skip_styles(s, next);
+        }
+        PlaceAnswer::Fault(place) => {
+            return PlaceAnswer::Fault(place);
+        }
+    }
+}
+
+// The place behind the selector at `at`, where the one before is of the origin `least`; and its origin.
+pub fn skip_selector(s: &[u8], at: usize, least: u32) -> SelectorAnswer
+    ensures { λ r. ⌜ r ≡ selectorAnswer (selectorAt (now (s .entry)) least at) ⌝ }
+{
+    match read_head(s, at, least) {
+        HeadAnswer::Head(next, origin, _, count) => match skip_parts(s, next, count) {
+            PlaceAnswer::At(end) => {
+                return SelectorAnswer::Selector(end, origin);
+            }
+            PlaceAnswer::Fault(place) => {
+                return SelectorAnswer::Fault(place);
+            }
+        },
+        HeadAnswer::Fault(place) => {
+            return SelectorAnswer::Fault(place);
+        }
+    }
+}
+
+// The place behind `count` selectors from `at` on, whose origins do not fall from `least` on.
+fn skip_selectors(s: &[u8], at: usize, count: u32, least: u32) -> PlaceAnswer
+    ensures { λ r. ⌜ r ≡ placeAnswer (selectorsAt count (now (s .entry)) least at) ⌝ }
+{
+    let mut i = at;
+    let mut least_now = least;
+    let mut left = count;
+    while left > 0 {
+        match skip_selector(s, i, least_now) {
+            SelectorAnswer::Selector(next, origin) => {
+                i = next;
+                least_now = origin;
+            }
+            SelectorAnswer::Fault(place) => {
+                return PlaceAnswer::Fault(place);
+            }
+        }
+        left -= 1;
+    }
+    PlaceAnswer::At(i)
+}
+
+// Whether the bytes are `count` selectors from `at` on and nothing behind them.
+fn check_selectors(s: &[u8], at: usize, count: u32) -> CheckAnswer
+    ensures { λ r. ⌜ r ≡ checkAnswer (wholeAt (now (s .entry)) count at) ⌝ }
+{
+    match skip_selectors(s, at, count, LEAST_ORIGIN) {
+        PlaceAnswer::At(end) => {
+            if end == s.len() {
+                return CheckAnswer::Sheet;
+            }
+            return CheckAnswer::Fault(end);
+        }
+        PlaceAnswer::Fault(place) => {
+            return CheckAnswer::Fault(place);
+        }
+    }
+}
+
+// Whether the bytes are a sheet, to their last byte.
+pub fn check_sheet(s: &[u8]) -> CheckAnswer
+    ensures { λ r. ⌜ r ≡ checkAnswer (decode (now (s .entry))) ⌝ }
+    ensures { λ r. ⌜ checkWithin (length (now (s .entry))) r ⌝ }
+{
+    match read_number(s, 0) {
+        NumberAnswer::Number(next, count) => {
+            return check_selectors(s, next, count);
+        }
+        NumberAnswer::Fault(place) => {
+            return CheckAnswer::Fault(place);
+        }
+    }
+}
+
+// Writes the numbers before a selector's components: its origin, its pseudo element and how many components it has. The fill behind them.
+pub fn emit_head(origin: u32, pseudo: u32, count: u32, store: &mut [u8], fill: usize) -> usize
+    ensures { λ r. ⌜ record { bytes = now (store .exit); fill = r }
+        ≡ emits (record { bytes = now (store .entry); fill = fill }) (headBytes origin pseudo count) ⌝ }
+{
+    let behind_origin = emit_number(origin, store, fill);
+    let behind_pseudo = emit_number(pseudo, store, behind_origin);
+    emit_number(count, store, behind_pseudo)
+}
