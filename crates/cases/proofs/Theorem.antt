@@ -25,11 +25,15 @@ use Rattle.syntax.specs.Layout as layout
 use Rattle.sheets.specs.Outcome as outcome
 use Rattle.sheets.specs.Selector as selector
 use Rattle.sheets.specs.Sheet as sheet
+use Rattle.matching.specs.Matches as matching
+use Rattle.matching.specs.Nth as nth
+use Rattle.matching.specs.Texts as texts
 use Rattle.cascade.specs.Specificity as specificity
 use Rattle.cascade.specs.Slot as slot
 use Rattle.cascade.specs.Record as style
-use Rattle.cases.specs.Proved.{All, cases, tinyHeight}
+use Rattle.compiled.specs.Number as compiled
+use Rattle.cases.specs.Proved.{All, cases, tinyHeight, selects}
 
 pub all-proved : All cases
-unfolding tinyHeight outcome.onOutcome outcome.behind outcome.parsed outcome.orElse selector.classOf selector.hashOf selector.closed selector.quotedOf selector.valueOf selector.attrOf selector.isMinus selector.isSign selector.signTaken selector.signed selector.digitsWorth selector.converted selector.bothOf selector.justA selector.justB selector.worded selector.nthOf selector.nthChildArgs selector.pseudoClassOf selector.marked selector.blankOf selector.componentOf selector.componentsOf selector.someOf selector.bodyOf selector.isDescendant selector.withoutBlank selector.pseudoOf selector.pseudoTaken selector.selectorOf sheet.spaced sheet.moreSelectors sheet.selectorsOf sheet.blockOf sheet.rulesetOf sheet.atRuleOf sheet.statementsOf sheet.movedBy sheet.sheetFrom sheet.sheetOf specificity.specificityOf specificity.noSpecificity specificity.inlineSpecificity specificity.sum specificity.lessThen specificity.lessBySelector specificity.less slot.held slot.emptySlot slot.heldByImportance slot.heldByOrigin slot.heldAgainst slot.maybeUpdate slot.rank slot.rankOf slot.weaker slot.heldInBook slot.bookUpdate slot.inheritedCandidate slot.inheritedSlot style.recordIn style.slotOf style.slotIn style.emptyRecord style.emptyStyle style.updateRecord style.updateStyle style.isNamed style.mergeBy style.mergeComputedStyle style.mergeInBookOrder style.inherit style.inheritRecord style.inheritInBookOrder style.fromRule style.fromAttribute style.crateDeclared style.crateCascade style.colourAttributes style.styleAttributes style.bookDeclared style.bookCascade style.candidatesFor style.inheritedCandidates layout.flag choice.pick choice.or choice.and choice.is choice.within parsed.onParsed parsed.behind parsed.orElse parsed.taken repeat.took repeat.many repeat.texts word.startsWith literal.text trim.whiteOf trim.whiteTaken trim.wordOf trim.wordTaken utf8.isScalar utf8.orReplacement utf8.continuation utf8.utf8 utf8.isContinuation utf8.leadOf utf8.two utf8.three utf8.four utf8.scalarTail utf8.scalarBy utf8.scalarOf utf8.takenOf utf8.scalarTaken utf8.valid utf8.encode white.member white.isWhiteSpace white.upFrom white.numbers white.inRanges name.isNmstart name.isNmchar name.lower name.foldedChar name.nmstartCharOf name.nmcharCharOf name.isHexDigit name.hexDigit name.hexRun name.hexCount name.hexValue name.behindOne name.escapedOf name.identEscapeOf name.either name.nmstartOf name.nmcharOf name.bytesOf name.charTaken name.charText name.charsEnd name.charsText name.nameFrom name.dash name.nameOf name.identOf name.charsOf name.identstringOf name.nameAnswer name.nameText number.isDigit number.oneDigit number.digits number.decimal number.unsigned number.sign number.signed number.number quoted.escapedByte quoted.quotedOf quoted.takenOf quoted.textOf quoted.quotedTaken quoted.quotedText quoted.stringEnd quoted.stringText token.numericFrom token.numericOf token.identLikeOf token.stringFrom token.isQuote token.stringOf token.isIdentStart token.startOf token.markOf token.hashOf token.plusOf token.minusOf token.lessOf token.tokenBy token.tokenAt token.tokenOf token.coded token.textOf token.tokenAnswer token.tokenText token.lexedAnswer token.orDelim row.columnsOf row.word row.rowOf row.tokenRow row.tokenFrom whitespace.commentEnd whitespace.commentOf whitespace.isWhitespace whitespace.whitespaceItem whitespace.skipWhitespace decimal.digit decimal.number decimal.digits decimal.numerator decimal.denominator decimal.roundsToZero attribute.styleAttribute attribute.trimmedStart attribute.allWhite attribute.trimmedEnd attribute.trimmed attribute.pairs attribute.faultyColour attribute.orFaulty attribute.colourAttribute colour.rgb colour.allOf colour.numeral colour.withoutPlus colour.digitsIn colour.parseU8 colour.parseHex colour.threeDigits colour.sixDigits colour.hashColour colour.threeNumbers colour.rgbColour colour.oneToken colour.colourOf colour.behindComma colour.backgroundOf property.unsignedZero property.numberZero property.anyOf property.heightOf property.firstWord property.overflowOf property.displayOf property.whiteSpaceOf property.contentOf property.declOf rules.colonBehind rules.propertyOf rules.valueBehind rules.declarationOf rules.startsAt rules.moreRules rules.declarationsOf value.bracketOf value.bracketBy value.closing value.ending value.stepOf value.stop value.cons value.onStep value.scan value.statementOf value.tokensOf value.isMark value.isImportant value.withoutMark value.valueFrom value.valueOf words.same words.kindOf words.firstOf words.numberOf words.unitOf words.isKind words.isWord words.isDelim words.foundOr words.lookup words.onFound words.split words.placeOf
-all-proved = (refl, (refl, (refl, (refl, ((refl, refl), ((refl, refl), (refl, (refl, (refl, tt)))))))))
+unfolding tinyHeight selects matching.matches matching.step matching.here matching.nameIs nth.nthMatches nth.isZero texts.sameText compiled.numberBytes compiled.groupBytes outcome.onOutcome outcome.behind outcome.parsed outcome.orElse selector.classOf selector.hashOf selector.closed selector.quotedOf selector.valueOf selector.attrOf selector.isMinus selector.isSign selector.signTaken selector.signed selector.digitsWorth selector.converted selector.bothOf selector.justA selector.justB selector.worded selector.nthOf selector.nthArgsOf selector.nthChildArgs selector.pseudoClassOf selector.marked selector.blankOf selector.componentOf selector.componentsOf selector.componentsFrom selector.someOf selector.withElementOf selector.withoutElementOf selector.bodyOf selector.isDescendant selector.withoutBlank selector.pseudoOf selector.pseudoTaken selector.selectorOf sheet.spaced sheet.moreSelectors sheet.moreFrom sheet.selectorsOf sheet.beforeEnd sheet.blockOf sheet.rulesetOf sheet.statementEnd sheet.atRuleOf sheet.statementsOf sheet.movedBy sheet.sheetFrom sheet.sheetOf specificity.specificityOf specificity.noSpecificity specificity.inlineSpecificity specificity.sum specificity.lessThen specificity.lessBySelector specificity.less slot.held slot.emptySlot slot.heldByImportance slot.heldByOrigin slot.heldAgainst slot.maybeUpdate slot.rank slot.rankOf slot.weaker slot.heldInBook slot.bookUpdate slot.inheritedCandidate slot.inheritedSlot style.recordIn style.slotOf style.slotIn style.emptyRecord style.emptyStyle style.updateRecord style.updateStyle style.isNamed style.mergeBy style.mergeComputedStyle style.mergeInBookOrder style.inherit style.inheritRecord style.inheritInBookOrder style.fromRule style.fromAttribute style.crateDeclared style.crateCascade style.colourAttributes style.styleAttributes style.bookDeclared style.bookCascade style.candidatesFor style.inheritedCandidates layout.flag choice.pick choice.or choice.and choice.is choice.within parsed.onParsed parsed.behind parsed.orElse parsed.taken repeat.took repeat.many repeat.texts word.startsWith literal.text trim.whiteOf trim.whiteTaken trim.wordOf trim.wordTaken utf8.isScalar utf8.orReplacement utf8.continuation utf8.utf8 utf8.isContinuation utf8.leadOf utf8.two utf8.three utf8.four utf8.scalarTail utf8.scalarBy utf8.scalarOf utf8.takenOf utf8.scalarTaken utf8.valid utf8.encode white.member white.isWhiteSpace white.upFrom white.numbers white.inRanges name.isNmstart name.isNmchar name.lower name.foldedChar name.nmstartCharOf name.nmcharCharOf name.isHexDigit name.hexDigit name.hexRun name.hexCount name.hexValue name.behindOne name.escapedOf name.identEscapeOf name.either name.nmstartOf name.nmcharOf name.bytesOf name.charTaken name.charText name.charsEnd name.charsText name.nameFrom name.dash name.nameOf name.identOf name.charsOf name.identstringOf name.nameAnswer name.nameText number.isDigit number.oneDigit number.digits number.decimal number.unsigned number.sign number.signed number.number quoted.escapedByte quoted.quotedOf quoted.takenOf quoted.textOf quoted.quotedTaken quoted.quotedText quoted.stringEnd quoted.stringText token.numericFrom token.numericOf token.identLikeOf token.stringFrom token.isQuote token.stringOf token.isIdentStart token.startOf token.markOf token.hashOf token.plusOf token.minusOf token.lessOf token.tokenBy token.tokenAt token.tokenOf token.coded token.textOf token.tokenAnswer token.tokenText token.lexedAnswer token.orDelim row.columnsOf row.word row.rowOf row.tokenRow row.tokenFrom whitespace.commentEnd whitespace.commentOf whitespace.isWhitespace whitespace.whitespaceItem whitespace.skipWhitespace decimal.digit decimal.number decimal.digits decimal.numerator decimal.denominator decimal.roundsToZero attribute.styleAttribute attribute.trimmedStart attribute.allWhite attribute.trimmedEnd attribute.trimmed attribute.pairs attribute.faultyColour attribute.orFaulty attribute.colourAttribute colour.rgb colour.allOf colour.numeral colour.withoutPlus colour.digitsIn colour.parseU8 colour.parseHex colour.threeDigits colour.sixDigits colour.hashColour colour.threeNumbers colour.rgbColour colour.oneToken colour.colourOf colour.behindComma colour.backgroundOf property.unsignedZero property.numberZero property.anyOf property.heightOf property.firstWord property.overflowOf property.displayOf property.whiteSpaceOf property.contentOf property.declOf rules.colonBehind rules.propertyOf rules.valueBehind rules.declarationOf rules.startsAt rules.moreRules rules.declarationsOf value.bracketOf value.bracketBy value.closing value.ending value.stepOf value.stop value.cons value.onStep value.scan value.statementOf value.tokensOf value.isMark value.isImportant value.withoutMark value.valueFrom value.valueOf words.same words.kindOf words.firstOf words.numberOf words.unitOf words.isKind words.isWord words.isDelim words.foundOr words.lookup words.onFound words.split words.placeOf
+all-proved = (refl, (refl, (refl, (refl, (refl, ((refl, refl), ((refl, refl), (refl, ((refl, refl, refl, refl), (refl, (refl, ((refl, refl, refl), tt))))))))))))

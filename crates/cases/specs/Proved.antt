@@ -9,6 +9,7 @@ use Rattle.combinators.specs.Parsed.{ok, onParsed}
 use Rattle.cascade.specs.Cases.{red, blue, byType, byClass, byId, rule, byAuthor}
 use Rattle.cascade.specs.Record.{mainRecord, slotIn, emptyStyle, crateCascade}
 use Rattle.cascade.specs.Slot.{agentOrigin, authorOrigin, held}
+use Rattle.compiled.specs.Number.{numberBytes}
 use Rattle.declarations.specs.Attribute.{colourAttribute}
 use Rattle.values.specs.Colour.{rgb}
 use Rattle.values.specs.Property.{heightOf}
@@ -16,7 +17,8 @@ use Rattle.declarations.specs.Rules.{declarationsOf}
 use Rattle.values.specs.Value.{valueOf}
 use Rattle.values.specs.Words.{Found, found, missing}
 use Rattle.lexer.specs.Name.{identOf}
-use Rattle.sheets.specs.Outcome.{reads}
+use Rattle.matching.specs.Matches.{matches}
+use Rattle.sheets.specs.Outcome.{reads, onOutcome}
 use Rattle.sheets.specs.Selector.{selectorOf}
 use Rattle.sheets.specs.Sheet.{sheetOf}
 use Rattle.syntax.specs.Declaration.{color, unknown}
@@ -37,6 +39,11 @@ zeros = replicate 45 digitZero
 unfoldable pub tinyHeight : List ℕ → Found Bool
 tinyHeight r = onParsed (valueOf (fullStop ∷ (zeros ++ r))) (λ n v. heightOf (v .tokens)) missing
 
+-- whether the selector s matches an element of a name at a place, in the document
+unfoldable pub selects : List ℕ → List ℕ → ℕ → Bool
+selects s name place =
+    onOutcome (selectorOf s) (λ n selector. matches (selector .components) (record { name = name; attributes = []; place = place } ∷ [])) false (λ p. false)
+
 abbrev pub cases : List (Type 0)
 cases =
     -- `p{color:red}`: one rule, stop 12
@@ -50,6 +57,8 @@ cases =
     ∷ []))
     -- `p{color:red;;color:blue}q{color:lime}`: no rule, stop 0
     ∷ (sheetOf (text "p{color:red;;color:blue}q{color:lime}") ≡ reads 0 [])
+    -- `div *{color:red}` colours the div itself: its selector matches the div
+    ∷ (selects (text "div *") (text "div") 1 ≡ true)
     -- `a/**/b` is a descendant selector
     ∷ (selectorOf (text "a/**/b") ≡ reads 6 (record { components = element (text "b") ∷ descendant ∷ element (text "a") ∷ []; pseudo = none }))
     -- Colour `#\+ff` is (0, 255, 255)
@@ -61,10 +70,15 @@ cases =
     -- `height:0.0px`: unknown declaration
     ∷ (declarationsOf (text "height:0.0px")
     ≡ record { declarations = record { decl = unknown (text "height"); important = false; start = 0 } ∷ []; taken = 12 })
+    -- `-n+3` matches idx 1, 2, 3, not 4
+    ∷ ((selects (text ":nth-child(-n+3)") (text "p") 1 ≡ true) × (selects (text ":nth-child(-n+3)") (text "p") 2 ≡ true)
+    × (selects (text ":nth-child(-n+3)") (text "p") 3 ≡ true) × (selects (text ":nth-child(-n+3)") (text "p") 4 ≡ false))
     -- Crate's cascade: agent normal, then author important: agent stays
     ∷ (slotIn (crateCascade emptyStyle (record { agent = rule mainRecord byType false red ∷ []; user = []; author = rule mainRecord byType true blue ∷ []; attributes = [] })) mainRecord colourSlot
     ≡ held (record { important = false; origin = agentOrigin; spec = byType; value = red; second = 0 }))
     -- Crate's cascade: parent coloured by `#id`, child by class, both normal author: the parent's colour stays
     ∷ (slotIn (crateCascade (crateCascade emptyStyle (byAuthor (rule mainRecord byId false red ∷ []) [])) (byAuthor (rule mainRecord byClass false blue ∷ []) [])) mainRecord colourSlot
     ≡ held (record { important = false; origin = authorOrigin; spec = byId; value = red; second = 0 }))
+    -- 127 is 7f, 128 is 80 01, 300 is ac 02
+    ∷ ((numberBytes 127 ≡ 0x7f ∷ []) × (numberBytes 128 ≡ 0x80 ∷ 0x01 ∷ []) × (numberBytes 300 ≡ 0xac ∷ 0x02 ∷ []))
     ∷ []

@@ -12,8 +12,7 @@ use Rattle.combinators.specs.Word.{startsWith}
 use Rattle.unicode.specs.Literal.{text}
 use Rattle.lexer.specs.Name.{identOf, identstringOf, hexDigit}
 use Rattle.lexer.specs.Number.{digits}
-use Rattle.lexer.specs.Token as token
-use Rattle.lexer.specs.Token.{Token, stringOf, textOf}
+use Rattle.lexer.specs.Token.{stringOf, textOf}
 use Rattle.lexer.specs.TokenRow.{stringKind}
 use Rattle.lexer.specs.Whitespace.{skipWhitespace}
 use Rattle.syntax.specs.Selector.{Component, star, class, element, hash, child, descendant, nth, attribute, attributeEqual, PseudoElement, none, before, after, Selector}
@@ -116,14 +115,17 @@ unfoldable pub nthOf : List ℕ → Outcome Nth
 nthOf t = orElse (worded t (text "even") (pos 2) (pos 0)) (orElse (worded t (text "odd") (pos 2) (pos 1)) (orElse (bothOf t) (orElse (justA t) (justB t))))
 
 -- in brackets, with white space or none before and behind
-unfoldable pub nthChildArgs : List ℕ → Outcome Component
-nthChildArgs t =
+unfoldable pub nthArgsOf : List ℕ → Outcome Nth
+nthArgsOf t =
     let w = 1 + skipWhitespace (drop 1 t) in
     pick (is (getD t 0 0) ascii.leftParenthesis)
     (onOutcome (nthOf (drop w t))
     (λ n x. let e = w + n + skipWhitespace (drop (w + n) t) in
-    pick (is (getD t e 0) ascii.rightParenthesis) (reads (e + 1) (nth (x .a) (x .b))) fails) fails (λ p. panics (w + p)))
+    pick (is (getD t e 0) ascii.rightParenthesis) (reads (e + 1) x) fails) fails (λ p. panics (w + p)))
     fails
+
+unfoldable pub nthChildArgs : List ℕ → Outcome Component
+nthChildArgs t = behind 0 (nthArgsOf t) (λ x. nth (x .a) (x .b))
 
 -- `parse_pseudo_class`: `nth-child` alone
 unfoldable pub pseudoClassOf : List ℕ → Outcome Component
@@ -156,20 +158,28 @@ componentOf t =
 
 -- ---- selectors
 
--- components as long as they read, in reading order; the first number is more than the bytes left
+-- components as long as they read, in reading order; the first number is no less than the bytes left
 unfoldable pub componentsOf : ℕ → List ℕ → Outcome (List Component)
 componentsOf zero t = reads 0 []
 componentsOf (suc l) t =
     onOutcome (componentOf t) (λ n c. behind n (componentsOf l (drop n t)) (λ cs. c ∷ cs)) (reads 0 []) (λ p. panics p)
 
--- `parse_selector_with_element`, or else `parse_selector_without_element`: one component or more
+unfoldable pub componentsFrom : List ℕ → Outcome (List Component)
+componentsFrom t = componentsOf (length t) t
+
+-- one component or more
 unfoldable pub someOf : Outcome (List Component) → Outcome (List Component)
 someOf o = onOutcome o (λ n cs. pick (is (length cs) 0) fails (reads n cs)) fails (λ p. panics p)
 
+-- `parse_selector_with_element`, or else `parse_selector_without_element`
+unfoldable pub withElementOf : List ℕ → Outcome (List Component)
+withElementOf t = onParsed (identOf t) (λ n name. behind n (componentsFrom (drop n t)) (λ cs. element name ∷ cs)) fails
+
+unfoldable pub withoutElementOf : List ℕ → Outcome (List Component)
+withoutElementOf t = someOf (componentsFrom t)
+
 unfoldable pub bodyOf : List ℕ → Outcome (List Component)
-bodyOf t =
-    onParsed (identOf t) (λ n name. behind n (componentsOf (length t) (drop n t)) (λ cs. element name ∷ cs))
-    (someOf (componentsOf (length t) t))
+bodyOf t = orElse (withElementOf t) (withoutElementOf t)
 
 unfoldable pub isDescendant : Component → Bool
 isDescendant star = false
@@ -187,6 +197,10 @@ unfoldable pub withoutBlank : List Component → List Component
 withoutBlank [] = []
 withoutBlank (c ∷ []) = pick (isDescendant c) [] (c ∷ [])
 withoutBlank (c ∷ d ∷ cs) = c ∷ withoutBlank (d ∷ cs)
+
+-- without a blank at the start
+unfoldable pub withoutFirst : List Component → List Component
+withoutFirst cs = reverse (withoutBlank (reverse cs))
 
 -- `parse_pseudo_element`
 unfoldable pub pseudoOf : List ℕ → PseudoElement

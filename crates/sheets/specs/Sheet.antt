@@ -8,6 +8,7 @@ use Rattle.combinators.specs.Choice.{pick, is}
 use Rattle.combinators.specs.Parsed.{onParsed}
 use Rattle.lexer.specs.Name.{identOf}
 use Rattle.lexer.specs.Whitespace.{skipWhitespace}
+use Rattle.syntax.specs.Declaration.{Declaration}
 use Rattle.syntax.specs.Selector.{Selector, RuleSet}
 use Rattle.values.specs.Value.{statementOf}
 use Rattle.declarations.specs.Rules.{startsAt, declarationsOf}
@@ -27,54 +28,67 @@ moreSelectors (suc l) t =
     (onOutcome (selectorOf (drop w t)) (λ n s. behind (w + n) (moreSelectors l (drop (w + n) t)) (λ ss. s ∷ ss)) (reads 0 []) (λ p. panics (w + p)))
     (reads 0 [])
 
+unfoldable pub moreFrom : List ℕ → Outcome (List Selector)
+moreFrom t = moreSelectors (length t) t
+
 unfoldable pub selectorsOf : List ℕ → Outcome (List Selector)
-selectorsOf t =
-    onOutcome (selectorOf t) (λ n s. behind n (moreSelectors (length t) (drop n t)) (λ ss. s ∷ ss)) (reads 0 []) (λ p. panics p)
+selectorsOf t = onOutcome (selectorOf t) (λ n s. behind n (moreFrom (drop n t)) (λ ss. s ∷ ss)) (reads 0 []) (λ p. panics p)
 
 -- ---- `parse_ruleset`. Behind n bytes: '{', declarations, ';' or none, '}', with white space or none between them and behind
-unfoldable pub blockOf : List ℕ → ℕ → ℕ → List Selector → Outcome RuleSet
-blockOf t start n ss =
+
+-- where '}' should stand behind declarations that end at n
+unfoldable pub beforeEnd : List ℕ → ℕ → ℕ
+beforeEnd t n =
+    let e = spaced t n in
+    spaced t (pick (is (getD t e 0) ascii.semicolon) (e + 1) e)
+
+unfoldable pub blockOf : List ℕ → ℕ → Outcome (List Declaration)
+blockOf t n =
     let o = spaced t n in
     let d = spaced t (o + 1) in
     let r = declarationsOf (drop d t) in
-    let e = spaced t (d + r .taken) in
-    let f = spaced t (pick (is (getD t e 0) ascii.semicolon) (e + 1) e) in
+    let f = beforeEnd t (d + r .taken) in
     pick (is (getD t o 0) ascii.leftCurlyBracket)
-    (pick (is (getD t f 0) ascii.rightCurlyBracket)
-    (reads (spaced t (f + 1)) (record { selectors = ss; declarations = map (startsAt d) (r .declarations); start = start })) fails)
+    (pick (is (getD t f 0) ascii.rightCurlyBracket) (reads (spaced t (f + 1)) (map (startsAt d) (r .declarations))) fails)
     fails
 
 unfoldable pub rulesetOf : List ℕ → Outcome RuleSet
 rulesetOf t =
     let w = skipWhitespace t in
-    onOutcome (selectorsOf (drop w t)) (λ n ss. blockOf t w (w + n) ss) fails (λ p. panics (w + p))
+    onOutcome (selectorsOf (drop w t)) (λ n ss. behind 0 (blockOf t (w + n)) (λ ds. record { selectors = ss; declarations = ds; start = w })) fails
+    (λ p. panics (w + p))
 
 -- ---- `parse_at_rule`: '@', a name, and all to the end of the statement, its ';' included
+
+-- a statement that goes on at n, and says nothing
+unfoldable pub statementEnd : List ℕ → ℕ → Outcome (List RuleSet)
+statementEnd t n = let r = statementOf true (drop n t) in pick (r .balanced) (reads (n + r .taken) []) fails
+
 unfoldable pub atRuleOf : List ℕ → Outcome (List RuleSet)
 atRuleOf t =
     let a = skipWhitespace t in
     let i = spaced t (a + 1) in
-    pick (is (getD t a 0) ascii.commercialAt)
-    (onParsed (identOf (drop i t))
-    (λ n name. let r = statementOf true (drop (i + n) t) in pick (r .balanced) (reads (i + n + r .taken) []) fails) fails)
-    fails
+    pick (is (getD t a 0) ascii.commercialAt) (onParsed (identOf (drop i t)) (λ n name. statementEnd t (i + n)) fails) fails
 
 -- `parse_statement`: a rule, or an at-rule, which says nothing
 unfoldable pub statementsOf : List ℕ → Outcome (List RuleSet)
 statementsOf t = orElse (behind 0 (rulesetOf t) (λ r. r ∷ [])) (atRuleOf t)
 
--- a rule that stands at a byte
+-- a rule that stands at a byte, and rules
 unfoldable pub movedBy : ℕ → RuleSet → RuleSet
 movedBy at r = record { selectors = r .selectors; declarations = map (startsAt at) (r .declarations); start = at + r .start }
 
--- ---- `parse_stylesheet`: statements as long as they read, from the rest t on, which starts at `at`; the first number is more than the bytes
+unfoldable pub movedTo : ℕ → Outcome (List RuleSet) → Outcome (List RuleSet)
+movedTo at o = behind 0 o (map (movedBy at))
+
+-- ---- `parse_stylesheet`: statements as long as they read, from the rest t on, which starts at `at`; the first number is no less than the bytes
 -- left. It reads to the first byte not read, or the crate panics; it never fails.
 unfoldable pub sheetFrom : ℕ → List ℕ → ℕ → Outcome (List RuleSet)
 sheetFrom zero t at = reads at []
 sheetFrom (suc l) t at =
     onOutcome (statementsOf t)
-    (λ n rs. onOutcome (sheetFrom l (drop n t) (at + n)) (λ stop more. reads stop (map (movedBy at) rs ++ more)) fails (λ p. panics p))
+    (λ n rs. behind 0 (sheetFrom l (drop n t) (at + n)) (λ more. map (movedBy at) rs ++ more))
     (reads at []) (λ p. panics (at + p))
 
 unfoldable pub sheetOf : List ℕ → Outcome (List RuleSet)
-sheetOf s = sheetFrom (length s + 1) s 0
+sheetOf s = sheetFrom (length s) s 0

@@ -1,0 +1,256 @@
+-- The block of a rule: '{', declarations, ';' or none, '}'.
+use mathlib.Core.Path.{_≡_, refl, sym, ap, _∙_}
+use mathlib.Core.Bool.{Bool, true, false}
+use mathlib.Core.List.{List, [], _∷_, map}
+use Prim.Native.Nat.{ℕ, _+_, _-_, _*_, _^_, _≤_, _<_}
+use native.Mathlib.Omega.{arith}
+use lib.ListN.{length, getD, take, drop, length-drop, length-map}
+use lib.Seq.{sets}
+use Rattle.combinators.specs.Ascii as ascii
+use Rattle.combinators.specs.Choice.{pick, is}
+use Rattle.combinators.specs.Store.{wiped}
+use Rattle.combinators.proofs.Lists.{rest, byte-there}
+use Rattle.lexer.specs.Whitespace.{skipWhitespace}
+use Rattle.syntax.specs.Declaration.{Decl, color, backgroundColor, height, maxHeight, overflow, overflowY, display, whiteSpace, content, unknown, Declaration}
+use Rattle.syntax.specs.Layout.{declarationWidth, declarationText, declarationRows, declarationTexts}
+use Rattle.syntax.specs.Stream.{textsMany}
+use Rattle.syntax.proofs.RowSizes.{length-declarations}
+use Rattle.declarations.specs.DeclRow.{namedDecl}
+use Rattle.declarations.specs.Rules.{Rules, startsAt, declarationsOf}
+use Rattle.declarations.specs.Leaving.{kept, Leaves, leaves, usedRules, rulesAnswer, rulesOf, rulesLeft}
+use Rattle.declarations.specs.declared.rules.RulesRead.{RulesRead}
+use Rattle.declarations.proofs.StyleAttribute.{bounded}
+use Rattle.sheets.specs.Outcome.{reads, fails, onOutcome, behind}
+use Rattle.sheets.specs.Sheet.{spaced, beforeEnd, blockOf}
+use Rattle.sheets.specs.Rules.{blockAt, BlockRoom, BlockBounds}
+use Rattle.sheets.specs.Reading.{reading, written}
+use Rattle.sheets.specs.declared.readings.Reading.{Reading}
+use Rattle.sheets.specs.declared.readings.Reading.the-variants.{Reads, Fails}
+use Rattle.sheets.proofs.ZeroLaws.{zeros-back}
+
+-- ---- `past_semicolon`, `before_end`
+module _ (s : List ℕ) (e : ℕ) (h : e ≤ length s) {t : Bool} (et : t ≡ is (getD s e 0) ascii.semicolon) where
+  -- a ';' is within the text
+  pub semicolon-there : t ≡ true → e < length s
+  semicolon-there f = byte-there s e ascii.semicolon (omega arith) (sym et ∙ f)
+
+  -- the place behind it
+  pub semicolon-past : t ≡ true → (e + 1 ≡ pick (is (getD s e 0) ascii.semicolon) (e + 1) e) × (e + 1 ≤ length s)
+  unfolding pick
+  semicolon-past f = (rw (← et, f), omega (arith, semicolon-there f))
+
+  -- none, so the same place
+  pub semicolon-none : t ≡ false → (e ≡ pick (is (getD s e 0) ascii.semicolon) (e + 1) e) × (e ≤ length s)
+  unfolding pick
+  semicolon-none f = (rw (← et, f), h)
+
+-- what a choice between a place and the next says
+next-or-same : (t : Bool) (e : ℕ) → e ≤ pick t (e + 1) e
+unfolding pick
+next-or-same true e = omega arith
+next-or-same false e = omega arith
+
+module _ (s : List ℕ) (n : ℕ) {e p f : ℕ} (ee : e ≡ n + skipWhitespace (drop n s)) (ep : p ≡ pick (is (getD s e 0) ascii.semicolon) (e + 1) e)
+    (ef : f ≡ p + skipWhitespace (drop p s)) where
+  -- the three steps are the definition
+  pub end-is : f ≡ beforeEnd s n
+  unfolding beforeEnd spaced
+  end-is = ef ∙ rw (ep, ee)
+
+  -- and go forward
+  pub end-behind : n ≤ f
+  end-behind = omega (arith, ee, ef, ep, next-or-same (is (getD s e 0) ascii.semicolon) e)
+
+-- ---- declarations that start elsewhere
+-- a name is kept where names are
+named-same : (d : Decl) → namedDecl true d ≡ d
+unfolding namedDecl pick
+named-same (color c) = refl
+named-same (backgroundColor c) = refl
+named-same (height z) = refl
+named-same (maxHeight z) = refl
+named-same (overflow o) = refl
+named-same (overflowY o) = refl
+named-same (display n) = refl
+named-same (whiteSpace w) = refl
+named-same (content t) = refl
+named-same (unknown t) = refl
+
+-- what is kept of declarations of a text at d, itself at `at`
+kept-starts : (at d : ℕ) (ds : List Declaration) → map (kept true (at + d)) ds ≡ map (startsAt at) (map (startsAt d) ds)
+unfolding kept startsAt
+kept-starts at d [] = refl
+kept-starts at d (x ∷ ds) =
+    let e : at + d + x .start ≡ at + (d + x .start) = omega arith in
+    rw (named-same (x .decl), e, kept-starts at d ds)
+
+-- texts do not depend on the start
+kept-texts : (at : ℕ) (ds : List Declaration) → declarationTexts (map (kept true at) ds) ≡ declarationTexts (map (kept true 0) ds)
+unfolding declarationTexts textsMany kept declarationText
+kept-texts at [] = refl
+kept-texts at (d ∷ ds) = rw (kept-texts at ds)
+
+-- ---- `parse_block`
+module _ (s : List ℕ) (n at : ℕ) (rules : List ℕ) (place : ℕ) (tokens brackets store : List ℕ) (fill : ℕ)
+    (o : BlockRoom s n at rules place tokens brackets store fill) where
+  -- what the function ensures
+  abbrev pub Blocked : Reading → List ℕ → List ℕ → List ℕ → List ℕ → Type 0
+  Blocked r y x b z = (r ≡ reading length (declarationRows fill) declarationTexts (blockAt at s n))
+      × ((y ≡ sets rules place (written (declarationRows fill) (blockAt at s n)))
+      × ((x ≡ tokens) × ((b ≡ brackets) × ((z ≡ sets store fill (written declarationTexts (blockAt at s n))) × BlockBounds s n r))))
+
+  -- where it does not read
+  failed : blockOf s n ≡ fails → {y x b z : List ℕ} → y ≡ rules → x ≡ tokens → b ≡ brackets → z ≡ store → Blocked Fails y x b z
+  unfolding blockAt behind reading written onOutcome BlockBounds
+  failed e ey ex eb ez = (rw e, (ey ∙ rw e, (ex, (eb, (ez ∙ rw e, tt)))))
+
+  module _ {w : ℕ} (ew : w ≡ n + skipWhitespace (drop n s)) {t : Bool} (et : t ≡ is (getD s w 0) ascii.leftCurlyBracket) where
+    -- no '{'
+    pub brace-missing : t ≡ false → Blocked Fails rules tokens brackets store
+    unfolding blockOf spaced pick
+    brace-missing f = failed (rw (← ew, ← et, f)) refl refl refl refl
+
+    module _ (f : t ≡ true) where
+      -- it is within the text
+      pub brace-there : w < length s
+      brace-there = byte-there s w ascii.leftCurlyBracket (omega arith) (sym et ∙ f)
+
+      -- declarations from d on
+      module _ {d : ℕ} (ed : d ≡ w + 1 + skipWhitespace (drop (w + 1) s)) (hd : d ≤ length s) where
+        -- the rest as the code lends it
+        abbrev lent : List ℕ
+        lent = take (length s - d) (drop d s)
+
+        -- what it means
+        abbrev found : Rules
+        found = declarationsOf (drop d s)
+
+        -- the declarations, by where they start in the whole text
+        abbrev ds : List Declaration
+        ds = map (startsAt at) (map (startsAt d) (found .declarations))
+
+        -- what `parse_rules` left
+        module _ {r : RulesRead} {y x b z : List ℕ}
+            (e : record { answer = r; rules = y; tokens = x; brackets = b; store = z } ≡ rulesLeft true (at + d) lent rules place tokens brackets store fill) where
+          -- by its meaning
+          left-is : record { answer = r; rules = y; tokens = x; brackets = b; store = z } ≡ leaves (rulesAnswer (found .taken) ds) ds (usedRules true (drop d s)) rules place tokens brackets store fill
+          unfolding rulesLeft rulesOf
+          left-is =
+              e ∙ ap (λ l. rulesLeft true (at + d) l rules place tokens brackets store fill) (rest s d)
+              ∙ ap (λ (l : List Declaration). leaves (rulesAnswer (found .taken) l) l (usedRules true (drop d s)) rules place tokens brackets store fill) (kept-starts at d (found .declarations))
+
+          -- the bytes taken
+          taken-is : r .taken ≡ found .taken
+          unfolding leaves rulesAnswer
+          taken-is = ap (λ (l : Leaves RulesRead). l .answer .taken) left-is
+
+          -- the count of declarations
+          count-is : r .count ≡ length ds
+          unfolding leaves rulesAnswer
+          count-is = ap (λ (l : Leaves RulesRead). l .answer .count) left-is
+
+          -- the bytes of their texts
+          text-is : r .text ≡ length (declarationTexts ds)
+          unfolding leaves rulesAnswer
+          text-is = ap (λ (l : Leaves RulesRead). l .answer .text) left-is
+
+          -- their rows
+          rules-are : y ≡ sets rules place (declarationRows fill ds)
+          unfolding leaves
+          rules-are = ap (λ (l : Leaves RulesRead). l .rules) left-is
+
+          -- the tokens are wiped
+          tokens-are : x ≡ tokens
+          unfolding leaves
+          tokens-are = ap (λ (l : Leaves RulesRead). l .tokens) left-is ∙ o .tokens-zeros .wiping _
+
+          -- so are the brackets
+          brackets-are : b ≡ brackets
+          unfolding leaves
+          brackets-are = ap (λ (l : Leaves RulesRead). l .brackets) left-is ∙ o .brackets-zeros .wiping _
+
+          -- their texts
+          store-is : z ≡ sets store fill (declarationTexts ds)
+          unfolding leaves
+          store-is = ap (λ (l : Leaves RulesRead). l .store) left-is ∙ ap (λ (l : List ℕ). sets l fill (declarationTexts ds)) (o .store-zeros .wiping _)
+
+          -- how much was read
+          ds-long : length ds ≡ length (found .declarations)
+          ds-long = length-map (map (startsAt d) (found .declarations)) (startsAt at) ∙ length-map (found .declarations) (startsAt d)
+
+          -- they end within the text
+          pub taken-within : d + r .taken ≤ length s
+          taken-within = omega (arith, taken-is, bounded true (drop d s) .within, length-drop d s)
+
+          -- each takes a byte or more
+          count-le : r .count ≤ r .taken
+          count-le = omega (arith, taken-is, count-is, ds-long, bounded true (drop d s) .count)
+
+          -- so their rows have room
+          pub numbers-fit : declarationWidth * r .count < 2 ^ 64
+          numbers-fit = omega (arith, count-le, taken-within, o .start-bits)
+
+          -- their texts do not depend on where they start
+          texts-same : declarationTexts ds ≡ declarationTexts (rulesOf true 0 found)
+          unfolding rulesOf
+          texts-same = ap declarationTexts (sym (kept-starts at d (found .declarations))) ∙ kept-texts (at + d) (found .declarations)
+
+          -- texts are no longer than what was taken, where the text goes on
+          text-le : d + r .taken < length s → r .text ≤ r .taken
+          text-le l =
+              let k = bounded true (drop d s) in
+              omega (arith, text-is, ap length texts-same, taken-is, k .sharp (omega (arith, taken-is, length-drop d s)))
+
+          -- behind them, at g, '}' or not
+          module _ {g : ℕ} (eg : g ≡ beforeEnd s (d + r .taken)) (hg : d + r .taken ≤ g) {u : Bool} (eu : u ≡ is (getD s g 0) ascii.rightCurlyBracket) where
+            -- the place where '}' should stand
+            end-at : g ≡ beforeEnd s (d + found .taken)
+            end-at = eg ∙ ap (λ k. beforeEnd s (d + k)) taken-is
+
+            -- not
+            pub end-missing : u ≡ false → {y′ z′ : List ℕ} → y′ ≡ wiped place (declarationWidth * r .count) y → z′ ≡ wiped fill (r .text) z → Blocked Fails y′ x b z′
+            unfolding blockOf spaced pick
+            end-missing v ey ez =
+                failed (rw (← ew, ← et, f, ← ed, ← end-at, ← eu, v))
+                (ey ∙ ap (wiped place (declarationWidth * r .count)) rules-are
+                ∙ zeros-back rules place (o .rules-zeros) (declarationRows fill ds) (declarationWidth * r .count) (omega (arith, count-is, length-declarations fill ds)))
+                tokens-are brackets-are
+                (ez ∙ ap (wiped fill (r .text)) store-is ∙ zeros-back store fill (o .store-zeros) (declarationTexts ds) (r .text) (omega (arith, text-is)))
+
+            module _ (v : u ≡ true) where
+              -- it is within the text
+              pub end-there : g < length s
+              end-there = byte-there s g ascii.rightCurlyBracket (omega arith) (sym eu ∙ v)
+
+              module _ {i : ℕ} (ei : i ≡ g + 1 + skipWhitespace (drop (g + 1) s)) (hi : i ≤ length s) where
+                -- the block reads
+                block-is : blockAt at s n ≡ reads i ds
+                unfolding blockAt blockOf behind onOutcome spaced pick
+                block-is =
+                    let z : 0 + i ≡ i = omega arith in
+                    rw (← ew, ← et, f, ← ed, ← end-at, ← eu, v, ← ei, z)
+
+                -- and its rows and texts are left
+                pub block-read : Blocked (Reads i (r .count) (declarationWidth * r .count) (r .text)) y x b z
+                unfolding reading written onOutcome BlockBounds
+                block-read = (
+                  rw (block-is, length-declarations fill ds, count-is, text-is),
+                  (
+                    rules-are ∙ rw block-is,
+                    (
+                      tokens-are,
+                      (
+                        brackets-are,
+                        (
+                          store-is ∙ rw block-is,
+                          record {
+                            within = hi;
+                            counted = omega (arith, ew, ed, ei, hg, count-le);
+                            wide = refl;
+                            short = omega (arith, ew, ed, ei, hg, text-le (omega (arith, end-there)));
+                          },
+                        ),
+                      ),
+                    ),
+                  ),
+                )

@@ -1,0 +1,365 @@
+-- A rule: its selectors, its block, and the head of its row, which is written last.
+use mathlib.Core.Path.{_≡_, refl, sym, ap, _∙_, subst}
+use mathlib.Core.List.{List, [], _∷_, _++_, map}
+use Prim.Native.Nat.{ℕ, _+_, _-_, _^_, _≤_, _<_}
+use native.Mathlib.Omega.{arith}
+use lib.ListN.{length, take, drop, length-drop, length-append}
+use lib.Seq.{sets, length-sets}
+use Rattle.combinators.specs.Store.{wiped}
+use Rattle.combinators.proofs.Lists.{rest}
+use Rattle.combinators.proofs.Wiped.{sets-append}
+use Rattle.lexer.specs.Whitespace.{skipWhitespace}
+use Rattle.syntax.specs.Declaration.{Declaration}
+use Rattle.syntax.specs.Layout.{declarationRows, declarationTexts}
+use Rattle.syntax.specs.RuleLayout.{componentWidth, selectorHead, selectorRows, selectorTexts, ruleHead, ruleRow, ruleText}
+use Rattle.syntax.specs.Selector.{Selector, RuleSet}
+use Rattle.syntax.specs.Writing.{RuleHeadFits}
+use Rattle.syntax.proofs.Writes.{rule-left}
+use Rattle.declarations.specs.Rules.{startsAt}
+use Rattle.sheets.specs.Outcome.{Outcome, reads, fails, panics, onOutcome, behind}
+use Rattle.sheets.specs.Sheet.{selectorsOf, blockOf, rulesetOf, movedBy}
+use Rattle.sheets.specs.Rules.{blockAt, BlockRoom, BlockBounds, BlockSize, RuleRoom, ruleWidth}
+use Rattle.sheets.specs.Stores.{Zeros}
+use Rattle.sheets.specs.Reading.{reading, written, TextRoom, RowRoom, Bounds}
+use Rattle.sheets.specs.declared.readings.Reading.{Reading}
+use Rattle.sheets.specs.declared.readings.Reading.the-variants.{Reads, Fails, Panics}
+use Rattle.sheets.proofs.ReadingLaws.{ReadAs, read-by, fails-by, panics-by, sets-read, sets-fails, sets-panics, Sizes, sizes-of, reads-bounds, fails-bounds, panics-within, panics-bounds}
+use Rattle.sheets.proofs.ZeroLaws.{zeros-later, zeros-behind, zeros-back}
+
+-- what is stored behind something
+module _ (l l₀ : List ℕ) (f n : ℕ) (xs : List ℕ) (e : l ≡ sets l₀ f xs) (en : n ≡ length xs) where
+  -- both are one
+  stored-behind : (ys : List ℕ) → sets l (f + n) ys ≡ sets l₀ f (xs ++ ys)
+  stored-behind ys = rw (e, en) (sym (sets-append l₀ f xs ys))
+
+  -- and what is zero behind it
+  zeros-past : Zeros l₀ f → Zeros l (f + n)
+  zeros-past z = rw (e, en) (zeros-behind l₀ f z xs)
+
+-- a rule of selectors and declarations whose text starts at a byte
+abbrev ruleAt : ℕ → List Selector → List Declaration → RuleSet
+ruleAt start ss ds = record { selectors = ss; declarations = ds; start = start }
+
+-- its row, by what is known of its parts; the head is written last
+row-left : (l : List ℕ) (p f start : ℕ) (ss : List Selector) (ds : List Declaration) (c d t : ℕ) → c ≡ length ss → d ≡ length ds → t ≡ length (selectorTexts ss)
+    → sets (sets l (p + ruleHead) (selectorRows f ss ++ declarationRows (f + t) ds)) p (start ∷ c ∷ d ∷ []) ≡ sets l p (ruleRow f (ruleAt start ss ds))
+row-left l p f start ss ds c d t ec ed et = rw (ec, ed, et) (rule-left (ruleAt start ss ds) f l p)
+
+-- how long it is
+row-length : (f start : ℕ) (ss : List Selector) (ds : List Declaration) (t : ℕ) → t ≡ length (selectorTexts ss)
+    → length (ruleRow f (ruleAt start ss ds)) ≡ ruleHead + length (selectorRows f ss) + length (declarationRows (f + t) ds)
+unfolding ruleRow
+row-length f start ss ds t e =
+    rw e (omega (arith, length-append (selectorRows f ss) (declarationRows (f + length (selectorTexts ss)) ds)))
+
+-- a rule that stands elsewhere: so do its declarations
+moved-block : (at w : ℕ) (ss : List Selector) (o : Outcome (List Declaration))
+    → behind 0 (behind 0 o (ruleAt w ss)) (movedBy at) ≡ behind 0 (behind 0 o (map (startsAt at))) (ruleAt (at + w) ss)
+unfolding behind onOutcome movedBy
+moved-block at w ss (reads n ds) = refl
+moved-block at w ss fails = refl
+moved-block at w ss (panics p) = refl
+
+-- ---- `parse_ruleset`
+module _ (s : List ℕ) (at : ℕ) (rules : List ℕ) (place : ℕ) (tokens brackets store : List ℕ) (fill : ℕ) (o : RuleRoom s at rules place tokens brackets store fill) where
+  -- the meaning: the rule, by where it starts in the whole text
+  abbrev meant : Outcome RuleSet
+  meant = behind 0 (rulesetOf s) (movedBy at)
+
+  -- what the function ensures
+  abbrev pub Ruled : Reading → List ℕ → List ℕ → List ℕ → List ℕ → Type 0
+  Ruled r y x b z = (r ≡ reading (λ _. 1) (ruleRow fill) ruleText meant)
+      × ((y ≡ sets rules place (written (ruleRow fill) meant))
+      × ((x ≡ tokens) × ((b ≡ brackets) × ((z ≡ sets store fill (written ruleText meant)) × Bounds ruleWidth 0 s r))))
+
+  module _ {y x b z : List ℕ} (ey : y ≡ rules) (ex : x ≡ tokens) (eb : b ≡ brackets) (ez : z ≡ store) where
+    -- where it does not read
+    rule-fails : meant ≡ fails → Ruled Fails y x b z
+    unfolding reading written onOutcome
+    rule-fails e = (rw e, (ey ∙ rw e, (ex, (eb, (ez ∙ rw e, fails-bounds)))))
+
+    -- where the crate panics
+    rule-panics : (p : ℕ) → p ≤ length s → meant ≡ panics p → Ruled (Panics p) y x b z
+    unfolding reading written onOutcome
+    rule-panics p h e = (rw e, (ey ∙ rw e, (ex, (eb, (ez ∙ rw e, panics-bounds h)))))
+
+  module _ {w : ℕ} (ew : w ≡ skipWhitespace s) (hw : w ≤ length s) where
+    -- the rest as the code lends it
+    abbrev lent : List ℕ
+    lent = take (length s - w) (drop w s)
+
+    -- how long it is
+    lent-long : length lent ≡ length s - w
+    lent-long = ap length (rest s w) ∙ length-drop w s
+
+    -- room for the selectors
+    pub rows-room : RowRoom selectorHead lent rules (place + ruleHead)
+    rows-room =
+        let l = lent-long in
+        record {
+          zeros = zeros-later rules place (o .rules-zeros) ruleHead;
+          for-rows = omega (arith, o .for-rules);
+          bits = omega (arith, o .for-rules, o .row-bits);
+        }
+
+    -- and for their texts
+    pub texts-room : TextRoom 10 lent store fill
+    texts-room =
+        let l = lent-long in
+        record { zeros = o .work .store-zeros; for-texts = omega (arith, o .work .for-texts); bits = omega (arith, o .work .text-bits) }
+
+    -- what it means
+    abbrev list : Outcome (List Selector)
+    list = selectorsOf (drop w s)
+
+    -- the rule, by its selectors
+    ruleset-is : rulesetOf s ≡ onOutcome list (λ n ss. behind 0 (blockOf s (w + n)) (ruleAt w ss)) fails (λ p. panics (w + p))
+    unfolding rulesetOf
+    ruleset-is = rw (← ew)
+
+    -- what `parse_selectors` left
+    module _ {r : Reading} {y z : List ℕ} (er : r ≡ reading length (selectorRows fill) selectorTexts (selectorsOf lent))
+        (ey : y ≡ sets rules (place + ruleHead) (written (selectorRows fill) (selectorsOf lent)))
+        (ez : z ≡ sets store fill (written selectorTexts (selectorsOf lent))) (b : Bounds componentWidth selectorHead lent r) where
+      -- the answer, by their meaning
+      said : r ≡ reading length (selectorRows fill) selectorTexts list
+      said = er ∙ ap (λ l. reading length (selectorRows fill) selectorTexts (selectorsOf l)) (rest s w)
+
+      -- their rows
+      rules-are : y ≡ sets rules (place + ruleHead) (written (selectorRows fill) list)
+      rules-are = ey ∙ ap (λ l. sets rules (place + ruleHead) (written (selectorRows fill) (selectorsOf l))) (rest s w)
+
+      -- their texts
+      store-is : z ≡ sets store fill (written selectorTexts list)
+      store-is = ez ∙ ap (λ l. sets store fill (written selectorTexts (selectorsOf l))) (rest s w)
+
+      -- no selectors
+      pub list-fails : r ≡ Fails → Ruled Fails y tokens brackets z
+      unfolding behind onOutcome
+      list-fails h =
+          let e = fails-by length (selectorRows fill) selectorTexts list (sym h ∙ said) in
+          rule-fails (rules-are ∙ sets-fails (selectorRows fill) rules (place + ruleHead) list e) refl refl (store-is ∙ sets-fails selectorTexts store fill list e) (rw (ruleset-is, e))
+
+      -- the crate panics at them
+      module _ {p : ℕ} (h : r ≡ Panics p) where
+        -- within the text
+        pub list-place : w + p ≤ length s
+        list-place = omega (arith, panics-within b h, lent-long)
+
+        -- so it panics in the rule
+        pub list-panics : Ruled (Panics (w + p)) y tokens brackets z
+        unfolding behind onOutcome
+        list-panics =
+            let e = panics-by length (selectorRows fill) selectorTexts list p (sym h ∙ said) in
+            let k : 0 + (w + p) ≡ w + p = omega arith in
+            rule-panics (rules-are ∙ sets-panics (selectorRows fill) rules (place + ruleHead) list p e) refl refl (store-is ∙ sets-panics selectorTexts store fill list p e) (w + p) list-place
+            (rw (ruleset-is, e, k))
+
+      -- they read
+      module _ {n count numbers text : ℕ} (h : r ≡ Reads n count numbers text) where
+        -- what they are
+        got : ReadAs length (selectorRows fill) selectorTexts list n count numbers text
+        got = read-by length (selectorRows fill) selectorTexts list n count numbers text (sym h ∙ said)
+
+        -- the selectors
+        abbrev ss : List Selector
+        ss = got .value
+
+        -- how much there is of them
+        sizes : Sizes componentWidth selectorHead lent n count numbers text
+        sizes = sizes-of b h
+
+        -- they end within the text
+        pub list-end : w + n ≤ length s
+        list-end = omega (arith, sizes .taken, lent-long)
+
+        -- their rows are written
+        list-rules : y ≡ sets rules (place + ruleHead) (selectorRows fill ss)
+        list-rules = rules-are ∙ sets-read (selectorRows fill) rules (place + ruleHead) list n ss (got .reads-it)
+
+        -- so are their texts
+        list-store : z ≡ sets store fill (selectorTexts ss)
+        list-store = store-is ∙ sets-read selectorTexts store fill list n ss (got .reads-it)
+
+        -- the place behind their rows fits
+        pub row-fits : place + ruleHead + numbers < 2 ^ 64
+        row-fits = omega (arith, sizes .wide, list-end, o .for-rules, o .row-bits)
+
+        -- so does the one behind their texts
+        pub fill-fits : fill + text < 2 ^ 64
+        fill-fits = omega (arith, sizes .long, list-end, o .work .text-bits)
+
+        -- room for the block
+        pub block-room : BlockRoom s (w + n) at y (place + ruleHead + numbers) tokens brackets z (fill + text)
+        block-room =
+            let ly : length y ≡ length rules = ap length list-rules ∙ length-sets rules (place + ruleHead) (selectorRows fill ss) in
+            let lz : length z ≡ length store = ap length list-store ∙ length-sets store fill (selectorTexts ss) in
+            let k = list-end in
+            let m = sizes .wide in
+            let t = sizes .long in
+            record {
+              within = k;
+              rules-zeros = zeros-past y rules (place + ruleHead) numbers (selectorRows fill ss) list-rules (got .rows) (zeros-later rules place (o .rules-zeros) ruleHead);
+              tokens-zeros = o .work .tokens-zeros;
+              brackets-zeros = o .work .brackets-zeros;
+              store-zeros = zeros-past z store fill text (selectorTexts ss) list-store (got .texts) (o .work .store-zeros);
+              for-rules = omega (arith, o .for-rules);
+              row-bits = omega (arith, o .row-bits);
+              for-tokens = o .work .for-tokens;
+              for-brackets = o .work .for-brackets;
+              for-texts = omega (arith, o .work .for-texts);
+              text-bits = omega (arith, o .work .text-bits);
+              start-bits = o .start-bits;
+            }
+
+        -- the block
+        abbrev block : Outcome (List Declaration)
+        block = blockAt at s (w + n)
+
+        -- the rule, by its block
+        meant-is : meant ≡ behind 0 block (ruleAt (at + w) ss)
+        unfolding onOutcome blockAt
+        meant-is =
+            ap (λ (q : Outcome RuleSet). behind 0 q (movedBy at)) (ruleset-is ∙ rw (got .reads-it)) ∙ moved-block at w ss (blockOf s (w + n))
+
+        -- what `parse_block` left
+        module _ {q : Reading} {y₂ x₂ b₂ z₂ : List ℕ} (eq : q ≡ reading length (declarationRows (fill + text)) declarationTexts block)
+            (ey₂ : y₂ ≡ sets y (place + ruleHead + numbers) (written (declarationRows (fill + text)) block)) (ex₂ : x₂ ≡ tokens) (eb₂ : b₂ ≡ brackets)
+            (ez₂ : z₂ ≡ sets z (fill + text) (written declarationTexts block)) (bb : BlockBounds s (w + n) q) where
+          -- the selectors wiped again, where nothing was written behind them
+          rules-back : y₂ ≡ y → {y₃ : List ℕ} → y₃ ≡ wiped (place + ruleHead) numbers y₂ → y₃ ≡ rules
+          rules-back e p =
+              p ∙ ap (wiped (place + ruleHead) numbers) (e ∙ list-rules)
+              ∙ zeros-back rules (place + ruleHead) (zeros-later rules place (o .rules-zeros) ruleHead) (selectorRows fill ss) numbers (omega (arith, got .rows))
+
+          -- and their texts
+          store-back : z₂ ≡ z → {z₃ : List ℕ} → z₃ ≡ wiped fill text z₂ → z₃ ≡ store
+          store-back e p =
+              p ∙ ap (wiped fill text) (e ∙ list-store) ∙ zeros-back store fill (o .work .store-zeros) (selectorTexts ss) text (omega (arith, got .texts))
+
+          -- no block
+          pub block-fails : q ≡ Fails → {y₃ z₃ : List ℕ} → y₃ ≡ wiped (place + ruleHead) numbers y₂ → z₃ ≡ wiped fill text z₂ → Ruled Fails y₃ x₂ b₂ z₃
+          unfolding behind onOutcome
+          block-fails hq ey₃ ez₃ =
+              let e = fails-by length (declarationRows (fill + text)) declarationTexts block (sym hq ∙ eq) in
+              rule-fails (rules-back (ey₂ ∙ sets-fails (declarationRows (fill + text)) y (place + ruleHead + numbers) block e) ey₃) ex₂ eb₂
+              (store-back (ez₂ ∙ sets-fails declarationTexts z (fill + text) block e) ez₃) (meant-is ∙ rw e)
+
+          -- the crate panics in it
+          pub block-panics : {p : ℕ} → q ≡ Panics p → {y₃ z₃ : List ℕ} → y₃ ≡ wiped (place + ruleHead) numbers y₂ → z₃ ≡ wiped fill text z₂ → Ruled (Panics p) y₃ x₂ b₂ z₃
+          unfolding behind onOutcome BlockBounds
+          block-panics {p} hq ey₃ ez₃ =
+              let e = panics-by length (declarationRows (fill + text)) declarationTexts block p (sym hq ∙ eq) in
+              let c : BlockBounds s (w + n) (Panics p) = subst (BlockBounds s (w + n)) hq bb in
+              let k : 0 + p ≡ p = omega arith in
+              rule-panics (rules-back (ey₂ ∙ sets-panics (declarationRows (fill + text)) y (place + ruleHead + numbers) block p e) ey₃) ex₂ eb₂
+              (store-back (ez₂ ∙ sets-panics declarationTexts z (fill + text) block p e) ez₃) p c (meant-is ∙ rw (e, k))
+
+          -- it reads
+          module _ {end declarations more kept : ℕ} (hq : q ≡ Reads end declarations more kept) where
+            -- what it is
+            got₂ : ReadAs length (declarationRows (fill + text)) declarationTexts block end declarations more kept
+            got₂ = read-by length (declarationRows (fill + text)) declarationTexts block end declarations more kept (sym hq ∙ eq)
+
+            -- the declarations
+            abbrev ds : List Declaration
+            ds = got₂ .value
+
+            -- how much there is of it
+            size : BlockSize s (w + n) end declarations more kept
+            unfolding BlockBounds
+            size = subst (BlockBounds s (w + n)) hq bb
+
+            -- the numbers of the head fit their places
+            pub head-fits : RuleHeadFits (at + w) count declarations
+            head-fits =
+                let k = size .counted in
+                let l = size .within in
+                let c = sizes .counted in
+                record {
+                  start-fits = omega (arith, o .start-bits);
+                  selectors-fit = omega (arith, o .start-bits);
+                  declarations-fit = omega (arith, o .start-bits);
+                }
+
+            -- the numbers of the row fit
+            pub numbers-fit : ruleHead + numbers + more < 2 ^ 64
+            numbers-fit = omega (arith, sizes .wide, size .wide, size .counted, size .within, o .start-bits)
+
+            -- so do the bytes of its texts
+            pub texts-fit : text + kept < 2 ^ 64
+            texts-fit = omega (arith, sizes .long, size .short, size .within, o .start-bits)
+
+            -- the rule
+            abbrev rule : RuleSet
+            rule = ruleAt (at + w) ss ds
+
+            -- it reads
+            rule-is : meant ≡ reads end rule
+            unfolding behind onOutcome
+            rule-is =
+                let k : 0 + end ≡ end = omega arith in
+                meant-is ∙ rw (got₂ .reads-it, k)
+
+            -- the head of its row
+            abbrev head : List ℕ
+            head = (at + w) ∷ count ∷ declarations ∷ []
+
+            -- what stands behind it
+            abbrev body : List ℕ
+            body = selectorRows fill ss ++ declarationRows (fill + text) ds
+
+            -- its texts
+            text-is : selectorTexts ss ++ declarationTexts ds ≡ ruleText rule
+            unfolding ruleText
+            text-is = refl
+
+            -- what stands behind the head is written
+            body-written : y₂ ≡ sets rules (place + ruleHead) body
+            body-written =
+                ey₂ ∙ sets-read (declarationRows (fill + text)) y (place + ruleHead + numbers) block end ds (got₂ .reads-it)
+                ∙ stored-behind y rules (place + ruleHead) numbers (selectorRows fill ss) list-rules (got .rows) (declarationRows (fill + text) ds)
+
+            -- then the head
+            row-written : {y₃ : List ℕ} → y₃ ≡ sets y₂ place head → y₃ ≡ sets rules place (ruleRow fill rule)
+            row-written p =
+                p ∙ ap (λ (l : List ℕ). sets l place head) body-written ∙ row-left rules place fill (at + w) ss ds count declarations text (got .counts) (got₂ .counts) (got .texts)
+
+            -- and its texts
+            text-written : z₂ ≡ sets store fill (ruleText rule)
+            text-written =
+                ez₂ ∙ sets-read declarationTexts z (fill + text) block end ds (got₂ .reads-it)
+                ∙ stored-behind z store fill text (selectorTexts ss) list-store (got .texts) (declarationTexts ds)
+                ∙ ap (sets store fill) text-is
+
+            -- how long the row is
+            row-long : length (ruleRow fill rule) ≡ ruleHead + numbers + more
+            row-long = omega (arith, row-length fill (at + w) ss ds text (got .texts), got .rows, got₂ .rows)
+
+            -- and its texts
+            text-long : length (ruleText rule) ≡ text + kept
+            text-long = ap length (sym text-is) ∙ omega (arith, length-append (selectorTexts ss) (declarationTexts ds), got .texts, got₂ .texts)
+
+            -- the bounds of a rule
+            rule-bounds : Bounds ruleWidth 0 s (Reads end 1 (ruleHead + numbers + more) (text + kept))
+            rule-bounds =
+                let k = size .counted in
+                let m = size .wide in
+                let t = size .short in
+                let l = sizes .long in
+                reads-bounds
+                (record {
+                  taken = size .within;
+                  counted = omega arith;
+                  wide = omega (arith, sizes .wide);
+                  long = omega arith;
+                  sharp = λ _. omega arith;
+                })
+
+            -- all that is left of it
+            pub rule-read : {y₃ : List ℕ} → y₃ ≡ sets y₂ place head → Ruled (Reads end 1 (ruleHead + numbers + more) (text + kept)) y₃ x₂ b₂ z₂
+            unfolding reading written onOutcome
+            rule-read p = (
+              rw (rule-is, row-long, text-long),
+              (row-written p ∙ rw rule-is, (ex₂, (eb₂, (text-written ∙ rw rule-is, rule-bounds)))),
+            )

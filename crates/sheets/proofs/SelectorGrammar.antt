@@ -1,0 +1,143 @@
+-- Selectors in the words of Selectors Level 3 (section 10.1, the grammar; sections 5 to 8, what its parts are called), as far as the reader
+-- agrees with the document: how a selector is written, and the components that it means.
+use mathlib.Core.Path.{_≡_}
+use mathlib.Core.Bool.{Bool, true, not}
+use mathlib.Core.List.{List, [], _∷_, _++_, map, reverse}
+use Prim.Native.Nat.{ℕ}
+use Rattle.combinators.specs.Ascii as ascii
+use Rattle.combinators.specs.Choice.{or, is}
+use Rattle.unicode.specs.Literal.{text}
+use Rattle.lexer.specs.Name.{lower}
+use Rattle.lexer.specs.Token.{isQuote}
+use Rattle.lexer.proofs.SyntaxName.{Each, IdentSequence}
+use Rattle.lexer.proofs.SyntaxString.{plain}
+use Rattle.lexer.proofs.SyntaxWhitespace.{White}
+use Rattle.syntax.specs.Selector as syntax
+use Rattle.syntax.specs.Selector.{Component, Selector}
+use Rattle.sheets.proofs.NthGrammar.{Blanks, Argument, writtenArgument, meansArgument}
+
+-- ---- what is written
+-- IDENT, of ASCII and without escapes. The reader folds names to small letters, which the document leaves to the language of the page, so
+-- a name here has no capital ones.
+pub record Name : Type 0 where
+  pub bytes : List ℕ
+  pub sequence : IdentSequence bytes
+  pub small : map lower bytes ≡ bytes
+
+-- S+
+pub record Spaces : Type 0 where
+  pub space : ℕ
+  pub white : White space
+  pub more : Blanks
+
+-- the document's preprocessing leaves the byte as it is. It makes a newline of a carriage return and of a form feed, which the reader does not.
+unfoldable pub unprocessed : ℕ → Bool
+unprocessed x = not (or (is x 0) (or (is x ascii.carriageReturn) (is x ascii.formFeed)))
+
+-- STRING, without escapes
+pub record Quoted : Type 0 where
+  pub quote : ℕ
+  pub body : List ℕ
+  pub quotes : isQuote quote ≡ true
+  pub ordinary : plain quote body ≡ true
+  pub unchanged : Each unprocessed body
+
+-- HASH, class, attrib, and of pseudo `:nth-child()`
+pub data Simple : Type 0 where
+  id : Name → Simple
+  class : Name → Simple
+  attribute : Name → Simple
+  attributeIs : Name → Name → Simple
+  attributeString : Name → Quoted → Simple
+  nthChild : Blanks → Argument → Blanks → Simple
+
+-- simple_selector_sequence: a type selector or `*`, and simple selectors; or these alone, one or more
+pub data Compound : Type 0 where
+  typed : Name → List Simple → Compound
+  universal : List Simple → Compound
+  untyped : Simple → List Simple → Compound
+
+-- combinator: `>` with white space or none around it, or white space
+pub data Combinator : Type 0 where
+  child : Blanks → Blanks → Combinator
+  descendant : Spaces → Combinator
+
+-- selector
+pub data Complex : Type 0 where
+  one : Compound → Complex
+  joined : Compound → Combinator → Complex → Complex
+
+-- ---- how it is written
+unfoldable pub writtenSimple : Simple → List ℕ
+writtenSimple (id n) = ascii.numberSign ∷ n .bytes
+writtenSimple (class n) = ascii.fullStop ∷ n .bytes
+writtenSimple (attribute n) = ascii.leftSquareBracket ∷ (n .bytes ++ (ascii.rightSquareBracket ∷ []))
+writtenSimple (attributeIs n v) = ascii.leftSquareBracket ∷ (n .bytes ++ (ascii.equalsSign ∷ (v .bytes ++ (ascii.rightSquareBracket ∷ []))))
+writtenSimple (attributeString n v) =
+    ascii.leftSquareBracket ∷ (n .bytes ++ (ascii.equalsSign ∷ v .quote ∷ (v .body ++ (v .quote ∷ ascii.rightSquareBracket ∷ []))))
+writtenSimple (nthChild b x c) =
+    ascii.colon ∷ (text "nth-child" ++ (ascii.leftParenthesis ∷ (b .bytes ++ (writtenArgument x ++ (c .bytes ++ (ascii.rightParenthesis ∷ []))))))
+
+unfoldable pub writtenSimples : List Simple → List ℕ
+writtenSimples [] = []
+writtenSimples (p ∷ ps) = writtenSimple p ++ writtenSimples ps
+
+unfoldable pub writtenCompound : Compound → List ℕ
+writtenCompound (typed n ps) = n .bytes ++ writtenSimples ps
+writtenCompound (universal ps) = ascii.asterisk ∷ writtenSimples ps
+writtenCompound (untyped p ps) = writtenSimple p ++ writtenSimples ps
+
+unfoldable pub writtenCombinator : Combinator → List ℕ
+writtenCombinator (child b c) = b .bytes ++ (ascii.greaterThanSign ∷ c .bytes)
+writtenCombinator (descendant s) = s .space ∷ s .more .bytes
+
+unfoldable pub written : Complex → List ℕ
+written (one k) = writtenCompound k
+written (joined k c g) = writtenCompound k ++ (writtenCombinator c ++ written g)
+
+-- ---- what it means: components in reading order
+unfoldable pub meansSimple : Simple → Component
+meansSimple (id n) = syntax.hash (n .bytes)
+meansSimple (class n) = syntax.class (n .bytes)
+meansSimple (attribute n) = syntax.attribute (n .bytes)
+meansSimple (attributeIs n v) = syntax.attributeEqual (n .bytes) (v .bytes)
+meansSimple (attributeString n v) = syntax.attributeEqual (n .bytes) (v .body)
+meansSimple (nthChild b x c) = syntax.nth (meansArgument x .a) (meansArgument x .b)
+
+unfoldable pub meansCompound : Compound → List Component
+meansCompound (typed n ps) = syntax.element (n .bytes) ∷ map meansSimple ps
+meansCompound (universal ps) = syntax.star ∷ map meansSimple ps
+meansCompound (untyped p ps) = meansSimple p ∷ map meansSimple ps
+
+unfoldable pub meansCombinator : Combinator → Component
+meansCombinator (child b c) = syntax.child
+meansCombinator (descendant s) = syntax.descendant
+
+unfoldable pub inOrder : Complex → List Component
+inOrder (one k) = meansCompound k
+inOrder (joined k c g) = meansCompound k ++ (meansCombinator c ∷ inOrder g)
+
+-- as the crate has it: rightmost first
+unfoldable pub meaning : Complex → Selector
+meaning g = record { components = reverse (inOrder g); pseudo = syntax.none }
+
+-- ---- where they agree: the reader takes the white space on both sides of a `*` into it, so that none of it is a descendant combinator
+unfoldable pub NoStarAtEnd : Compound → Type 0
+NoStarAtEnd (typed n ps) = Unit
+NoStarAtEnd (universal []) = ⊥
+NoStarAtEnd (universal (p ∷ ps)) = Unit
+NoStarAtEnd (untyped p ps) = Unit
+
+unfoldable pub NoStarAtStart : Compound → Type 0
+NoStarAtStart (typed n ps) = Unit
+NoStarAtStart (universal ps) = ⊥
+NoStarAtStart (untyped p ps) = Unit
+
+unfoldable pub firstCompound : Complex → Compound
+firstCompound (one k) = k
+firstCompound (joined k c g) = k
+
+unfoldable pub Agrees : Complex → Type 0
+Agrees (one k) = Unit
+Agrees (joined k (child b c) g) = Agrees g
+Agrees (joined k (descendant s) g) = NoStarAtEnd k × NoStarAtStart (firstCompound g) × Agrees g

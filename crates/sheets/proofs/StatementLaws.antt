@@ -1,0 +1,181 @@
+-- A statement: a rule, or else an at-rule, of which nothing is kept.
+use mathlib.Core.Path.{_≡_, refl, sym, ap, _∙_}
+use mathlib.Core.List.{List, [], _∷_, append-nil, map}
+use Prim.Native.Nat.{ℕ, _+_}
+use native.Mathlib.Omega.{arith}
+use lib.ListN.{length}
+use lib.Seq.{sets}
+use Rattle.combinators.proofs.Rules.{pick-holds}
+use Rattle.lexer.proofs.TokenBounds.{on-holds}
+use Rattle.syntax.specs.RuleLayout.{ruleRow, ruleText, ruleRows, ruleTexts}
+use Rattle.syntax.specs.Selector.{RuleSet}
+use Rattle.syntax.specs.Stream.{rowsMany, textsMany}
+use Rattle.sheets.specs.Outcome.{Outcome, reads, fails, panics, onOutcome, behind, orElse}
+use Rattle.sheets.specs.Sheet.{rulesetOf, statementEnd, atRuleOf, statementsOf, movedBy, movedTo}
+use Rattle.sheets.specs.Rules.{WorkRoom, RuleRoom, ruleWidth}
+use Rattle.sheets.specs.Reading.{reading, written, Bounds, Progress}
+use Rattle.sheets.specs.declared.readings.Reading.{Reading}
+use Rattle.sheets.specs.declared.readings.Reading.the-variants.{Reads, Fails, Panics}
+use Rattle.sheets.proofs.ReadingLaws.{read-by, fails-by, panics-by, sets-read, sets-fails, sets-panics, same-reads, sizes-of, reads-bounds, panics-within, panics-bounds}
+
+-- ---- an at-rule says nothing, wherever it stands
+record Nothing (at fill : ℕ) (o : Outcome (List RuleSet)) : Type 0 where
+  stays : behind 0 o (map (movedBy at)) ≡ o
+  rows : written (ruleRows fill) o ≡ []
+  texts : written ruleTexts o ≡ []
+
+module _ (at fill : ℕ) where
+  -- where no rule is read
+  nothing-read : (n : ℕ) → Nothing at fill (reads n [])
+  unfolding behind written onOutcome ruleRows ruleTexts rowsMany textsMany
+  nothing-read n =
+      let e : 0 + n ≡ n = omega arith in
+      record { stays = rw e; rows = refl; texts = refl }
+
+  -- where nothing is read
+  nothing-fails : Nothing at fill fails
+  unfolding behind written onOutcome
+  nothing-fails = record { stays = refl; rows = refl; texts = refl }
+
+  -- of the end of a statement
+  nothing-end : (s : List ℕ) (n : ℕ) → Nothing at fill (statementEnd s n)
+  unfolding statementEnd
+  nothing-end s n = pick-holds (Nothing at fill) _ _ _ (λ _. nothing-read _) (λ _. nothing-fails)
+
+  -- of an at-rule
+  at-rule-nothing : (s : List ℕ) → Nothing at fill (atRuleOf s)
+  unfolding atRuleOf
+  at-rule-nothing s =
+      pick-holds (Nothing at fill) _ _ _ (λ _. on-holds (Nothing at fill) _ _ _ (λ n name e. nothing-end s _) (λ _. nothing-fails)) (λ _. nothing-fails)
+
+-- ---- a rule, or else what stands behind it
+module _ (at : ℕ) (k : Outcome (List RuleSet)) where
+  -- both, moved
+  abbrev either-of : Outcome RuleSet → Outcome (List RuleSet)
+  either-of o = behind 0 (orElse (behind 0 o (λ r. r ∷ [])) k) (map (movedBy at))
+
+  -- a rule
+  either-reads : (o : Outcome RuleSet) (n : ℕ) (x : RuleSet) → behind 0 o (movedBy at) ≡ reads n x → either-of o ≡ reads n (x ∷ [])
+  unfolding behind onOutcome orElse
+  either-reads (reads m a) n x e =
+      let p : 0 + m ≡ n = cc in
+      let q : movedBy at a ≡ x = cc in
+      let z : 0 + (0 + m) ≡ n = omega (arith, p) in
+      rw (z, q)
+  either-reads fails n x e = absurd (let z : _≡_ {A = ℕ} 0 1 = cc in omega arith)
+  either-reads (panics p) n x e = absurd (let z : _≡_ {A = ℕ} 0 1 = cc in omega arith)
+
+  -- the crate panics in it
+  either-panics : (o : Outcome RuleSet) (p : ℕ) → behind 0 o (movedBy at) ≡ panics p → either-of o ≡ panics p
+  unfolding behind onOutcome orElse
+  either-panics (reads m a) p e = absurd (let z : _≡_ {A = ℕ} 0 1 = cc in omega arith)
+  either-panics fails p e = absurd (let z : _≡_ {A = ℕ} 0 1 = cc in omega arith)
+  either-panics (panics m) p e =
+      let h : 0 + m ≡ p = cc in
+      let z : 0 + (0 + m) ≡ p = omega (arith, h) in
+      rw z
+
+  -- no rule
+  either-second : (o : Outcome RuleSet) → behind 0 o (movedBy at) ≡ fails → either-of o ≡ behind 0 k (map (movedBy at))
+  unfolding behind onOutcome orElse
+  either-second (reads m a) e = absurd (let z : _≡_ {A = ℕ} 0 1 = cc in omega arith)
+  either-second fails e = refl
+  either-second (panics p) e = absurd (let z : _≡_ {A = ℕ} 0 1 = cc in omega arith)
+
+-- ---- one rule as a list
+one-rule : (f : ℕ) (r : RuleSet) → ruleRow f r ≡ ruleRows f (r ∷ [])
+unfolding ruleRows rowsMany
+one-rule f r = sym (append-nil (ruleRow f r))
+
+-- its texts
+one-text : (r : RuleSet) → ruleText r ≡ ruleTexts (r ∷ [])
+unfolding ruleTexts textsMany
+one-text r = sym (append-nil (ruleText r))
+
+-- ---- `parse_statement`
+module _ (s : List ℕ) (at : ℕ) (rules : List ℕ) (place : ℕ) (tokens brackets store : List ℕ) (fill : ℕ) (o : RuleRoom s at rules place tokens brackets store fill) where
+  -- the meaning
+  abbrev meant : Outcome (List RuleSet)
+  meant = movedTo at (statementsOf s)
+
+  -- what the function ensures
+  abbrev pub Stated : Reading → List ℕ → List ℕ → List ℕ → List ℕ → Type 0
+  Stated r y x b z = (r ≡ reading length (ruleRows fill) ruleTexts meant)
+      × ((y ≡ sets rules place (written (ruleRows fill) meant))
+      × ((x ≡ tokens) × ((b ≡ brackets) × ((z ≡ sets store fill (written ruleTexts meant)) × (Bounds ruleWidth 0 s r × Progress r)))))
+
+  -- that of a rule
+  abbrev first : Outcome RuleSet
+  first = behind 0 (rulesetOf s) (movedBy at)
+
+  -- what `parse_ruleset` left
+  module _ {r : Reading} {y x b z : List ℕ} (er : r ≡ reading (λ _. 1) (ruleRow fill) ruleText first) (ey : y ≡ sets rules place (written (ruleRow fill) first))
+      (ex : x ≡ tokens) (eb : b ≡ brackets) (ez : z ≡ sets store fill (written ruleText first)) (h : Bounds ruleWidth 0 s r) where
+    -- a rule
+    pub rule-stated : {n count numbers text : ℕ} → r ≡ Reads n count numbers text → Stated (Reads n count numbers text) y x b z
+    unfolding movedTo statementsOf reading written onOutcome Progress
+    rule-stated {n} {count} {numbers} {text} e =
+        let g = read-by (λ _. 1) (ruleRow fill) ruleText first n count numbers text (sym e ∙ er) in
+        let a = g .value in
+        let m = either-reads at (atRuleOf s) (rulesetOf s) n a (g .reads-it) in
+        let q = sizes-of h e in (
+          same-reads refl (g .counts) (g .rows ∙ ap length (one-rule fill a)) (g .texts ∙ ap length (one-text a)) ∙ rw m,
+          (
+            ey ∙ sets-read (ruleRow fill) rules place first n a (g .reads-it) ∙ rw (m, ← one-rule fill a),
+            (
+              ex,
+              (
+                eb,
+                (ez ∙ sets-read ruleText store fill first n a (g .reads-it) ∙ rw (m, ← one-text a), (reads-bounds q, omega (arith, g .counts, q .counted))),
+              ),
+            ),
+          ),
+        )
+
+    -- the crate panics
+    pub panic-stated : {p : ℕ} → r ≡ Panics p → Stated (Panics p) y x b z
+    unfolding movedTo statementsOf reading written onOutcome Progress
+    panic-stated {p} e =
+        let g = panics-by (λ _. 1) (ruleRow fill) ruleText first p (sym e ∙ er) in
+        let m = either-panics at (atRuleOf s) (rulesetOf s) p g in
+        let q : Bounds ruleWidth 0 s (Panics p) = panics-bounds (panics-within h e) in (
+          rw m,
+          (
+            ey ∙ sets-panics (ruleRow fill) rules place first p g ∙ rw m,
+            (ex, (eb, (ez ∙ sets-panics ruleText store fill first p g ∙ rw m, (q, tt)))),
+          ),
+        )
+
+    -- no rule
+    module _ (e : r ≡ Fails) where
+      -- it does not read
+      none : first ≡ fails
+      none = fails-by (λ _. 1) (ruleRow fill) ruleText first (sym e ∙ er)
+
+      -- nothing is left in the store
+      store-same : z ≡ store
+      store-same = ez ∙ sets-fails ruleText store fill first none
+
+      -- so an at-rule has room
+      pub at-room : WorkRoom s x b z fill
+      at-room = rw (ex, eb, store-same) (o .work)
+
+      -- it says nothing
+      nothing : Nothing at fill (atRuleOf s)
+      nothing = at-rule-nothing at fill s
+
+      -- the meaning is that of the at-rule
+      meant-is : meant ≡ atRuleOf s
+      unfolding movedTo statementsOf
+      meant-is = either-second at (atRuleOf s) (rulesetOf s) none ∙ nothing .stays
+
+      -- so what `parse_at_rule` says
+      pub at-stated : {r₂ : Reading} {x₂ b₂ z₂ : List ℕ} → r₂ ≡ reading length (ruleRows fill) ruleTexts (atRuleOf s) → x₂ ≡ x → b₂ ≡ b → z₂ ≡ z → Bounds ruleWidth 0 s r₂
+          → Progress r₂ → Stated r₂ y x₂ b₂ z₂
+      at-stated er₂ ex₂ eb₂ ez₂ h₂ p = (
+        er₂ ∙ rw meant-is,
+        (
+          ey ∙ sets-fails (ruleRow fill) rules place first none ∙ rw (meant-is, nothing .rows),
+          (ex₂ ∙ ex, (eb₂ ∙ eb, (ez₂ ∙ store-same ∙ rw (meant-is, nothing .texts), (h₂, p)))),
+        ),
+      )

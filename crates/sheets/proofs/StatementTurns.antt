@@ -1,0 +1,319 @@
+-- Turns of `parse_stylesheet`.
+use mathlib.Core.Path.{_≡_, refl, ap, sym, subst, _∙_}
+use mathlib.Core.List.{List, [], _++_, map}
+use Prim.Native.Nat.{ℕ, zero, suc, _+_, _-_, _*_, _≤_, _<_}
+use native.Mathlib.Nat.{zero-add}
+use native.Mathlib.Omega.{arith}
+use lib.ListN.{length, take, drop, length-drop}
+use lib.Seq.{sets, drop-drop}
+use Rattle.combinators.specs.Choice.{pick, or, and, is, within}
+use Rattle.combinators.specs.Parsed as parsed
+use Rattle.combinators.specs.Parsed.{err, onParsed}
+use Rattle.combinators.specs.Repeat.{many, took}
+use Rattle.combinators.specs.Store.{wiped}
+use Rattle.combinators.proofs.Lists.{rest, nil-of}
+use Rattle.unicode.specs.Utf8 as utf8
+use Rattle.lexer.specs.Name as name
+use Rattle.lexer.specs.Whitespace.{skipWhitespace, whitespaceItem, isWhitespace, commentOf}
+use Rattle.syntax.specs.RuleLayout.{ruleRow, ruleText, ruleRows, ruleTexts}
+use Rattle.syntax.specs.Selector.{RuleSet}
+use Rattle.sheets.specs.Outcome.{Outcome, reads, fails, panics, onOutcome, behind, orElse}
+use Rattle.sheets.specs.Selector as selector
+use Rattle.sheets.specs.Sheet.{spaced, selectorsOf, blockOf, rulesetOf, atRuleOf, statementsOf, movedBy, movedTo, sheetFrom, sheetOf}
+use Rattle.sheets.specs.Stores.{Zeros}
+use Rattle.sheets.specs.Reading.{reading, written, Bounds, Progress}
+use Rattle.sheets.specs.Rules.{ruleWidth, RuleRoom, SheetRoom}
+use Rattle.sheets.specs.declared.readings.Reading.{Reading}
+use Rattle.sheets.specs.declared.readings.Reading.the-variants.{Reads, Fails, Panics}
+use Rattle.sheets.proofs.Gathering.{Gathered, gathered-none, gathered-more, rules-zeros, store-zeros, rules-long, store-long, end-answer, end-rules, end-store, panic-answer, panic-rules, panic-store}
+use Rattle.sheets.proofs.ReadingLaws.{ReadAs, read-by, fails-by, panics-by, sets-read, sets-fails, sets-panics, Sizes, sizes-of, reads-bounds, panics-within, panics-bounds}
+
+-- ---- no statement at the end of a text
+no-name : name.identOf [] ≡ err
+unfolding name.identOf name.nameOf name.nameFrom name.dash name.nmstartOf name.either name.nmstartCharOf name.foldedChar name.identEscapeOf name.escapedOf name.behindOne name.lower name.isNmstart skipWhitespace whitespaceItem isWhitespace commentOf parsed.behind many took utf8.takenOf utf8.scalarOf utf8.scalarBy utf8.leadOf pick or and is within
+no-name = refl
+
+no-space : skipWhitespace [] ≡ 0
+unfolding skipWhitespace many took whitespaceItem isWhitespace commentOf pick or and is
+no-space = refl
+
+no-selector : selector.selectorOf [] ≡ fails
+unfolding selector.selectorOf selector.bodyOf selector.withElementOf selector.withoutElementOf selector.someOf selector.componentsFrom selector.componentsOf onOutcome orElse onParsed pick is
+no-selector = rw no-name refl
+
+no-rule : rulesetOf [] ≡ fails
+unfolding rulesetOf selectorsOf blockOf spaced onOutcome behind pick is
+no-rule = rw (no-space, no-selector) refl
+
+no-at-rule : atRuleOf [] ≡ fails
+unfolding atRuleOf pick is
+no-at-rule = refl
+
+no-statement : statementsOf [] ≡ fails
+unfolding statementsOf orElse behind onOutcome
+no-statement = rw (no-rule, no-at-rule) refl
+
+-- at the end of the text nothing is read
+pub no-sheet : (t at : ℕ) → sheetFrom t [] at ≡ reads at []
+unfolding sheetFrom onOutcome
+no-sheet zero at = refl
+no-sheet (suc t) at = rw no-statement refl
+
+-- ---- one statement, and the sheet behind it
+-- a turn by what the statement says where it stands
+by-moved : (o : Outcome (List RuleSet)) (at : ℕ) (g : ℕ → Outcome (List RuleSet))
+    → onOutcome o (λ n rs. behind 0 (g n) (λ more. map (movedBy at) rs ++ more)) (reads at []) (λ p. panics (at + p))
+    ≡ onOutcome (movedTo at o) (λ n rs. behind 0 (g n) (λ more. rs ++ more)) (reads at []) (λ p. panics (at + p))
+unfolding movedTo behind onOutcome
+by-moved (reads n rs) at g =
+    let e : 0 + n ≡ n = omega arith in
+    rw e refl
+by-moved fails at g = refl
+by-moved (panics p) at g =
+    let e : 0 + p ≡ p = omega arith in
+    rw e refl
+
+module _ (s : List ℕ) (at : ℕ) where
+  turn : (t : ℕ) → sheetFrom (suc t) s at
+      ≡ onOutcome (movedTo at (statementsOf s)) (λ n rs. behind 0 (sheetFrom t (drop n s) (at + n)) (λ more. rs ++ more)) (reads at []) (λ p. panics (at + p))
+  unfolding sheetFrom
+  turn t = by-moved (statementsOf s) at (λ n. sheetFrom t (drop n s) (at + n))
+
+  turn-reads : (n : ℕ) (rs : List RuleSet) → movedTo at (statementsOf s) ≡ reads n rs → (t : ℕ) → 0 < t
+      → sheetFrom t s at ≡ behind 0 (sheetFrom (t - 1) (drop n s) (at + n)) (λ more. rs ++ more)
+  unfolding onOutcome
+  turn-reads n rs e zero l = absurd (omega arith)
+  turn-reads n rs e (suc t) l =
+      let d : suc t - 1 ≡ t = omega arith in
+      turn t ∙ rw (e, d) refl
+
+  turn-fails : movedTo at (statementsOf s) ≡ fails → (t : ℕ) → sheetFrom t s at ≡ reads at []
+  unfolding sheetFrom onOutcome
+  turn-fails e zero = refl
+  turn-fails e (suc t) = turn t ∙ rw e refl
+
+  turn-panics : (p : ℕ) → movedTo at (statementsOf s) ≡ panics p → (t : ℕ) → 0 < t → sheetFrom t s at ≡ panics (at + p)
+  unfolding onOutcome
+  turn-panics p e zero l = absurd (omega arith)
+  turn-panics p e (suc t) l = turn t ∙ rw e refl
+
+-- ---- the reader, where so many bytes were taken
+pub record Reading-on (s rules₀ tokens₀ brackets₀ store₀ rules tokens brackets store : List ℕ) (taken count numbers text : ℕ) : Type 0 where
+  pub turns : ℕ
+  pub enough : length s ≤ taken + turns
+  pub gathered : Gathered ruleRow ruleText (sheetOf s) (sheetFrom turns (drop taken s) taken) rules₀ 0 store₀ 0 0 rules store count numbers text
+  pub tokens-kept : tokens ≡ tokens₀
+  pub brackets-kept : brackets ≡ brackets₀
+  pub within : taken ≤ length s
+  pub counted : count ≤ taken
+  pub wide : numbers ≤ ruleWidth * taken
+  pub long : text ≤ taken + 2
+  pub sharp : taken < length s → text ≤ taken
+
+-- before the first
+pub begin : (s rules tokens brackets store : List ℕ) → Reading-on s rules tokens brackets store rules tokens brackets store 0 0 0 0
+unfolding sheetOf
+begin s rules tokens brackets store =
+    record {
+      turns = length s;
+      enough = omega arith;
+      gathered = gathered-none ruleRow ruleText (sheetOf s) rules 0 store 0;
+      tokens-kept = refl;
+      brackets-kept = refl;
+      within = omega arith;
+      counted = omega arith;
+      wide = omega arith;
+      long = omega arith;
+      sharp = λ _. omega arith;
+    }
+
+-- what a return leaves, and its bounds
+abbrev pub Ends : List ℕ → List ℕ → List ℕ → List ℕ → List ℕ → Reading → List ℕ → List ℕ → List ℕ → List ℕ → Type 0
+Ends s rules tokens brackets store r y x b z =
+    (r ≡ reading length (ruleRows 0) ruleTexts (sheetOf s))
+    × ((y ≡ sets rules 0 (written (ruleRows 0) (sheetOf s)))
+    × ((x ≡ tokens) × ((b ≡ brackets) × ((z ≡ sets store 0 (written ruleTexts (sheetOf s))) × Bounds ruleWidth 0 s r))))
+
+module _ {s rules₀ tokens₀ brackets₀ store₀ rules tokens brackets store : List ℕ} {taken count numbers text : ℕ}
+    (i : Reading-on s rules₀ tokens₀ brackets₀ store₀ rules tokens brackets store taken count numbers text) where
+  -- the stores keep their lengths
+  pub rules-kept : length rules ≡ length rules₀
+  rules-kept = rules-long _ _ _ _ _ _ _ _ _ _ _ _ _ _ (i .gathered)
+
+  pub store-kept : length store ≡ length store₀
+  store-kept = store-long _ _ _ _ _ _ _ _ _ _ _ _ _ _ (i .gathered)
+
+  pub tokens-long : length tokens ≡ length tokens₀
+  tokens-long = ap length (i .tokens-kept)
+
+  pub brackets-long : length brackets ≡ length brackets₀
+  brackets-long = ap length (i .brackets-kept)
+
+  -- no more is read: all were
+  all-read : sheetFrom (i .turns) (drop taken s) taken ≡ reads taken [] → {y x b z : List ℕ} → y ≡ rules → x ≡ tokens → b ≡ brackets → z ≡ store
+      → Ends s rules₀ tokens₀ brackets₀ store₀ (Reads taken count numbers text) y x b z
+  unfolding ruleRows ruleTexts
+  all-read e ey ex eb ez =
+      let q : 0 + taken ≡ taken = omega arith in (
+        ap (λ (n : ℕ). Reads n count numbers text) (sym q) ∙ end-answer _ _ _ _ _ _ _ _ _ _ _ _ _ _ (i .gathered) taken e,
+        (
+          ey ∙ end-rules _ _ _ _ _ _ _ _ _ _ _ _ _ _ (i .gathered) taken e,
+          (
+            ex ∙ i .tokens-kept,
+            (
+              eb ∙ i .brackets-kept,
+              (
+                ez ∙ end-store _ _ _ _ _ _ _ _ _ _ _ _ _ _ (i .gathered) taken e,
+                reads-bounds (record { taken = i .within; counted = i .counted; wide = omega (arith, i .wide); long = i .long; sharp = i .sharp }),
+              ),
+            ),
+          ),
+        ),
+      )
+
+  -- the end of the text
+  pub at-end : length s ≤ taken → Ends s rules₀ tokens₀ brackets₀ store₀ (Reads taken count numbers text) rules tokens brackets store
+  at-end l =
+      let e : drop taken s ≡ [] = nil-of (drop taken s) (omega (arith, length-drop taken s)) in
+      all-read (rw e (no-sheet (i .turns) taken)) refl refl refl refl
+
+  module _ (l : taken < length s) (o : SheetRoom s rules₀ tokens₀ brackets₀ store₀) where
+    -- the rest as the code lends it
+    abbrev lent : List ℕ
+    lent = take (length s - taken) (drop taken s)
+
+    lent-is : lent ≡ drop taken s
+    lent-is = rest s taken
+
+    lent-long : length lent ≡ length s - taken
+    lent-long = ap length lent-is ∙ length-drop taken s
+
+    some-turns : 0 < i .turns
+    some-turns = omega (arith, i .enough)
+
+    -- room for the next
+    pub next-room : RuleRoom lent taken rules numbers tokens brackets store text
+    next-room =
+        let w = o .work in
+        let h = i .sharp l in
+        record {
+          rules-zeros = subst (Zeros rules) (zero-add numbers) (rules-zeros _ _ _ _ _ _ _ _ _ _ _ _ _ _ (i .gathered) (o .rules-zeros));
+          for-rules = omega (arith, o .for-rules, i .wide, lent-long, rules-kept);
+          row-bits = omega (arith, o .row-bits, rules-kept);
+          start-bits = omega (arith, w .text-bits, lent-long);
+          work =
+              record {
+                tokens-zeros = rw (i .tokens-kept) (w .tokens-zeros);
+                brackets-zeros = rw (i .brackets-kept) (w .brackets-zeros);
+                store-zeros = subst (Zeros store) (zero-add text) (store-zeros _ _ _ _ _ _ _ _ _ _ _ _ _ _ (i .gathered) (w .store-zeros));
+                for-tokens = omega (arith, w .for-tokens, lent-long, tokens-long);
+                for-brackets = omega (arith, w .for-brackets, lent-long, brackets-long);
+                for-texts = omega (arith, w .for-texts, h, lent-long, store-kept);
+                text-bits = omega (arith, w .text-bits, h, lent-long);
+              };
+        }
+
+    abbrev statements : Outcome (List RuleSet)
+    statements = movedTo taken (statementsOf lent)
+
+    next-gathered : {y z : List ℕ} {n more row kept : ℕ} (rs : List RuleSet) → statements ≡ reads n rs → more ≡ length rs → row ≡ length (ruleRows text rs)
+        → kept ≡ length (ruleTexts rs) → y ≡ sets rules numbers (written (ruleRows text) statements) → z ≡ sets store text (written ruleTexts statements)
+        → Gathered ruleRow ruleText (sheetOf s) (sheetFrom (i .turns - 1) (drop (taken + n) s) (taken + n)) rules₀ 0 store₀ 0 0 y z (count + more) (numbers + row) (text + kept)
+    unfolding ruleRows ruleTexts
+    next-gathered {y} {z} {n} rs h a b c ey ez =
+        let e : drop n lent ≡ drop (taken + n) s = ap (drop n) lent-is ∙ drop-drop n taken s in
+        rw (a, b, c)
+        (subst (λ (f : ℕ). Gathered ruleRow ruleText (sheetOf s) (sheetFrom (i .turns - 1) (drop (taken + n) s) (taken + n)) rules₀ 0 store₀ 0 0 y z (count + length rs) (numbers + length (ruleRows f rs)) (text + length (ruleTexts rs)))
+        (zero-add text)
+        (gathered-more ruleRow ruleText (sheetOf s) rules₀ 0 store₀ 0 (sheetFrom (i .turns) (drop taken s) taken) 0 rules store count numbers text (i .gathered) 0 rs
+        (sheetFrom (i .turns - 1) (drop (taken + n) s) (taken + n)) y z
+        (ap (λ (t : List ℕ). sheetFrom (i .turns) t taken) (sym lent-is) ∙ turn-reads lent taken n rs h (i .turns) some-turns ∙ rw e refl)
+        (rw (zero-add numbers, zero-add text) (ey ∙ sets-read (ruleRows text) rules numbers statements n rs h))
+        (rw (zero-add text) (ez ∙ sets-read ruleTexts store text statements n rs h))))
+
+    module _ {r : Reading} {y x b z : List ℕ} (er : r ≡ reading length (ruleRows text) ruleTexts statements)
+        (ey : y ≡ sets rules numbers (written (ruleRows text) statements)) (ex : x ≡ tokens) (eb : b ≡ brackets)
+        (ez : z ≡ sets store text (written ruleTexts statements)) (k : Bounds ruleWidth 0 lent r) where
+      -- no statement follows
+      module _ (g : r ≡ Fails) where
+        none-is : statements ≡ fails
+        none-is = fails-by length (ruleRows text) ruleTexts statements (sym g ∙ er)
+
+        pub no-more : Ends s rules₀ tokens₀ brackets₀ store₀ (Reads taken count numbers text) y x b z
+        no-more =
+            all-read (ap (λ (t : List ℕ). sheetFrom (i .turns) t taken) (sym lent-is) ∙ turn-fails lent taken none-is (i .turns))
+            (ey ∙ sets-fails (ruleRows text) rules numbers statements none-is) ex eb (ez ∙ sets-fails ruleTexts store text statements none-is)
+
+      -- the crate panics
+      module _ {p : ℕ} (g : r ≡ Panics p) where
+        panic-is : statements ≡ panics p
+        panic-is = panics-by length (ruleRows text) ruleTexts statements p (sym g ∙ er)
+
+        pub panic-fits : taken + p ≤ length s
+        panic-fits = omega (arith, panics-within k g, lent-long, i .within)
+
+        pub panicked : {y′ z′ : List ℕ} → y′ ≡ wiped 0 numbers y → z′ ≡ wiped 0 text z
+            → Ends s rules₀ tokens₀ brackets₀ store₀ (Panics (taken + p)) y′ x b z′
+        unfolding ruleRows ruleTexts
+        panicked ey′ ez′ =
+            let e : 0 + (taken + p) ≡ taken + p = omega arith in
+            let h = ap (λ (t : List ℕ). sheetFrom (i .turns) t taken) (sym lent-is) ∙ turn-panics lent taken p panic-is (i .turns) some-turns in (
+              ap (λ (n : ℕ). Panics n) (sym e) ∙ panic-answer _ _ _ _ _ _ _ _ _ _ _ _ _ _ (i .gathered) (taken + p) h,
+              (
+                ey′ ∙ ap (wiped 0 numbers) (ey ∙ sets-panics (ruleRows text) rules numbers statements p panic-is)
+                    ∙ panic-rules _ _ _ _ _ _ _ _ _ _ _ _ _ _ (i .gathered) (taken + p) h (o .rules-zeros),
+                (
+                  ex ∙ i .tokens-kept,
+                  (
+                    eb ∙ i .brackets-kept,
+                    (
+                      ez′ ∙ ap (wiped 0 text) (ez ∙ sets-panics ruleTexts store text statements p panic-is)
+                          ∙ panic-store _ _ _ _ _ _ _ _ _ _ _ _ _ _ (i .gathered) (taken + p) h (o .work .store-zeros),
+                      panics-bounds panic-fits,
+                    ),
+                  ),
+                ),
+              ),
+            )
+
+      -- the next
+      module _ {n more row kept : ℕ} (g : r ≡ Reads n more row kept) (some : Progress r) where
+        read : ReadAs length (ruleRows text) ruleTexts statements n more row kept
+        read = read-by length (ruleRows text) ruleTexts statements n more row kept (sym g ∙ er)
+
+        sizes : Sizes ruleWidth 0 lent n more row kept
+        sizes = sizes-of k g
+
+        pub next-later : 1 ≤ n
+        unfolding Progress
+        next-later = subst (λ (v : Reading). Progress v) g some
+
+        pub next-fits : taken + n ≤ length s
+        next-fits = omega (arith, sizes .taken, lent-long, i .within)
+
+        pub next-count : count + more ≤ taken + n
+        next-count = omega (arith, i .counted, sizes .counted)
+
+        pub next-numbers : numbers + row ≤ ruleWidth * (taken + n)
+        next-numbers = omega (arith, i .wide, sizes .wide)
+
+        pub next-text : text + kept ≤ taken + n + 2
+        next-text =
+            let h = i .sharp l in
+            omega (arith, h, sizes .long)
+
+        pub goes : Reading-on s rules₀ tokens₀ brackets₀ store₀ y x b z (taken + n) (count + more) (numbers + row) (text + kept)
+        goes =
+            let h = i .sharp l in
+            record {
+              turns = i .turns - 1;
+              enough = omega (arith, i .enough, next-later);
+              gathered = next-gathered (read .value) (read .reads-it) (read .counts) (read .rows) (read .texts) ey ez;
+              tokens-kept = ex ∙ i .tokens-kept;
+              brackets-kept = eb ∙ i .brackets-kept;
+              within = next-fits;
+              counted = next-count;
+              wide = next-numbers;
+              long = next-text;
+              sharp = λ q. omega (arith, h, sizes .sharp (omega (arith, lent-long)));
+            }

@@ -1,0 +1,81 @@
+-- Rules in the order of the code, and the room that reading them asks for.
+use Prim.Native.Nat.{ℕ, _+_, _*_, _^_, _≤_, _<_}
+use mathlib.Core.Path.{_≡_}
+use mathlib.Core.List.{List, [], map}
+use lib.ListN.{length}
+use Rattle.lexer.specs.TokenRow.{tokenWidth}
+use Rattle.syntax.specs.Declaration.{Declaration}
+use Rattle.syntax.specs.Layout.{declarationWidth}
+use Rattle.declarations.specs.Rules.{startsAt}
+use Rattle.sheets.specs.Outcome.{Outcome, behind}
+use Rattle.sheets.specs.Sheet.{blockOf}
+use Rattle.sheets.specs.Stores.{Zeros}
+use Rattle.sheets.specs.declared.readings.Reading.{Reading}
+use Rattle.sheets.specs.declared.readings.Reading.the-variants.{Reads, Fails, Panics}
+
+-- ---- the declarations of a rule whose text starts at a byte
+unfoldable pub blockAt : ℕ → List ℕ → ℕ → Outcome (List Declaration)
+blockAt at t n = behind 0 (blockOf t n) (map (startsAt at))
+
+-- ---- room: all stores are zero where something may be written
+
+-- for statements that are read and dropped
+pub record WorkRoom (s tokens brackets store : List ℕ) (fill : ℕ) : Type 0 where
+  pub tokens-zeros : Zeros tokens 0
+  pub brackets-zeros : Zeros brackets 0
+  pub store-zeros : Zeros store fill
+  pub for-tokens : tokenWidth * length s ≤ length tokens
+  pub for-brackets : length s ≤ length brackets
+  pub for-texts : fill + length s + 10 ≤ length store
+  pub text-bits : fill + length s + 10 < 2 ^ 32
+
+-- for the block of a rule
+pub record BlockRoom (s : List ℕ) (n at : ℕ) (rules : List ℕ) (place : ℕ) (tokens brackets store : List ℕ) (fill : ℕ) : Type 0 where
+  pub within : n ≤ length s
+  pub rules-zeros : Zeros rules place
+  pub tokens-zeros : Zeros tokens 0
+  pub brackets-zeros : Zeros brackets 0
+  pub store-zeros : Zeros store fill
+  pub for-rules : place + declarationWidth * length s ≤ length rules + declarationWidth * n
+  pub row-bits : length rules < 2 ^ 64
+  pub for-tokens : tokenWidth * length s ≤ length tokens
+  pub for-brackets : length s ≤ length brackets
+  pub for-texts : fill + length s + 2 ≤ length store + n
+  pub text-bits : fill + length s + 2 < 2 ^ 32 + n
+  pub start-bits : at + length s < 2 ^ 32
+
+-- for a rule: eight numbers for each byte that is read (`ruleWidth`)
+abbrev pub ruleWidth : ℕ
+ruleWidth = 8
+
+pub record RuleRoom (s : List ℕ) (at : ℕ) (rules : List ℕ) (place : ℕ) (tokens brackets store : List ℕ) (fill : ℕ) : Type 0 where
+  pub rules-zeros : Zeros rules place
+  pub for-rules : place + (declarationWidth * length s + ruleWidth) ≤ length rules
+  pub row-bits : length rules < 2 ^ 64
+  pub start-bits : at + length s < 2 ^ 32
+  pub work : WorkRoom s tokens brackets store fill
+
+-- for a sheet: all stores are zero
+pub record SheetRoom (s rules tokens brackets store : List ℕ) : Type 0 where
+  pub rules-zeros : Zeros rules 0
+  pub for-rules : ruleWidth * length s + ruleWidth ≤ length rules
+  pub row-bits : length rules < 2 ^ 64
+  pub work : WorkRoom s tokens brackets store 0
+
+-- ---- bounds of a block whose selectors end at n: two braces, a byte or more for each declaration, and its texts
+pub record BlockSize (s : List ℕ) (n stop count numbers text : ℕ) : Type 0 where
+  pub within : stop ≤ length s
+  pub counted : n + 2 + count ≤ stop
+  pub wide : numbers ≡ declarationWidth * count
+  pub short : n + 2 + text ≤ stop
+
+unfoldable pub BlockBounds : List ℕ → ℕ → Reading → Type 0
+BlockBounds s n (Reads e c m x) = BlockSize s n e c m x
+BlockBounds s n Fails = Unit
+BlockBounds s n (Panics p) = p ≤ length s
+
+-- of a statement that goes on at n: nothing is kept of it
+unfoldable pub EndBounds : List ℕ → ℕ → Reading → Type 0
+EndBounds s n (Reads e c m x) = (n ≤ e) × (e ≤ length s) × (c ≡ 0) × (m ≡ 0) × (x ≡ 0)
+EndBounds s n Fails = Unit
+EndBounds s n (Panics p) = p ≤ length s
