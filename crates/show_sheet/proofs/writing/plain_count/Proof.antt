@@ -1,0 +1,50 @@
+use Prim.Native.Nat.{_≤_, _-_}
+use lib.ListN.{length}
+use borrow.Author.Needs.{needs}
+use Rattle.show_sheet.proofs.writing.plain_count.Statement.{statement}
+use Rattle.show_sheet.proofs.writing.plain_count.Tie as tie
+
+abbrev Inv-loop : tie.InvT-loop
+Inv-loop s place i₀ i = i ≤ length s
+
+abbrev μ-loop : tie.MeasureT-loop
+μ-loop s place i₀ i = length s - i
+
+loop-holds : tie.Need-loop-holds Inv-loop μ-loop
+loop-holds c = search needs
+
+shared-slice-read-stands : tie.Need-shared-slice-read-stands Inv-loop μ-loop
+shared-slice-read-stands c = search needs
+
+stands-requires : tie.Need-stands-requires Inv-loop μ-loop
+stands-requires c κs = search needs
+
+returns : tie.Need-returns Inv-loop μ-loop
+returns c = search needs
+
+add-i : tie.Need-add-i Inv-loop μ-loop
+add-i c = search needs
+
+loop-less : tie.Need-loop-less Inv-loop μ-loop
+loop-less c = search needs
+
+loop-again : tie.Need-loop-again Inv-loop μ-loop
+loop-again c = search needs
+
+returns-2 : tie.Need-returns-2 Inv-loop μ-loop
+returns-2 c = search needs
+
+pub plain-count-spec : {M : Type 1} → statement M
+plain-count-spec =
+    tie.close
+    (tie.spec
+    Inv-loop
+    μ-loop
+    loop-holds
+    shared-slice-read-stands
+    stands-requires
+    returns
+    add-i
+    loop-less
+    loop-again
+    returns-2)
