@@ -7,7 +7,8 @@ use Rattle.combinators.proofs.Rules.{pick-true, pick-false, and-both, and-left,
 use Rattle.cascade.specs.declared.specificity.Specificity.{Specificity}
 use Rattle.cascade.specs.declared.slots.Slot.{Slot}
 use Rattle.cascade.specs.Specificity.{specificityOf, noSpecificity, less}
-use Rattle.cascade.specs.Slot.{Candidate, held, heldAgainst, maybeUpdate, rank, heldInBook, bookUpdate, authorOrigin, inheritedCandidate, inheritedSlot}
+use Rattle.syntax.specs.Style.{authorOrigin}
+use Rattle.cascade.specs.Slot.{Candidate, held, heldAgainst, maybeUpdate, rank, heldInBook, bookUpdate, inheritedCandidate, inheritedSlot}
 use Rattle.cascade.proofs.Orders.{then-lower, then-higher, then-same}
 
 -- ---- the crate's update: t is what the tests say, n the slot made of the candidate

@@ -7,10 +7,11 @@ use Prim.Native.Nat.{ℕ}
 use lib.Dec.{ltb}
 use lib.ListN.{length, getD, set, replicate}
 use Rattle.combinators.specs.Choice.{pick, and, is}
+use Rattle.syntax.specs.Style.{agentOrigin, userOrigin, authorOrigin}
 use Rattle.cascade.specs.declared.specificity.Specificity.{Specificity}
 use Rattle.cascade.specs.declared.slots.Slot.{Slot}
 use Rattle.cascade.specs.Specificity.{noSpecificity, inlineSpecificity}
-use Rattle.cascade.specs.Slot.{agentOrigin, userOrigin, authorOrigin, Candidate, emptySlot, maybeUpdate, bookUpdate, inheritedCandidate, inheritedSlot}
+use Rattle.cascade.specs.Slot.{Candidate, emptySlot, maybeUpdate, bookUpdate, inheritedCandidate, inheritedSlot}
 
 -- ---- a record has a slot for each slot number of the compiled sheet (`syntax`: colour, background, display, white space, content)
 abbrev pub slotCount : ℕ

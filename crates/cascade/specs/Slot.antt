@@ -6,22 +6,14 @@ use mathlib.Core.List.{List, [], _∷_, _++_}
 use Prim.Native.Nat.{ℕ, _<_}
 use lib.Dec.{ltb}
 use Rattle.combinators.specs.Choice.{pick, or, and, is}
+use Rattle.syntax.specs.Style.{agentOrigin, userOrigin, authorOrigin}
 use Rattle.cascade.specs.declared.specificity.Specificity.{Specificity}
 use Rattle.cascade.specs.declared.slots.Slot.{Slot}
 use Rattle.cascade.specs.Specificity.{noSpecificity, lessThen, less, LessSpecific}
 
--- ---- origins (`StyleOrigin`), as in the compiled sheet
+-- the origin of a slot that holds nothing
 abbrev pub noOrigin : ℕ
 noOrigin = 0
-
-abbrev pub agentOrigin : ℕ
-agentOrigin = 1
-
-abbrev pub userOrigin : ℕ
-userOrigin = 2
-
-abbrev pub authorOrigin : ℕ
-authorOrigin = 3
 
 -- ---- a value that a declaration offers a slot, with where it is from
 pub record Candidate : Type 0 where

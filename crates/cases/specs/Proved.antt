@@ -8,7 +8,8 @@ use Rattle.combinators.specs.Ascii.{fullStop, digitZero}
 use Rattle.combinators.specs.Parsed.{ok, onParsed}
 use Rattle.cascade.specs.Cases.{red, blue, byType, byClass, byId, rule, byAuthor}
 use Rattle.cascade.specs.Record.{mainRecord, slotIn, emptyStyle, crateCascade}
-use Rattle.cascade.specs.Slot.{agentOrigin, authorOrigin, held}
+use Rattle.syntax.specs.Style.{agentOrigin, authorOrigin}
+use Rattle.cascade.specs.Slot.{held}
 use Rattle.compiled.specs.Number.{numberBytes}
 use Rattle.declarations.specs.Attribute.{colourAttribute}
 use Rattle.values.specs.Colour.{rgb}

@@ -12,12 +12,13 @@ use Rattle.combinators.proofs.Rules.{pick-holds, within-true}
 use Rattle.syntax.specs.Layout.{colourSlot, displaySlot, whiteSpaceSlot, contentSlot}
 use Rattle.syntax.specs.RuleLayout.{starKind, nthKind, attributeEqualKind, pseudoNumber}
 use Rattle.syntax.specs.Selector.{none, after}
+use Rattle.syntax.specs.Style.{agentOrigin, authorOrigin}
 use Rattle.compiled.specs.Decoded.{Decoded, read, fault, andThen, mapped, counted}
 use Rattle.compiled.specs.Number.{groupValues, mostGroups, numberLimit, limited, groupsAt, numberAt, rangedAt}
 use Rattle.compiled.specs.Text.{Span, spanAt}
 use Rattle.compiled.specs.Component.{isMark, nameAt, secondNumberAt, numbersAt, secondNameAt, namesAt, bodyAt, writtenAt, componentAt, componentIn}
 use Rattle.compiled.specs.Style.{greatestColour, greatestWhiteSpace, contentAt, numberUpTo, valueAt, slotAt, styleNumbersAt, styleIn, styleAt}
-use Rattle.compiled.specs.Sheet.{leastOrigin, greatestOrigin, CompiledSelector, countAt, pseudoAt, headAt, stylesAt, partsAt, selectorOf, selectorAt, selectorsAt, ending, wholeAt, decode}
+use Rattle.compiled.specs.Sheet.{CompiledSelector, countAt, pseudoAt, headAt, stylesAt, partsAt, selectorOf, selectorAt, selectorsAt, ending, wholeAt, decode}
 
 -- what was read from i on takes at least `least` bytes and ends within the `len` bytes that there are; a fault lies within them or at their end
 unfoldable pub Reaches : {A : Type 0} → ℕ → ℕ → ℕ → Decoded A → Type 0
@@ -176,7 +177,7 @@ module _ (t : List ℕ) where
   pub head-reaches : (least i : ℕ) → Reaches 3 (length t) i (headAt t least i)
   unfolding headAt pseudoAt countAt
   head-reaches least i =
-      reaches-then (length t) (rangedAt t i least greatestOrigin) _ 1 2 i (ranged-reaches i least greatestOrigin)
+      reaches-then (length t) (rangedAt t i least authorOrigin) _ 1 2 i (ranged-reaches i least authorOrigin)
       (λ n origin _. reaches-then (length t) (rangedAt t n (pseudoNumber none) (pseudoNumber after)) _ 1 1 n (ranged-reaches n (pseudoNumber none) (pseudoNumber after))
       (λ m pseudo _. reaches-mapped (length t) _ (numberAt t m) 1 m (number-reaches m)))
 
@@ -217,7 +218,7 @@ module _ (t : List ℕ) where
   unfolding decode wholeAt ending
   sheet-reaches =
       reaches-then (length t) (numberAt t 0) (λ n count. wholeAt t count n) 1 0 0 (number-reaches 0)
-      (λ n count l. reaches-then (length t) (selectorsAt count t leastOrigin n) _ 0 0 n (selectors-reach count leastOrigin n l)
+      (λ n count l. reaches-then (length t) (selectorsAt count t agentOrigin n) _ 0 0 n (selectors-reach count agentOrigin n l)
       (λ m ss k. pick-holds (Reaches 0 (length t) m) (is m (length t)) (read m ss) (fault m) (λ _. reaches-read (length t) m 0 m ss (omega arith) k)
       (λ _. reaches-fault (List CompiledSelector) (length t) m 0)))
 

@@ -16,10 +16,10 @@ use Rattle.compiled.specs.Decoded.{read, andThen, mapped}
 use Rattle.compiled.specs.Number.{numberLimit, numberBytes, numberAt, rangedAt}
 use Rattle.compiled.specs.Text.{textBytes, spanAt}
 use Rattle.compiled.specs.Component.{componentBody, componentBytes, name, numbers, names, isMark, nameAt, secondNumberAt, numbersAt, secondNameAt, namesAt, bodyAt, writtenAt, markOf, namedOf, componentIn, componentAt}
-use Rattle.compiled.proofs.Fits.{Bytes, TextFits, ComponentFits}
+use Rattle.compiled.proofs.Fits.{TextFits, ComponentFits}
 use Rattle.compiled.proofs.Following.{then-read, mapped-read, ends-at, all-append}
 use Rattle.compiled.proofs.NumberBack.{number-some, number-bytes, number-back, ranged-back, signed-small}
-use Rattle.compiled.proofs.TextBack.{text-bytes, span, span-back, span-text}
+use Rattle.compiled.proofs.TextBack.{span, span-back, span-text}
 
 -- a kind is one of nine
 pub kind-le : (c : Component) → componentKind c ≤ attributeEqualKind
@@ -38,26 +38,6 @@ kind-le (attributeEqual x y) = omega arith
 pub component-some : (c : Component) → 1 ≤ length (componentBytes c)
 unfolding componentBytes
 component-some c = omega (arith, length-append (numberBytes (componentKind c)) (componentBody c), number-some (componentKind c))
-
-body-bytes : (c : Component) → ComponentFits c → Bytes (componentBody c)
-unfolding componentBody
-body-bytes star h = tt
-body-bytes (class x) h = text-bytes x h
-body-bytes (element x) h = text-bytes x h
-body-bytes (hash x) h = text-bytes x h
-body-bytes child h = tt
-body-bytes descendant h = tt
-body-bytes (nth a b) h =
-    all-append _ (numberBytes (signedNumber a)) (numberBytes (signedNumber b))
-    (number-bytes (signedNumber a) (signed-small a (h .0))) (number-bytes (signedNumber b) (signed-small b (h .1)))
-body-bytes (attribute x) h = text-bytes x h
-body-bytes (attributeEqual x y) h = all-append _ (textBytes x) (textBytes y) (text-bytes x (h .0)) (text-bytes y (h .1))
-
--- its bytes are bytes
-pub component-bytes : (c : Component) → ComponentFits c → Bytes (componentBytes c)
-unfolding componentBytes
-component-bytes c h =
-    all-append _ (numberBytes (componentKind c)) (componentBody c) (number-bytes (componentKind c) (omega (arith, kind-le c))) (body-bytes c h)
 
 module _ (t : List ℕ) where
   -- the two numbers of nth

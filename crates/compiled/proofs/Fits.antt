@@ -5,11 +5,11 @@ use lib.IntN.{ℤ, pos, negsuc}
 use lib.ListN.{length}
 use Rattle.syntax.specs.Layout.{styleText}
 use Rattle.syntax.specs.Selector.{Component, star, class, element, hash, child, descendant, nth, attribute, attributeEqual}
-use Rattle.syntax.specs.Style.{StyleDecl}
+use Rattle.syntax.specs.Style.{agentOrigin, authorOrigin, StyleDecl}
 use Rattle.syntax.proofs.Back as back
 use Rattle.syntax.proofs.Streams.{All}
 use Rattle.compiled.specs.Number.{numberLimit}
-use Rattle.compiled.specs.Sheet.{leastOrigin, greatestOrigin, CompiledSelector}
+use Rattle.compiled.specs.Sheet.{CompiledSelector}
 
 -- a list of bytes
 abbrev pub Bytes : List ℕ → Type 0
@@ -17,7 +17,6 @@ Bytes x = All (λ b. b < 256) x
 
 pub record TextFits (x : List ℕ) : Type 0 where
   pub short : length x < numberLimit
-  pub bytes : Bytes x
 
 -- from -2^31 to 2^31 - 1
 abbrev pub SignedFits : ℤ → Type 0
@@ -40,7 +39,7 @@ pub record StyleFits (d : StyleDecl) : Type 0 where
   pub text : TextFits (styleText d)
 
 pub record SelectorFits (s : CompiledSelector) : Type 0 where
-  pub author : s .origin ≤ greatestOrigin
+  pub author : s .origin ≤ authorOrigin
   pub component-count : length (s .components) < numberLimit
   pub components : All ComponentFits (s .components)
   pub style-count : length (s .styles) < numberLimit
@@ -54,4 +53,4 @@ NotFalling least (s ∷ ss) = (least ≤ s .origin) × NotFalling (s .origin) ss
 pub record SheetFits (ss : List CompiledSelector) : Type 0 where
   pub count : length ss < numberLimit
   pub selectors : All SelectorFits ss
-  pub origins : NotFalling leastOrigin ss
+  pub origins : NotFalling agentOrigin ss

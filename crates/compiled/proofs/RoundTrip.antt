@@ -10,18 +10,18 @@ use Rattle.combinators.proofs.Rules.{pick-true, is-yes}
 use Rattle.syntax.specs.RuleLayout.{pseudoNumber, pseudoFrom}
 use Rattle.syntax.specs.Selector.{PseudoElement, none, before, after}
 use Rattle.syntax.specs.Stream.{textsMany}
-use Rattle.syntax.specs.Style.{StyleDecl}
+use Rattle.syntax.specs.Style.{agentOrigin, authorOrigin, StyleDecl}
 use Rattle.syntax.proofs.Streams.{Held, held-left, held-right, All}
 use Rattle.compiled.specs.Decoded.{read, counted}
 use Rattle.compiled.specs.Number.{numberLimit, numberBytes, numberAt, rangedAt}
 use Rattle.compiled.specs.Component.{componentBytes, componentAt}
 use Rattle.compiled.specs.Style.{styleBytes, styleAt}
-use Rattle.compiled.specs.Sheet.{leastOrigin, greatestOrigin, CompiledSelector, headBytes, stylesBytes, selectorBytes, encode, countAt, pseudoAt, headAt, stylesAt, partsAt, selectorOf, selectorAt, selectorsAt, ending, wholeAt, decode}
-use Rattle.compiled.proofs.Fits.{Bytes, ComponentFits, StyleFits, SelectorFits, NotFalling, SheetFits}
-use Rattle.compiled.proofs.Following.{then-read, mapped-read, ends-at, counted-back, all-append, all-texts}
-use Rattle.compiled.proofs.NumberBack.{number-bytes, number-back, ranged-back}
-use Rattle.compiled.proofs.ComponentBack.{component-bytes, component-back}
-use Rattle.compiled.proofs.StyleBack.{style-bytes, style-back}
+use Rattle.compiled.specs.Sheet.{CompiledSelector, headBytes, stylesBytes, selectorBytes, encode, countAt, pseudoAt, headAt, stylesAt, partsAt, selectorOf, selectorAt, selectorsAt, ending, wholeAt, decode}
+use Rattle.compiled.proofs.Fits.{ComponentFits, StyleFits, SelectorFits, NotFalling, SheetFits}
+use Rattle.compiled.proofs.Following.{then-read, mapped-read, ends-at, counted-back}
+use Rattle.compiled.proofs.NumberBack.{number-back, ranged-back}
+use Rattle.compiled.proofs.ComponentBack.{component-back}
+use Rattle.compiled.proofs.StyleBack.{style-back}
 
 -- ---- pseudo elements
 -- a pseudo element is read back from its number
@@ -48,25 +48,6 @@ pseudo-small : (p : PseudoElement) → pseudoNumber p < numberLimit
 unfolding pseudoNumber
 pseudo-small p = omega (arith, pseudo-le p)
 
--- ---- bytes
--- the bytes of a selector are bytes
-pub selector-bytes : (s : CompiledSelector) → SelectorFits s → Bytes (selectorBytes s)
-unfolding selectorBytes headBytes stylesBytes
-selector-bytes s f =
-    all-append _ (headBytes (s .origin) (pseudoNumber (s .pseudo)) (length (s .components))) _
-    (all-append _ (numberBytes (s .origin)) _ (number-bytes (s .origin) (omega (arith, f .author)))
-    (all-append _ (numberBytes (pseudoNumber (s .pseudo))) _ (number-bytes (pseudoNumber (s .pseudo)) (pseudo-small (s .pseudo)))
-    (number-bytes (length (s .components)) (f .component-count))))
-    (all-append _ (textsMany componentBytes (s .components)) _ (all-texts componentBytes ComponentFits _ component-bytes (s .components) (f .components))
-    (all-append _ (numberBytes (length (s .styles))) _ (number-bytes (length (s .styles)) (f .style-count))
-    (all-texts styleBytes StyleFits _ style-bytes (s .styles) (f .styles))))
-
--- a sheet that fits is a list of bytes
-pub encode-bytes : (ss : List CompiledSelector) → SheetFits ss → Bytes (encode ss)
-unfolding encode
-encode-bytes ss f =
-    all-append _ (numberBytes (length ss)) _ (number-bytes (length ss) (f .count)) (all-texts selectorBytes SelectorFits _ selector-bytes ss (f .selectors))
-
 -- ---- read back
 module _ (t : List ℕ) where
   -- the styles with their count
@@ -82,7 +63,7 @@ module _ (t : List ℕ) where
       ∙ ends-at ds _ _ e
 
   -- the numbers before the components
-  head-back : (origin : ℕ) (p : PseudoElement) (count least i : ℕ) → least ≤ origin → origin ≤ greatestOrigin → count < numberLimit
+  head-back : (origin : ℕ) (p : PseudoElement) (count least i : ℕ) → least ≤ origin → origin ≤ authorOrigin → count < numberLimit
       → Held t i (headBytes origin (pseudoNumber p) count)
       → headAt t least i ≡ read (i + length (headBytes origin (pseudoNumber p) count)) (record { origin = origin; pseudo = pseudoNumber p; count = count })
   unfolding headAt pseudoAt countAt headBytes
@@ -92,7 +73,7 @@ module _ (t : List ℕ) where
       let c : List ℕ = numberBytes count in
       let r = held-right t i a (b ++ c) h in
       let e : i + length a + length b + length c ≡ i + length (a ++ (b ++ c)) = omega (arith, length-append a (b ++ c), length-append b c) in
-      then-read (rangedAt t i least greatestOrigin) _ _ origin (ranged-back t i least greatestOrigin origin (omega arith) lo hi (held-left t i a (b ++ c) h))
+      then-read (rangedAt t i least authorOrigin) _ _ origin (ranged-back t i least authorOrigin origin (omega arith) lo hi (held-left t i a (b ++ c) h))
       ∙ then-read (rangedAt t (i + length a) (pseudoNumber none) (pseudoNumber after)) _ _ (pseudoNumber p)
       (ranged-back t (i + length a) (pseudoNumber none) (pseudoNumber after) (pseudoNumber p) (pseudo-small p) (pseudo-ge p) (pseudo-le p) (held-left t (i + length a) b c r))
       ∙ mapped-read _ (numberAt t (i + length a + length b)) _ count (number-back t (i + length a + length b) count l (held-right t (i + length a) b c r))
@@ -143,5 +124,5 @@ round-trip ss f =
     let t : List ℕ = a ++ b in
     let e : 0 + length a + length b ≡ length t = omega (arith, length-append a b) in
     then-read (numberAt t 0) _ _ (length ss) (number-back t 0 (length ss) (f .count) (held-left t 0 a b (whole t)))
-    ∙ then-read _ _ (0 + length a + length b) ss (selectors-back t ss leastOrigin (0 + length a) (f .selectors) (f .origins) (held-right t 0 a b (whole t)))
+    ∙ then-read _ _ (0 + length a + length b) ss (selectors-back t ss agentOrigin (0 + length a) (f .selectors) (f .origins) (held-right t 0 a b (whole t)))
     ∙ rw e (sym (pick-true _ _ _ _ (is-yes (length t) (length t) refl) refl))

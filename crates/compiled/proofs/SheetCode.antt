@@ -7,10 +7,11 @@ use lib.ListN.{length}
 use Rattle.combinators.proofs.Rules.{pick-true, pick-false, is-yes, is-no}
 use Rattle.syntax.specs.RuleLayout.{pseudoNumber}
 use Rattle.syntax.specs.Selector.{none, after}
+use Rattle.syntax.specs.Style.{agentOrigin, authorOrigin}
 use Rattle.compiled.specs.Decoded.{Decoded, read, fault, mapped, counted}
 use Rattle.compiled.specs.Number.{numberAt, rangedAt}
 use Rattle.compiled.specs.Component.{componentAt}
-use Rattle.compiled.specs.Sheet.{leastOrigin, greatestOrigin, CompiledSelector, Head, countAt, pseudoAt, headAt, stylesAt, partsAt, selectorOf, selectorAt, selectorsAt, ending, wholeAt, decode}
+use Rattle.compiled.specs.Sheet.{CompiledSelector, Head, countAt, pseudoAt, headAt, stylesAt, partsAt, selectorOf, selectorAt, selectorsAt, ending, wholeAt, decode}
 use Rattle.compiled.specs.Answer.{numberAnswer, placeAnswer, headAnswer, headWithin, selectorAnswer, checkAnswer, checkWithin}
 use Rattle.compiled.specs.declared.numbers.NumberAnswer.{NumberAnswer}
 use Rattle.compiled.specs.declared.numbers.NumberAnswer.the-variants as number
@@ -62,17 +63,17 @@ module _ (s : List ℕ) (at least : ℕ) where
   bounded : (q : HeadAnswer) → q ≡ headAnswer (headAt s least at) → (q ≡ headAnswer (headAt s least at)) × headWithin (length s) q
   bounded q e = (e, rw e (within-read (headAt s least at) (head-reaches s least at)))
 
-  module _ (r : NumberAnswer) (e : r ≡ numberAnswer (rangedAt s at least greatestOrigin)) where
+  module _ (r : NumberAnswer) (e : r ≡ numberAnswer (rangedAt s at least authorOrigin)) where
     -- behind the origin
     pub origin-read : (n origin : ℕ) → r ≡ number.Number n origin → (q : HeadAnswer) → q ≡ headAnswer (pseudoAt s origin n)
         → (q ≡ headAnswer (headAt s least at)) × headWithin (length s) q
     unfolding headAt
     origin-read n origin p q h =
-        bounded q (h ∙ ap headAnswer (sym (then-read (rangedAt s at least greatestOrigin) (λ m o. pseudoAt s o m) n origin (number-read _ r e n origin p))))
+        bounded q (h ∙ ap headAnswer (sym (then-read (rangedAt s at least authorOrigin) (λ m o. pseudoAt s o m) n origin (number-read _ r e n origin p))))
 
     pub origin-fault : (p : ℕ) → r ≡ number.Fault p → (head.Fault p ≡ headAnswer (headAt s least at)) × headWithin (length s) (head.Fault p)
     unfolding headAt
-    origin-fault p q = bounded _ (faulty _ p (then-fault (rangedAt s at least greatestOrigin) (λ m o. pseudoAt s o m) p (number-fault _ r e p q)))
+    origin-fault p q = bounded _ (faulty _ p (then-fault (rangedAt s at least authorOrigin) (λ m o. pseudoAt s o m) p (number-fault _ r e p q)))
 
 -- ---- `skip_parts`
 module _ (s : List ℕ) (at count : ℕ) (r : PlaceAnswer) (e : r ≡ placeAnswer (counted (componentAt s) count at)) where
@@ -164,26 +165,26 @@ module _ (s : List ℕ) where
     selecting-done h = all-done left before i h ∙ c
 
 -- ---- the check
-module _ (s : List ℕ) (at count : ℕ) (r : PlaceAnswer) (e : r ≡ placeAnswer (selectorsAt count s leastOrigin at)) where
+module _ (s : List ℕ) (at count : ℕ) (r : PlaceAnswer) (e : r ≡ placeAnswer (selectorsAt count s agentOrigin at)) where
   -- the bytes end with the selectors
   pub whole-sheet : (n : ℕ) → r ≡ place.At n → n ≡ length s → check.Sheet ≡ checkAnswer (wholeAt s count at)
   unfolding wholeAt ending checkAnswer
   whole-sheet n p h =
-      let w = place-read (selectorsAt count s leastOrigin at) r e n p in
-      ap checkAnswer (sym (then-read (selectorsAt count s leastOrigin at) _ n (w .0) (w .1) ∙ sym (pick-true (read n (w .0)) _ _ _ (is-yes _ _ h) refl)))
+      let w = place-read (selectorsAt count s agentOrigin at) r e n p in
+      ap checkAnswer (sym (then-read (selectorsAt count s agentOrigin at) _ n (w .0) (w .1) ∙ sym (pick-true (read n (w .0)) _ _ _ (is-yes _ _ h) refl)))
 
   -- bytes are left over
   pub whole-left : (n : ℕ) → r ≡ place.At n → ¬ (n ≡ length s) → check.Fault n ≡ checkAnswer (wholeAt s count at)
   unfolding wholeAt ending checkAnswer
   whole-left n p h =
-      let w = place-read (selectorsAt count s leastOrigin at) r e n p in
-      ap checkAnswer (sym (then-read (selectorsAt count s leastOrigin at) _ n (w .0) (w .1) ∙ sym (pick-false (fault n) _ _ _ (is-no _ _ h) refl)))
+      let w = place-read (selectorsAt count s agentOrigin at) r e n p in
+      ap checkAnswer (sym (then-read (selectorsAt count s agentOrigin at) _ n (w .0) (w .1) ∙ sym (pick-false (fault n) _ _ _ (is-no _ _ h) refl)))
 
   -- a selector has a fault
   pub whole-fault : (p : ℕ) → r ≡ place.Fault p → check.Fault p ≡ checkAnswer (wholeAt s count at)
   unfolding wholeAt checkAnswer
   whole-fault p q =
-      ap checkAnswer (sym (then-fault (selectorsAt count s leastOrigin at) (λ n ss. ending s n ss) p (place-fault (selectorsAt count s leastOrigin at) r e p q)))
+      ap checkAnswer (sym (then-fault (selectorsAt count s agentOrigin at) (λ n ss. ending s n ss) p (place-fault (selectorsAt count s agentOrigin at) r e p q)))
 
 module _ (s : List ℕ) where
   check-within : (d : Decoded (List CompiledSelector)) → Reaches 1 (length s) 0 d → checkWithin (length s) (checkAnswer d)

@@ -23,7 +23,7 @@ use Rattle.compiled.specs.Style.{greatestColour, greatestWhiteSpace, sty
 use Rattle.compiled.proofs.Fits.{Bytes, TextFits, StyleFits}
 use Rattle.compiled.proofs.Following.{then-read, mapped-read, ends-at, all-append}
 use Rattle.compiled.proofs.NumberBack.{number-some, number-bytes, ranged-back}
-use Rattle.compiled.proofs.TextBack.{text-bytes, span, span-back, text-held}
+use Rattle.compiled.proofs.TextBack.{span, span-back, text-held}
 
 -- ---- numbers in their ranges
 -- a slot is one of five
@@ -52,24 +52,6 @@ unfolding whiteSpaceNumber
 white-space-le normal = omega arith
 white-space-le pre = omega arith
 white-space-le preWrap = omega arith
-
--- ---- bytes
-body-bytes : (s : Style) → back.StyleFits s → TextFits (styleTextOf s) → Bytes (styleBody s)
-unfolding styleBody styleTextOf back.StyleFits
-body-bytes (style.colour c) u f = number-bytes (colourNumber c) (omega (arith, colour-le c u))
-body-bytes (style.background c) u f = number-bytes (colourNumber c) (omega (arith, colour-le c u))
-body-bytes style.displayNone u f = tt
-body-bytes (style.whiteSpace w) u f = number-bytes (whiteSpaceNumber w) (omega (arith, white-space-le w))
-body-bytes (style.content x) u f = text-bytes x f
-
--- the bytes of a style are bytes
-pub style-bytes : (d : StyleDecl) → StyleFits d → Bytes (styleBytes d)
-unfolding styleBytes styleText
-style-bytes d h =
-    all-append _ (numberBytes (flag (d .important))) (numberBytes (styleSlotOf (d .style)) ++ styleBody (d .style))
-    (number-bytes (flag (d .important)) (omega (arith, flag-le (d .important))))
-    (all-append _ (numberBytes (styleSlotOf (d .style))) (styleBody (d .style))
-    (number-bytes (styleSlotOf (d .style)) (omega (arith, slot-le (d .style)))) (body-bytes (d .style) (h .colour) (h .text)))
 
 -- a style takes a byte
 pub style-some : (d : StyleDecl) → 1 ≤ length (styleBytes d)

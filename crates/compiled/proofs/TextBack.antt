@@ -26,11 +26,6 @@ module _ (x : List ℕ) where
   pub text-some : 1 ≤ length (textBytes x)
   text-some = omega (arith, text-length, number-some (length x))
 
-  -- its bytes are bytes
-  pub text-bytes : TextFits x → Bytes (textBytes x)
-  unfolding textBytes
-  text-bytes h = all-append _ (numberBytes (length x)) x (number-bytes (length x) (h .short)) (h .bytes)
-
 module _ (t : List ℕ) (i : ℕ) (x : List ℕ) (h : Held t i (textBytes x)) where
   -- where it lies
   abbrev pub span : Span

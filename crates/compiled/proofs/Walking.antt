@@ -12,12 +12,13 @@ use Rattle.syntax.specs.RuleLayout.{pseudoFrom}
 use Rattle.syntax.specs.Selector.{Component, nth, attributeEqual}
 use Rattle.syntax.specs.Signed.{signedOf}
 use Rattle.syntax.specs.Stream.{part}
+use Rattle.syntax.specs.Style.{agentOrigin}
 use Rattle.compiled.specs.Decoded.{Decoded, read, fault, andThen, mapped, counted}
 use Rattle.compiled.specs.Number.{numberAt}
 use Rattle.compiled.specs.Text.{textIn}
 use Rattle.compiled.specs.Component.{Written, mark, name, numbers, names, writtenAt, markOf, namedOf, componentIn, componentAt}
 use Rattle.compiled.specs.Style.{StyleNumbers, styleNumbersAt, styleIn, styleAt}
-use Rattle.compiled.specs.Sheet.{leastOrigin, CompiledSelector, Head, headAt, stylesAt, Parts, partsAt, selectorOf, selectorAt, selectorsAt, ending, wholeAt, decode}
+use Rattle.compiled.specs.Sheet.{CompiledSelector, Head, headAt, stylesAt, Parts, partsAt, selectorOf, selectorAt, selectorsAt, ending, wholeAt, decode}
 use Rattle.compiled.specs.Answer.{writtenAnswer, componentAnswer, styleAnswer, checkAnswer}
 use Rattle.compiled.specs.declared.components.ComponentAnswer.{ComponentAnswer}
 use Rattle.compiled.specs.declared.components.ComponentAnswer.the-variants as component
@@ -239,7 +240,7 @@ pub record SheetSteps (t : List ℕ) (m : ℕ) (ss : List CompiledSelector) : Ty
   pub count : ℕ
   pub behind-count : ℕ
   pub count-read : numberAt t 0 ≡ read behind-count count
-  pub selectors-read : selectorsAt count t leastOrigin behind-count ≡ read m ss
+  pub selectors-read : selectorsAt count t agentOrigin behind-count ≡ read m ss
   pub whole : m ≡ length t
 
 -- the bytes end with the selectors
@@ -252,7 +253,7 @@ pub sheet-steps : (t : List ℕ) (m : ℕ) (ss : List CompiledSelector) → deco
 unfolding decode wholeAt
 sheet-steps t m ss e =
     let a = steps (numberAt t 0) _ m ss e in
-    let b = steps (selectorsAt (a .value) t leastOrigin (a .place)) _ m ss (a .rest) in
+    let b = steps (selectorsAt (a .value) t agentOrigin (a .place)) _ m ss (a .rest) in
     let c = ended t (b .place) m ss (b .value) (b .rest) in
     let p : b .place ≡ m = let q = c .0 in cc in
     record { count = a .value; behind-count = a .place; count-read = a .first; selectors-read = b .first ∙ c .0; whole = sym p ∙ c .1 }

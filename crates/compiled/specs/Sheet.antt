@@ -11,19 +11,12 @@ use Rattle.syntax.specs.Stream.{part, textsMany}
 use Rattle.syntax.specs.Layout.{flag, flagOf, colourNumber, colourOf, styleOf}
 use Rattle.syntax.specs.RuleLayout.{componentKind, pseudoNumber, pseudoFrom}
 use Rattle.syntax.specs.Style as style
-use Rattle.syntax.specs.Style.{StyleDecl}
+use Rattle.syntax.specs.Style.{agentOrigin, authorOrigin, StyleDecl}
 use Rattle.compiled.specs.Decoded.{Decoded, read, fault, andThen, mapped, counted}
 use Rattle.compiled.specs.Number.{groupBytes, numberBytes, limited, groupsAt, numberAt, rangedAt}
 use Rattle.compiled.specs.Text.{textBytes, spanAt, textIn}
 use Rattle.compiled.specs.Component.{componentBody, componentBytes, isMark, nameAt, bodyAt, writtenAt, markOf, namedOf, componentIn, componentAt}
 use Rattle.compiled.specs.Style.{styleSlotOf, styleBody, styleBytes, styleNumbers, numberUpTo, valueAt, slotAt, styleNumbersAt, styleIn, styleAt}
-
--- origins are 1 agent, 2 user, 3 author
-abbrev pub leastOrigin : ℕ
-leastOrigin = 1
-
-abbrev pub greatestOrigin : ℕ
-greatestOrigin = 3
 
 -- a selector with the styles of its rule; components rightmost first
 pub record CompiledSelector : Type 0 where
@@ -63,7 +56,7 @@ unfoldable pub pseudoAt : List ℕ → ℕ → ℕ → Decoded Head
 pseudoAt t origin n = andThen (rangedAt t n (pseudoNumber none) (pseudoNumber after)) (λ m pseudo. countAt t origin pseudo m)
 
 unfoldable pub headAt : List ℕ → ℕ → ℕ → Decoded Head
-headAt t least i = andThen (rangedAt t i least greatestOrigin) (λ n origin. pseudoAt t origin n)
+headAt t least i = andThen (rangedAt t i least authorOrigin) (λ n origin. pseudoAt t origin n)
 
 unfoldable pub stylesAt : List ℕ → ℕ → Decoded (List StyleDecl)
 stylesAt t i = andThen (numberAt t i) (λ n count. counted (styleAt t) count n)
@@ -92,7 +85,7 @@ unfoldable pub ending : {A : Type 0} → List ℕ → ℕ → A → Decoded A
 ending t n a = pick (is n (length t)) (read n a) (fault n)
 
 unfoldable pub wholeAt : List ℕ → ℕ → ℕ → Decoded (List CompiledSelector)
-wholeAt t count n = andThen (selectorsAt count t leastOrigin n) (λ m ss. ending t m ss)
+wholeAt t count n = andThen (selectorsAt count t agentOrigin n) (λ m ss. ending t m ss)
 
 unfoldable pub decode : List ℕ → Decoded (List CompiledSelector)
 decode t = andThen (numberAt t 0) (λ n count. wholeAt t count n)
@@ -103,7 +96,7 @@ decode t = andThen (numberAt t 0) (λ n count. wholeAt t count n)
 abbrev pub redSelector : CompiledSelector
 redSelector =
     record {
-      origin = greatestOrigin;
+      origin = authorOrigin;
       pseudo = none;
       components = element (0x70 ∷ []) ∷ [];
       styles = record { style = style.colour (record { red = 255; green = 0; blue = 0 }); important = false } ∷ [];

@@ -6,6 +6,8 @@ use crate::numbers::read_number;
 use crate::numbers::read_ranged;
 use crate::places::PlaceAnswer;
 use crate::styles::skip_styles;
+use syntax::rows::AGENT_ORIGIN;
+use syntax::rows::AUTHOR_ORIGIN;
 use syntax::rows::PSEUDO_AFTER;
 use syntax::rows::PSEUDO_NONE;
 ghost use mathlib.Core.Path.{_≡_};
@@ -13,11 +15,6 @@ ghost use lib.ListN.{length};
 ghost use Rattle.combinators.specs.Store.{emits};
 ghost use Rattle.compiled.specs.Sheet.{headBytes, countAt, pseudoAt, headAt, partsAt, selectorAt, selectorsAt, wholeAt, decode};
 ghost use Rattle.compiled.specs.Answer.{placeAnswer, headAnswer, headWithin, selectorAnswer, checkAnswer, checkWithin};
-
-// Origins are 1 agent, 2 user, 3 author.
-pub const LEAST_ORIGIN: u32 = 1;
-
-pub const GREATEST_ORIGIN: u32 = 3;
 
 // The place behind the numbers before a selector's components: its origin, its pseudo element and how many components it has. Or the place of the
 // fault.
@@ -71,7 +68,7 @@ pub fn read_head(s: &[u8], at: usize, least: u32) -> HeadAnswer
     ensures { λ r. ⌜ r ≡ headAnswer (headAt (now (s .entry)) least at) ⌝ }
     ensures { λ r. ⌜ headWithin (length (now (s .entry))) r ⌝ }
 {
-    match read_ranged(s, at, least, GREATEST_ORIGIN) {
+    match read_ranged(s, at, least, AUTHOR_ORIGIN) {
         NumberAnswer::Number(next, origin) => {
             return read_pseudo(s, next, origin);
         }
@@ -140,7 +137,7 @@ fn skip_selectors(s: &[u8], at: usize, count: u32, least: u32) -> PlaceAnswer
 fn check_selectors(s: &[u8], at: usize, count: u32) -> CheckAnswer
     ensures { λ r. ⌜ r ≡ checkAnswer (wholeAt (now (s .entry)) count at) ⌝ }
 {
-    match skip_selectors(s, at, count, LEAST_ORIGIN) {
+    match skip_selectors(s, at, count, AGENT_ORIGIN) {
         PlaceAnswer::At(end) => {
             if end == s.len() {
                 return CheckAnswer::Sheet;

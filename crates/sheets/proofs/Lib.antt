@@ -25,14 +25,3 @@ pub mod StatementLaws
 pub mod StatementTurns
 pub mod SheetLaws
 pub mod SheetBack
-pub mod Places
-pub mod NthGrammar
-pub mod NthRead
-pub mod SelectorGrammar
-pub mod ComponentsRead
-pub mod SelectorsRead
-pub mod RuleGrammar
-pub mod DeclarationsRead
-pub mod BlocksRead
-pub mod RuleList
-pub mod GrammarCases

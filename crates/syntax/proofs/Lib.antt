@@ -4,4 +4,5 @@ pub mod Back
 pub mod SignedBack
 pub mod RuleRows
 pub mod RowSizes
+pub mod Walks
 pub mod Writes

@@ -2,7 +2,9 @@
 -- Readers are total: any numbers read as something.
 use Prim.Native.Nat.{ℕ, zero, suc, _+_}
 use mathlib.Core.List.{List, [], _∷_, _++_}
+use lib.Dec.{ltb}
 use lib.ListN.{length, take, drop}
+use Rattle.combinators.specs.Choice.{pick}
 
 pub record Read (A : Type 0) : Type 0 where
   pub value : A
@@ -29,3 +31,7 @@ module _ {A : Type 0} where
 -- n bytes of the store from a on
 unfoldable pub part : List ℕ → ℕ → ℕ → List ℕ
 part store a n = take n (drop a store)
+
+-- a place in n numbers, or their end where it lies behind
+unfoldable pub reached : ℕ → ℕ → ℕ
+reached n place = pick (ltb place n) place n

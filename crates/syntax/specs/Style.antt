@@ -11,6 +11,16 @@ pub data Style : Type 0 where
   whiteSpace : WhiteSpace → Style
   content : List ℕ → Style
 
+-- where a sheet is from (`StyleOrigin` of src/lib.rs), by the numbers of the compiled sheet
+abbrev pub agentOrigin : ℕ
+agentOrigin = 1
+
+abbrev pub userOrigin : ℕ
+userOrigin = 2
+
+abbrev pub authorOrigin : ℕ
+authorOrigin = 3
+
 pub record StyleDecl : Type 0 where
   pub style : Style
   pub important : Bool

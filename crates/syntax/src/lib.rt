@@ -2,4 +2,5 @@
 // texts that rows name, and writers of rows.
 pub mod rows; // rows.rt: the columns of rows, and the numbers for what stands in them
 pub mod texts; // texts.rt: a part of the text store
+pub mod walk; // walk.rt: going forward in rows
 pub mod writers; // writers.rt: the rows of components, and the heads of selectors and rules

@@ -85,6 +85,13 @@ pub const WHITE_SPACE_SLOT: u32 = 3;
 
 pub const CONTENT_SLOT: u32 = 4;
 
+// Where a sheet is from, by the numbers of the compiled sheet.
+pub const AGENT_ORIGIN: u32 = 1;
+
+pub const USER_ORIGIN: u32 = 2;
+
+pub const AUTHOR_ORIGIN: u32 = 3;
+
 // Numbers in the row of a component: its kind, where its texts start, and two more.
 pub const COMPONENT_WIDTH: usize = 4;
 

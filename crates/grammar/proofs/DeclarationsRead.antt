@@ -24,12 +24,12 @@ use Rattle.lexer.proofs.SyntaxName.{IdentSequence, started, dashed, identStart,
 use Rattle.lexer.proofs.SyntaxWhitespace.{Blank, none, skips-blank}
 use Rattle.values.specs.Value.{bracketBy, bracketOf, before, closing, ending, stepOf, stop, cons, onStep, scan, statementOf, tokensOf, isImportant, withoutMark, valueFrom, valueOf}
 use Rattle.declarations.specs.Rules.{colonBehind, propertyOf, valueBehind, declarationOf}
-use Rattle.sheets.proofs.NthGrammar.{Blanks}
-use Rattle.sheets.proofs.SelectorGrammar.{Name}
-use Rattle.sheets.proofs.Places.{differs}
-use Rattle.sheets.proofs.RuleGrammar.{Word, Declared, writtenDeclared, meansDeclared}
-use Rattle.sheets.proofs.ComponentsRead.{Ended, name-read, behind-blank}
-use Rattle.sheets.proofs.SelectorsRead.{blank-ended}
+use Rattle.grammar.proofs.NthGrammar.{Blanks}
+use Rattle.grammar.proofs.SelectorGrammar.{Name}
+use Rattle.grammar.proofs.Places.{differs}
+use Rattle.grammar.proofs.RuleGrammar.{Word, Declared, writtenDeclared, meansDeclared}
+use Rattle.grammar.proofs.ComponentsRead.{Ended, name-read, behind-blank}
+use Rattle.grammar.proofs.SelectorsRead.{blank-ended}
 
 -- ---- a name as a token
 -- no mark is an ident-start code point

@@ -17,12 +17,12 @@ use Rattle.lexer.proofs.SyntaxName.{IdentSequence, started, dashed, start-code-
 use Rattle.lexer.proofs.SyntaxWhitespace.{Blank, skips-blank}
 use Rattle.syntax.specs.Declaration.{Declaration}
 use Rattle.declarations.specs.Rules.{propertyOf, declarationOf, startsAt, moreRules, declarationsOf}
 use Rattle.sheets.specs.Outcome.{reads}
 use Rattle.sheets.specs.Sheet.{spaced, beforeEnd, blockOf}
-use Rattle.sheets.proofs.NthGrammar.{Blanks}
-use Rattle.sheets.proofs.Places.{Unblank, blank-first, rest-on, rest-one, byte-on, spaced-on, spaced-none}
-use Rattle.sheets.proofs.RuleGrammar.{Declared, Next, Block, empty, filled, writtenDeclared, writtenNext, writtenNexts, writtenEnd, writtenBlock, meansDeclared, meansNexts, meansBlock}
-use Rattle.sheets.proofs.DeclarationsRead.{ValueEnds, at-semicolon, at-brace, block-items, declaration-read}
+use Rattle.grammar.proofs.NthGrammar.{Blanks}
+use Rattle.grammar.proofs.Places.{Unblank, blank-first, rest-on, rest-one, byte-on, spaced-on, spaced-none}
+use Rattle.grammar.proofs.RuleGrammar.{Declared, Next, Block, empty, filled, writtenDeclared, writtenNext, writtenNexts, writtenEnd, writtenBlock, meansDeclared, meansNexts, meansBlock}
+use Rattle.grammar.proofs.DeclarationsRead.{ValueEnds, at-semicolon, at-brace, block-items, declaration-read}
 
 -- ---- where declarations end
 -- no white space and no comment begins with a semicolon

@@ -13,16 +13,16 @@ use Rattle.lexer.proofs.SyntaxWhitespace.{none, skips-blank}
 use Rattle.syntax.specs.Declaration.{Declaration}
 use Rattle.syntax.specs.Selector.{Selector, RuleSet}
 use Rattle.declarations.specs.Rules.{startsAt}
 use Rattle.sheets.specs.Outcome.{reads, onOutcome, behind, orElse}
 use Rattle.sheets.specs.Selector.{selectorOf}
 use Rattle.sheets.specs.Sheet.{moreSelectors, moreFrom, selectorsOf, blockOf, rulesetOf, statementsOf, movedBy, sheetFrom, sheetOf}
-use Rattle.sheets.proofs.NthGrammar.{Blanks}
-use Rattle.sheets.proofs.SelectorGrammar.{written, meaning}
-use Rattle.sheets.proofs.RuleGrammar.{Block, empty, filled, Chosen, Other, Rule, writtenDeclared, writtenBlock, writtenChosen, writtenOthers, writtenSelectors, writtenRule, writtenRules, meansBlock, meansOthers, meansRule, meansRules}
-use Rattle.sheets.proofs.SelectorsRead.{Ends, block, another, complex-item, selector-read}
-use Rattle.sheets.proofs.BlocksRead.{block-read, moved-declared, moved-nexts}
-use Rattle.sheets.proofs.Places.{rest-on}
+use Rattle.grammar.proofs.NthGrammar.{Blanks}
+use Rattle.grammar.proofs.SelectorGrammar.{written, meaning}
+use Rattle.grammar.proofs.RuleGrammar.{Block, empty, filled, Chosen, Other, Rule, writtenDeclared, writtenBlock, writtenChosen, writtenOthers, writtenSelectors, writtenRule, writtenRules, meansBlock, meansOthers, meansRule, meansRules}
+use Rattle.grammar.proofs.SelectorsRead.{Ends, block, another, complex-item, selector-read}
+use Rattle.grammar.proofs.BlocksRead.{block-read, moved-declared, moved-nexts}
+use Rattle.grammar.proofs.Places.{rest-on}
 use Rattle.sheets.proofs.StatementTurns.{no-sheet}
 
 -- ---- selectors
 chosen-onto : (c : Chosen) (t : List ℕ) → writtenChosen c ++ t ≡ written (c .selector) ++ (c .gap .bytes ++ t)

@@ -26,12 +26,12 @@ use Rattle.lexer.proofs.SyntaxString.{string-quote}
 use Rattle.lexer.proofs.SyntaxWhitespace.{Blank, none, skips-blank}
 use Rattle.syntax.specs.Selector.{Component, star, class, element, hash, child, descendant, nth, attribute, attributeEqual}
 use Rattle.values.specs.Words.{isKind, kindOf}
 use Rattle.sheets.specs.Outcome.{reads, fails, parsed, orElse}
 use Rattle.sheets.specs.Selector.{classOf, hashOf, closed, quotedOf, valueOf, attrOf, pseudoClassOf, marked, blankOf, componentOf}
-use Rattle.sheets.proofs.NthGrammar.{Blanks, Argument, writtenArgument, meansArgument}
-use Rattle.sheets.proofs.NthRead.{args-read, pseudo-by}
-use Rattle.sheets.proofs.Places.{differs}
-use Rattle.sheets.proofs.SelectorGrammar.{Name, Quoted}
+use Rattle.grammar.proofs.NthGrammar.{Blanks, Argument, writtenArgument, meansArgument}
+use Rattle.grammar.proofs.NthRead.{args-read, pseudo-by}
+use Rattle.grammar.proofs.Places.{differs}
+use Rattle.grammar.proofs.SelectorGrammar.{Name, Quoted}
 
 -- a name ends before t, and is not a function's
 pub record Ended (t : List ℕ) : Type 0 where

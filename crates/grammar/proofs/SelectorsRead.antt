@@ -22,12 +22,12 @@ use Rattle.lexer.proofs.SyntaxName.{IdentSequence, started, dashed, identStart,
 use Rattle.lexer.proofs.SyntaxWhitespace.{Newline, line-feed, carriage-return, form-feed, White, newline, tab, blank-space, Comment, closed, Blank, none, white, comment}
 use Rattle.syntax.specs.Selector as syntax
 use Rattle.syntax.specs.Selector.{Component}
 use Rattle.sheets.specs.Outcome.{reads, fails, onOutcome, behind, parsed, orElse}
 use Rattle.sheets.specs.Selector.{classOf, attrOf, hashOf, pseudoClassOf, marked, blankOf, componentOf, componentsOf, componentsFrom, someOf, withElementOf, withoutElementOf, bodyOf, isDescendant, withoutBlank, pseudoOf, pseudoTaken, selectorOf}
-use Rattle.sheets.proofs.NthGrammar.{Blanks, Argument, writtenArgument, meansArgument}
-use Rattle.sheets.proofs.Places.{differs}
-use Rattle.sheets.proofs.SelectorGrammar.{Name, Spaces, Quoted, Simple, id, class, attribute, attributeIs, attributeString, nthChild, Compound, typed, universal, untyped, Combinator, child, descendant, Complex, one, joined, writtenSimple, writtenSimples, writtenCompound, writtenCombinator, written, meansSimple, meansCompound, meansCombinator, inOrder, meaning, NoStarAtEnd, NoStarAtStart, firstCompound, Agrees}
-use Rattle.sheets.proofs.ComponentsRead.{Ended, marks, name-read, class-read, id-read, attribute-read, attribute-is-read, attribute-string-read, nth-child-read, element-read, child-read, star-read, blank-read}
+use Rattle.grammar.proofs.NthGrammar.{Blanks, Argument, writtenArgument, meansArgument}
+use Rattle.grammar.proofs.Places.{differs}
+use Rattle.grammar.proofs.SelectorGrammar.{Name, Spaces, Quoted, Simple, id, class, attribute, attributeIs, attributeString, nthChild, Compound, typed, universal, untyped, Combinator, child, descendant, Complex, one, joined, writtenSimple, writtenSimples, writtenCompound, writtenCombinator, written, meansSimple, meansCompound, meansCombinator, inOrder, meaning, NoStarAtEnd, NoStarAtStart, firstCompound, Agrees}
+use Rattle.grammar.proofs.ComponentsRead.{Ended, marks, name-read, class-read, id-read, attribute-read, attribute-is-read, attribute-string-read, nth-child-read, element-read, child-read, star-read, blank-read}
 
 -- ---- components one behind the other
 -- the reader comes to n bytes and cs where it has as many turns as there are bytes

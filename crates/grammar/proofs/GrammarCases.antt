@@ -19,14 +19,14 @@ use Rattle.syntax.specs.Declaration.{unknown}
 use Rattle.syntax.specs.Selector as syntax
 use Rattle.values.specs.Property.{declOf}
 use Rattle.values.specs.Words.{same, foundOr, lookup, onFound}
 use Rattle.sheets.specs.Outcome.{reads}
 use Rattle.sheets.specs.Selector.{signed, selectorOf}
 use Rattle.sheets.specs.Sheet.{sheetOf}
-use Rattle.sheets.proofs.NthGrammar.{Blanks, minus, Count, sum, worth, writtenSign, signByte, writtenArgument, negative, meansArgument}
-use Rattle.sheets.proofs.SelectorGrammar.{Name, class, attributeIs, nthChild, typed, untyped, universal, child, descendant, Complex, one, joined, writtenSimple, writtenSimples, writtenCompound, writtenCombinator, written, meansSimple, meansCompound, meansCombinator, inOrder, meaning, NoStarAtEnd, NoStarAtStart, firstCompound, Agrees}
-use Rattle.sheets.proofs.RuleGrammar.{Word, empty, filled, Rule, writtenDeclared, writtenNext, writtenNexts, writtenEnd, writtenBlock, writtenChosen, writtenOthers, writtenSelectors, writtenRule, writtenRules, meansDeclared, meansNexts, meansBlock, meansOthers, meansRule, meansRules}
-use Rattle.sheets.proofs.SelectorsRead.{block, selector-read}
-use Rattle.sheets.proofs.RuleList.{rules-read}
+use Rattle.grammar.proofs.NthGrammar.{Blanks, minus, Count, sum, worth, writtenSign, signByte, writtenArgument, negative, meansArgument}
+use Rattle.grammar.proofs.SelectorGrammar.{Name, class, attributeIs, nthChild, typed, untyped, universal, child, descendant, Complex, one, joined, writtenSimple, writtenSimples, writtenCompound, writtenCombinator, written, meansSimple, meansCompound, meansCombinator, inOrder, meaning, NoStarAtEnd, NoStarAtStart, firstCompound, Agrees}
+use Rattle.grammar.proofs.RuleGrammar.{Word, empty, filled, Rule, writtenDeclared, writtenNext, writtenNexts, writtenEnd, writtenBlock, writtenChosen, writtenOthers, writtenSelectors, writtenRule, writtenRules, meansDeclared, meansNexts, meansBlock, meansOthers, meansRule, meansRules}
+use Rattle.grammar.proofs.SelectorsRead.{block, selector-read}
+use Rattle.grammar.proofs.RuleList.{rules-read}
 
 -- ---- parts
 -- nothing, and one blank

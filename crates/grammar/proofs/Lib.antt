@@ -1,0 +1,11 @@
+pub mod Places
+pub mod NthGrammar
+pub mod NthRead
+pub mod SelectorGrammar
+pub mod ComponentsRead
+pub mod SelectorsRead
+pub mod RuleGrammar
+pub mod DeclarationsRead
+pub mod BlocksRead
+pub mod RuleList
+pub mod GrammarCases

@@ -1,0 +1,3 @@
+pub mod Numbered
+pub mod Computed
+pub mod StyleCall
