@@ -1,0 +1,121 @@
+-- Returns of `read_behind`: one sheet, read behind what the stores hold.
+use mathlib.Core.Path.{_≡_, refl, ap, sym, subst, _∙_}
+use mathlib.Core.List.{List, []}
+use Prim.Native.Nat.{ℕ, _+_, _-_, _*_, _≤_}
+use native.Mathlib.Omega.{arith}
+use borrow.Rule.Slice.PartMut.{putMid}
+use lib.ListN.{length}
+use lib.Seq.{sets}
+use Rattle.combinators.proofs.Lists.{nil-of}
+use Rattle.syntax.specs.RuleLayout.{ruleRows, ruleTexts}
+use Rattle.syntax.specs.Stream.{rowsMany, textsMany}
+use Rattle.syntax.specs.Selector.{RuleSet}
+use Rattle.sheets.specs.Outcome.{Outcome, reads, fails, panics, onOutcome}
+use Rattle.sheets.specs.Reading.{reading, written, Bounds, takenBy, countBy, numbersBy, textBy}
+use Rattle.sheets.specs.Rules.{ruleWidth, SheetRoom}
+use Rattle.sheets.specs.Sheet.{sheetFrom, sheetOf}
+use Rattle.sheets.specs.declared.readings.Reading.{Reading}
+use Rattle.sheets.specs.declared.readings.Reading.the-variants.{Reads, Fails, Panics}
+use Rattle.compiler.specs.Reading.{rulesAnswer, RulesSize, RulesBounds, ReadRoom}
+use Rattle.compiler.specs.declared.reading.RulesRead.{RulesRead}
+use Rattle.compiler.specs.declared.reading.RulesRead.the-variants.{Rules, Panic}
+use Rattle.compiler.proofs.Parts.{lentPart, part-length, part-zeros, part-stored}
+
+-- ---- answers, by the reader's
+answer-reads : (o : Outcome (List RuleSet)) (n c m x : ℕ) → Reads n c m x ≡ reading length (ruleRows 0) ruleTexts o → Rules c m x ≡ rulesAnswer o
+unfolding reading rulesAnswer onOutcome
+answer-reads (reads k rs) n c m x e = cc
+answer-reads fails n c m x e = absurd (let z : _≡_ {A = ℕ} 0 1 = cc in omega arith)
+answer-reads (panics p) n c m x e = absurd (let z : _≡_ {A = ℕ} 0 1 = cc in omega arith)
+
+answer-fails : (o : Outcome (List RuleSet)) → Fails ≡ reading length (ruleRows 0) ruleTexts o → Rules 0 0 0 ≡ rulesAnswer o
+unfolding reading rulesAnswer onOutcome
+answer-fails (reads k rs) e = absurd (let z : _≡_ {A = ℕ} 0 1 = cc in omega arith)
+answer-fails fails e = refl
+answer-fails (panics p) e = absurd (let z : _≡_ {A = ℕ} 0 1 = cc in omega arith)
+
+answer-panics : (o : Outcome (List RuleSet)) (p : ℕ) → Panics p ≡ reading length (ruleRows 0) ruleTexts o → Panic p ≡ rulesAnswer o
+unfolding reading rulesAnswer onOutcome
+answer-panics (reads k rs) p e = absurd (let z : _≡_ {A = ℕ} 0 1 = cc in omega arith)
+answer-panics fails p e = absurd (let z : _≡_ {A = ℕ} 0 1 = cc in omega arith)
+answer-panics (panics q) p e = cc
+
+-- an empty sheet has no texts
+empty-text : (s : List ℕ) (n c m x : ℕ) → Reads n c m x ≡ reading length (ruleRows 0) ruleTexts (sheetOf s) → length s ≡ 0 → x ≡ 0
+unfolding reading onOutcome sheetOf sheetFrom ruleTexts textsMany textBy
+empty-text s n c m x e h =
+    let z : s ≡ [] = nil-of s (omega arith) in
+    let g : Reads n c m x ≡ Reads 0 0 (length (ruleRows 0 [])) 0 = e ∙ ap (λ (t : List ℕ). reading length (ruleRows 0) ruleTexts (sheetOf t)) z in
+    ap textBy g
+
+-- what was read is no more than there is
+size : (s : List ℕ) (n c m x : ℕ) → Reads n c m x ≡ reading length (ruleRows 0) ruleTexts (sheetOf s) → Bounds ruleWidth 0 s (Reads n c m x) → RulesSize s c m x
+unfolding takenBy countBy numbersBy textBy
+size s n c m x e b =
+    record {
+      counted = omega (arith, b .taken, b .count);
+      wide = omega (arith, b .taken, b .numbers);
+      short = omega (arith, b .taken, b .text);
+      nothing = empty-text s n c m x e;
+    }
+
+module _ {s rules : List ℕ} {place : ℕ} {tokens brackets texts : List ℕ} {fill : ℕ} (o : ReadRoom s rules place tokens brackets texts fill) where
+  -- the places lie in the stores
+  pub place-in : place ≤ length rules
+  place-in = omega (arith, o .for-rules)
+
+  pub fill-in : fill ≤ length texts
+  fill-in = omega (arith, o .for-texts)
+
+  -- room for the sheet in the parts
+  pub room : SheetRoom s (lentPart rules place place-in) tokens brackets (lentPart texts fill fill-in)
+  room =
+      let lr = part-length rules place place-in in
+      let lt = part-length texts fill fill-in in
+      record {
+        rules-zeros = part-zeros rules place place-in (o .rules-zeros);
+        for-rules = omega (arith, o .for-rules, lr);
+        row-bits = omega (arith, o .row-bits, lr);
+        work =
+            record {
+              tokens-zeros = o .tokens-zeros;
+              brackets-zeros = o .brackets-zeros;
+              store-zeros = part-zeros texts fill fill-in (o .texts-zeros);
+              for-tokens = o .for-tokens;
+              for-brackets = o .for-brackets;
+              for-texts = omega (arith, o .for-texts, lt);
+              text-bits = omega (arith, o .within);
+            };
+      }
+
+  -- what the call leaves, by the reader's answer
+  module _ {r : Reading} {y x b z : List ℕ} (er : r ≡ reading length (ruleRows 0) ruleTexts (sheetOf s))
+      (ey : y ≡ sets (lentPart rules place place-in) 0 (written (ruleRows 0) (sheetOf s))) (ex : x ≡ tokens) (eb : b ≡ brackets)
+      (ez : z ≡ sets (lentPart texts fill fill-in) 0 (written ruleTexts (sheetOf s))) (k : Bounds ruleWidth 0 s r) where
+    abbrev Left : RulesRead → Type 0
+    Left a =
+        (a ≡ rulesAnswer (sheetOf s))
+        × ((putMid place (length rules - place) rules y ≡ sets rules place (written (ruleRows 0) (sheetOf s)))
+        × ((x ≡ tokens)
+        × ((b ≡ brackets)
+        × ((putMid fill (length texts - fill) texts z ≡ sets texts fill (written ruleTexts (sheetOf s)))
+        × RulesBounds s a))))
+
+    left : (a : RulesRead) → a ≡ rulesAnswer (sheetOf s) → RulesBounds s a → Left a
+    left a e h = (e, (part-stored rules place place-in (written (ruleRows 0) (sheetOf s)) y ey, (ex, (eb, (part-stored texts fill fill-in (written ruleTexts (sheetOf s)) z ez, h)))))
+
+    pub rules-read : {n count numbers text : ℕ} → r ≡ Reads n count numbers text → Left (Rules count numbers text)
+    unfolding RulesBounds
+    rules-read {n} {count} {numbers} {text} g =
+        left (Rules count numbers text) (answer-reads (sheetOf s) n count numbers text (sym g ∙ er))
+        (size s n count numbers text (sym g ∙ er) (subst (Bounds ruleWidth 0 s) g k))
+
+    pub rules-fail : r ≡ Fails → Left (Rules 0 0 0)
+    unfolding RulesBounds
+    rules-fail g =
+        left (Rules 0 0 0) (answer-fails (sheetOf s) (sym g ∙ er))
+        (record { counted = omega arith; wide = omega arith; short = omega arith; nothing = λ _. refl })
+
+    pub rules-panic : {p : ℕ} → r ≡ Panics p → Left (Panic p)
+    unfolding RulesBounds
+    rules-panic {p} g = left (Panic p) (answer-panics (sheetOf s) p (sym g ∙ er)) tt

@@ -1,0 +1,128 @@
+// The three sheets read into one set of stores, one behind the other.
+use combinators::stores::wipe_bytes;
+use combinators::stores::wipe_numbers;
+use sheets::readings::Reading;
+use sheets::statements::parse_stylesheet;
+ghost use mathlib.Core.Path.{_≡_};
+ghost use Prim.Native.Nat.{_≤_};
+ghost use lib.ListN.{length};
+ghost use lib.Seq.{sets};
+ghost use Rattle.combinators.specs.Store.{wiped};
+ghost use Rattle.syntax.specs.RuleLayout.{ruleRows, ruleTexts};
+ghost use Rattle.sheets.specs.Reading.{written};
+ghost use Rattle.sheets.specs.Sheet.{sheetOf};
+ghost use Rattle.compiler.specs.Reading.{rulesAnswer, ReadRoom, RulesBounds, sheetsOf, sheetsRows, sheetsTexts, sheetsAnswer, SheetsRoom};
+
+// The sheets by their numbers in a refusal.
+pub const AGENT_TEXT: usize = 0;
+
+pub const USER_TEXT: usize = 1;
+
+pub const AUTHOR_TEXT: usize = 2;
+
+// Of one sheet: how many rules, the numbers that they take and the bytes of their texts; or the byte where the crate panics.
+pub enum RulesRead {
+    Rules(usize, usize, usize),
+    Panic(usize),
+}
+
+// Of three sheets: how many rules the agent's has; of the user's and then of the author's sheet how many rules, where their numbers start and where
+// their texts do; and where the texts end. Or the sheet and the byte where the crate panics.
+pub enum SheetsRead {
+    Rules(usize, usize, usize, usize, usize, usize, usize, usize),
+    Panic(usize, usize),
+}
+
+// Reads a sheet behind what the stores hold: its numbers from `place` on, its texts from `fill` on, which is where its rows count from.
+fn read_behind(
+    s: &[u8],
+    rules: &mut [u32],
+    place: usize,
+    tokens: &mut [u32],
+    brackets: &mut [u8],
+    texts: &mut [u8],
+    fill: usize,
+) -> RulesRead
+    requires { ⌜ ReadRoom (now s) (now rules) place (now tokens) (now brackets) (now texts) fill ⌝ }
+    ensures { λ r. ⌜ r ≡ rulesAnswer (sheetOf (now (s .entry))) ⌝ }
+    ensures { λ _. ⌜ now (rules .exit) ≡ sets (now (rules .entry)) place (written (ruleRows 0) (sheetOf (now (s .entry)))) ⌝ }
+    ensures { λ _. ⌜ now (tokens .exit) ≡ now (tokens .entry) ⌝ }
+    ensures { λ _. ⌜ now (brackets .exit) ≡ now (brackets .entry) ⌝ }
+    ensures { λ _. ⌜ now (texts .exit) ≡ sets (now (texts .entry)) fill (written ruleTexts (sheetOf (now (s .entry)))) ⌝ }
+    ensures { λ r. ⌜ RulesBounds (now (s .entry)) r ⌝ }
+{
+    match parse_stylesheet(s, &mut rules[place..], tokens, brackets, &mut texts[fill..]) {
+        Reading::Reads(_, count, numbers, text) => {
+            return RulesRead::Rules(count, numbers, text);
+        }
+        Reading::Fails => {
+            return RulesRead::Rules(0, 0, 0);
+        }
+        Reading::Panics(p) => {
+            return RulesRead::Panic(p);
+        }
+    }
+}
+
+// Zeros again where the numbers and the texts of sheets lie.
+fn forget(rules: &mut [u32], numbers: usize, texts: &mut [u8], bytes: usize)
+    ensures { λ _. ⌜ now (rules .exit) ≡ wiped 0 numbers (now (rules .entry)) ⌝ }
+    ensures { λ _. ⌜ now (texts .exit) ≡ wiped 0 bytes (now (texts .entry)) ⌝ }
+{
+    wipe_numbers(rules, 0, numbers);
+    wipe_bytes(texts, 0, bytes);
+}
+
+// Reads the three sheets into stores that are zero; where the crate panics they are zero again.
+pub fn read_sheets(
+    agent: &[u8],
+    user: &[u8],
+    author: &[u8],
+    rules: &mut [u32],
+    tokens: &mut [u32],
+    brackets: &mut [u8],
+    texts: &mut [u8],
+) -> SheetsRead
+    requires { ⌜ SheetsRoom (now agent) (now user) (now author) (now rules) (now tokens) (now brackets) (now texts) ⌝ }
+    ensures { λ r. ⌜ r ≡ sheetsAnswer (sheetsOf (now (agent .entry)) (now (user .entry)) (now (author .entry))) ⌝ }
+    ensures { λ _. ⌜ now (rules .exit) ≡ sets (now (rules .entry)) 0 (sheetsRows (sheetsOf (now (agent .entry)) (now (user .entry)) (now (author .entry)))) ⌝ }
+    ensures { λ _. ⌜ now (tokens .exit) ≡ now (tokens .entry) ⌝ }
+    ensures { λ _. ⌜ now (brackets .exit) ≡ now (brackets .entry) ⌝ }
+    ensures { λ _. ⌜ now (texts .exit) ≡ sets (now (texts .entry)) 0 (sheetsTexts (sheetsOf (now (agent .entry)) (now (user .entry)) (now (author .entry)))) ⌝ }
+{
+    match read_behind(agent, rules, 0, tokens, brackets, texts, 0) {
+        RulesRead::Panic(p) => {
+            return SheetsRead::Panic(AGENT_TEXT, p);
+        }
+        RulesRead::Rules(agents, numbers, bytes) => {
+            match read_behind(user, rules, numbers, tokens, brackets, texts, bytes) {
+                RulesRead::Panic(p) => {
+                    forget(rules, numbers, texts, bytes);
+                    return SheetsRead::Panic(USER_TEXT, p);
+                }
+                RulesRead::Rules(users, more, longer) => {
+                    let place = numbers + more;
+                    let fill = bytes + longer;
+                    match read_behind(author, rules, place, tokens, brackets, texts, fill) {
+                        RulesRead::Panic(p) => {
+                            forget(rules, place, texts, fill);
+                            return SheetsRead::Panic(AUTHOR_TEXT, p);
+                        }
+                        RulesRead::Rules(authors, _, last) => {
+                            return SheetsRead::Rules(
+                                agents,
+                                users,
+                                numbers,
+                                bytes,
+                                authors,
+                                place,
+                                fill,
+                                fill + last,
+                            );
+                        }
+                    }
+                }
+            }
+        }
+    }
+}
