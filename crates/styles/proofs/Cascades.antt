@@ -1,14 +1,14 @@
 -- Seeing contents as texts in what is said of the elements of a path, or in the style that the cascades make of it, is the same.
 use mathlib.Core.Path.{_≡_, refl, sym, ap, _∙_}
-use mathlib.Core.Bool.{Bool, true, false}
-use mathlib.Core.List.{List, [], _∷_, _++_, map, map-append, foldl}
+use mathlib.Core.Bool.{Bool, false}
+use mathlib.Core.List.{List, [], _∷_, _++_, map, map-append}
 use Prim.Native.Nat.{ℕ}
 use Rattle.combinators.specs.Choice.{pick}
 use Rattle.syntax.specs.Style.{agentOrigin, userOrigin, authorOrigin}
 use Rattle.cascade.specs.declared.specificity.Specificity.{Specificity}
 use Rattle.cascade.specs.Slot.{maybeUpdate, bookUpdate}
 use Rattle.cascade.specs.Specificity.{noSpecificity, inlineSpecificity}
-use Rattle.cascade.specs.Record.{mainRecord, ComputedStyle, emptyStyle, Declared, mergeBy, mergeComputedStyle, mergeInBookOrder, inherit, inheritInBookOrder, RuleStyle, AttributeStyle, Sources, fromRule, fromAttribute, crateDeclared, crateCascade, colourAttributes, styleAttributes, bookDeclared, bookCascade}
+use Rattle.cascade.specs.Record.{ComputedStyle, Declared, mergeComputedStyle, mergeInBookOrder, inherit, inheritInBookOrder, RuleStyle, AttributeStyle, Sources, fromRule, fromAttribute, crateDeclared, crateCascade, colourAttributes, styleAttributes, bookDeclared, bookCascade}
 use Rattle.styles.specs.Numbered.{Numbered}
 use Rattle.styles.specs.Computed.{ruleStyle, styleSays, cascaded, cascadedInBookOrder}
 use Rattle.styles.specs.StyleCall.{seenStyle}

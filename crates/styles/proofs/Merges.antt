@@ -2,18 +2,16 @@
 -- the text that the contents lie in.
 use mathlib.Core.Path.{_≡_, refl, sym, ap, _∙_}
 use mathlib.Core.Bool.{Bool, true, false}
-use mathlib.Core.List.{List, [], _∷_, _++_, map, foldl}
-use mathlib.Core.Logic.{⊎-elim}
+use mathlib.Core.List.{List, [], _∷_, map, foldl}
 use Prim.Native.Nat.{ℕ, zero, suc}
-use native.Mathlib.Omega.{arith}
-use lib.ListN.{length, getD, set, replicate, List·getD-map}
+use lib.ListN.{length, getD, set, List·getD-map}
 use Rattle.combinators.specs.Choice.{pick, and, is}
 use Rattle.combinators.proofs.Rules.{pick-true, pick-false, is-yes, is-no, is-true, is-false}
 use Rattle.syntax.specs.Layout.{contentSlot}
 use Rattle.syntax.specs.Stream.{part}
 use Rattle.cascade.specs.declared.slots.Slot.{Slot}
 use Rattle.cascade.specs.Slot.{Candidate, held, emptySlot, heldAgainst, heldByImportance, heldByOrigin, maybeUpdate, heldInBook, bookUpdate, inheritedCandidate, inheritedSlot}
-use Rattle.cascade.specs.Record.{mainRecord, beforeRecord, Record, ComputedStyle, emptyRecord, emptyStyle, slotOf, updateRecord, updateStyle, Declared, isNamed, mergeBy, mergeComputedStyle, mergeInBookOrder, inherit, inheritRecord, inheritInBookOrder}
+use Rattle.cascade.specs.Record.{mainRecord, beforeRecord, Record, ComputedStyle, emptyRecord, emptyStyle, slotOf, updateRecord, updateStyle, Declared, isNamed, mergeBy, inherit, inheritRecord, inheritInBookOrder}
 use Rattle.cascade.proofs.RowLaws.{map-set}
 use Rattle.styles.specs.Numbered.{textNumber}
 use Rattle.styles.specs.StyleCall.{seenSlot, seenRecord, seenStyle}

@@ -4,7 +4,7 @@ use Prim.Native.Nat.{ℕ, _+_}
 use mathlib.Core.Bool.{Bool}
 use mathlib.Core.List.{List, [], _∷_, _++_}
 use lib.ListN.{length}
-use Rattle.combinators.specs.Choice.{pick, is}
+use Rattle.combinators.specs.Choice.{pick}
 use Rattle.unicode.specs.Literal.{text}
 use Rattle.syntax.specs.Layout.{contentSlot, styleTexts}
 use Rattle.syntax.specs.Selector.{RuleSet}
