@@ -1,3 +1,5 @@
 pub mod Merges
 pub mod Cascades
 pub mod Placed
+pub mod Told
+pub mod Called
