@@ -3,3 +3,4 @@ pub mod Cascades
 pub mod Placed
 pub mod Told
 pub mod Called
+pub mod Room
