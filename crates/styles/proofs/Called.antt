@@ -4,11 +4,11 @@ use mathlib.Core.Bool.{Bool, true}
 use mathlib.Core.List.{List, [], _∷_, _++_, map, append-nil}
 use Prim.Native.Nat.{ℕ, _+_}
 use native.Mathlib.Nat.{zero-add}
-use lib.ListN.{length, drop}
+use lib.ListN.{length}
 use Rattle.syntax.specs.Selector.{RuleSet}
 use Rattle.syntax.proofs.Streams.{Held, held-left, held-right}
-use Rattle.cascade.specs.Record.{ComputedStyle, Formed, Sources, crateCascade, bookCascade}
-use Rattle.cascade.specs.Row.{styleRowWidth, rowOf, styleAt}
+use Rattle.cascade.specs.Record.{Formed, Sources, crateCascade, bookCascade}
+use Rattle.cascade.specs.Row.{styleRowWidth, styleAt}
 use Rattle.cascade.proofs.Cascading as cascading
 use Rattle.cascade.proofs.Cascading.{crate-formed, book-formed, crate-main-present}
 use Rattle.cascade.proofs.RowBack.{row-long, style-back, empty-formed}

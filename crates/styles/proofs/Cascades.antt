@@ -1,7 +1,7 @@
 -- Seeing contents as texts in what is said of the elements of a path, or in the style that the cascades make of it, is the same.
 use mathlib.Core.Path.{_≡_, refl, sym, ap, _∙_}
 use mathlib.Core.Bool.{Bool, false}
-use mathlib.Core.List.{List, [], _∷_, _++_, map, map-append}
+use mathlib.Core.List.{List, [], _∷_, _++_, map, map-append, foldl}
 use Prim.Native.Nat.{ℕ}
 use Rattle.combinators.specs.Choice.{pick}
 use Rattle.syntax.specs.Style.{agentOrigin, userOrigin, authorOrigin}
@@ -102,7 +102,14 @@ module _ (t : List ℕ) where
       )
       (five (map (fromRule agentOrigin) (x .agent)) (map (fromRule userOrigin) (x .user)) (colourAttributes (x .attributes)) (map (fromRule authorOrigin) (x .author)) (styleAttributes (x .attributes)))
 
-  -- ---- an element below its parent, in the crate's cascade
+  -- ---- an element below its parent
+  -- whatever is declared of it
+  pub below-seen : (s : ComputedStyle) (ds : List Declared)
+      → seenStyle t (foldl mergeComputedStyle (inherit s) ds) ≡ foldl mergeComputedStyle (inherit (seenStyle t s)) (map (seenDeclared t) ds)
+  unfolding mergeComputedStyle
+  below-seen s ds = rw (inherit-seen t s) (sym (merges-seen maybeUpdate crate-blind t ds (inherit s)))
+
+  -- in the crate's cascade
   pub crate-seen : (parent : ComputedStyle) (x : Sources) → crateCascade (seenStyle t parent) (seenSources t x) ≡ seenStyle t (crateCascade parent x)
   unfolding crateCascade mergeComputedStyle
   crate-seen parent x = rw (inherit-seen t parent, crate-declared-seen x) (merges-seen maybeUpdate crate-blind t (crateDeclared x) (inherit parent))

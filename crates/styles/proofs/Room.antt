@@ -1,19 +1,18 @@
 -- How long the content texts of attributes can be: as long as their values, and two bytes more for each, where a value ends in a lone `\`.
-use mathlib.Core.Path.{_≡_, refl, ap, sym, _∙_}
+use mathlib.Core.Path.{ap, sym, _∙_}
 use mathlib.Core.Bool.{Bool, true, false}
-use mathlib.Core.List.{List, [], _∷_, _++_}
+use mathlib.Core.List.{List, [], _∷_}
 use Prim.Native.Nat.{ℕ, _+_, _*_, _≤_}
 use native.Mathlib.Omega.{arith}
 use lib.ListN.{length, length-append}
 use Rattle.combinators.specs.Choice.{pick}
 use Rattle.combinators.proofs.Rules.{pick-holds}
 use Rattle.unicode.specs.Literal.{text}
-use Rattle.syntax.specs.Layout.{declarationTexts, styleTexts}
+use Rattle.syntax.specs.Layout.{styleTexts}
 use Rattle.syntax.specs.Stream.{textsMany}
 use Rattle.declarations.specs.Attribute.{styleAttribute}
-use Rattle.declarations.specs.Leaving.{kept, rulesOf}
+use Rattle.declarations.specs.Leaving.{rulesOf}
 use Rattle.declarations.specs.Rules.{declarationsOf}
-use Rattle.declarations.specs.Styles.{stylesOf}
 use Rattle.declarations.proofs.StyleAttribute.{nameless, styles-kept, bounded}
 use Rattle.declarations.proofs.StyleLaws.{own-texts}
 use Rattle.page.specs.Path.{Attribute, Element, Path}
