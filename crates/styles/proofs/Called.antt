@@ -152,6 +152,7 @@ module _ (rules : Rules RuleSet) (on : Bool) (p : Path) where
   store-held : (more : List ℕ) → Held (callStore rules on p ++ more) 0 (callStore rules on p)
   store-held more = record { more = more; held = refl }
 
+  -- in the crate's cascade
   pub call-told : (more : List ℕ) → seenStyle (callStore rules on p ++ more) (styleAt (callRow rules on p)) ≡ computedStyle rules on p
   call-told more = rw call-row-back (style-called (callStore rules on p ++ more) (store-held more))
 
@@ -163,6 +164,7 @@ module _ (rules : Rules RuleSet) (on : Bool) (p : Path) where
   whole-held : Held (callStore rules on p) 0 (callStore rules on p)
   whole-held = record { more = []; held = sym (append-nil (callStore rules on p)) }
 
+  -- in the crate's cascade
   pub call-told-alone : seenStyle (callStore rules on p) (styleAt (callRow rules on p)) ≡ computedStyle rules on p
   call-told-alone = rw call-row-back (style-called (callStore rules on p) whole-held)
 

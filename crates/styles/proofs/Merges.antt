@@ -35,24 +35,29 @@ module _ {A : Type 0} (d : A) (f : A → A) where
   other-place v (x ∷ l) (suc i) zero n = refl
   other-place v (x ∷ l) (suc i) (suc j) n = ap (λ (r : List A). x ∷ r) (other-place v l i j (λ e. n (ap suc e)))
 
--- ---- a candidate for another slot is left alone
+-- ---- the numbers for a slot
 module _ (t : List ℕ) (k : ℕ) where
+  -- another than the content's keeps its value
   pub other-value : (v n : ℕ) → ¬ (k ≡ contentSlot) → seenValue t k v n ≡ v
   unfolding seenValue
   other-value v n h = sym (pick-false _ _ _ _ (is-no k contentSlot h) refl)
 
+  -- and its second number
   pub other-second : (v n : ℕ) → ¬ (k ≡ contentSlot) → seenSecond t k v n ≡ n
   unfolding seenSecond
   other-second v n h = sym (pick-false _ _ _ _ (is-no k contentSlot h) refl)
 
+  -- the content's value is the number of its text
   pub content-value : (v n : ℕ) → k ≡ contentSlot → seenValue t k v n ≡ textNumber (part t v n)
   unfolding seenValue
   content-value v n h = sym (pick-true _ _ _ _ (is-yes k contentSlot h) refl)
 
+  -- and its second number the text's length
   pub content-second : (v n : ℕ) → k ≡ contentSlot → seenSecond t k v n ≡ length (part t v n)
   unfolding seenSecond
   content-second v n h = sym (pick-true _ _ _ _ (is-yes k contentSlot h) refl)
 
+  -- a candidate for another slot is left alone
   pub other-candidate : (x : Candidate) → ¬ (k ≡ contentSlot) → seenCandidate t k x ≡ x
   unfolding seenCandidate
   other-candidate x h = rw (other-value (x .value) (x .second) h, other-second (x .value) (x .second) h)

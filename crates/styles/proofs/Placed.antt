@@ -46,6 +46,7 @@ module _ (t : List ℕ) where
   style-of i f (style.whiteSpace w) h = refl
   style-of i f (style.content x) h = rw (held-part t f x h)
 
+  -- whose text lies at f
   pub numbered-seen : (f : ℕ) (d : StyleDecl) → Held t f (styleText d) → seenNumbered t (numbered f d) ≡ told d
   unfolding styleText
   numbered-seen f d h = style-of (d .important) f (d .style) h
@@ -97,6 +98,7 @@ module _ (t : List ℕ) where
   selectors-seen p ds [] = refl
   selectors-seen p ds (s ∷ ss) = map-append (seenRuleStyle t) (selectorSays p ds s) (selectorsSay p ds ss) ∙ rw (selector-seen p ds s, selectors-seen p ds ss)
 
+  -- all rules of a sheet
   pub rules-say-seen : (p : Path) (rs : List NumberedRule) → map (seenRuleStyle t) (rulesSay p rs) ≡ rulesSay p (map (seenRule t) rs)
   unfolding rulesSay seenRule
   rules-say-seen p [] = refl
