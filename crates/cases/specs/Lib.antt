@@ -1,3 +1,4 @@
+pub mod Styled
 pub mod Proved
 pub mod Computed
 pub mod Declared

@@ -6,8 +6,8 @@ use mathlib.Core.Path.{_≡_}
 use lib.ListN.{replicate}
 use Rattle.combinators.specs.Ascii.{fullStop, digitZero}
 use Rattle.combinators.specs.Parsed.{ok, onParsed}
-use Rattle.cascade.specs.Cases.{red, blue, byType, byClass, byId, rule, byAuthor}
-use Rattle.cascade.specs.Record.{mainRecord, slotIn, emptyStyle, crateCascade}
+use Rattle.cascade.specs.Cases.{red, byType, byId}
+use Rattle.cascade.specs.Record.{mainRecord, slotIn}
 use Rattle.syntax.specs.Style.{agentOrigin, authorOrigin}
 use Rattle.cascade.specs.Slot.{held}
 use Rattle.compiled.specs.Number.{numberBytes}
@@ -26,6 +26,8 @@ use Rattle.syntax.specs.Declaration.{color, unknown}
 use Rattle.syntax.specs.Layout.{colourSlot}
 use Rattle.syntax.specs.Selector.{element, descendant, none}
 use Rattle.unicode.specs.Literal.{text}
+use Rattle.styles.specs.Computed.{computedStyle}
+use Rattle.cases.specs.Styled.{sheetsOf, elementOf, having}
 
 -- every statement of a list
 abbrev pub All : List (Type 0) → Type 0
@@ -58,8 +60,9 @@ cases =
     ∷ []))
     -- `p{color:red;;color:blue}q{color:lime}`: no rule, stop 0
     ∷ (sheetOf (text "p{color:red;;color:blue}q{color:lime}") ≡ reads 0 [])
-    -- `div *{color:red}` colours the div itself: its selector matches the div
-    ∷ (selects (text "div *") (text "div") 1 ≡ true)
+    -- `div *{color:red}` colours the div itself
+    ∷ (slotIn (computedStyle (sheetsOf [] (text "div *{color:red}")) true (elementOf (text "div") ∷ [])) mainRecord colourSlot
+    ≡ held (record { important = false; origin = authorOrigin; spec = byType; value = red; second = 0 }))
     -- `a/**/b` is a descendant selector
     ∷ (selectorOf (text "a/**/b") ≡ reads 6 (record { components = element (text "b") ∷ descendant ∷ element (text "a") ∷ []; pseudo = none }))
     -- Colour `#\+ff` is (0, 255, 255)
@@ -75,10 +78,10 @@ cases =
     ∷ ((selects (text ":nth-child(-n+3)") (text "p") 1 ≡ true) × (selects (text ":nth-child(-n+3)") (text "p") 2 ≡ true)
     × (selects (text ":nth-child(-n+3)") (text "p") 3 ≡ true) × (selects (text ":nth-child(-n+3)") (text "p") 4 ≡ false))
     -- Crate's cascade: agent normal, then author important: agent stays
-    ∷ (slotIn (crateCascade emptyStyle (record { agent = rule mainRecord byType false red ∷ []; user = []; author = rule mainRecord byType true blue ∷ []; attributes = [] })) mainRecord colourSlot
+    ∷ (slotIn (computedStyle (sheetsOf (text "p{color:red}") (text "p{color:blue!important}")) true (elementOf (text "p") ∷ [])) mainRecord colourSlot
     ≡ held (record { important = false; origin = agentOrigin; spec = byType; value = red; second = 0 }))
     -- Crate's cascade: parent coloured by `#id`, child by class, both normal author: the parent's colour stays
-    ∷ (slotIn (crateCascade (crateCascade emptyStyle (byAuthor (rule mainRecord byId false red ∷ []) [])) (byAuthor (rule mainRecord byClass false blue ∷ []) [])) mainRecord colourSlot
+    ∷ (slotIn (computedStyle (sheetsOf [] (text "#id{color:red}.k{color:blue}")) true (having (text "i") (text "class") (text "k") ∷ having (text "p") (text "id") (text "id") ∷ [])) mainRecord colourSlot
     ≡ held (record { important = false; origin = authorOrigin; spec = byId; value = red; second = 0 }))
     -- 127 is 7f, 128 is 80 01, 300 is ac 02
     ∷ ((numberBytes 127 ≡ 0x7f ∷ []) × (numberBytes 128 ≡ 0x80 ∷ 0x01 ∷ []) × (numberBytes 300 ≡ 0xac ∷ 0x02 ∷ []))

@@ -1,3 +1,4 @@
 pub mod Numbered
 pub mod Computed
 pub mod StyleCall
+pub mod Seen

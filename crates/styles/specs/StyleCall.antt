@@ -3,8 +3,8 @@
 use Prim.Native.Nat.{ℕ, _+_}
 use mathlib.Core.Bool.{Bool}
 use mathlib.Core.List.{List, [], _∷_, _++_}
-use lib.ListN.{length}
-use Rattle.combinators.specs.Choice.{pick, is}
+use lib.ListN.{length, set}
+use Rattle.combinators.specs.Choice.{pick}
 use Rattle.unicode.specs.Literal.{text}
 use Rattle.syntax.specs.Layout.{contentSlot, styleTexts}
 use Rattle.syntax.specs.Selector.{RuleSet}
@@ -17,7 +17,6 @@ use Rattle.page.specs.Path.{Attribute, Element, Path}
 use Rattle.matching.specs.Matches.{isNamed}
 use Rattle.styles.specs.Numbered.{textNumber, placedAll, NumberedRule, ruleContents, placedRules, Rules}
 use Rattle.styles.specs.Computed.{attributeSays, sourcesFrom, cascaded, cascadedInBookOrder}
-use lib.ListN.{set}
 
 -- ---- the texts, in the order of the store
 
