@@ -1,3 +1,4 @@
 pub mod Parts
 pub mod ReadingLaws
 pub mod SheetsLaws
+pub mod CompileLaws

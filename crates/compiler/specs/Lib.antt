@@ -1,2 +1,3 @@
 pub mod Selectors
 pub mod Reading
+pub mod CompileAnswer

@@ -1,0 +1,60 @@
+-- Returns of `compile` and of what it asks first.
+use mathlib.Core.Path.{_≡_, refl, sym, _∙_}
+use mathlib.Core.Bool.{Bool, true, false}
+use mathlib.Core.List.{List}
+use Prim.Native.Nat.{ℕ, _+_, _^_, _≤_, _<_}
+use native.Mathlib.Omega.{arith}
+use borrow.Author.Tests.{lt-ltb, le-ltb, ltb-false, leb-true}
+use lib.Dec.{ltb}
+use lib.ListN.{length}
+use Rattle.combinators.proofs.Rules.{pick-true, pick-false, or-gives, or-gives-true, and-gives, and-gives-false, and-true}
+use Rattle.unicode.specs.Utf8.{valid}
+use Rattle.sheets.specs.SheetAnswer.{sheetLimit, textLeast, bracketLeast, numberLeast, storesSuffice}
+use Rattle.compiler.specs.Reading.{sheetsOf}
+use Rattle.compiler.specs.CompileAnswer.{compiledLimit, roomOf, CompileLeft, unchanged, compiledLeft, anyTooLong, allValid, compileOf, Lent}
+use Rattle.compiler.specs.declared.compile.CompileAnswer.{CompileAnswer}
+use Rattle.compiler.specs.declared.compile.CompileAnswer.the-variants.{TooLong, ShortStore, NotUtf8}
+
+-- ---- lengths
+module _ (a u w : ℕ) where
+  pub agent-long : sheetLimit < a → true ≡ anyTooLong a u w
+  unfolding anyTooLong
+  agent-long h = or-gives-true _ _ (lt-ltb sheetLimit a h)
+
+  module _ (h : a ≤ sheetLimit) where
+    pub user-long : sheetLimit < u → true ≡ anyTooLong a u w
+    unfolding anyTooLong
+    user-long k = or-gives _ _ true (le-ltb sheetLimit a h) (or-gives-true _ _ (lt-ltb sheetLimit u k))
+
+    pub author-long : u ≤ sheetLimit → ltb sheetLimit w ≡ anyTooLong a u w
+    unfolding anyTooLong
+    author-long k = or-gives _ _ (ltb sheetLimit w) (le-ltb sheetLimit a h) (or-gives _ _ (ltb sheetLimit w) (le-ltb sheetLimit u k) refl)
+
+  -- none is too long
+  pub none-long : anyTooLong a u w ≡ false → (a ≤ sheetLimit) × (u ≤ sheetLimit) × (w ≤ sheetLimit)
+  unfolding anyTooLong
+  none-long e = ?
+
+-- ---- texts
+module _ (a u w : List ℕ) where
+  pub agent-invalid : {t : Bool} → t ≡ valid a → t ≡ false → false ≡ allValid a u w
+  unfolding allValid
+  agent-invalid e f = and-gives-false _ _ (sym e ∙ f)
+
+  module _ {t : Bool} (e : t ≡ valid a) (f : t ≡ true) where
+    pub user-invalid : {v : Bool} → v ≡ valid u → v ≡ false → false ≡ allValid a u w
+    unfolding allValid
+    user-invalid g h = and-gives _ _ false (sym e ∙ f) (and-gives-false _ _ (sym g ∙ h))
+
+    pub author-valid : {v x : Bool} → v ≡ valid u → v ≡ true → x ≡ valid w → x ≡ allValid a u w
+    unfolding allValid
+    author-valid {v} {x} g h k = and-gives _ _ x (sym e ∙ f) (and-gives _ _ x (sym g ∙ h) k)
+
+-- ---- the room of a buffer
+pub room-limit : (n : ℕ) → compiledLimit < n → compiledLimit ≡ roomOf n
+unfolding roomOf
+room-limit n h = pick-true _ _ _ _ (lt-ltb compiledLimit n h) refl
+
+pub room-whole : (n : ℕ) → n ≤ compiledLimit → n ≡ roomOf n
+unfolding roomOf
+room-whole n h = pick-false _ _ _ _ (le-ltb compiledLimit n h) refl

@@ -1,0 +1,80 @@
+// `compile`: three sheets into the bytes of a compiled sheet. Refusals are looked for in the order of their numbers; nothing is written before all
+// texts are known to be UTF-8, and all sheets are read before the room for the bytes is judged.
+use crate::reading::SheetsRead;
+use crate::reading::read_sheets;
+use combinators::stores::clear_bytes;
+use combinators::stores::clear_numbers;
+use sheets::sheet::SHEET_LIMIT;
+use sheets::sheet::clear_stores;
+use sheets::sheet::stores_suffice;
+use unicode::utf8::is_valid;
+ghost use mathlib.Core.Path.{_≡_};
+ghost use Rattle.combinators.specs.Store.{cleared};
+ghost use Rattle.compiler.specs.CompileAnswer.{roomOf, anyTooLong, allValid};
+
+// The bytes that a compiled sheet may have.
+pub const COMPILED_LIMIT: usize = 65536;
+
+// How many bytes the compiled sheet has, and the texts that its rules name; or the refusal, with the sheet and the byte where the crate panics.
+pub enum CompileAnswer {
+    Compiled(usize, usize),
+    TooLong,
+    ShortStore,
+    NotUtf8,
+    Panic(usize, usize),
+    NoRoom,
+}
+
+// Whether a sheet has more bytes than a sheet may have.
+fn any_too_long(agent: usize, user: usize, author: usize) -> bool
+    ensures { λ r. ⌜ r ≡ anyTooLong agent user author ⌝ }
+{
+    if agent > SHEET_LIMIT {
+        return true;
+    }
+    if user > SHEET_LIMIT {
+        return true;
+    }
+    author > SHEET_LIMIT
+}
+
+// Whether all sheets are UTF-8.
+fn all_valid(agent: &[u8], user: &[u8], author: &[u8]) -> bool
+    ensures { λ r. ⌜ r ≡ allValid (now (agent .entry)) (now (user .entry)) (now (author .entry)) ⌝ }
+{
+    if is_valid(agent) {
+        if is_valid(user) {
+            return is_valid(author);
+        }
+        return false;
+    }
+    false
+}
+
+// How many bytes of a buffer of `n` the compiled sheet may take.
+fn room_of(n: usize) -> usize
+    ensures { λ r. ⌜ r ≡ roomOf n ⌝ }
+{
+    if n > COMPILED_LIMIT {
+        return COMPILED_LIMIT;
+    }
+    n
+}
+
+// Zeros throughout all buffers.
+fn clear_all(
+    compiled: &mut [u8],
+    texts: &mut [u8],
+    rules: &mut [u32],
+    tokens: &mut [u32],
+    brackets: &mut [u8],
+)
+    ensures { λ _. ⌜ now (compiled .exit) ≡ cleared 0 (now (compiled .entry)) ⌝ }
+    ensures { λ _. ⌜ now (texts .exit) ≡ cleared 0 (now (texts .entry)) ⌝ }
+    ensures { λ _. ⌜ now (rules .exit) ≡ cleared 0 (now (rules .entry)) ⌝ }
+    ensures { λ _. ⌜ now (tokens .exit) ≡ cleared 0 (now (tokens .entry)) ⌝ }
+    ensures { λ _. ⌜ now (brackets .exit) ≡ cleared 0 (now (brackets .entry)) ⌝ }
+{
+    clear_bytes(compiled, 0);
+    clear_stores(rules, tokens, brackets, texts);
+}
