@@ -25,3 +25,7 @@ pub mod StatementLaws
 pub mod StatementTurns
 pub mod SheetLaws
 pub mod SheetBack
+pub mod AllLaws
+pub mod SelectorBounds
+pub mod SheetBounds
+pub mod NthRange
