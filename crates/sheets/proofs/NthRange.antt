@@ -51,13 +51,15 @@ nth-range (nth a b) h = (signed-range a (h .0), signed-range b (h .1))
 nth-range (attribute n) h = tt
 nth-range (attributeEqual n v) h = tt
 
--- of all components of a selector, and of all selectors of a rule
+-- of all components of a selector
 abbrev pub SelectorInRange : Selector → Type 0
 SelectorInRange x = All NthInRange (x .components)
 
+-- of all selectors of a rule
 abbrev pub RuleInRange : RuleSet → Type 0
 RuleInRange r = All SelectorInRange (r .selectors)
 
+-- so are those of a rule
 rule-range : (r : RuleSet) → RuleSmall r → RuleInRange r
 rule-range r h =
     all-weaker (λ (x : Selector). All Small (x .components)) SelectorInRange (λ x k. all-weaker Small NthInRange nth-range (x .components) k) (r .selectors) h

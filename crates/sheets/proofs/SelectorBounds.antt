@@ -1,15 +1,13 @@
 -- How much selectors can hold, over their definitions: a byte or more for each component and each selector, texts no longer than what was
 -- read, but for two bytes where a backslash ends the text.
 use mathlib.Core.Path.{_≡_, refl, ap, sym, subst, _∙_}
-use mathlib.Core.Bool.{Bool, true, false}
-use mathlib.Core.List.{List, [], _∷_, _++_, reverse, reverse-reverse}
+use mathlib.Core.List.{List, [], _∷_, _++_, reverse}
 use mathlib.Core.Logic.{⊎-elim}
-use Prim.Native.Nat.{ℕ, zero, suc, _+_, _-_, _*_, _≤_, _<_}
+use Prim.Native.Nat.{ℕ, zero, suc, _+_, _*_, _≤_, _<_}
 use native.Mathlib.Omega.{arith}
 use lib.ListN.{length, getD, drop, length-append, length-drop, length-reverse}
 use Rattle.combinators.specs.Ascii as ascii
-use Rattle.combinators.specs.Choice.{pick, is}
-use Rattle.combinators.specs.Parsed.{onParsed}
+use Rattle.combinators.specs.Choice.{is}
 use Rattle.combinators.specs.Word.{startsWith}
 use Rattle.combinators.proofs.Lists.{byte-there}
 use Rattle.combinators.proofs.Rules.{pick-holds, lt-or-ge, is-false}
@@ -23,10 +21,10 @@ use Rattle.lexer.proofs.IdentBounds.{ident-fits}
 use Rattle.lexer.proofs.TokenBounds.{on-holds}
 use Rattle.syntax.specs.RuleLayout.{componentWidth, componentText, componentTexts, selectorHead, selectorText, selectorTexts}
 use Rattle.syntax.specs.RuleSize.{sizes, selectorSize}
-use Rattle.syntax.specs.Selector.{Component, element, PseudoElement, none, before, after, Selector}
+use Rattle.syntax.specs.Selector.{Component, element, PseudoElement, Selector}
 use Rattle.syntax.specs.Stream.{textsMany}
 use Rattle.syntax.proofs.Streams.{All}
-use Rattle.sheets.specs.Outcome.{Outcome, reads, fails, panics, onOutcome, behind, orElse}
+use Rattle.sheets.specs.Outcome.{Outcome, reads, fails, panics}
 use Rattle.sheets.specs.Selector.{componentOf, componentsOf, componentsFrom, someOf, withElementOf, withoutElementOf, bodyOf, isDescendant, withoutBlank, withoutFirst, pseudoOf, pseudoTaken, selectorOf}
 use Rattle.sheets.specs.Sheet.{moreSelectors, moreFrom, selectorsOf}
 use Rattle.sheets.proofs.AllLaws.{all-reverse, Where, where-behind, where-then, where-else}

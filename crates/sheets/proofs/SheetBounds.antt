@@ -1,37 +1,35 @@
 -- How much the rules of a sheet can hold, over the definition of its meaning: where reading stopped bounds their number, the numbers of their
 -- rows and the bytes of their texts; the numbers of an+b and all colours fit.
 use mathlib.Core.Path.{_≡_, refl, ap, sym, _∙_}
-use mathlib.Core.Bool.{Bool, true, false}
+use mathlib.Core.Bool.{true}
 use mathlib.Core.List.{List, [], _∷_, _++_, map}
-use Prim.Native.Nat.{ℕ, zero, suc, _+_, _-_, _*_, _≤_, _<_}
+use Prim.Native.Nat.{ℕ, zero, suc, _+_, _*_, _≤_, _<_}
 use native.Mathlib.Omega.{arith}
 use lib.ListN.{length, getD, drop, length-append, length-drop, length-map}
 use Rattle.combinators.specs.Ascii as ascii
-use Rattle.combinators.specs.Choice.{pick, is}
+use Rattle.combinators.specs.Choice.{is}
 use Rattle.combinators.proofs.Lists.{byte-there}
 use Rattle.combinators.proofs.Rules.{pick-holds}
 use Rattle.lexer.specs.Name.{identOf}
 use Rattle.lexer.specs.Whitespace.{skipWhitespace}
-use Rattle.lexer.proofs.Comments.{skip-le}
 use Rattle.lexer.proofs.IdentBounds.{ident-fits}
 use Rattle.lexer.proofs.TokenBounds.{on-holds}
 use Rattle.syntax.specs.Declaration.{Declaration}
-use Rattle.syntax.specs.Layout.{declarationWidth, declarationText, declarationTexts}
-use Rattle.syntax.specs.RuleLayout.{componentWidth, selectorHead, ruleHead, selectorTexts, ruleRow, ruleText, ruleRows, ruleTexts}
-use Rattle.syntax.specs.RuleSize.{sizes, selectorSize, ruleSize}
+use Rattle.syntax.specs.Layout.{declarationText, declarationTexts}
+use Rattle.syntax.specs.RuleLayout.{selectorHead, selectorTexts, ruleRow, ruleText, ruleRows, ruleTexts}
+use Rattle.syntax.specs.RuleSize.{sizes, ruleSize}
 use Rattle.syntax.specs.Selector.{Selector, RuleSet}
 use Rattle.syntax.specs.Stream.{textsMany}
 use Rattle.syntax.proofs.Back.{DeclarationsFit}
 use Rattle.syntax.proofs.RowSizes.{length-rules}
 use Rattle.syntax.proofs.RuleRows.{RulesFit}
 use Rattle.syntax.proofs.Streams.{All, texts-append}
-use Rattle.values.specs.Value.{statementOf}
 use Rattle.values.proofs.Sizes.{statement-sized}
 use Rattle.declarations.specs.Leaving.{kept, rulesOf}
 use Rattle.declarations.specs.Rules.{Rules, startsAt, declarationsOf}
 use Rattle.declarations.proofs.PropertyLaws.{skip-from-le}
 use Rattle.declarations.proofs.StyleAttribute.{bounded}
-use Rattle.sheets.specs.Outcome.{Outcome, reads, fails, panics, onOutcome, behind, orElse}
+use Rattle.sheets.specs.Outcome.{reads, fails}
 use Rattle.sheets.specs.Rules.{ruleWidth}
 use Rattle.sheets.specs.Sheet.{spaced, selectorsOf, beforeEnd, blockOf, rulesetOf, statementEnd, atRuleOf, statementsOf, movedBy, sheetFrom, sheetOf}
 use Rattle.sheets.proofs.AllLaws.{all-append, all-map, sizes-append, sizes-map, texts-map, Where, where-read, where-behind, where-then, where-else}
@@ -39,20 +37,23 @@ use Rattle.sheets.proofs.BlockLaws.{named-same, end-behind}
 use Rattle.sheets.proofs.ComponentKeeps.{Small}
 use Rattle.sheets.proofs.SelectorBounds.{SelectorsKeep, selectors-keep}
 
--- ---- declarations: their texts do not depend on where they start
+-- ---- declarations
+-- the text of one does not depend on where it starts
 starts-text : (at : ℕ) (d : Declaration) → declarationText (startsAt at d) ≡ declarationText d
 unfolding declarationText startsAt
 starts-text at d = refl
 
+-- nor do those of more
 starts-texts : (at : ℕ) (ds : List Declaration) → declarationTexts (map (startsAt at) ds) ≡ declarationTexts ds
 unfolding declarationTexts
 starts-texts at ds = texts-map declarationText (startsAt at) (starts-text at) ds
 
--- nor are they changed where names are kept
+-- nor is it changed where names are kept
 kept-text : (d : Declaration) → declarationText (kept true 0 d) ≡ declarationText d
 unfolding declarationText kept
 kept-text d = rw (named-same (d .decl))
 
+-- nor are they
 kept-texts : (r : Rules) → declarationTexts (rulesOf true 0 r) ≡ declarationTexts (r .declarations)
 unfolding declarationTexts rulesOf
 kept-texts r = texts-map declarationText (kept true 0) kept-text (r .declarations)
@@ -71,45 +72,51 @@ pub record BlockKeeps (s : List ℕ) (n stop : ℕ) (ds : List Declaration) : Ty
   pub short : n + 2 + length (declarationTexts ds) ≤ stop
   pub fit : DeclarationsFit ds
 
--- where both braces are there
 module _ (s : List ℕ) (n : ℕ) where
-  abbrev o : ℕ
-  o = spaced s n
+  -- where '{' should stand
+  abbrev opens : ℕ
+  opens = spaced s n
 
-  abbrev d : ℕ
-  d = spaced s (o + 1)
+  -- where declarations start
+  abbrev begins : ℕ
+  begins = spaced s (opens + 1)
 
-  abbrev r : Rules
-  r = declarationsOf (drop d s)
+  -- what is read there
+  abbrev found : Rules
+  found = declarationsOf (drop begins s)
 
-  abbrev f : ℕ
-  f = beforeEnd s (d + r .taken)
+  -- where '}' should stand
+  abbrev closes : ℕ
+  closes = beforeEnd s (begins + found .taken)
 
-  end-le : d + r .taken ≤ f
+  -- it stands behind the declarations
+  closes-behind : begins + found .taken ≤ closes
   unfolding spaced beforeEnd
-  end-le = end-behind s (d + r .taken) refl refl refl
+  closes-behind = end-behind s (begins + found .taken) refl refl refl
 
-  braced : o < length s → f < length s → BlockKeeps s n (spaced s (f + 1)) (map (startsAt d) (r .declarations))
+  -- where both braces are there
+  braced : opens < length s → closes < length s → BlockKeeps s n (spaced s (closes + 1)) (map (startsAt begins) (found .declarations))
   unfolding spaced
   braced h i =
-      let b = bounded true (drop d s) in
-      let e = length-drop d s in
-      let t = ap length (starts-texts d (r .declarations) ∙ sym (kept-texts r)) in
-      let q = end-le in
+      let b = bounded true (drop begins s) in
+      let e = length-drop begins s in
+      let t = ap length (starts-texts begins (found .declarations) ∙ sym (kept-texts found)) in
+      let q = closes-behind in
       record {
         begun = omega arith;
-        within = skip-from-le s (f + 1) (omega arith);
-        counted = omega (arith, b .count, length-map (r .declarations) (startsAt d));
+        within = skip-from-le s (closes + 1) (omega arith);
+        counted = omega (arith, b .count, length-map (found .declarations) (startsAt begins));
         short = omega (arith, b .sharp (omega arith));
-        fit = starts-fit d (r .declarations) (b .fit);
+        fit = starts-fit begins (found .declarations) (b .fit);
       }
 
+  -- every block that reads
   pub block-keeps : Where (BlockKeeps s n) (blockOf s n)
   unfolding blockOf
   block-keeps =
-      pick-holds (Where (BlockKeeps s n)) (is (getD s o 0) ascii.leftCurlyBracket) _ _
-      (λ e. pick-holds (Where (BlockKeeps s n)) (is (getD s f 0) ascii.rightCurlyBracket) _ _
-      (λ g. braced (byte-there s o ascii.leftCurlyBracket (omega arith) e) (byte-there s f ascii.rightCurlyBracket (omega arith) g)) (λ _. tt))
+      pick-holds (Where (BlockKeeps s n)) (is (getD s opens 0) ascii.leftCurlyBracket) _ _
+      (λ e. pick-holds (Where (BlockKeeps s n)) (is (getD s closes 0) ascii.rightCurlyBracket) _ _
+      (λ g. braced (byte-there s opens ascii.leftCurlyBracket (omega arith) e) (byte-there s closes ascii.rightCurlyBracket (omega arith) g)) (λ _. tt))
       (λ _. tt)
 
 -- ---- rules
@@ -182,25 +189,29 @@ at-rule-keeps s =
     (λ n name g. let f = ident-fits (drop i s) n name g in end-keeps s (i + n) (omega arith) (omega (arith, f .within-text, length-drop i s))) (λ _. tt))
     (λ _. tt)
 
--- ---- statements
+-- ---- every statement that reads
 pub statements-keep : (s : List ℕ) → Where (RulesKeep s) (statementsOf s)
 unfolding statementsOf
 statements-keep s =
     where-else (RulesKeep s) _ _ (where-behind (λ n r. RulesKeep s (0 + n) (r ∷ [])) (RulesKeep s) 0 (rulesetOf s) _ (λ n r k. k) (rule-keeps s)) (at-rule-keeps s)
 
 -- ---- rules moved to a byte
+-- their rows are as long
 moved-size : (at : ℕ) (r : RuleSet) → ruleSize (movedBy at r) ≡ ruleSize r
 unfolding ruleSize movedBy
 moved-size at r = rw (length-map (r .declarations) (startsAt at))
 
+-- their texts are the same
 moved-text : (at : ℕ) (r : RuleSet) → ruleText (movedBy at r) ≡ ruleText r
 unfolding ruleText movedBy
 moved-text at r = rw (starts-texts at (r .declarations))
 
+-- their selectors too
 moved-small : (at : ℕ) (r : RuleSet) → RuleSmall r → RuleSmall (movedBy at r)
 unfolding movedBy
 moved-small at r h = h
 
+-- their colours too
 moved-fit : (at : ℕ) (r : RuleSet) → DeclarationsFit (r .declarations) → DeclarationsFit (movedBy at r .declarations)
 unfolding movedBy
 moved-fit at r h = starts-fit at (r .declarations) h
@@ -248,6 +259,7 @@ from-next at s n stop rs more h k =
       fit = all-append (λ r. DeclarationsFit (r .declarations)) rs more (h .fit) (k .fit);
     }
 
+-- as many as read
 from-keeps : (l : ℕ) (s : List ℕ) (at : ℕ) → Where (FromKeeps at (length s)) (sheetFrom l s at)
 unfolding sheetFrom
 from-keeps zero s at = from-none at (length s)
@@ -279,6 +291,10 @@ sheet-keeps s stop rs e =
       small = k .small;
       fit = k .fit;
     }
+
+-- its rows are as long wherever their texts start
+pub sheet-rows : (s : List ℕ) (stop : ℕ) (rs : List RuleSet) → sheetOf s ≡ reads stop rs → (fill : ℕ) → length (ruleRows fill rs) ≤ ruleWidth * stop
+sheet-rows s stop rs e fill = omega (arith, sheet-keeps s stop rs e .wide, length-rules 0 rs, length-rules fill rs)
 
 -- the empty sheet has no rule
 pub empty-sheet : sheetOf [] ≡ reads 0 []
