@@ -7,13 +7,20 @@ use native.Mathlib.Omega.{arith}
 use borrow.Author.Tests.{lt-ltb, le-ltb, ltb-false, leb-true}
 use lib.Dec.{ltb}
 use lib.ListN.{length}
-use Rattle.combinators.proofs.Rules.{pick-true, pick-false, or-gives, or-gives-true, and-gives, and-gives-false, and-true}
+use Rattle.combinators.specs.Choice.{or}
+use Rattle.combinators.proofs.Rules.{never, pick-true, pick-false, or-gives, or-gives-true, and-gives, and-gives-false, and-true}
 use Rattle.unicode.specs.Utf8.{valid}
 use Rattle.sheets.specs.SheetAnswer.{sheetLimit, textLeast, bracketLeast, numberLeast, storesSuffice}
 use Rattle.compiler.specs.Reading.{sheetsOf}
 use Rattle.compiler.specs.CompileAnswer.{compiledLimit, roomOf, CompileLeft, unchanged, compiledLeft, anyTooLong, allValid, compileOf, Lent}
 use Rattle.compiler.specs.declared.compile.CompileAnswer.{CompileAnswer}
 use Rattle.compiler.specs.declared.compile.CompileAnswer.the-variants.{TooLong, ShortStore, NotUtf8}
+
+-- neither of two tests holds
+neither : (a b : Bool) → or a b ≡ false → (a ≡ false) × (b ≡ false)
+unfolding or
+neither true b e = never (sym e)
+neither false b e = (refl, e)
 
 -- ---- lengths
 module _ (a u w : ℕ) where
@@ -33,7 +40,10 @@ module _ (a u w : ℕ) where
   -- none is too long
   pub none-long : anyTooLong a u w ≡ false → (a ≤ sheetLimit) × (u ≤ sheetLimit) × (w ≤ sheetLimit)
   unfolding anyTooLong
-  none-long e = ?
+  none-long e =
+      let p = neither _ _ e in
+      let q = neither _ _ (p .1) in
+      (ltb-false _ _ (p .0), ltb-false _ _ (q .0), ltb-false _ _ (q .1))
 
 -- ---- texts
 module _ (a u w : List ℕ) where

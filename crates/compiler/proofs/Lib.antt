@@ -1,3 +1,4 @@
+pub mod Range
 pub mod Parts
 pub mod ReadingLaws
 pub mod SheetsLaws

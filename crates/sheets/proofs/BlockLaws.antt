@@ -63,7 +63,7 @@ module _ (s : List ℕ) (n : ℕ) {e p f : ℕ} (ee : e ≡ n + skipWhitespace (
 
 -- ---- declarations that start elsewhere
 -- a name is kept where names are
-named-same : (d : Decl) → namedDecl true d ≡ d
+pub named-same : (d : Decl) → namedDecl true d ≡ d
 unfolding namedDecl pick
 named-same (color c) = refl
 named-same (backgroundColor c) = refl

@@ -24,4 +24,8 @@ pub mod AtRuleLaws
 pub mod StatementLaws
 pub mod StatementTurns
 pub mod SheetLaws
+pub mod AllLaws
+pub mod SelectorBounds
+pub mod SheetBounds
+pub mod NthRange
 pub mod SheetBack

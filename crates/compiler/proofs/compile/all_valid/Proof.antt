@@ -1,9 +1,7 @@
+use Rattle.compiler.proofs.CompileLaws as laws
 use borrow.Author.Needs.{needs}
 use Rattle.compiler.proofs.compile.all_valid.Statement.{statement}
 use Rattle.compiler.proofs.compile.all_valid.Tie as tie
-use Rattle.compiler.proofs.compile.all_valid.Reads as reads
-use Rattle.compiler.proofs.compile.all_valid.Lts as lts
-use Rattle.unicode.proofs.utf8.is_valid.Reads as is-valid-reads
 
 is-valid-requires : tie.Need-is-valid-requires
 is-valid-requires c κs = search needs
@@ -15,13 +13,13 @@ is-valid-requires-3 : tie.Need-is-valid-requires-3
 is-valid-requires-3 c κs = search needs
 
 returns : tie.Need-returns
-returns c = ?
+returns c = laws.author-valid _ _ _ (c .before .before .before .before .is-valid .ensures) (c .before .before .before .if1 .taken) (c .before .before .is-valid2 .ensures) (c .before .if2 .taken) (c .is-valid3 .ensures)
 
 returns-2 : tie.Need-returns-2
-returns-2 c = ?
+returns-2 c = laws.user-invalid _ _ _ (c .before .before .before .is-valid .ensures) (c .before .before .if1 .taken) (c .before .is-valid2 .ensures) (c .if2 .left)
 
 returns-3 : tie.Need-returns-3
-returns-3 c = ?
+returns-3 c = laws.agent-invalid _ _ _ (c .before .is-valid .ensures) (c .if1 .left)
 
 pub all-valid-spec : {M : Type 1} → statement M
 all-valid-spec =

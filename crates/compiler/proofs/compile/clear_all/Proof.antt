@@ -1,10 +1,6 @@
 use borrow.Author.Needs.{needs}
 use Rattle.compiler.proofs.compile.clear_all.Statement.{statement}
 use Rattle.compiler.proofs.compile.clear_all.Tie as tie
-use Rattle.compiler.proofs.compile.clear_all.Reads as reads
-use Rattle.compiler.proofs.compile.clear_all.Lts as lts
-use Rattle.combinators.proofs.stores.clear_bytes.Reads as clear-bytes-reads
-use Rattle.sheets.proofs.sheet.clear_stores.Reads as clear-stores-reads
 
 clear-bytes-requires : tie.Need-clear-bytes-requires
 clear-bytes-requires c κs = search needs
@@ -28,7 +24,7 @@ same-length-5 : tie.Need-same-length-5
 same-length-5 c = search needs
 
 returns : tie.Need-returns
-returns c = ?
+returns c = let e = c .before .before .before .before .before .before .before .before .clear-stores .ensures in (c .before .before .before .before .before .before .before .before .before .before .before .before .before .before .before .clear-bytes .ensures, (e .1 .1 .1, (e .0, (e .1 .0, e .1 .1 .0))))
 
 pub clear-all-spec : {M : Type 1} → statement M
 clear-all-spec =
