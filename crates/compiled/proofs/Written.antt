@@ -2,23 +2,22 @@
 use mathlib.Core.Path.{_≡_, refl, sym, ap, _∙_}
 use mathlib.Core.Bool.{Bool, true, false}
 use mathlib.Core.List.{List, _++_, append-nil}
-use Prim.Native.Nat.{ℕ, _≤_, _<_}
+use Prim.Native.Nat.{ℕ, _+_, _≤_, _<_}
 use native.Mathlib.Omega.{arith}
 use lib.ListN.{length, drop, length-take}
 use Rattle.combinators.specs.Choice.{pick, or, is}
 use Rattle.combinators.specs.Store.{Store, emits}
 use Rattle.combinators.proofs.Emitted.{then}
-use Rattle.combinators.proofs.Rules.{pick-true, pick-false, either, is-yes, is-no, is-true}
+use Rattle.combinators.proofs.Rules.{never, pick-true, pick-false, either, is-yes, is-no, is-true}
 use Rattle.syntax.specs.Layout.{flag, flagOf, colourNumber, colourOf, whiteSpaceNumber, whiteSpaceOf, colourSlot, backgroundSlot, displaySlot, whiteSpaceSlot, contentSlot, styleOf}
-use Rattle.syntax.specs.RuleLayout.{starKind, classKind, elementKind, hashKind, childKind, descendantKind, nthKind, attributeKind, attributeEqualKind, componentKind}
-use Rattle.syntax.specs.Selector.{class, element, hash, nth, attribute, attributeEqual}
-use Rattle.syntax.specs.Signed.{signedOf}
+use Rattle.syntax.specs.RuleLayout.{starKind, classKind, elementKind, hashKind, childKind, descendantKind, nthKind, attributeKind, attributeEqualKind, componentKind, componentFrom}
+use Rattle.syntax.specs.Selector.{attributeEqual}
 use Rattle.syntax.specs.Stream.{part}
 use Rattle.syntax.specs.Style as style
 use Rattle.syntax.specs.Style.{Style}
 use Rattle.compiled.specs.Number.{numberLimit, numberBytes}
 use Rattle.compiled.specs.Text.{textBytes}
-use Rattle.compiled.specs.Component.{componentBody, componentBytes, isMark, markOf, namedOf, nameKind, componentFrom}
+use Rattle.compiled.specs.Component.{componentBody, componentBytes, isMark, isName}
 use Rattle.compiled.specs.Style.{styleSlotOf, styleBody, styleBytes}
 use Rattle.compiled.specs.Sheet.{headBytes}
 use Rattle.compiled.proofs.NumberBack.{signed-number-back}
@@ -35,9 +34,15 @@ unfolding headBytes
 head-written o₀ o₁ o₂ o₃ origin pseudo count p q r = three o₀ o₁ o₂ o₃ _ _ _ p q r
 
 -- ---- components
-module _ (kind : ℕ) (x y : List ℕ) (a b : ℕ) where
-  mark-bytes : isMark kind ≡ true → componentBytes (componentFrom kind x y a b) ≡ numberBytes kind
-  unfolding componentBytes componentFrom isMark markOf componentKind componentBody pick or is
+-- where a test of either fails, both fail
+neither : (a b : Bool) → or a b ≡ false → (a ≡ false) × (b ≡ false)
+unfolding or
+neither true b e = never (sym e)
+neither false b e = (refl, e)
+
+module _ (t : List ℕ) (kind f a b : ℕ) (o₀ o₁ : Store) where
+  mark-bytes : isMark kind ≡ true → componentBytes (componentFrom t kind f a b) ≡ numberBytes kind
+  unfolding componentBytes componentFrom isMark componentKind componentBody pick or is
   mark-bytes h =
       either _ (is kind starKind) (or (is kind childKind) (is kind descendantKind)) h
       (λ e. rw (is-true kind starKind e) (append-nil (numberBytes starKind)))
@@ -46,58 +51,51 @@ module _ (kind : ℕ) (x y : List ℕ) (a b : ℕ) where
       (λ e. rw (is-true kind descendantKind e) (append-nil (numberBytes descendantKind))))
 
   -- a kind alone
-  pub mark-written : (o₀ o₁ : Store) → isMark kind ≡ true → o₁ ≡ emits o₀ (numberBytes kind) → o₁ ≡ emits o₀ (componentBytes (componentFrom kind x y a b))
-  mark-written o₀ o₁ h p = p ∙ ap (emits o₀) (sym (mark-bytes h))
+  pub mark-written : isMark kind ≡ true → o₁ ≡ emits o₀ (numberBytes kind) → o₁ ≡ emits o₀ (componentBytes (componentFrom t kind f a b))
+  mark-written h p = p ∙ ap (emits o₀) (sym (mark-bytes h))
 
-  module _ (h : isMark kind ≡ false) (o₀ o₁ : Store) where
-    nth-is : kind ≡ nthKind → componentFrom kind x y a b ≡ nth (signedOf a) (signedOf b)
-    unfolding componentFrom
-    nth-is k = sym (pick-false _ _ _ _ h (pick-true _ _ _ _ (is-yes _ _ k) refl))
+  nth-bytes : kind ≡ nthKind → componentBytes (componentFrom t kind f a b) ≡ numberBytes nthKind ++ (numberBytes a ++ numberBytes b)
+  unfolding componentBytes componentFrom componentKind componentBody pick is
+  nth-bytes k = rw (k, signed-number-back a, signed-number-back b)
 
-    nth-bytes : componentBytes (nth (signedOf a) (signedOf b)) ≡ numberBytes nthKind ++ (numberBytes a ++ numberBytes b)
-    unfolding componentBytes componentKind componentBody
-    nth-bytes = rw (signed-number-back a, signed-number-back b)
+  -- nth
+  pub nth-written : kind ≡ nthKind → o₁ ≡ emits o₀ (numberBytes nthKind ++ (numberBytes a ++ numberBytes b))
+      → o₁ ≡ emits o₀ (componentBytes (componentFrom t kind f a b))
+  nth-written k p = p ∙ ap (emits o₀) (sym (nth-bytes k))
 
-    -- nth
-    pub nth-written : kind ≡ nthKind → o₁ ≡ emits o₀ (numberBytes nthKind ++ (numberBytes a ++ numberBytes b))
-        → o₁ ≡ emits o₀ (componentBytes (componentFrom kind x y a b))
-    nth-written k p = p ∙ ap (emits o₀) (sym (ap componentBytes (nth-is k) ∙ nth-bytes))
+  named-bytes : isName kind ≡ true → componentBytes (componentFrom t kind f a b) ≡ numberBytes kind ++ textBytes (part t f a)
+  unfolding componentBytes componentFrom isName componentKind componentBody pick is
+  named-bytes h =
+      either _ (is kind classKind) _ h (λ e. rw (is-true kind classKind e))
+      (λ k. either _ (is kind elementKind) _ k (λ e. rw (is-true kind elementKind e))
+      (λ l. either _ (is kind hashKind) _ l (λ e. rw (is-true kind hashKind e)) (λ e. rw (is-true kind attributeKind e))))
 
-    module _ (k : ¬ (kind ≡ nthKind)) where
-      equal-is : kind ≡ attributeEqualKind → componentFrom kind x y a b ≡ attributeEqual x y
-      unfolding componentFrom
-      equal-is l = sym (pick-false _ _ _ _ h (pick-false _ _ _ _ (is-no _ _ k) (pick-true _ _ _ _ (is-yes _ _ l) refl)))
+  -- one text
+  pub named-written : isName kind ≡ true → o₁ ≡ emits o₀ (numberBytes kind ++ textBytes (part t f a))
+      → o₁ ≡ emits o₀ (componentBytes (componentFrom t kind f a b))
+  named-written h p = p ∙ ap (emits o₀) (sym (named-bytes h))
 
-      equal-bytes : componentBytes (attributeEqual x y) ≡ numberBytes attributeEqualKind ++ (textBytes x ++ textBytes y)
-      unfolding componentBytes componentKind componentBody
-      equal-bytes = refl
+  -- any other kind
+  equal-is : isMark kind ≡ false → ¬ (kind ≡ nthKind) → isName kind ≡ false
+      → componentFrom t kind f a b ≡ attributeEqual (part t f a) (part t (f + a) b)
+  unfolding componentFrom isMark isName pick
+  equal-is m k n =
+      let m₁ = neither (is kind starKind) _ m in
+      let m₂ = neither (is kind childKind) _ (m₁ .1) in
+      let n₁ = neither (is kind classKind) _ n in
+      let n₂ = neither (is kind elementKind) _ (n₁ .1) in
+      let n₃ = neither (is kind hashKind) _ (n₂ .1) in
+      rw (m₁ .0, n₁ .0, n₂ .0, n₃ .0, m₂ .0, m₂ .1, is-no kind nthKind k, n₃ .1)
 
-      -- two texts
-      pub equal-written : kind ≡ attributeEqualKind → o₁ ≡ emits o₀ (numberBytes attributeEqualKind ++ (textBytes x ++ textBytes y))
-          → o₁ ≡ emits o₀ (componentBytes (componentFrom kind x y a b))
-      equal-written l p = p ∙ ap (emits o₀) (sym (ap componentBytes (equal-is l) ∙ equal-bytes))
+  equal-bytes : (x y : List ℕ) → componentBytes (attributeEqual x y) ≡ numberBytes attributeEqualKind ++ (textBytes x ++ textBytes y)
+  unfolding componentBytes componentKind componentBody
+  equal-bytes x y = refl
 
-      named-is : ¬ (kind ≡ attributeEqualKind) → componentFrom kind x y a b ≡ namedOf kind x
-      unfolding componentFrom
-      named-is l = sym (pick-false _ _ _ _ h (pick-false _ _ _ _ (is-no _ _ k) (pick-false _ _ _ _ (is-no _ _ l) refl)))
-
-      named-bytes : componentBytes (namedOf kind x) ≡ numberBytes (nameKind kind) ++ textBytes x
-      unfolding componentBytes componentKind componentBody namedOf nameKind pick
-      named-bytes = go (is kind classKind) (is kind elementKind) (is kind hashKind)
-        where
-          go : (p q r : Bool)
-              → componentBytes (pick p (class x) (pick q (element x) (pick r (hash x) (attribute x))))
-              ≡ numberBytes (pick p classKind (pick q elementKind (pick r hashKind attributeKind))) ++ textBytes x
-          go true q r = refl
-          go false true r = refl
-          go false false true = refl
-          go false false false = refl
-
-      -- one text
-      pub named-written : ¬ (kind ≡ attributeEqualKind) → (n : ℕ) → n ≡ nameKind kind → o₁ ≡ emits o₀ (numberBytes n ++ textBytes x)
-          → o₁ ≡ emits o₀ (componentBytes (componentFrom kind x y a b))
-      named-written l n e p =
-          p ∙ ap (λ (m : ℕ). emits o₀ (numberBytes m ++ textBytes x)) e ∙ ap (emits o₀) (sym (ap componentBytes (named-is l) ∙ named-bytes))
+  -- two texts
+  pub equal-written : isMark kind ≡ false → ¬ (kind ≡ nthKind) → isName kind ≡ false
+      → o₁ ≡ emits o₀ (numberBytes attributeEqualKind ++ (textBytes (part t f a) ++ textBytes (part t (f + a) b)))
+      → o₁ ≡ emits o₀ (componentBytes (componentFrom t kind f a b))
+  equal-written m k n p = p ∙ ap (emits o₀) (sym (ap componentBytes (equal-is m k n) ∙ equal-bytes _ _))
 
 -- ---- styles
 -- a flag that is set
@@ -132,10 +130,10 @@ part-le t start size = omega (arith, length-take size (drop start t))
 pub part-short : (t : List ℕ) (start size : ℕ) (x : List ℕ) → x ≡ part t start size → size < numberLimit → length x < numberLimit
 part-short t start size x e h = omega (arith, ap length e, part-le t start size)
 
--- a slot and a part
-pub part-written : (o₀ o₁ o₂ : Store) (xs t : List ℕ) (start size : ℕ) → o₁ ≡ emits o₀ xs → (x : List ℕ) → x ≡ part t start size → o₂ ≡ emits o₁ (textBytes x)
-    → o₂ ≡ emits o₀ (xs ++ textBytes (part t start size))
-part-written o₀ o₁ o₂ xs t start size p x e q = then o₀ o₁ o₂ xs _ p (q ∙ ap (λ (y : List ℕ). emits o₁ (textBytes y)) e)
+-- and the part is written
+pub part-written : (o₀ o₁ : Store) (t : List ℕ) (start size : ℕ) (x : List ℕ) → x ≡ part t start size → o₁ ≡ emits o₀ (textBytes x)
+    → o₁ ≡ emits o₀ (textBytes (part t start size))
+part-written o₀ o₁ t start size x e p = p ∙ ap (λ (y : List ℕ). emits o₀ (textBytes y)) e
 
 -- a colour's number and back
 colour-number : (v : ℕ) → colourNumber (colourOf v) ≡ v

@@ -43,6 +43,9 @@ pub data Written : Type 0 where
 unfoldable pub isMark : ℕ → Bool
 isMark kind = or (is kind starKind) (or (is kind childKind) (is kind descendantKind))
 
+unfoldable pub isName : ℕ → Bool
+isName kind = or (is kind classKind) (or (is kind elementKind) (or (is kind hashKind) (is kind attributeKind)))
+
 -- at n, behind the kind: one text, two numbers, two texts
 unfoldable pub nameAt : List ℕ → ℕ → ℕ → Decoded Written
 nameAt t kind n = mapped (λ x. name kind x) (spanAt t n)
@@ -84,24 +87,6 @@ componentIn t (names x y) = attributeEqual (textIn t x) (textIn t y)
 
 unfoldable pub componentAt : List ℕ → ℕ → Decoded Component
 componentAt t i = mapped (componentIn t) (writtenAt t i)
-
--- ---- by values
--- the kind of a component that has one text
-unfoldable pub nameKind : ℕ → ℕ
-nameKind kind = pick (is kind classKind) classKind (pick (is kind elementKind) elementKind (pick (is kind hashKind) hashKind attributeKind))
-
--- the component of a kind with its texts and numbers, where it has them
-unfoldable pub componentFrom : ℕ → List ℕ → List ℕ → ℕ → ℕ → Component
-componentFrom kind x y a b =
-    pick (isMark kind) (markOf kind)
-    (pick (is kind nthKind) (nth (signedOf a) (signedOf b))
-    (pick (is kind attributeEqualKind) (attributeEqual x y)
-    (namedOf kind x)))
-
--- two texts whose lengths a number can tell
-pub record ComponentTexts (x y : List ℕ) : Type 0 where
-  pub first : length x < numberLimit
-  pub second : length y < numberLimit
 
 -- ---- cases: the element p, and -n+3
 pub case-element : componentBytes (element (0x70 ∷ [])) ≡ 0x02 ∷ 0x01 ∷ 0x70 ∷ []

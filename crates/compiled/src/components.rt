@@ -5,7 +5,7 @@ use crate::numbers::read_number;
 use crate::numbers::read_ranged;
 use crate::places::PlaceAnswer;
 use crate::texts::TextAnswer;
-use crate::texts::emit_text;
+use crate::texts::emit_text_part;
 use crate::texts::read_text;
 use syntax::rows::ATTRIBUTE;
 use syntax::rows::ATTRIBUTE_EQUAL;
@@ -18,14 +18,15 @@ use syntax::rows::NTH;
 use syntax::rows::STAR;
 ghost use mathlib.Core.Path.{_≡_};
 ghost use mathlib.Core.List.{_++_};
-ghost use Prim.Native.Nat.{_<_};
+ghost use Prim.Native.Nat.{_+_};
 ghost use lib.ListN.{length};
 ghost use Rattle.combinators.specs.Store.{emits};
-ghost use Rattle.syntax.specs.RuleLayout.{nthKind, attributeEqualKind};
-ghost use Rattle.compiled.specs.Number.{numberLimit, numberBytes};
+ghost use Rattle.syntax.specs.RuleLayout.{nthKind, attributeEqualKind, componentFrom};
+ghost use Rattle.syntax.specs.Stream.{part};
+ghost use Rattle.compiled.specs.Number.{numberBytes};
 ghost use Rattle.compiled.specs.Text.{textBytes};
 ghost use Rattle.compiled.specs.Decoded.{counted};
-ghost use Rattle.compiled.specs.Component.{isMark, nameAt, secondNumberAt, numbersAt, secondNameAt, namesAt, bodyAt, writtenAt, componentAt, nameKind, componentFrom, ComponentTexts, componentBytes};
+ghost use Rattle.compiled.specs.Component.{isMark, nameAt, secondNumberAt, numbersAt, secondNameAt, namesAt, bodyAt, writtenAt, componentAt, isName, componentBytes};
 ghost use Rattle.compiled.specs.Answer.{placeAnswer, componentAnswer, componentWithin};
 
 // A component, each with the place behind it first: star, child and descendant with their kind; class, element, hash and attribute with their kind,
@@ -196,30 +197,29 @@ pub fn skip_components(s: &[u8], at: usize, count: u32) -> PlaceAnswer
     PlaceAnswer::At(i)
 }
 
-// The kind of a component that has one text: class, element, hash, or else attribute.
-fn name_kind(kind: u32) -> u32
-    ensures { λ r. ⌜ r ≡ nameKind kind ⌝ }
+// Whether a component is its kind and one text.
+fn is_name(kind: u32) -> bool
+    ensures { λ r. ⌜ r ≡ isName kind ⌝ }
 {
     if kind == CLASS {
-        return CLASS;
+        return true;
     }
     if kind == ELEMENT {
-        return ELEMENT;
+        return true;
     }
     if kind == HASH {
-        return HASH;
+        return true;
     }
-    ATTRIBUTE
+    kind == ATTRIBUTE
 }
 
-// Writes a kind and a text; the fill behind them.
-fn emit_name(kind: u32, text: &[u8], store: &mut [u8], fill: usize) -> usize
-    requires { ⌜ length (now text) < numberLimit ⌝ }
+// Writes a kind and the text that starts at `start` in `texts` and has `size` bytes, or as many as there are; the fill behind them.
+fn emit_name(kind: u32, start: u32, size: u32, texts: &[u8], store: &mut [u8], fill: usize) -> usize
     ensures { λ r. ⌜ record { bytes = now (store .exit); fill = r }
-        ≡ emits (record { bytes = now (store .entry); fill = fill }) (numberBytes kind ++ textBytes (now (text .entry))) ⌝ }
+        ≡ emits (record { bytes = now (store .entry); fill = fill }) (numberBytes kind ++ textBytes (part (now (texts .entry)) start size)) ⌝ }
 {
     let behind = emit_number(kind, store, fill);
-    emit_text(text, store, behind)
+    emit_text_part(start as usize, size, texts, store, behind)
 }
 
 // Writes the kind of nth and its two numbers; the fill behind them.
@@ -232,42 +232,53 @@ fn emit_nth(a: u32, b: u32, store: &mut [u8], fill: usize) -> usize
     emit_number(b, store, behind_a)
 }
 
-// Writes the kind of an attribute that is equal to a value, and its two texts; the fill behind them.
-fn emit_attribute_equal(name: &[u8], value: &[u8], store: &mut [u8], fill: usize) -> usize
-    requires { ⌜ ComponentTexts (now name) (now value) ⌝ }
-    ensures { λ r. ⌜ record { bytes = now (store .exit); fill = r }
-        ≡ emits (record { bytes = now (store .entry); fill = fill })
-        (numberBytes attributeEqualKind ++ (textBytes (now (name .entry)) ++ textBytes (now (value .entry)))) ⌝ }
-{
-    let behind_kind = emit_number(ATTRIBUTE_EQUAL, store, fill);
-    let behind_name = emit_text(name, store, behind_kind);
-    emit_text(value, store, behind_name)
-}
-
-// Writes the component of a kind: with `first` where it has a text, also with `second` where it has two, with `a` and `b` where it is nth. The
-// fill behind it.
-pub fn emit_component(
-    kind: u32,
-    first: &[u8],
-    second: &[u8],
-    a: u32,
-    b: u32,
+// Writes the kind of an attribute that is equal to a value, and its two texts: that which starts at `start` in `texts` and has `first` bytes, and the
+// `second` bytes behind it. The fill behind them.
+fn emit_attribute_equal(
+    start: u32,
+    first: u32,
+    second: u32,
+    texts: &[u8],
     store: &mut [u8],
     fill: usize,
 ) -> usize
-    requires { ⌜ ComponentTexts (now first) (now second) ⌝ }
     ensures { λ r. ⌜ record { bytes = now (store .exit); fill = r }
         ≡ emits (record { bytes = now (store .entry); fill = fill })
-        (componentBytes (componentFrom kind (now (first .entry)) (now (second .entry)) a b)) ⌝ }
+        (numberBytes attributeEqualKind
+        ++ (textBytes (part (now (texts .entry)) start first) ++ textBytes (part (now (texts .entry)) (start + first) second))) ⌝ }
+{
+    let behind_kind = emit_number(ATTRIBUTE_EQUAL, store, fill);
+    let behind_name = emit_text_part(start as usize, first, texts, store, behind_kind);
+    emit_text_part(
+        start as usize + first as usize,
+        second,
+        texts,
+        store,
+        behind_name,
+    )
+}
+
+// Writes the component that a component row says: its kind, where its texts start in `texts`, and its two numbers. The fill behind it.
+pub fn emit_component(
+    kind: u32,
+    start: u32,
+    first: u32,
+    second: u32,
+    texts: &[u8],
+    store: &mut [u8],
+    fill: usize,
+) -> usize
+    ensures { λ r. ⌜ record { bytes = now (store .exit); fill = r }
+        ≡ emits (record { bytes = now (store .entry); fill = fill }) (componentBytes (componentFrom (now (texts .entry)) kind start first second)) ⌝ }
 {
     if is_mark(kind) {
         return emit_number(kind, store, fill);
     }
     if kind == NTH {
-        return emit_nth(a, b, store, fill);
+        return emit_nth(first, second, store, fill);
     }
-    if kind == ATTRIBUTE_EQUAL {
-        return emit_attribute_equal(first, second, store, fill);
+    if is_name(kind) {
+        return emit_name(kind, start, first, texts, store, fill);
     }
-    emit_name(name_kind(kind), first, store, fill)
+    emit_attribute_equal(start, first, second, texts, store, fill)
 }

@@ -5,7 +5,7 @@ use crate::numbers::read_number;
 use crate::numbers::read_ranged;
 use crate::places::PlaceAnswer;
 use crate::texts::TextAnswer;
-use crate::texts::emit_text;
+use crate::texts::emit_text_part;
 use crate::texts::read_text;
 use syntax::rows::BACKGROUND_SLOT;
 use syntax::rows::COLOUR_SLOT;
@@ -17,7 +17,6 @@ use syntax::rows::WHITE_SPACE_NORMAL;
 use syntax::rows::WHITE_SPACE_PRE;
 use syntax::rows::WHITE_SPACE_PRE_WRAP;
 use syntax::rows::WHITE_SPACE_SLOT;
-use syntax::texts::part_of;
 ghost use mathlib.Core.Path.{_≡_};
 ghost use mathlib.Core.List.{_++_};
 ghost use lib.ListN.{length};
@@ -200,7 +199,7 @@ fn emit_content(start: u32, size: u32, texts: &[u8], store: &mut [u8], fill: usi
         ≡ emits (record { bytes = now (store .entry); fill = fill }) (numberBytes contentSlot ++ textBytes (part (now (texts .entry)) start size)) ⌝ }
 {
     let behind = emit_number(CONTENT_SLOT, store, fill);
-    emit_text(part_of(texts, start as usize, size as usize), store, behind)
+    emit_text_part(start as usize, size, texts, store, behind)
 }
 
 // Writes the slot of a style row and what stands behind it; the fill behind them.

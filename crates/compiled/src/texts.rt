@@ -3,10 +3,12 @@ use crate::numbers::NumberAnswer;
 use crate::numbers::emit_number;
 use crate::numbers::read_number;
 use combinators::stores::emit_part;
+use syntax::texts::part_of;
 ghost use mathlib.Core.Path.{_≡_};
 ghost use Prim.Native.Nat.{_<_};
 ghost use lib.ListN.{length};
 ghost use Rattle.combinators.specs.Store.{emits};
+ghost use Rattle.syntax.specs.Stream.{part};
 ghost use Rattle.compiled.specs.Number.{numberLimit};
 ghost use Rattle.compiled.specs.Text.{textBytes, spanAt};
 ghost use Rattle.compiled.specs.Answer.{textAnswer, textWithin};
@@ -43,4 +45,12 @@ pub fn emit_text(text: &[u8], store: &mut [u8], fill: usize) -> usize
 {
     let behind = emit_number(text.len() as u32, store, fill);
     emit_part(text, text.len(), store, behind)
+}
+
+// Writes the text that starts at `start` in `texts` and has `size` bytes, or as many as there are, with its length; the fill behind it.
+pub fn emit_text_part(start: usize, size: u32, texts: &[u8], store: &mut [u8], fill: usize) -> usize
+    ensures { λ r. ⌜ record { bytes = now (store .exit); fill = r }
+        ≡ emits (record { bytes = now (store .entry); fill = fill }) (textBytes (part (now (texts .entry)) start size)) ⌝ }
+{
+    emit_text(part_of(texts, start, size as usize), store, fill)
 }

@@ -70,7 +70,7 @@ hides-number a =
 -- ---- reading
 
 -- values behind values are read one behind the other
-read-behind : {A : Type 0} (u : List ℕ → Read A) (m n : ℕ) (t : List ℕ) →
+pub read-behind : {A : Type 0} (u : List ℕ → Read A) (m n : ℕ) (t : List ℕ) →
     let q = readMany u m t in
     let r = readMany u n (q .rest) in
     readMany u (m + n) t ≡ record { value = q .value ++ r .value; rest = r .rest }
@@ -103,6 +103,18 @@ module _ (store : List ℕ) where
         reads = λ t. rw (append-assoc xs ys t, e, read-behind (readStyle store) (length ds) (length es) (xs ++ (ys ++ t)), p .reads (ys ++ t), q .reads t);
       }
 
+  -- styles that are read from one row are one
+  pub reads-alone : (s i a b : ℕ) (ds : List StyleDecl) → Reads (s ∷ i ∷ a ∷ b ∷ []) ds → ds ≡ record { style = layout.styleOf store s a b; important = flagOf i } ∷ []
+  unfolding readMany readStyle
+  reads-alone s i a b [] h = absurd (omega (arith, h .long))
+  reads-alone s i a b (d ∷ []) h = sym (ap (λ (r : Read (List StyleDecl)). r .value) (h .reads []))
+  reads-alone s i a b (d ∷ e ∷ ds) h = absurd (omega (arith, h .long))
+
+  -- from no row, none
+  pub reads-nothing : (ds : List StyleDecl) → Reads [] ds → ds ≡ []
+  reads-nothing [] h = refl
+  reads-nothing (d ∷ ds) h = absurd (omega (arith, h .long))
+
   -- ---- one declaration
 
   -- the style that a display asks for
@@ -134,10 +146,15 @@ module _ (store : List ℕ) where
       by-kind (λ n. and (or (is n overflowKind) (is n overflowYKind)) (is a (overflowNumber hidden)) ≡ hidesOverflow (declOf store n a b)) refl refl refl refl (hides-number a) (hides-number a) refl refl refl k
       (λ o. rw (o .color, o .background, o .height, o .max-height, o .overflow, o .overflow-y, o .display, o .white-space, o .content))
 
+  -- the style that the declaration at the start of a stream asks for
+  pub reads-declared : (t : List ℕ) → Reads (ownRow t) (styleOf (readDeclaration store t .value .important) (readDeclaration store t .value .decl))
+  unfolding ownRow readDeclaration
+  reads-declared t = reads-own _ _ _ _
+
   -- ---- the first n declarations of a stream
 
   -- the styles that they ask for by themselves
-  reads-rows : (n : ℕ) (t : List ℕ) → Reads (ownRows n t) (ownStyles (declarationsAt t store n))
+  pub reads-rows : (n : ℕ) (t : List ℕ) → Reads (ownRows n t) (ownStyles (declarationsAt t store n))
   unfolding ownRows ownRow ownStyles declarationsAt readMany readDeclaration
   reads-rows zero t = reads-none
   reads-rows (suc n) t = reads-both _ _ _ _ (reads-own _ _ _ _) (reads-rows n (drop declarationWidth t))
@@ -150,12 +167,12 @@ module _ (store : List ℕ) where
     any-row (suc n) t = rw (h t, any-row n (drop declarationWidth t))
 
   -- whether one sets a height to zero
-  any-zero : (n : ℕ) (t : List ℕ) → anyRow zeroRow n t ≡ anyDecl zeroHeight (declarationsAt t store n)
+  pub any-zero : (n : ℕ) (t : List ℕ) → anyRow zeroRow n t ≡ anyDecl zeroHeight (declarationsAt t store n)
   unfolding zeroRow hasValue readDeclaration
   any-zero n t = any-row zeroRow zeroHeight (λ t. zero-own _ _ _) n t
 
   -- whether one hides what overflows
-  any-hidden : (n : ℕ) (t : List ℕ) → anyRow hiddenRow n t ≡ anyDecl hidesOverflow (declarationsAt t store n)
+  pub any-hidden : (n : ℕ) (t : List ℕ) → anyRow hiddenRow n t ≡ anyDecl hidesOverflow (declarationsAt t store n)
   unfolding hiddenRow hasValue readDeclaration
   any-hidden n t = any-row hiddenRow hidesOverflow (λ t. hidden-own _ _ _) n t
 
@@ -215,6 +232,59 @@ numbers-long rows n =
 pub count-le : (rows : List ℕ) (n : ℕ) → styleCount rows n ≤ n + 1
 unfolding styleCount
 count-le rows n = omega (arith, numbers-long rows n)
+
+-- ---- how many styles declarations ask for
+
+-- a declaration that sets a height to zero asks for none by itself
+own-or-zero : (i : Bool) (d : Decl) → length (styleOf i d) + flag (zeroHeight d) ≤ 1
+unfolding styleOf one zeroHeight flag pick
+own-or-zero i (color c) = omega arith
+own-or-zero i (backgroundColor c) = omega arith
+own-or-zero i (height true) = omega arith
+own-or-zero i (height false) = omega arith
+own-or-zero i (maxHeight true) = omega arith
+own-or-zero i (maxHeight false) = omega arith
+own-or-zero i (overflow o) = omega arith
+own-or-zero i (overflowY o) = omega arith
+own-or-zero i (display true) = omega arith
+own-or-zero i (display false) = omega arith
+own-or-zero i (whiteSpace w) = omega arith
+own-or-zero i (content t) = omega arith
+own-or-zero i (unknown n) = omega arith
+
+-- one of two
+flag-or : (a b : Bool) → flag (or a b) ≤ flag a + flag b
+unfolding flag or
+flag-or true b = omega arith
+flag-or false b = omega arith
+
+-- so one of many leaves room for one
+own-and-zero : (ds : List Declaration) → length (ownStyles ds) + flag (anyDecl zeroHeight ds) ≤ length ds
+unfolding ownStyles anyDecl flag
+own-and-zero [] = omega arith
+own-and-zero (d ∷ ds) =
+    omega (
+      arith,
+      length-append (styleOf (d .important) (d .decl)) (ownStyles ds),
+      own-or-zero (d .important) (d .decl),
+      flag-or (zeroHeight (d .decl)) (anyDecl zeroHeight ds),
+      own-and-zero ds,
+    )
+
+-- the style that is added
+added-long : (y z : Bool) → length (pick (and y z) (one false style.displayNone) []) ≤ flag y
+unfolding pick and one flag
+added-long true true = omega arith
+added-long true false = omega arith
+added-long false z = omega arith
+
+-- declarations ask for no more styles than they are
+pub styles-few : (ds : List Declaration) → length (stylesOf ds) ≤ length ds
+unfolding stylesOf
+styles-few ds =
+    let y = anyDecl zeroHeight ds in
+    let z = anyDecl hidesOverflow ds in
+    omega (arith, length-append (ownStyles ds) (pick (and y z) (one false style.displayNone) []), own-and-zero ds, added-long y z)
 
 -- ---- where declarations lie in rows, the style rows are those of their styles
 

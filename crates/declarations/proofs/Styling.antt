@@ -80,13 +80,13 @@ module _ (xs : List ℕ) (r : OwnStyle) (e : numbersBy r ≡ xs) (o₀ : Store) 
 -- ---- tests that the code joins
 
 -- by `|`
-or-is : (a b : Bool) → (a || b) ≡ or a b
+pub or-is : (a b : Bool) → (a || b) ≡ or a b
 unfolding or
 or-is true b = refl
 or-is false b = refl
 
 -- by `&`
-and-is : (a b : Bool) → (a && b) ≡ and a b
+pub and-is : (a b : Bool) → (a && b) ≡ and a b
 unfolding and
 and-is true b = refl
 and-is false b = refl

@@ -66,7 +66,7 @@ fn own_style(kind: u32, important: u32, value: u32, second: u32) -> OwnStyle
 }
 
 // The style that the declaration asks for whose row starts at `at`.
-fn own_style_at(rows: &[u32], at: usize) -> OwnStyle
+pub fn own_style_at(rows: &[u32], at: usize) -> OwnStyle
     ensures { λ r. ⌜ numbersBy r ≡ ownRow (drop at (now (rows .entry))) ⌝ }
 {
     own_style(
@@ -126,14 +126,14 @@ fn has_value(rows: &[u32], at: usize, kind: u32, other: u32, value: u32) -> bool
 }
 
 // Whether it sets a height to zero.
-fn is_zero_height(rows: &[u32], at: usize) -> bool
+pub fn is_zero_height(rows: &[u32], at: usize) -> bool
     ensures { λ r. ⌜ r ≡ zeroRow (drop at (now (rows .entry))) ⌝ }
 {
     has_value(rows, at, HEIGHT, MAX_HEIGHT, FLAG_TRUE)
 }
 
 // Whether it hides what overflows.
-fn hides_overflow(rows: &[u32], at: usize) -> bool
+pub fn hides_overflow(rows: &[u32], at: usize) -> bool
     ensures { λ r. ⌜ r ≡ hiddenRow (drop at (now (rows .entry))) ⌝ }
 {
     has_value(rows, at, OVERFLOW, OVERFLOW_Y, OVERFLOW_HIDDEN)

@@ -26,12 +26,13 @@ same-length-2 c = search needs
 
 returns-2 : tie.Need-returns-2
 returns-2 c = let m = c .before .before in
-    let t = m .before .before in
-    let e = t .before in
-    laws.nth-written _ _ _ _ _ (told _ _ _ (e .before .is-mark .ensures) (e .if1 .left)) _ _ (t .if2 .taken) (m .emit-nth .ensures)
+    laws.nth-written _ _ _ _ _ _ _ (m .before .before .if2 .taken) (m .emit-nth .ensures)
 
-emit-attribute-equal-requires : tie.Need-emit-attribute-equal-requires
-emit-attribute-equal-requires c κs = search needs
+is-name-requires : tie.Need-is-name-requires
+is-name-requires c κs = search needs
+
+emit-name-requires : tie.Need-emit-name-requires
+emit-name-requires c κs = search needs
 
 same-length-3 : tie.Need-same-length-3
 same-length-3 c = search needs
@@ -39,26 +40,20 @@ same-length-3 c = search needs
 returns-3 : tie.Need-returns-3
 returns-3 c = let m = c .before .before in
     let t = m .before .before in
-    let f = t .before in
-    let e = f .before in
-    laws.equal-written _ _ _ _ _ (told _ _ _ (e .before .is-mark .ensures) (e .if1 .left)) _ _ (f .if2 .left) (t .if3 .taken) (m .emit-attribute-equal .ensures)
+    laws.named-written _ _ _ _ _ _ _ (told _ _ _ (t .before .is-name .ensures) (t .if3 .taken)) (m .emit-name .ensures)
 
-name-kind-requires : tie.Need-name-kind-requires
-name-kind-requires c κs = search needs
-
-emit-name-requires : tie.Need-emit-name-requires
-emit-name-requires c κs = search needs
+emit-attribute-equal-requires : tie.Need-emit-attribute-equal-requires
+emit-attribute-equal-requires c κs = search needs
 
 same-length-4 : tie.Need-same-length-4
 same-length-4 c = search needs
 
 returns-4 : tie.Need-returns-4
 returns-4 c = let m = c .before .before in
-    let n = m .before .before in
-    let t = n .before in
-    let f = t .before in
+    let t = m .before .before in
+    let f = t .before .before in
     let e = f .before in
-    laws.named-written _ _ _ _ _ (told _ _ _ (e .before .is-mark .ensures) (e .if1 .left)) _ _ (f .if2 .left) (t .if3 .left) _ (n .name-kind .ensures) (m .emit-name .ensures)
+    laws.equal-written _ _ _ _ _ _ _ (told _ _ _ (e .before .is-mark .ensures) (e .if1 .left)) (f .if2 .left) (told _ _ _ (t .before .is-name .ensures) (t .if3 .left)) (m .emit-attribute-equal .ensures)
 
 pub emit-component-spec : {M : Type 1} → statement M
 emit-component-spec =
@@ -71,10 +66,10 @@ emit-component-spec =
     emit-nth-requires
     same-length-2
     returns-2
-    emit-attribute-equal-requires
+    is-name-requires
+    emit-name-requires
     same-length-3
     returns-3
-    name-kind-requires
-    emit-name-requires
+    emit-attribute-equal-requires
     same-length-4
     returns-4)

@@ -6,14 +6,15 @@ use Rattle.compiled.proofs.components.emit_name.Tie as tie
 emit-number-requires : tie.Need-emit-number-requires
 emit-number-requires c κs = search needs
 
-emit-text-requires : tie.Need-emit-text-requires
-emit-text-requires c κs = search needs
+emit-text-part-requires : tie.Need-emit-text-part-requires
+emit-text-part-requires c κs = search needs
 
 same-length : tie.Need-same-length
 same-length c = search needs
 
 returns : tie.Need-returns
-returns c = let m = c .before .before in then _ _ _ _ _ (m .before .before .before .before .emit-number .ensures) (m .emit-text .ensures)
+returns c = let m = c .before .before in then _ _ _ _ _ (m .before .before .before .before .emit-number .ensures) (m .emit-text-part .ensures)
 
 pub emit-name-spec : {M : Type 1} → statement M
-emit-name-spec = tie.close (tie.spec emit-number-requires emit-text-requires same-length returns)
+emit-name-spec =
+    tie.close (tie.spec emit-number-requires emit-text-part-requires same-length returns)

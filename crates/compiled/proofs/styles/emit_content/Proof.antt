@@ -1,4 +1,4 @@
-use Rattle.compiled.proofs.Written as laws
+use Rattle.combinators.proofs.Emitted.{then}
 use borrow.Author.Needs.{needs}
 use Rattle.compiled.proofs.styles.emit_content.Statement.{statement}
 use Rattle.compiled.proofs.styles.emit_content.Tie as tie
@@ -6,19 +6,15 @@ use Rattle.compiled.proofs.styles.emit_content.Tie as tie
 emit-number-requires : tie.Need-emit-number-requires
 emit-number-requires c κs = search needs
 
-part-of-requires : tie.Need-part-of-requires
-part-of-requires c κs = search needs
-
-emit-text-requires : tie.Need-emit-text-requires
-emit-text-requires c κs = laws.part-short _ _ _ _ (c .before .part-of .ensures) (search needs)
+emit-text-part-requires : tie.Need-emit-text-part-requires
+emit-text-part-requires c κs = search needs
 
 same-length : tie.Need-same-length
 same-length c = search needs
 
 returns : tie.Need-returns
-returns c = let m = c .before .before in laws.part-written _ _ _ _ _ _ _ (m .before .before .before .before .before .emit-number .ensures) _ (m .before .before .part-of .ensures) (m .emit-text .ensures)
+returns c = let m = c .before .before in then _ _ _ _ _ (m .before .before .before .before .emit-number .ensures) (m .emit-text-part .ensures)
 
 pub emit-content-spec : {M : Type 1} → statement M
 emit-content-spec =
-    tie.close
-    (tie.spec emit-number-requires part-of-requires emit-text-requires same-length returns)
+    tie.close (tie.spec emit-number-requires emit-text-part-requires same-length returns)
