@@ -1,1 +1,2 @@
 pub mod Selectors
+pub mod Writing

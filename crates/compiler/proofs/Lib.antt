@@ -1,0 +1,5 @@
+pub mod WalkLaws
+pub mod EmittingLaws
+pub mod StyleWriting
+pub mod SelectorWriting
+pub mod RuleWriting
