@@ -1,4 +1,9 @@
 pub mod Range
+pub mod WalkLaws
+pub mod EmittingLaws
+pub mod StyleWriting
+pub mod SelectorWriting
+pub mod RuleWriting
 pub mod Parts
 pub mod ReadingLaws
 pub mod SheetsLaws

@@ -1,3 +1,8 @@
 // The compiler: the selectors of three sheets (specs/) as the bytes of a compiled sheet.
 pub mod reading; // reading.rt: the three sheets into one set of stores
+pub mod walk; // walk.rt: places in rule rows
+pub mod styles; // styles.rt: the styles of a rule, counted and written
+pub mod selectors; // selectors.rt: one selector, written
+pub mod rules; // rules.rt: rules, written, and their selectors counted
+pub mod writing; // writing.rt: the rows of three sheets as one compiled sheet
 pub mod compile; // compile.rt: the entry point

@@ -1,0 +1,43 @@
+-- A loop that reads values one behind the other and writes the bytes of each.
+use mathlib.Core.Path.{_≡_, refl, sym, ap, _∙_}
+use mathlib.Core.List.{List, [], _∷_, _++_}
+use Prim.Native.Nat.{ℕ, zero, suc, _-_, _≤_, _<_}
+use native.Mathlib.Omega.{arith}
+use lib.ListN.{length, drop}
+use Rattle.combinators.specs.Store.{emits}
+use Rattle.combinators.proofs.Emitted.{emits-none, onto}
+use Rattle.syntax.specs.Stream.{Read, readMany, textsMany}
+
+module _ {A : Type 0} (u : List ℕ → Read A) (w : A → List ℕ) (rows : List ℕ) (count at : ℕ) (st₀ : List ℕ) (fill : ℕ) where
+  -- what is left to write of n values from a place on is what was to be written
+  pub record Emitting (n place : ℕ) (st : List ℕ) (f : ℕ) : Type 0 where
+    pub left : emits (record { bytes = st; fill = f }) (textsMany w (readMany u n (drop place rows) .value))
+        ≡ emits (record { bytes = st₀; fill = fill }) (textsMany w (readMany u count (drop at rows) .value))
+    pub long : length st ≡ length st₀
+
+  -- nothing is written yet
+  pub emitting-begin : Emitting count at st₀ fill
+  emitting-begin = record { left = refl; long = refl }
+
+  one-less : (n place next : ℕ) → 0 < n → drop next rows ≡ u (drop place rows) .rest
+      → textsMany w (readMany u n (drop place rows) .value) ≡ w (u (drop place rows) .value) ++ textsMany w (readMany u (n - 1) (drop next rows) .value)
+  unfolding readMany textsMany
+  one-less zero place next h e = absurd (omega arith)
+  one-less (suc k) place next h e = let q : suc k - 1 ≡ k = omega arith in rw (q, e)
+
+  none-left : (n : ℕ) (t : List ℕ) → n ≤ 0 → textsMany w (readMany u n t .value) ≡ []
+  unfolding readMany textsMany
+  none-left zero t h = refl
+  none-left (suc k) t h = absurd (omega arith)
+
+  module _ (n place : ℕ) (st : List ℕ) (f : ℕ) (c : Emitting n place st f) where
+    -- one is written
+    pub emitting-more : 0 < n → (z : List ℕ) (g : ℕ) → record { bytes = z; fill = g } ≡ emits (record { bytes = st; fill = f }) (w (u (drop place rows) .value))
+        → length z ≡ length st → (next : ℕ) → drop next rows ≡ u (drop place rows) .rest → Emitting (n - 1) next z g
+    emitting-more h z g e k next d =
+        record { left = onto _ _ _ _ e ∙ sym (ap (emits (record { bytes = st; fill = f })) (one-less n place next h d)) ∙ c .left; long = k ∙ c .long }
+
+    -- all are written
+    pub emitting-done : n ≤ 0
+        → record { bytes = st; fill = f } ≡ emits (record { bytes = st₀; fill = fill }) (textsMany w (readMany u count (drop at rows) .value))
+    emitting-done h = sym (ap (emits (record { bytes = st; fill = f })) (none-left n (drop place rows) h) ∙ emits-none _) ∙ c .left

@@ -1,0 +1,214 @@
+-- Returns and turns of the functions that count and write the styles of a rule.
+use mathlib.Core.Path.{_≡_, refl, sym, ap, _∙_}
+use mathlib.Core.Bool.{Bool, true, false, _||_, _&&_}
+use mathlib.Core.List.{List, [], _∷_, _++_, append-nil}
+use Prim.Native.Nat.{ℕ, zero, suc, _+_, _*_, _-_, _≤_, _<_}
+use native.Mathlib.Omega.{arith}
+use lib.ListN.{length, drop, length-append}
+use lib.Seq.{drop-drop}
+use Rattle.combinators.specs.Choice.{pick, or, and, is}
+use Rattle.combinators.specs.Store.{Store, emits}
+use Rattle.combinators.proofs.Emitted.{emits-none, then}
+use Rattle.combinators.proofs.Rules.{pick-true, pick-false, or-assoc, or-false}
+use Rattle.syntax.specs.Declaration.{Declaration}
+use Rattle.syntax.specs.Layout as layout
+use Rattle.syntax.specs.Layout.{flag, flagOf, declarationWidth, readDeclaration, declarationsAt, displaySlot, styleWidth}
+use Rattle.syntax.specs.Stream.{textsMany}
+use Rattle.syntax.specs.Style as style
+use Rattle.syntax.specs.Style.{StyleDecl}
+use Rattle.syntax.proofs.Streams.{texts-append}
+use Rattle.declarations.specs.Styles.{one, styleOf, zeroHeight, hidesOverflow, anyDecl, ownStyles, stylesOf}
+use Rattle.declarations.specs.StyleNumbers.{ownRow, zeroRow, hiddenRow, numbersBy, ownRows, anyRow, addedRow, styleNumbers, styleCount}
+use Rattle.declarations.specs.declared.styles.OwnStyle.{OwnStyle}
+use Rattle.declarations.specs.declared.styles.OwnStyle.the-variants.{Style, NoStyle}
+use Rattle.declarations.proofs.StyleLaws.{Reads, reads-alone, reads-nothing, reads-declared, any-zero, any-hidden, count-styles, styles-few}
+use Rattle.declarations.proofs.Styling.{or-is, and-is}
+use Rattle.compiled.specs.Number.{numberLimit, numberBytes}
+use Rattle.compiled.specs.Style.{styleBytes}
+use Rattle.compiled.specs.Sheet.{stylesBytes}
+use Rattle.compiler.specs.Writing.{stylesFound, ownBytes}
+use Rattle.compiler.specs.declared.styles.StylesFound.{StylesFound}
+use Rattle.compiler.proofs.WalkLaws.{many-length}
+
+-- ---- the style that a declaration asks for by itself
+module _ (t : List ℕ) (r : OwnStyle) (e : numbersBy r ≡ ownRow t) where
+  -- there is one
+  pub own-one : (s i a b : ℕ) → r ≡ Style s i a b → (styleWidth * 1 ≡ length (ownRow t)) × (1 ≤ 1)
+  unfolding numbersBy
+  own-one s i a b h = (sym (ap length (sym e ∙ ap numbersBy h)), omega arith)
+
+  -- there is none
+  pub own-none : r ≡ NoStyle → (styleWidth * 0 ≡ length (ownRow t)) × (0 ≤ 1)
+  unfolding numbersBy
+  own-none h = (sym (ap length (sym e ∙ ap numbersBy h)), omega arith)
+
+  module _ (texts : List ℕ) (o₀ : Store) where
+    -- the styles of the declaration there
+    abbrev asked : List StyleDecl
+    asked = styleOf (readDeclaration texts t .value .important) (readDeclaration texts t .value .decl)
+
+    -- it is written
+    pub own-written : (s i a b : ℕ) → r ≡ Style s i a b → (o₁ : Store)
+        → o₁ ≡ emits o₀ (styleBytes (record { style = layout.styleOf texts s a b; important = flagOf i }))
+        → o₁ ≡ emits o₀ (ownBytes (readDeclaration texts t .value))
+    unfolding numbersBy ownBytes textsMany
+    own-written s i a b h o₁ p =
+        let q : ownRow t ≡ s ∷ i ∷ a ∷ b ∷ [] = sym e ∙ ap numbersBy h in
+        let alone = reads-alone texts s i a b asked (rw q at (reads-declared texts t)) in
+        p ∙ ap (emits o₀) (sym (append-nil _) ∙ ap (textsMany styleBytes) (sym alone))
+
+    -- none is written
+    pub own-left-out : r ≡ NoStyle → o₀ ≡ emits o₀ (ownBytes (readDeclaration texts t .value))
+    unfolding numbersBy ownBytes textsMany
+    own-left-out h =
+        let q : ownRow t ≡ [] = sym e ∙ ap numbersBy h in
+        let nothing = reads-nothing texts asked (rw q at (reads-declared texts t)) in
+        sym (emits-none o₀) ∙ ap (emits o₀) (ap (textsMany styleBytes) (sym nothing))
+
+-- ---- turns of `count_styles`: what is counted and what is left make what was to be counted
+pub record Finding (rows : List ℕ) (count at own : ℕ) (height-zero overflow-hidden : Bool) (place n : ℕ) : Type 0 where
+  pub left : styleWidth * own + length (ownRows n (drop place rows)) ≡ length (ownRows count (drop at rows))
+  pub height : or height-zero (anyRow zeroRow n (drop place rows)) ≡ anyRow zeroRow count (drop at rows)
+  pub overflow : or overflow-hidden (anyRow hiddenRow n (drop place rows)) ≡ anyRow hiddenRow count (drop at rows)
+  pub few : own + n ≤ count
+
+-- nothing is counted yet
+pub finding-begin : (rows : List ℕ) (count at : ℕ) → Finding rows count at 0 false false at count
+unfolding or
+finding-begin rows count at = record { left = omega arith; height = refl; overflow = refl; few = omega arith }
+
+-- a declaration less
+rows-step : (n : ℕ) (t : List ℕ) → 0 < n → ownRows n t ≡ ownRow t ++ ownRows (n - 1) (drop declarationWidth t)
+unfolding ownRows
+rows-step zero t h = absurd (omega arith)
+rows-step (suc k) t h = let q : suc k - 1 ≡ k = omega arith in rw q
+
+any-step : (p : List ℕ → Bool) (n : ℕ) (t : List ℕ) → 0 < n → anyRow p n t ≡ or (p t) (anyRow p (n - 1) (drop declarationWidth t))
+unfolding anyRow
+any-step p zero t h = absurd (omega arith)
+any-step p (suc k) t h = let q : suc k - 1 ≡ k = omega arith in rw q
+
+-- none left
+rows-none : (n : ℕ) (t : List ℕ) → n ≤ 0 → ownRows n t ≡ []
+unfolding ownRows
+rows-none zero t h = refl
+rows-none (suc k) t h = absurd (omega arith)
+
+any-none : (p : List ℕ → Bool) (n : ℕ) (t : List ℕ) → n ≤ 0 → anyRow p n t ≡ false
+unfolding anyRow
+any-none p zero t h = refl
+any-none p (suc k) t h = absurd (omega arith)
+
+-- a test of the declarations that are left, where x is its answer for the first
+any-more : (p : List ℕ → Bool) (n : ℕ) (t t₁ : List ℕ) (z x v : Bool) → 0 < n → x ≡ p t → t₁ ≡ drop declarationWidth t
+    → or z (anyRow p n t) ≡ v → or (z || x) (anyRow p (n - 1) t₁) ≡ v
+any-more p n t t₁ z x v h e d w =
+    let q : or x (anyRow p (n - 1) t₁) ≡ anyRow p n t = rw (e, d) (sym (any-step p n t h)) in
+    rw (or-is z x) (sym (or-assoc z x (anyRow p (n - 1) t₁)) ∙ ap (or z) q ∙ w)
+
+-- how long the row of the style is that is added
+added-length : (z : Bool) → length (pick z addedRow []) ≡ styleWidth * flag z
+unfolding pick flag
+added-length true = refl
+added-length false = refl
+
+module _ (rows : List ℕ) (count at own : ℕ) (height-zero overflow-hidden : Bool) (place n : ℕ)
+    (c : Finding rows count at own height-zero overflow-hidden place n) where
+  -- a declaration
+  pub finding-more : 0 < n → (r : ℕ) → styleWidth * r ≡ length (ownRow (drop place rows)) → r ≤ 1 → (x y : Bool) → x ≡ zeroRow (drop place rows)
+      → y ≡ hiddenRow (drop place rows) → (next : ℕ) → drop next rows ≡ drop (place + declarationWidth) rows
+      → Finding rows count at (own + r) (height-zero || x) (overflow-hidden || y) next (n - 1)
+  finding-more h r er l x y ex ey next d =
+      let t = drop place rows in
+      let dt : drop next rows ≡ drop declarationWidth t = d ∙ sym (drop-drop declarationWidth place rows) in
+      let q : length (ownRows n t) ≡ length (ownRow t) + length (ownRows (n - 1) (drop next rows)) = rw (dt, rows-step n t h) (length-append (ownRow t) _) in
+      record {
+        left = omega (arith, c .left, er, q);
+        height = any-more zeroRow n t (drop next rows) height-zero x _ h ex dt (c .height);
+        overflow = any-more hiddenRow n t (drop next rows) overflow-hidden y _ h ey dt (c .overflow);
+        few = omega (arith, c .few, l);
+      }
+
+  -- all declarations
+  module _ (h : n ≤ 0) where
+    abbrev both : Bool
+    both = and (anyRow zeroRow count (drop at rows)) (anyRow hiddenRow count (drop at rows))
+
+    both-is : (height-zero && overflow-hidden) ≡ both
+    both-is =
+        and-is height-zero overflow-hidden
+        ∙ rw (
+          sym (c .height),
+          sym (c .overflow),
+          or-false height-zero _ (any-none zeroRow n (drop place rows) h),
+          or-false overflow-hidden _ (any-none hiddenRow n (drop place rows) h),
+        )
+
+    total-is : (f : ℕ) → f ≡ flag (height-zero && overflow-hidden) → own + f ≡ styleCount (drop at rows) count
+    unfolding styleCount styleNumbers
+    total-is f e =
+        let t = drop at rows in
+        let g : f ≡ flag both = e ∙ ap flag both-is in
+        let o : styleWidth * own ≡ length (ownRows count t) = omega (arith, c .left, ap length (rows-none n (drop place rows) h)) in
+        omega (arith, length-append (ownRows count t) (pick both addedRow []), added-length both, g, o)
+
+    -- the total is no more than the declarations are
+    pub finding-fits : (f : ℕ) → f ≡ flag (height-zero && overflow-hidden) → count < numberLimit → own + f < numberLimit
+    unfolding declarationsAt
+    finding-fits f e l =
+        let ds = declarationsAt (drop at rows) [] count in
+        omega (arith, total-is f e, count-styles [] (drop at rows) count, styles-few ds, many-length (readDeclaration []) count (drop at rows))
+
+    -- all is counted
+    pub finding-done : (f : ℕ) → f ≡ flag (height-zero && overflow-hidden)
+        → record { count = own + f; added = height-zero && overflow-hidden } ≡ stylesFound (drop at rows) count
+    unfolding stylesFound
+    finding-done f e = rw (total-is f e, both-is)
+
+-- ---- returns of `emit_styles`
+-- the styles that declarations ask for by themselves
+own-bytes : (ds : List Declaration) → textsMany styleBytes (ownStyles ds) ≡ textsMany ownBytes ds
+unfolding textsMany ownStyles ownBytes
+own-bytes [] = refl
+own-bytes (d ∷ ds) =
+    texts-append (λ _ _. []) styleBytes (styleOf (d .important) (d .decl)) (ownStyles ds) ∙ ap (λ (l : List ℕ). textsMany styleBytes (styleOf (d .important) (d .decl)) ++ l) (own-bytes ds)
+
+-- how many these are with the one that is added
+pub found-count : (t : List ℕ) (n : ℕ) (x : StylesFound) → x ≡ stylesFound t n → (texts : List ℕ) → x .count ≡ length (stylesOf (declarationsAt t texts n))
+unfolding stylesFound
+found-count t n x e texts = ap (λ (y : StylesFound). y .count) e ∙ count-styles texts t n
+
+found-added : (t : List ℕ) (n : ℕ) (x : StylesFound) → x ≡ stylesFound t n → (texts : List ℕ)
+    → x .added ≡ and (anyDecl zeroHeight (declarationsAt t texts n)) (anyDecl hidesOverflow (declarationsAt t texts n))
+unfolding stylesFound
+found-added t n x e texts = ap (λ (y : StylesFound). y .added) e ∙ rw (any-zero texts n t, any-hidden texts n t)
+
+module _ (t : List ℕ) (n : ℕ) (x : StylesFound) (e : x ≡ stylesFound t n) (texts : List ℕ) (o₀ o₁ o₂ : Store) (p : o₁ ≡ emits o₀ (numberBytes (x .count)))
+    (q : o₂ ≡ emits o₁ (textsMany ownBytes (declarationsAt t texts n))) where
+  abbrev declared : List Declaration
+  declared = declarationsAt t texts n
+
+  -- with what is added
+  all-bytes : (xs : List StyleDecl) → pick (x .added) (one false style.displayNone) [] ≡ xs
+      → numberBytes (x .count) ++ (textsMany ownBytes declared ++ textsMany styleBytes xs) ≡ stylesBytes (stylesOf declared)
+  unfolding stylesBytes stylesOf
+  all-bytes xs d =
+      let z = and (anyDecl zeroHeight declared) (anyDecl hidesOverflow declared) in
+      let a : xs ≡ pick z (one false style.displayNone) [] = sym d ∙ rw (found-added t n x e texts) in
+      rw (found-count t n x e texts, a, ← own-bytes declared)
+      (ap (λ (l : List ℕ). numberBytes (length (stylesOf declared)) ++ l) (sym (texts-append (λ _ _. []) styleBytes (ownStyles declared) (pick z (one false style.displayNone) []))))
+
+  -- `display: none` is added
+  pub styles-added : x .added ≡ true → (o₃ : Store) → o₃ ≡ emits o₂ (styleBytes (record { style = layout.styleOf texts displaySlot 0 0; important = flagOf 0 }))
+      → o₃ ≡ emits o₀ (stylesBytes (stylesOf declared))
+  unfolding layout.styleOf flagOf pick is textsMany one
+  styles-added h o₃ r =
+      then o₀ o₁ o₃ _ _ p (then o₁ o₂ o₃ _ _ q (r ∙ ap (emits o₂) (sym (append-nil _))))
+      ∙ ap (emits o₀) (all-bytes (one false style.displayNone) (rw h))
+
+  -- it is not
+  pub styles-own : x .added ≡ false → o₂ ≡ emits o₀ (stylesBytes (stylesOf declared))
+  unfolding pick textsMany
+  styles-own h =
+      then o₀ o₁ o₂ _ _ p (then o₁ o₂ o₂ _ _ q (sym (emits-none o₂)))
+      ∙ ap (emits o₀) (all-bytes [] (rw h))

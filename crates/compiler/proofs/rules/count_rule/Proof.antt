@@ -1,0 +1,40 @@
+use Rattle.compiler.proofs.RuleWriting as laws
+use borrow.Author.Needs.{needs}
+use Rattle.compiler.proofs.rules.count_rule.Statement.{statement}
+use Rattle.compiler.proofs.rules.count_rule.Tie as tie
+
+rule-declarations-requires : tie.Need-rule-declarations-requires
+rule-declarations-requires c κs = search needs
+
+number-at-requires : tie.Need-number-at-requires
+number-at-requires c κs = search needs
+
+count-styles-requires : tie.Need-count-styles-requires
+count-styles-requires c κs = search needs
+
+returns : tie.Need-returns
+returns c = let s = c .before .before in
+    let d = s .before .before in
+    let a = d .before .before .args in
+    laws.rule-uncounted (a .rows .now) (a .at) (d .rule-declarations .result) _ (d .rule-declarations .ensures) (s .before .number-at .ensures) _ (s .count-styles .ensures) (c .if1 .taken)
+
+number-at-requires-2 : tie.Need-number-at-requires-2
+number-at-requires-2 c κs = search needs
+
+returns-2 : tie.Need-returns-2
+returns-2 c = let t = c .before in
+    let s = t .before .before in
+    let d = s .before .before in
+    let a = d .before .before .args in
+    laws.rule-counted (a .rows .now) (a .at) (d .rule-declarations .result) _ (d .rule-declarations .ensures) (s .before .number-at .ensures) _ (s .count-styles .ensures) (t .if1 .left) _ (c .number-at2 .ensures)
+
+pub count-rule-spec : {M : Type 1} → statement M
+count-rule-spec =
+    tie.close
+    (tie.spec
+    rule-declarations-requires
+    number-at-requires
+    count-styles-requires
+    returns
+    number-at-requires-2
+    returns-2)
