@@ -12,7 +12,7 @@ use Rattle.combinators.proofs.Rules.{never, pick-true, pick-false, or-gives, or
 use Rattle.unicode.specs.Utf8.{valid}
 use Rattle.sheets.specs.SheetAnswer.{sheetLimit, textLeast, bracketLeast, numberLeast, storesSuffice}
 use Rattle.compiler.specs.Reading.{sheetsOf}
-use Rattle.compiler.specs.CompileAnswer.{compiledLimit, roomOf, CompileLeft, unchanged, compiledLeft, anyTooLong, allValid, compileOf, Lent}
+use Rattle.compiler.specs.CompileAnswer.{CompileLeft, unchanged, compiledLeft, anyTooLong, allValid, compileOf, Lent}
 use Rattle.compiler.specs.declared.compile.CompileAnswer.{CompileAnswer}
 use Rattle.compiler.specs.declared.compile.CompileAnswer.the-variants.{TooLong, ShortStore, NotUtf8}
 
@@ -59,12 +59,3 @@ module _ (a u w : List ℕ) where
     pub author-valid : {v x : Bool} → v ≡ valid u → v ≡ true → x ≡ valid w → x ≡ allValid a u w
     unfolding allValid
     author-valid {v} {x} g h k = and-gives _ _ x (sym e ∙ f) (and-gives _ _ x (sym g ∙ h) k)
-
--- ---- the room of a buffer
-pub room-limit : (n : ℕ) → compiledLimit < n → compiledLimit ≡ roomOf n
-unfolding roomOf
-room-limit n h = pick-true _ _ _ _ (lt-ltb compiledLimit n h) refl
-
-pub room-whole : (n : ℕ) → n ≤ compiledLimit → n ≡ roomOf n
-unfolding roomOf
-room-whole n h = pick-false _ _ _ _ (le-ltb compiledLimit n h) refl

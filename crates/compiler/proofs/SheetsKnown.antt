@@ -1,7 +1,7 @@
 -- What the answer of `read_sheets` tells of the three sheets: that each was read, and that the rules which lie in the stores are those that it means.
 use mathlib.Core.Path.{_≡_, refl, ap, sym, _∙_}
 use mathlib.Core.List.{List, [], _++_, append-assoc}
-use Prim.Native.Nat.{ℕ, _+_, _*_, _≤_, _<_}
+use Prim.Native.Nat.{ℕ, _+_, _-_, _≤_}
 use native.Mathlib.Omega.{arith}
 use lib.ListN.{length, drop, replicate, length-append}
 use lib.Seq.{sets, drop-at}
@@ -134,42 +134,91 @@ back rs rows texts t more n place from fit en er et =
     rw (en, er) (rules-back (drop from texts) rs 0 t fit (record { more = more; held = et }))
 
 -- ---- what lies in the stores is what the sheets mean
-module _ {agent user author texts₀ rules₀ tokens brackets : List ℕ} (o : Lent agent user author texts₀ rules₀ tokens brackets) {a u w : List RuleSet}
-    (k : Known agent user author a u w) where
-  agent-keeps : SheetKeeps agent (k .agent-stop) a
-  agent-keeps = sheet-keeps agent (k .agent-stop) a (k .agent-read)
+module _ {agent user author texts₀ rules₀ tokens brackets : List ℕ} (o : Lent agent user author texts₀ rules₀ tokens brackets)
+    {c d n t e p f x : ℕ} (m : Came (sheetsOf agent user author) c d n t e p f x) where
+  pub known : Known agent user author (m .agent) (m .user) (m .author)
+  known = sheets-known agent user author (m .agent) (m .user) (m .author) (m .is)
 
-  user-keeps : SheetKeeps user (k .user-stop) u
-  user-keeps = sheet-keeps user (k .user-stop) u (k .user-read)
+  agent-keeps : SheetKeeps agent (known .agent-stop) (m .agent)
+  agent-keeps = sheet-keeps agent (known .agent-stop) (m .agent) (known .agent-read)
 
-  author-keeps : SheetKeeps author (k .author-stop) w
-  author-keeps = sheet-keeps author (k .author-stop) w (k .author-read)
+  user-keeps : SheetKeeps user (known .user-stop) (m .user)
+  user-keeps = sheet-keeps user (known .user-stop) (m .user) (known .user-read)
 
-  xs : List ℕ
-  xs = ruleRows 0 a ++ (ruleRows 0 u ++ ruleRows 0 w)
+  author-keeps : SheetKeeps author (known .author-stop) (m .author)
+  author-keeps = sheet-keeps author (known .author-stop) (m .author) (known .author-read)
 
-  ts : List ℕ
-  ts = ruleTexts a ++ (ruleTexts u ++ ruleTexts w)
+  abbrev pub rowsHeld : List ℕ
+  rowsHeld = ruleRows 0 (m .agent) ++ (ruleRows 0 (m .user) ++ ruleRows 0 (m .author))
+
+  abbrev pub textsHeld : List ℕ
+  textsHeld = ruleTexts (m .agent) ++ (ruleTexts (m .user) ++ ruleTexts (m .author))
+
+  rows-length : length rowsHeld ≡ length (ruleRows 0 (m .agent)) + length (ruleRows 0 (m .user)) + length (ruleRows 0 (m .author))
+  rows-length =
+      omega (arith, length-append (ruleRows 0 (m .agent)) (ruleRows 0 (m .user) ++ ruleRows 0 (m .author)), length-append (ruleRows 0 (m .user)) (ruleRows 0 (m .author)))
+
+  pub texts-length : length textsHeld ≡ length (ruleTexts (m .agent)) + length (ruleTexts (m .user)) + length (ruleTexts (m .author))
+  texts-length =
+      omega (arith, length-append (ruleTexts (m .agent)) (ruleTexts (m .user) ++ ruleTexts (m .author)), length-append (ruleTexts (m .user)) (ruleTexts (m .author)))
 
   -- rows and texts are no more than the stores hold
-  rows-fit : length xs ≤ length rules₀
-  unfolding xs
+  rows-fit : length rowsHeld ≤ length rules₀
   rows-fit =
-      omega (arith, length-append (ruleRows 0 a) (ruleRows 0 u ++ ruleRows 0 w), length-append (ruleRows 0 u) (ruleRows 0 w), agent-keeps .wide, user-keeps .wide, author-keeps .wide, agent-keeps .within, user-keeps .within, author-keeps .within, o .for-rules)
+      omega (arith, rows-length, agent-keeps .wide, user-keeps .wide, author-keeps .wide, agent-keeps .within, user-keeps .within, author-keeps .within, o .for-rules)
 
-  pub texts-fit : length ts ≤ length texts₀
-  unfolding ts
+  texts-fit : length textsHeld ≤ length texts₀
   texts-fit =
-      omega (arith, length-append (ruleTexts a) (ruleTexts u ++ ruleTexts w), length-append (ruleTexts u) (ruleTexts w), agent-keeps .long, user-keeps .long, author-keeps .long, agent-keeps .within, user-keeps .within, author-keeps .within, o .for-texts)
+      omega (arith, texts-length, agent-keeps .long, user-keeps .long, author-keeps .long, agent-keeps .within, user-keeps .within, author-keeps .within, o .for-texts)
 
-  -- how they lie there
-  pub rows-lie : sets (cleared 0 rules₀) 0 xs ≡ padded xs (length rules₀)
-  rows-lie = stored xs rules₀ rows-fit
+  -- how the texts lie there
+  pub texts-lie : sets (cleared 0 texts₀) 0 textsHeld ≡ padded textsHeld (length texts₀)
+  texts-lie = stored textsHeld texts₀ texts-fit
 
-  pub texts-lie : sets (cleared 0 texts₀) 0 ts ≡ padded ts (length texts₀)
-  texts-lie = stored ts texts₀ texts-fit
+  module _ {rows texts : List ℕ} (er : rows ≡ sets (cleared 0 rules₀) 0 rowsHeld) (et : texts ≡ sets (cleared 0 texts₀) 0 textsHeld) where
+    zr : List ℕ
+    zr = replicate (length rules₀ - length rowsHeld) 0
 
-  module _ {c d n t e p f x : ℕ} (m : Came (rules a u w) c d n t e p f x) {rows texts : List ℕ} (er : rows ≡ sets (cleared 0 rules₀) 0 xs)
-      (et : texts ≡ sets (cleared 0 texts₀) 0 ts) where
-    selectors-are : selectorsFrom rows texts c d n t e p f ≡ selectorsOf a u w
-    selectors-are = ?
+    zt : List ℕ
+    zt = replicate (length texts₀ - length textsHeld) 0
+
+    rows-are : rows ≡ rowsHeld ++ zr
+    unfolding padded zr
+    rows-are = er ∙ stored rowsHeld rules₀ rows-fit
+
+    texts-are : texts ≡ textsHeld ++ zt
+    unfolding padded zt
+    texts-are = et ∙ texts-lie
+
+    agent-back : rulesFrom rows texts c 0 0 ≡ m .agent
+    agent-back =
+        back (m .agent) rows texts _ _ c 0 0 (agent-keeps .fit) (m .agents)
+        (ap (drop 0) rows-are ∙ from-first (ruleRows 0 (m .agent)) (ruleRows 0 (m .user)) (ruleRows 0 (m .author)) zr)
+        (ap (drop 0) texts-are ∙ from-first (ruleTexts (m .agent)) (ruleTexts (m .user)) (ruleTexts (m .author)) zt)
+
+    user-back : rulesFrom rows texts d n t ≡ m .user
+    user-back =
+        back (m .user) rows texts _ _ d n t (user-keeps .fit) (m .users)
+        (ap (drop n) rows-are ∙ from-second (ruleRows 0 (m .agent)) (ruleRows 0 (m .user)) (ruleRows 0 (m .author)) zr n (m .place))
+        (ap (drop t) texts-are ∙ from-second (ruleTexts (m .agent)) (ruleTexts (m .user)) (ruleTexts (m .author)) zt t (m .from))
+
+    author-back : rulesFrom rows texts e p f ≡ m .author
+    author-back =
+        back (m .author) rows texts _ _ e p f (author-keeps .fit) (m .authors)
+        (ap (drop p) rows-are ∙ from-third (ruleRows 0 (m .agent)) (ruleRows 0 (m .user)) (ruleRows 0 (m .author)) zr p (m .last-place))
+        (ap (drop f) texts-are ∙ from-third (ruleTexts (m .agent)) (ruleTexts (m .user)) (ruleTexts (m .author)) zt f (m .last-from))
+
+    -- the selectors that lie there are those of the sheets
+    pub selectors-are : selectorsFrom rows texts c d n t e p f ≡ selectorsOf (m .agent) (m .user) (m .author)
+    unfolding selectorsFrom
+    selectors-are = rw (agent-back, user-back, author-back) refl
+
+    -- so they can be written
+    pub lying : Lying rows texts c d n t e p f
+    lying =
+        let l : length texts ≡ length textsHeld + length zt = ap length texts-are ∙ length-append textsHeld zt in
+        record {
+          user-texts = omega (arith, l, texts-length, m .from);
+          author-texts = omega (arith, l, texts-length, m .last-from);
+          few = rw selectors-are (selectors-bits agent user author (known .agent-read) (known .user-read) (known .author-read) (o .agent-within) (o .user-within) (o .author-within));
+        }

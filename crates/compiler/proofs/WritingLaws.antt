@@ -6,9 +6,8 @@ use Prim.Native.Nat.{ℕ, _+_, _-_, _^_, _≤_, _<_}
 use native.Mathlib.Nat.{zero-add}
 use native.Mathlib.Omega.{arith}
 use borrow.Author.Tests.{lt-ltb, le-ltb, le-leb, lt-leb}
-use borrow.Rule.Slice.PartMut.{putMid, post-is}
-use lib.ListN.{length, take, drop, length-append, length-take-le}
-use lib.Seq.{sets}
+use lib.ListN.{length, take, drop, length-append, length-drop}
+use lib.Seq.{length-take-le}
 use Rattle.combinators.specs.Store.{Store, emits}
 use Rattle.combinators.proofs.Emitted.{then, emits-fill, emits-over, sets-emitted}
 use Rattle.combinators.proofs.Lists.{rest}
@@ -46,9 +45,13 @@ texts-both (x ∷ xs) ys =
 
 -- ---- three sheets
 module _ (rows texts : List ℕ) (agents users place from authors lastPlace lastFrom : ℕ) where
-  a u w : List CompiledSelector
+  a : List CompiledSelector
   a = sheetSelectors agentOrigin (rulesFrom rows texts agents 0 0)
+
+  u : List CompiledSelector
   u = sheetSelectors userOrigin (rulesFrom rows texts users place from)
+
+  w : List CompiledSelector
   w = sheetSelectors authorOrigin (rulesFrom rows texts authors lastPlace lastFrom)
 
   abbrev all : List CompiledSelector
@@ -60,9 +63,34 @@ module _ (rows texts : List ℕ) (agents users place from authors lastPlace last
   total = omega (arith, length-append a (u ++ w), length-append u w)
 
   -- their bytes, in the order of writing
-  bytes-are : numberBytes (length all) ++ textsMany selectorBytes a ++ textsMany selectorBytes u ++ textsMany selectorBytes w ≡ encode all
+  bytes-are : ((numberBytes (length all) ++ textsMany selectorBytes a) ++ textsMany selectorBytes u) ++ textsMany selectorBytes w ≡ encode all
   unfolding a u w selectorsFrom selectorsOf encode
-  bytes-are = ?
+  bytes-are =
+      let n : List ℕ = numberBytes (length all) in
+      let x : List ℕ = textsMany selectorBytes a in
+      let y : List ℕ = textsMany selectorBytes u in
+      let z : List ℕ = textsMany selectorBytes w in
+      append-assoc (n ++ x) y z ∙ append-assoc n x (y ++ z)
+      ∙ ap (λ (r : List ℕ). n ++ r) (ap (λ (r : List ℕ). x ++ r) (sym (texts-both u w)) ∙ sym (texts-both a (u ++ w)))
+
+  -- the count and the three sheets, one behind the other
+  pub all-written : (o₀ o₁ o₂ o₃ o₄ : Store) (count : ℕ) → count ≡ length all → o₁ ≡ emits o₀ (numberBytes count)
+      → o₂ ≡ emits o₁ (textsMany selectorBytes (sheetSelectors agentOrigin (readMany (readRule texts) agents (drop 0 rows) .value)))
+      → o₃ ≡ emits o₂ (textsMany selectorBytes (sheetSelectors userOrigin (readMany (readRule (take (length texts - from) (drop from texts))) users (drop place rows) .value)))
+      → o₄ ≡ emits o₃ (textsMany selectorBytes (sheetSelectors authorOrigin (readMany (readRule (take (length texts - lastFrom) (drop lastFrom texts))) authors (drop lastPlace rows) .value)))
+      → o₄ ≡ emits o₀ (encode all)
+  unfolding a u w rulesFrom rulesAt
+  all-written o₀ o₁ o₂ o₃ o₄ count ec e₁ e₂ e₃ e₄ =
+      let n : List ℕ = numberBytes (length all) in
+      let x : List ℕ = textsMany selectorBytes a in
+      let y : List ℕ = textsMany selectorBytes u in
+      let z : List ℕ = textsMany selectorBytes w in
+      let f₁ : o₁ ≡ emits o₀ n = e₁ ∙ ap (λ (k : ℕ). emits o₀ (numberBytes k)) ec in
+      let f₃ : o₃ ≡ emits o₂ y =
+      e₃ ∙ ap (λ (t : List ℕ). emits o₂ (textsMany selectorBytes (sheetSelectors userOrigin (readMany (readRule t) users (drop place rows) .value)))) (rest texts from) in
+      let f₄ : o₄ ≡ emits o₃ z =
+      e₄ ∙ ap (λ (t : List ℕ). emits o₃ (textsMany selectorBytes (sheetSelectors authorOrigin (readMany (readRule t) authors (drop lastPlace rows) .value)))) (rest texts lastFrom) in
+      then o₀ o₃ o₄ ((n ++ x) ++ y) z (then o₀ o₂ o₃ (n ++ x) y (then o₀ o₁ o₂ n x f₁ e₂) f₃) f₄ ∙ ap (emits o₀) bytes-are
 
   module _ (l : Lying rows texts agents users place from authors lastPlace lastFrom) where
     -- a number can tell how many each has
@@ -77,3 +105,47 @@ module _ (rows texts : List ℕ) (agents users place from authors lastPlace last
     pub author-few : SelectorsFew (drop lastPlace rows) authors
     unfolding w rulesFrom rulesAt
     author-few = record { texts = drop lastFrom texts; origin = authorOrigin; few = omega (arith, l .few, total) }
+
+    -- their sums fit, and are what there is
+    module _ {i j k : ℕ} (ei : (origin : ℕ) (t : List ℕ) → i ≡ length (sheetSelectors origin (readMany (readRule t) agents (drop 0 rows) .value)))
+        (ej : (origin : ℕ) (t : List ℕ) → j ≡ length (sheetSelectors origin (readMany (readRule t) users (drop place rows) .value)))
+        (ek : (origin : ℕ) (t : List ℕ) → k ≡ length (sheetSelectors origin (readMany (readRule t) authors (drop lastPlace rows) .value))) where
+      pub counts : i + j + k ≡ length all
+      unfolding a u w rulesFrom rulesAt
+      counts = omega (arith, total, ei agentOrigin (drop 0 texts), ej userOrigin (drop from texts), ek authorOrigin (drop lastFrom texts))
+
+      pub counts-fit : i + j + k < 2 ^ 64
+      counts-fit = omega (arith, counts, l .few)
+
+      pub first-fit : i + j < 2 ^ 64
+      first-fit = omega (arith, counts, l .few)
+
+-- ---- within the room r of a buffer
+module _ (l : List ℕ) {r : ℕ} (e : r ≡ roomOf (length l)) where
+  -- it is a part of the buffer
+  pub room-fits : r ≤ length l
+  room-fits = omega (arith, e, room-within (length l))
+
+  pub room-long : r ≡ length (take r l)
+  room-long = sym (length-take-le r l room-fits)
+
+  -- what comes back of it leaves the buffer as long as it was
+  pub same-length : (ys : List ℕ) → length ys ≡ length (take r l) → length (ys ++ drop r l) ≡ length l
+  same-length ys h = omega (arith, h, room-long, room-fits, length-append ys (drop r l), length-drop r l)
+
+  -- the fill tells whether the bytes fit, and what fits is there
+  pub within : (bytes ys : List ℕ) (f : ℕ) → record { bytes = ys; fill = f } ≡ emits (record { bytes = take r l; fill = 0 }) bytes
+      → (f ≡ fillOf (roomOf (length l)) bytes) × (ys ++ drop r l ≡ writtenIn (roomOf (length l)) bytes l)
+  unfolding fillOf writtenIn
+  within bytes ys f h =
+      let g : f ≡ emits (record { bytes = take r l; fill = 0 }) bytes .fill = ap (λ (o : Store). o .fill) h in
+      rw (← e)
+      (
+        ⊎-elim
+        (λ (k : r < length bytes). pick-false _ _ _ _ (lt-leb (length bytes) r k)
+        (g ∙ emits-over bytes (take r l) 0 (omega arith) (omega (arith, room-long)) ∙ ap (λ (n : ℕ). n + 1) (sym room-long)))
+        (λ (k : length bytes ≤ r). pick-true _ _ _ _ (le-leb (length bytes) r k)
+        (g ∙ emits-fill bytes (take r l) 0 (omega (arith, room-long)) ∙ zero-add (length bytes)))
+        (lt-or-ge r (length bytes)),
+        ap (λ (v : List ℕ). v ++ drop r l) (sets-emitted (take r l) ys bytes 0 f h),
+      )

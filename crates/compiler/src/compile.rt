@@ -10,10 +10,7 @@ use sheets::sheet::stores_suffice;
 use unicode::utf8::is_valid;
 ghost use mathlib.Core.Path.{_≡_};
 ghost use Rattle.combinators.specs.Store.{cleared};
-ghost use Rattle.compiler.specs.CompileAnswer.{roomOf, anyTooLong, allValid};
-
-// The bytes that a compiled sheet may have.
-pub const COMPILED_LIMIT: usize = 65536;
+ghost use Rattle.compiler.specs.CompileAnswer.{anyTooLong, allValid};
 
 // How many bytes the compiled sheet has, and the texts that its rules name; or the refusal, with the sheet and the byte where the crate panics.
 pub enum CompileAnswer {
@@ -49,16 +46,6 @@ fn all_valid(agent: &[u8], user: &[u8], author: &[u8]) -> bool
         return false;
     }
     false
-}
-
-// How many bytes of a buffer of `n` the compiled sheet may take.
-fn room_of(n: usize) -> usize
-    ensures { λ r. ⌜ r ≡ roomOf n ⌝ }
-{
-    if n > COMPILED_LIMIT {
-        return COMPILED_LIMIT;
-    }
-    n
 }
 
 // Zeros throughout all buffers.

@@ -37,8 +37,8 @@ fn count_all(
     last_place: usize,
     last_from: usize,
 ) -> usize
-    requires { ⌜ Lying (now rows) (now texts) agents users place from authors last_place last_from ⌝ }
-    ensures { λ r. ⌜ r ≡ length (selectorsFrom (now (rows .entry)) (now (texts .entry)) agents users place from authors last_place last_from) ⌝ }
+    requires { ⌜ Lying (now rows) (now texts) agents users place from authors «last_place» «last_from» ⌝ }
+    ensures { λ r. ⌜ r ≡ length (selectorsFrom (now (rows .entry)) (now (texts .entry)) agents users place from authors «last_place» «last_from») ⌝ }
 {
     let agent = count_selectors(rows, 0, agents);
     let user = count_selectors(rows, place, users);
@@ -60,8 +60,8 @@ fn write_sheets(
     last_from: usize,
     compiled: &mut [u8],
 ) -> usize
-    requires { ⌜ Lying (now rows) (now texts) agents users place from authors last_place last_from ⌝ }
-    ensures { λ r. ⌜ record { bytes = now (compiled .exit); fill = r } ≡ emits (record { bytes = now (compiled .entry); fill = 0 }) (encode (selectorsFrom (now (rows .entry)) (now (texts .entry)) agents users place from authors last_place last_from)) ⌝ }
+    requires { ⌜ Lying (now rows) (now texts) agents users place from authors «last_place» «last_from» ⌝ }
+    ensures { λ r. ⌜ record { bytes = now (compiled .exit); fill = r } ≡ emits (record { bytes = now (compiled .entry); fill = 0 }) (encode (selectorsFrom (now (rows .entry)) (now (texts .entry)) agents users place from authors «last_place» «last_from»)) ⌝ }
 {
     let count = count_all(rows, texts, agents, users, place, from, authors, last_place, last_from);
     let first = emit_number(count as u32, compiled, 0);
@@ -83,9 +83,9 @@ pub fn write_within(
     last_from: usize,
     compiled: &mut [u8],
 ) -> usize
-    requires { ⌜ Lying (now rows) (now texts) agents users place from authors last_place last_from ⌝ }
-    ensures { λ r. ⌜ r ≡ fillOf (roomOf (length (now (compiled .entry)))) (encode (selectorsFrom (now (rows .entry)) (now (texts .entry)) agents users place from authors last_place last_from)) ⌝ }
-    ensures { λ _. ⌜ now (compiled .exit) ≡ writtenIn (roomOf (length (now (compiled .entry)))) (encode (selectorsFrom (now (rows .entry)) (now (texts .entry)) agents users place from authors last_place last_from)) (now (compiled .entry)) ⌝ }
+    requires { ⌜ Lying (now rows) (now texts) agents users place from authors «last_place» «last_from» ⌝ }
+    ensures { λ r. ⌜ r ≡ fillOf (roomOf (length (now (compiled .entry)))) (encode (selectorsFrom (now (rows .entry)) (now (texts .entry)) agents users place from authors «last_place» «last_from»)) ⌝ }
+    ensures { λ _. ⌜ now (compiled .exit) ≡ writtenIn (roomOf (length (now (compiled .entry)))) (encode (selectorsFrom (now (rows .entry)) (now (texts .entry)) agents users place from authors «last_place» «last_from»)) (now (compiled .entry)) ⌝ }
 {
     let room = room_of(compiled.len());
     write_sheets(rows, texts, agents, users, place, from, authors, last_place, last_from, &mut compiled[..room])

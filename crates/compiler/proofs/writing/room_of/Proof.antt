@@ -1,7 +1,7 @@
-use Rattle.compiler.proofs.CompileLaws as laws
+use Rattle.compiler.proofs.WritingLaws as laws
 use borrow.Author.Needs.{needs}
-use Rattle.compiler.proofs.compile.room_of.Statement.{statement}
-use Rattle.compiler.proofs.compile.room_of.Tie as tie
+use Rattle.compiler.proofs.writing.room_of.Statement.{statement}
+use Rattle.compiler.proofs.writing.room_of.Tie as tie
 
 returns : tie.Need-returns
 returns c = laws.room-limit _ (c .if1 .taken)
