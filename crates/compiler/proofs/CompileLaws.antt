@@ -59,3 +59,64 @@ module _ (a u w : List ℕ) where
     pub author-valid : {v x : Bool} → v ≡ valid u → v ≡ true → x ≡ valid w → x ≡ allValid a u w
     unfolding allValid
     author-valid {v} {x} g h k = and-gives _ _ x (sym e ∙ f) (and-gives _ _ x (sym g ∙ h) k)
+
+-- ---- `compile`, in the order of the refusals
+module _ (agent user author compiled texts rules tokens brackets : List ℕ) where
+  abbrev Left : CompileAnswer → Type 0
+  Left a =
+      _≡_ {A = CompileLeft} (record { answer = a; compiled = compiled; texts = texts; rules = rules; tokens = tokens; brackets = brackets })
+      (compileOf agent user author compiled texts rules tokens brackets)
+
+  abbrev count : ℕ
+  count = length agent + length user + length author
+
+  module _ {t : Bool} (e : t ≡ anyTooLong (length agent) (length user) (length author)) where
+    pub too-long : t ≡ true → Left TooLong
+    unfolding compileOf unchanged
+    too-long f = pick-true _ _ _ _ (sym e ∙ f) refl
+
+    module _ (f : t ≡ false) where
+      -- none is too long, so no sum is
+      within : (length agent ≤ sheetLimit) × (length user ≤ sheetLimit) × (length author ≤ sheetLimit)
+      within = none-long (length agent) (length user) (length author) (sym e ∙ f)
+
+      pub two-fit : length agent + length user < 2 ^ 64
+      two-fit = omega (arith, within .0, within .1)
+
+      pub count-fits : count < 2 ^ 64
+      count-fits = omega (arith, within .0, within .1, within .2)
+
+      pub least-fits : numberLeast count < 2 ^ 64
+      least-fits = omega (arith, within .0, within .1, within .2)
+
+      module _ {v : Bool} (g : v ≡ storesSuffice count (length rules) (length tokens) (length brackets) (length texts)) where
+        pub short-store : v ≡ false → Left ShortStore
+        unfolding compileOf unchanged
+        short-store h = pick-false _ _ _ _ (sym e ∙ f) (pick-false _ _ _ _ (sym g ∙ h) refl)
+
+        module _ (h : v ≡ true) where
+          pub lent : Lent agent user author texts rules tokens brackets
+          unfolding storesSuffice
+          lent =
+              let p = and-true _ _ (sym g ∙ h) in
+              let q = and-true _ _ (p .1) in
+              let u = and-true _ _ (q .1) in
+              record {
+                agent-within = within .0;
+                user-within = within .1;
+                author-within = within .2;
+                for-texts = leb-true _ _ (p .0);
+                for-brackets = leb-true _ _ (q .0);
+                for-rules = leb-true _ _ (u .0);
+                for-tokens = leb-true _ _ (u .1);
+              }
+
+          module _ {x : Bool} (i : x ≡ allValid agent user author) where
+            pub not-utf8 : x ≡ false → Left NotUtf8
+            unfolding compileOf unchanged
+            not-utf8 j = pick-false _ _ _ _ (sym e ∙ f) (pick-true _ _ _ _ (sym g ∙ h) (pick-false _ _ _ _ (sym i ∙ j) refl))
+
+            pub compiled-left : x ≡ true → {l : CompileLeft} → l ≡ compiledLeft compiled texts rules tokens brackets (sheetsOf agent user author)
+                → l ≡ compileOf agent user author compiled texts rules tokens brackets
+            unfolding compileOf
+            compiled-left j m = pick-false _ _ _ _ (sym e ∙ f) (pick-true _ _ _ _ (sym g ∙ h) (pick-true _ _ _ _ (sym i ∙ j) m))

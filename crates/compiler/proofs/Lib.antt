@@ -9,4 +9,5 @@ pub mod ReadingLaws
 pub mod SheetsLaws
 pub mod WritingLaws
 pub mod SheetsKnown
+pub mod CompileTurns
 pub mod CompileLaws

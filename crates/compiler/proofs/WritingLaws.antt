@@ -139,13 +139,12 @@ module _ (l : List ℕ) {r : ℕ} (e : r ≡ roomOf (length l)) where
   unfolding fillOf writtenIn
   within bytes ys f h =
       let g : f ≡ emits (record { bytes = take r l; fill = 0 }) bytes .fill = ap (λ (o : Store). o .fill) h in
-      rw (← e)
-      (
+      rw (← e) (
         ⊎-elim
-        (λ (k : r < length bytes). pick-false _ _ _ _ (lt-leb (length bytes) r k)
-        (g ∙ emits-over bytes (take r l) 0 (omega arith) (omega (arith, room-long)) ∙ ap (λ (n : ℕ). n + 1) (sym room-long)))
-        (λ (k : length bytes ≤ r). pick-true _ _ _ _ (le-leb (length bytes) r k)
-        (g ∙ emits-fill bytes (take r l) 0 (omega (arith, room-long)) ∙ zero-add (length bytes)))
-        (lt-or-ge r (length bytes)),
+            (λ (k : r < length bytes). pick-false _ _ _ _ (lt-leb (length bytes) r k)
+            (g ∙ emits-over bytes (take r l) 0 (omega arith) (omega (arith, room-long)) ∙ ap (λ (n : ℕ). n + 1) (sym room-long)))
+            (λ (k : length bytes ≤ r). pick-true _ _ _ _ (le-leb (length bytes) r k)
+            (g ∙ emits-fill bytes (take r l) 0 (omega (arith, room-long)) ∙ zero-add (length bytes)))
+            (lt-or-ge r (length bytes)),
         ap (λ (v : List ℕ). v ++ drop r l) (sets-emitted (take r l) ys bytes 0 f h),
       )

@@ -63,11 +63,37 @@ fn write_sheets(
     requires { ⌜ Lying (now rows) (now texts) agents users place from authors «last_place» «last_from» ⌝ }
     ensures { λ r. ⌜ record { bytes = now (compiled .exit); fill = r } ≡ emits (record { bytes = now (compiled .entry); fill = 0 }) (encode (selectorsFrom (now (rows .entry)) (now (texts .entry)) agents users place from authors «last_place» «last_from»)) ⌝ }
 {
-    let count = count_all(rows, texts, agents, users, place, from, authors, last_place, last_from);
+    let count = count_all(
+        rows,
+        texts,
+        agents,
+        users,
+        place,
+        from,
+        authors,
+        last_place,
+        last_from,
+    );
     let first = emit_number(count as u32, compiled, 0);
     let second = emit_rules(rows, 0, agents, AGENT_ORIGIN, texts, compiled, first);
-    let third = emit_rules(rows, place, users, USER_ORIGIN, &texts[from..], compiled, second);
-    emit_rules(rows, last_place, authors, AUTHOR_ORIGIN, &texts[last_from..], compiled, third)
+    let third = emit_rules(
+        rows,
+        place,
+        users,
+        USER_ORIGIN,
+        &texts[from..],
+        compiled,
+        second,
+    );
+    emit_rules(
+        rows,
+        last_place,
+        authors,
+        AUTHOR_ORIGIN,
+        &texts[last_from..],
+        compiled,
+        third,
+    )
 }
 
 // The same within the room that a compiled sheet has in the buffer.
@@ -88,5 +114,16 @@ pub fn write_within(
     ensures { λ _. ⌜ now (compiled .exit) ≡ writtenIn (roomOf (length (now (compiled .entry)))) (encode (selectorsFrom (now (rows .entry)) (now (texts .entry)) agents users place from authors «last_place» «last_from»)) (now (compiled .entry)) ⌝ }
 {
     let room = room_of(compiled.len());
-    write_sheets(rows, texts, agents, users, place, from, authors, last_place, last_from, &mut compiled[..room])
+    write_sheets(
+        rows,
+        texts,
+        agents,
+        users,
+        place,
+        from,
+        authors,
+        last_place,
+        last_from,
+        &mut compiled[..room],
+    )
 }

@@ -1,0 +1,192 @@
+-- Returns of `compile_texts`: the sheets are read, written and judged, whatever the buffers held.
+use mathlib.Core.Path.{_≡_, refl, ap, ap₂, sym, _∙_}
+use mathlib.Core.List.{List, [], _∷_, _++_}
+use mathlib.Core.Logic.{⊎-elim}
+use Prim.Native.Nat.{ℕ, zero, suc, _+_, _-_, _^_, _≤_, _<_}
+use native.Mathlib.Omega.{arith}
+use borrow.Author.Tests.{le-leb, lt-leb}
+use lib.ListN.{length, take, drop, set, replicate, length-append, length-set, length-drop, take-append-drop}
+use lib.Seq.{sets, length-sets, length-take-le, set-append-left}
+use Rattle.combinators.specs.Store.{cleared}
+use Rattle.combinators.proofs.Cleared.{cleared-is, length-cleared}
+use Rattle.combinators.proofs.Rules.{pick-true, pick-false, lt-or-ge}
+use Rattle.syntax.specs.RuleLayout.{ruleRows, ruleTexts}
+use Rattle.syntax.specs.Selector.{RuleSet}
+use Rattle.sheets.specs.SheetAnswer.{padded}
+use Rattle.sheets.specs.Stores.{Zeros}
+use Rattle.sheets.proofs.SheetLaws.{stored}
+use Rattle.sheets.proofs.ZeroLaws.{zeros-all}
+use Rattle.compiled.specs.Sheet.{encode}
+use Rattle.compiler.specs.Selectors.{selectorsOf}
+use Rattle.compiler.specs.Reading.{Sheets, rules, panicked, sheetsOf, sheetsRows, sheetsTexts, sheetsAnswer, SheetsRoom}
+use Rattle.compiler.specs.CompileAnswer.{roomOf, CompileLeft, zeroed, answered, answeredWithin, compiledLeft, Lent}
+use Rattle.compiler.specs.Written.{selectorsFrom, Lying, fillOf, writtenIn}
+use Rattle.compiler.specs.declared.compile.CompileAnswer.{CompileAnswer}
+use Rattle.compiler.specs.declared.compile.CompileAnswer.the-variants.{Compiled, Panic, NoRoom}
+use Rattle.compiler.specs.declared.reading.SheetsRead.{SheetsRead}
+use Rattle.compiler.specs.declared.reading.SheetsRead.the-variants as all
+use Rattle.compiler.proofs.SheetsKnown.{Came, came, panic-known, rowsHeld, textsHeld, texts-length, texts-lie, selectors-are, lying}
+use Rattle.compiler.proofs.WritingLaws.{room-within}
+
+-- ---- zeros
+-- a buffer cleared throughout, whatever it is that long
+zeros-of : (l m : List ℕ) → length l ≡ length m → cleared 0 l ≡ replicate (length m) 0
+zeros-of l m e =
+    let z : length l - 0 ≡ length m = omega (arith, e) in
+    cleared-is 0 l ∙ ap (λ (n : ℕ). replicate n 0) z
+
+clear-zeros : (l : List ℕ) → Zeros (cleared 0 l) 0
+clear-zeros l = rw (zeros-of l l refl) (zeros-all (length l) 0)
+
+-- ---- bytes within the room
+-- the fill tells that they fit
+fill-fits : (room bytes : ℕ) (b : List ℕ) → bytes ≡ fillOf room b → bytes ≤ room → (length b ≤ room) × (bytes ≡ length b)
+unfolding fillOf
+fill-fits room bytes b e h =
+    ⊎-elim
+    (λ (k : room < length b). absurd (omega (arith, h, e ∙ sym (pick-false _ _ _ _ (lt-leb (length b) room k) refl))))
+    (λ (k : length b ≤ room). (k, e ∙ sym (pick-true _ _ _ _ (le-leb (length b) room k) refl)))
+    (lt-or-ge room (length b))
+
+-- or that they do not
+fill-over : (room bytes : ℕ) (b : List ℕ) → bytes ≡ fillOf room b → room < bytes → room < length b
+unfolding fillOf
+fill-over room bytes b e h =
+    ⊎-elim (λ (k : room < length b). k)
+    (λ (k : length b ≤ room). absurd (omega (arith, h, k, e ∙ sym (pick-true _ _ _ _ (le-leb (length b) room k) refl))))
+    (lt-or-ge room (length b))
+
+-- what is stored in the first part of a list
+sets-first : (vs p q : List ℕ) (i : ℕ) → i + length vs ≤ length p → sets (p ++ q) i vs ≡ sets p i vs ++ q
+sets-first [] p q i h = refl
+sets-first (v ∷ vs) p q i h =
+    ap (λ (r : List ℕ). sets r (suc i) vs) (set-append-left p q i v (omega arith)) ∙ sets-first vs (set p i v) q (suc i) (simp length-set (omega arith))
+
+-- bytes that fit lie at the start of the buffer
+written-whole : (room : ℕ) (b l : List ℕ) → room ≤ length l → length b ≤ room → writtenIn room b l ≡ sets l 0 b
+unfolding writtenIn
+written-whole room b l h k =
+    sym (sets-first b (take room l) (drop room l) 0 (omega (arith, k, length-take-le room l h))) ∙ ap (λ (r : List ℕ). sets r 0 b) (take-append-drop room l)
+
+written-length : (room : ℕ) (b l : List ℕ) → room ≤ length l → length (writtenIn room b l) ≡ length l
+unfolding writtenIn
+written-length room b l h =
+    omega (arith, h, length-append (sets (take room l) 0 b) (drop room l), length-sets (take room l) 0 b, length-take-le room l h, length-drop room l)
+
+-- ---- what is left, by its parts
+left-by : {a a′ : CompileAnswer} {k k′ t t′ y y′ x x′ b b′ : List ℕ} → a ≡ a′ → k ≡ k′ → t ≡ t′ → y ≡ y′ → x ≡ x′ → b ≡ b′
+    → _≡_ {A = CompileLeft} (record { answer = a; compiled = k; texts = t; rules = y; tokens = x; brackets = b }) (record { answer = a′; compiled = k′; texts = t′; rules = y′; tokens = x′; brackets = b′ })
+left-by p q r s t u = rw (p, q, r, s, t, u) refl
+
+module _ {agent user author texts₀ rules₀ tokens₀ brackets₀ : List ℕ} (o : Lent agent user author texts₀ rules₀ tokens₀ brackets₀) (compiled₀ : List ℕ)
+    {k₁ t₁ y₁ x₁ b₁ : List ℕ} (ck : k₁ ≡ cleared 0 compiled₀) (ct : t₁ ≡ cleared 0 texts₀) (cy : y₁ ≡ cleared 0 rules₀) (cx : x₁ ≡ cleared 0 tokens₀)
+    (cb : b₁ ≡ cleared 0 brackets₀) where
+  -- room for the three sheets
+  pub room : length rules₀ < 2 ^ 64 → SheetsRoom agent user author y₁ x₁ b₁ t₁
+  room h =
+      rw (ct, cy, cx, cb)
+      (record {
+        agent-within = o .agent-within;
+        user-within = o .user-within;
+        author-within = o .author-within;
+        rules-zeros = clear-zeros rules₀;
+        tokens-zeros = clear-zeros tokens₀;
+        brackets-zeros = clear-zeros brackets₀;
+        texts-zeros = clear-zeros texts₀;
+        row-bits = omega (arith, h, length-cleared 0 rules₀);
+        for-rules = omega (arith, o .for-rules, length-cleared 0 rules₀);
+        for-tokens = omega (arith, o .for-tokens, length-cleared 0 tokens₀);
+        for-brackets = omega (arith, o .for-brackets, length-cleared 0 brackets₀);
+        for-texts = omega (arith, o .for-texts, length-cleared 0 texts₀);
+      })
+
+  abbrev meant : Sheets
+  meant = sheetsOf agent user author
+
+  abbrev Left : CompileAnswer → List ℕ → List ℕ → List ℕ → List ℕ → List ℕ → Type 0
+  Left a k t y x b =
+      _≡_ {A = CompileLeft} (record { answer = a; compiled = k; texts = t; rules = y; tokens = x; brackets = b }) (compiledLeft compiled₀ texts₀ rules₀ tokens₀ brackets₀ meant)
+
+  module _ {r : SheetsRead} {y₂ x₂ b₂ t₂ : List ℕ} (er : r ≡ sheetsAnswer meant) (ey : y₂ ≡ sets y₁ 0 (sheetsRows meant)) (ex : x₂ ≡ x₁) (eb : b₂ ≡ b₁)
+      (et : t₂ ≡ sets t₁ 0 (sheetsTexts meant)) where
+    tokens-zero : x₂ ≡ replicate (length tokens₀) 0
+    tokens-zero = ex ∙ cx ∙ zeros-of tokens₀ tokens₀ refl
+
+    brackets-zero : b₂ ≡ replicate (length brackets₀) 0
+    brackets-zero = eb ∙ cb ∙ zeros-of brackets₀ brackets₀ refl
+
+    -- where the crate panics all is zero
+    pub panics : {which p : ℕ} → r ≡ all.Panic which p → Left (Panic which p) k₁ t₂ y₂ x₂ b₂
+    unfolding compiledLeft zeroed sheetsRows sheetsTexts
+    panics {which} {p} g =
+        let q : meant ≡ panicked which p = panic-known meant which p (sym g ∙ er) in
+        let ey′ : y₂ ≡ y₁ = ey ∙ ap (λ (s : Sheets). sets y₁ 0 (sheetsRows s)) q in
+        let et′ : t₂ ≡ t₁ = et ∙ ap (λ (s : Sheets). sets t₁ 0 (sheetsTexts s)) q in
+        left-by refl (ck ∙ zeros-of compiled₀ compiled₀ refl) (et′ ∙ ct ∙ zeros-of texts₀ texts₀ refl) (ey′ ∙ cy ∙ zeros-of rules₀ rules₀ refl) tokens-zero brackets-zero
+        ∙ ap (compiledLeft compiled₀ texts₀ rules₀ tokens₀ brackets₀) (sym q)
+
+    module _ {c d n t e p f x : ℕ} (g : r ≡ all.Rules c d n t e p f x) where
+      m : Came meant c d n t e p f x
+      m = came meant c d n t e p f x (sym g ∙ er)
+
+      rows₂ : y₂ ≡ sets (cleared 0 rules₀) 0 (rowsHeld o m)
+      unfolding sheetsRows
+      rows₂ = ey ∙ ap (λ (s : Sheets). sets y₁ 0 (sheetsRows s)) (m .is) ∙ ap (λ (l : List ℕ). sets l 0 (rowsHeld o m)) cy
+
+      texts₂ : t₂ ≡ sets (cleared 0 texts₀) 0 (textsHeld o m)
+      unfolding sheetsTexts
+      texts₂ = et ∙ ap (λ (s : Sheets). sets t₁ 0 (sheetsTexts s)) (m .is) ∙ ap (λ (l : List ℕ). sets l 0 (textsHeld o m)) ct
+
+      -- what lies there can be written
+      pub lies : Lying y₂ t₂ c d n t e p f
+      lies = lying o m rows₂ texts₂
+
+      bytes : List ℕ
+      bytes = encode (selectorsOf (m .agent) (m .user) (m .author))
+
+      module _ {w : ℕ} {k₃ y₃ : List ℕ} (ew : w ≡ fillOf (roomOf (length k₁)) (encode (selectorsFrom y₂ t₂ c d n t e p f)))
+          (ek : k₃ ≡ writtenIn (roomOf (length k₁)) (encode (selectorsFrom y₂ t₂ c d n t e p f)) k₁) (ec : y₃ ≡ cleared 0 y₂) where
+        w-is : w ≡ fillOf (roomOf (length k₁)) bytes
+        unfolding bytes
+        w-is = ew ∙ ap (λ ss. fillOf (roomOf (length k₁)) (encode ss)) (selectors-are o m rows₂ texts₂)
+
+        k-is : k₃ ≡ writtenIn (roomOf (length k₁)) bytes k₁
+        unfolding bytes
+        k-is = ek ∙ ap (λ ss. writtenIn (roomOf (length k₁)) (encode ss) k₁) (selectors-are o m rows₂ texts₂)
+
+        k-long : length k₃ ≡ length k₁
+        k-long = ap length k-is ∙ written-length (roomOf (length k₁)) bytes k₁ (room-within (length k₁))
+
+        same-room : roomOf (length k₁) ≡ roomOf (length compiled₀)
+        same-room = ap (λ (l : List ℕ). roomOf (length l)) ck ∙ ap roomOf (length-cleared 0 compiled₀)
+
+        rules-zero : y₃ ≡ replicate (length rules₀) 0
+        rules-zero =
+            ec ∙ zeros-of y₂ rules₀ (ap length rows₂ ∙ length-sets (cleared 0 rules₀) 0 (rowsHeld o m) ∙ length-cleared 0 rules₀)
+
+        module _ {q : ℕ} (eq : q ≡ roomOf (length k₃)) where
+          q-is : q ≡ roomOf (length k₁)
+          q-is = eq ∙ ap roomOf k-long
+
+          -- the bytes fit
+          pub fits : w ≤ q → Left (Compiled w x) k₃ t₂ y₃ x₂ b₂
+          unfolding compiledLeft answeredWithin answered sheetsTexts bytes
+          fits h =
+              let z = fill-fits (roomOf (length k₁)) w bytes w-is (omega (arith, h, q-is)) in
+              let ex′ : x ≡ length (textsHeld o m) = m .end ∙ sym (texts-length o m) in
+              left-by (ap₂ Compiled (z .1) ex′)
+              (k-is ∙ written-whole (roomOf (length k₁)) bytes k₁ (room-within (length k₁)) (z .0) ∙ ap (λ (l : List ℕ). sets l 0 bytes) ck
+              ∙ stored bytes compiled₀ (omega (arith, z .0, same-room, room-within (length compiled₀))))
+              (texts₂ ∙ texts-lie o m) rules-zero tokens-zero brackets-zero
+              ∙ pick-true _ _ _ _ (le-leb (length bytes) (roomOf (length compiled₀)) (omega (arith, z .0, same-room))) refl
+              ∙ ap (compiledLeft compiled₀ texts₀ rules₀ tokens₀ brackets₀) (sym (m .is))
+
+          -- they do not
+          pub over : q < w → {k₄ t₄ : List ℕ} → k₄ ≡ cleared 0 k₃ → t₄ ≡ cleared 0 t₂ → Left NoRoom k₄ t₄ y₃ x₂ b₂
+          unfolding compiledLeft answeredWithin zeroed bytes
+          over h {k₄} {t₄} ek₄ et₄ =
+              let z = fill-over (roomOf (length k₁)) w bytes w-is (omega (arith, h, q-is)) in
+              left-by refl (ek₄ ∙ zeros-of k₃ compiled₀ (k-long ∙ ap length ck ∙ length-cleared 0 compiled₀))
+              (et₄ ∙ zeros-of t₂ texts₀ (ap length texts₂ ∙ length-sets (cleared 0 texts₀) 0 (textsHeld o m) ∙ length-cleared 0 texts₀)) rules-zero tokens-zero brackets-zero
+              ∙ pick-false _ _ _ _ (lt-leb (length bytes) (roomOf (length compiled₀)) (omega (arith, z, same-room))) refl
+              ∙ ap (compiledLeft compiled₀ texts₀ rules₀ tokens₀ brackets₀) (sym (m .is))
