@@ -1,16 +1,15 @@
 -- Components of a compiled sheet: a kind, which is that of a component row, then what the component has.
-use Prim.Native.Nat.{ℕ, _<_}
+use Prim.Native.Nat.{ℕ}
 use mathlib.Core.Path.{_≡_, refl}
 use mathlib.Core.Bool.{Bool}
 use mathlib.Core.List.{List, [], _∷_, _++_, map}
 use lib.IntN.{pos, negsuc}
-use lib.ListN.{length}
 use Rattle.combinators.specs.Choice.{pick, or, and, is, within}
 use Rattle.syntax.specs.Selector.{Component, star, class, element, hash, child, descendant, nth, attribute, attributeEqual}
 use Rattle.syntax.specs.Signed.{signedNumber, signedOf}
 use Rattle.syntax.specs.RuleLayout.{starKind, classKind, elementKind, hashKind, childKind, descendantKind, nthKind, attributeKind, attributeEqualKind, componentKind}
 use Rattle.compiled.specs.Decoded.{Decoded, read, fault, andThen, mapped}
-use Rattle.compiled.specs.Number.{numberLimit, groupBytes, numberBytes, limited, groupsAt, numberAt, rangedAt}
+use Rattle.compiled.specs.Number.{groupBytes, numberBytes, limited, groupsAt, numberAt, rangedAt}
 use Rattle.compiled.specs.Text.{textBytes, Span, spanAt, textIn}
 
 -- ---- written

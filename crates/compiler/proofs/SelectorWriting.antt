@@ -5,7 +5,6 @@ use Prim.Native.Nat.{ℕ, _+_, _*_, _-_, _≤_, _<_}
 use native.Mathlib.Omega.{arith}
 use lib.ListN.{length, getD, drop, length-reverse}
 use lib.Seq.{getD-drop, drop-drop}
-use Rattle.combinators.specs.Choice.{pick, is}
 use Rattle.combinators.specs.Store.{Store, emits}
 use Rattle.combinators.proofs.Emitted.{emits-none, onto, then}
 use Rattle.combinators.proofs.Rules.{pick-true, pick-false, is-yes, is-no}

@@ -9,7 +9,7 @@ use lib.Seq.{drop-drop}
 use Rattle.combinators.specs.Choice.{pick, or, and, is}
 use Rattle.combinators.specs.Store.{Store, emits}
 use Rattle.combinators.proofs.Emitted.{emits-none, then}
-use Rattle.combinators.proofs.Rules.{pick-true, pick-false, or-assoc, or-false}
+use Rattle.combinators.proofs.Rules.{or-assoc, or-false}
 use Rattle.syntax.specs.Declaration.{Declaration}
 use Rattle.syntax.specs.Layout as layout
 use Rattle.syntax.specs.Layout.{flag, flagOf, declarationWidth, readDeclaration, declarationsAt, displaySlot, styleWidth}
@@ -21,7 +21,7 @@ use Rattle.declarations.specs.Styles.{one, styleOf, zeroHeight, hidesOverflow, 
 use Rattle.declarations.specs.StyleNumbers.{ownRow, zeroRow, hiddenRow, numbersBy, ownRows, anyRow, addedRow, styleNumbers, styleCount}
 use Rattle.declarations.specs.declared.styles.OwnStyle.{OwnStyle}
 use Rattle.declarations.specs.declared.styles.OwnStyle.the-variants.{Style, NoStyle}
-use Rattle.declarations.proofs.StyleLaws.{Reads, reads-alone, reads-nothing, reads-declared, any-zero, any-hidden, count-styles, styles-few}
+use Rattle.declarations.proofs.StyleLaws.{reads-alone, reads-nothing, reads-declared, any-zero, any-hidden, count-styles, styles-few}
 use Rattle.declarations.proofs.Styling.{or-is, and-is}
 use Rattle.compiled.specs.Number.{numberLimit, numberBytes}
 use Rattle.compiled.specs.Style.{styleBytes}

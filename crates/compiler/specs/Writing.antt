@@ -1,8 +1,7 @@
 -- What is written of the parts of rules that lie in rows, and what is known of a rule's styles before they are written.
 use Prim.Native.Nat.{ℕ, _<_}
 use mathlib.Core.Path.{_≡_, refl}
-use mathlib.Core.Bool.{true, false}
-use mathlib.Core.List.{List, [], _∷_, map, reverse}
+use mathlib.Core.List.{List, [], _∷_}
 use lib.ListN.{length, getD, drop}
 use Rattle.combinators.specs.Choice.{pick, or, and, is}
 use Rattle.syntax.specs.Declaration.{Declaration}
