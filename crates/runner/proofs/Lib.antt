@@ -1,1 +1,4 @@
 pub mod GroupLaws
+pub mod StateParts
+pub mod OpenRows
+pub mod OpenParts
