@@ -1,8 +1,9 @@
 -- The bytes of an element's groups from its parent's: one pass over the components of each selector gives what the direct matcher says.
-use Prim.Native.Nat.{ℕ, zero, suc, _+_}
+use Prim.Native.Nat.{ℕ, zero, suc, _+_, _≤_}
 use mathlib.Core.Path.{_≡_, refl, ap, ap₂, sym, _∙_}
 use mathlib.Core.Bool.{Bool, true, false}
 use mathlib.Core.List.{List, [], _∷_, _++_, append-assoc}
+use native.Mathlib.Omega.{arith}
 use lib.ListN.{length, getD, drop, length-append}
 use lib.Seq.{drop-at}
 use Rattle.combinators.specs.Choice.{pick, or, and, is}
@@ -252,6 +253,14 @@ length-groups (c ∷ cs) row ok holds above =
     by-component (λ c. length (groups row ok holds (c ∷ cs) above) ≡ suc (combinators (c ∷ cs)))
     (λ k. rw (groups-combinator row ok holds cs above k, combinators-combinator cs k, length-groups cs row true (combined k (getD above 0 0)) (drop 1 above)))
     (λ c u. rw (groups-test row ok holds cs above c u, combinators-test cs c u, length-groups cs row (and ok (tested row c)) holds above)) c
+
+-- there are no more combinators than components
+pub combinators-most : (cs : List Component) → combinators cs ≤ length cs
+combinators-most [] = unfold combinators in omega arith
+combinators-most (c ∷ cs) =
+    by-component (λ c. combinators (c ∷ cs) ≤ suc (length cs))
+    (λ k. omega (arith, combinators-combinator cs k, combinators-most cs))
+    (λ c u. omega (arith, combinators-test cs c u, combinators-most cs)) c
 
 -- ---- all selectors
 -- as many bytes as all have groups
