@@ -6,3 +6,5 @@ pub mod WalkedBack
 pub mod PartsFit
 pub mod Declaring
 pub mod StepStyle
+pub mod Steps
+pub mod Demand

@@ -17,9 +17,8 @@ use Rattle.cascade.specs.Specificity.{inlineSpecificity, noSpecificity, specifi
 use Rattle.cascade.proofs.Cascading.{inherit-formed, merges-formed}
 use Rattle.cascade.proofs.RowBack.{style-back, view-formed, empty-formed}
 use Rattle.page.specs.Path.{Element, Path}
-use Rattle.compiled.specs.Sheet.{CompiledSelector, encode}
+use Rattle.compiled.specs.Sheet.{encode}
 use Rattle.compiled.proofs.Fits.{SheetFits}
-use Rattle.compiler.specs.Selectors.{selectorsOf}
 use Rattle.styles.specs.Numbered.{toldRules, Rules}
 use Rattle.styles.specs.Computed.{rulesSay, inlineSays, cascaded, sourcesFrom, toldSheets, sourcesAlong, computedStyle}
 use Rattle.styles.specs.StyleCall.{inlineContents, inlinePlaced, seenStyle}
@@ -29,12 +28,9 @@ use Rattle.styles.proofs.Placed.{inline-declared-seen}
 use Rattle.runner.specs.Walked.{WalkedSelector, walked, seenSelector, toldSelector}
 use Rattle.runner.specs.Groups.{matchingAt}
 use Rattle.runner.specs.Run.{noStyle, declaredBy, styleBelow}
+use Rattle.runner.specs.Demand.{sheetsSelectors}
 use Rattle.runner.proofs.WalkedBack.{walked-told}
 use Rattle.runner.proofs.Declaring.{declared-seen, matching-seen, selectors-declare}
-
--- the selectors that three sheets are compiled to
-abbrev pub sheetsSelectors : Rules RuleSet → List CompiledSelector
-sheetsSelectors rules = selectorsOf (rules .agent) (rules .user) (rules .author)
 
 -- the row of the empty style
 pub empty-row : noStyle ≡ rowOf emptyStyle

@@ -2,3 +2,4 @@ pub mod Walked
 pub mod Groups
 pub mod State
 pub mod Run
+pub mod Demand
