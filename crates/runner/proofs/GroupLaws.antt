@@ -15,7 +15,7 @@ use Rattle.runner.specs.Walked.{WalkedSelector}
 use Rattle.runner.specs.Groups.{pack, matchesIn, Combinator, direct, anywhere, combined, onComponent, tested, groups, combinators, groupCount, allGroups, matching, behind, allBehind, matchingAt, groupsCount}
 
 -- ---- components: a combinator, or a test
-unfoldable joined : Combinator → Component
+unfoldable pub joined : Combinator → Component
 joined direct = child
 joined anywhere = descendant
 
@@ -32,7 +32,7 @@ IsTest (attribute x) = Unit
 IsTest (attributeEqual x y) = Unit
 
 -- what holds of both combinators and of every test holds of every component
-by-component : (P : Component → Type 0) → ((k : Combinator) → P (joined k)) → ((c : Component) → IsTest c → P c) → (c : Component) → P c
+pub by-component : (P : Component → Type 0) → ((k : Combinator) → P (joined k)) → ((c : Component) → IsTest c → P c) → (c : Component) → P c
 unfolding joined
 by-component P f g star = g star tt
 by-component P f g (class x) = g (class x) tt
@@ -147,21 +147,21 @@ module _ (cs : List Component) (p : Path) where
   behind-test c u = on-test _ _ c u
 
 module _ (cs : List Component) where
-  combinators-combinator : (k : Combinator) → combinators (joined k ∷ cs) ≡ suc (combinators cs)
+  pub combinators-combinator : (k : Combinator) → combinators (joined k ∷ cs) ≡ suc (combinators cs)
   unfolding combinators
   combinators-combinator k = on-combinator _ _ k
 
-  combinators-test : (c : Component) → IsTest c → combinators (c ∷ cs) ≡ combinators cs
+  pub combinators-test : (c : Component) → IsTest c → combinators (c ∷ cs) ≡ combinators cs
   unfolding combinators
   combinators-test c u = on-test _ _ c u
 
 module _ (row : Path) (ok holds : Bool) (cs : List Component) (above : List ℕ) where
-  groups-combinator : (k : Combinator) → groups row ok holds (joined k ∷ cs) above
+  pub groups-combinator : (k : Combinator) → groups row ok holds (joined k ∷ cs) above
       ≡ pack (and ok (combined k (getD above 0 0))) holds ∷ groups row true (combined k (getD above 0 0)) cs (drop 1 above)
   unfolding groups
   groups-combinator k = on-combinator _ _ k
 
-  groups-test : (c : Component) → IsTest c → groups row ok holds (c ∷ cs) above ≡ groups row (and ok (tested row c)) holds cs above
+  pub groups-test : (c : Component) → IsTest c → groups row ok holds (c ∷ cs) above ≡ groups row (and ok (tested row c)) holds cs above
   unfolding groups
   groups-test c u = on-test _ _ c u
 

@@ -8,3 +8,4 @@ pub mod Declaring
 pub mod StepStyle
 pub mod Steps
 pub mod Demand
+pub mod Independence

@@ -59,7 +59,7 @@ drop-two n (x ∷ []) = take-nil n
 drop-two n (x ∷ y ∷ l) = refl
 
 -- a part without its count
-part-behind : (l : List ℕ) (at n : ℕ) → part l (at + countWidth) n ≡ drop countWidth (part l at (suc (suc n)))
+pub part-behind : (l : List ℕ) (at n : ℕ) → part l (at + countWidth) n ≡ drop countWidth (part l at (suc (suc n)))
 unfolding part
 part-behind l at n = ap (take n) (sym (drop-drop 2 at l)) ∙ drop-two n (drop at l)
 
