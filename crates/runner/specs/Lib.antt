@@ -3,3 +3,4 @@ pub mod Groups
 pub mod State
 pub mod Run
 pub mod Demand
+pub mod Cases
