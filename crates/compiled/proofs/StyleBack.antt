@@ -16,13 +16,13 @@ use Rattle.syntax.specs.Style.{Style, StyleDecl}
 use Rattle.syntax.proofs.Back as back
 use Rattle.syntax.proofs.Back.{OfBytes}
 use Rattle.syntax.proofs.Streams.{Held, held-left, held-right}
-use Rattle.compiled.specs.Decoded.{read, andThen, mapped}
+use Rattle.compiled.specs.Decoded.{read, andThen}
 use Rattle.compiled.specs.Number.{numberBytes, rangedAt}
 use Rattle.compiled.specs.Text.{spanAt}
 use Rattle.compiled.specs.Style.{greatestColour, greatestWhiteSpace, styleSlotOf, styleBody, styleBytes, StyleNumbers, styleNumbers, contentAt, numberUpTo, valueAt, slotAt, styleNumbersAt, styleIn, styleAt}
-use Rattle.compiled.proofs.Fits.{Bytes, TextFits, StyleFits}
-use Rattle.compiled.proofs.Following.{then-read, mapped-read, ends-at, all-append}
-use Rattle.compiled.proofs.NumberBack.{number-some, number-bytes, ranged-back}
+use Rattle.compiled.proofs.Fits.{TextFits, StyleFits}
+use Rattle.compiled.proofs.Following.{then-read, mapped-read, ends-at}
+use Rattle.compiled.proofs.NumberBack.{number-some, ranged-back}
 use Rattle.compiled.proofs.TextBack.{span, span-back, text-held}
 
 -- ---- numbers in their ranges
@@ -120,6 +120,7 @@ module _ (t : List ℕ) where
     body-text (style.content x) n h = text-held t n x h
 
   module _ (d : StyleDecl) (i : ℕ) (h : Held t i (styleBytes d)) where
+    -- its flag, its slot and its body
     abbrev a : List ℕ
     a = numberBytes (flag (d .important))
 
@@ -129,6 +130,7 @@ module _ (t : List ℕ) where
     abbrev c : List ℕ
     c = styleBody (d .style)
 
+    -- the slot lies behind the flag
     behind-flag : Held t (i + length a) (b ++ c)
     unfolding styleBytes
     behind-flag = held-right t i a (b ++ c) h
@@ -137,6 +139,7 @@ module _ (t : List ℕ) where
     abbrev pub place : ℕ
     place = textPlace (i + length a + length b) (d .style)
 
+    -- the text lies there
     pub text-there : Held t place (styleText d)
     unfolding styleText
     text-there = body-text (d .important) (d .style) (i + length a + length b) (held-right t (i + length a) b c behind-flag)

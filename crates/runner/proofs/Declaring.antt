@@ -14,7 +14,7 @@ use Rattle.matching.specs.Matches.{matches}
 use Rattle.matching.specs.Specificity.{specificity}
 use Rattle.compiled.specs.Sheet.{CompiledSelector}
 use Rattle.compiler.specs.Selectors.{compiledSelector, styledSelectors, ruleSelectors, sheetSelectors, selectorsOf}
-use Rattle.styles.specs.Numbered.{Numbered, told, toldAll, toldRule, toldRules, Rules}
+use Rattle.styles.specs.Numbered.{toldAll, toldRule, toldRules}
 use Rattle.styles.specs.Computed.{ruleStyle, selectorSays, selectorsSay, rulesSay}
 use Rattle.styles.specs.Seen.{seenDeclared}
 use Rattle.styles.proofs.Merges.{pick-under}
@@ -24,6 +24,7 @@ use Rattle.runner.specs.Groups.{matchingAt}
 use Rattle.runner.specs.Run.{declaredBy}
 
 -- ---- selectors one after the other
+-- what they declare
 declared-append : (a b : List WalkedSelector) → declaredBy (a ++ b) ≡ declaredBy a ++ declaredBy b
 unfolding declaredBy
 declared-append [] b = refl
@@ -31,6 +32,7 @@ declared-append (s ∷ a) b =
     rw (declared-append a b)
     (sym (append-assoc (map (λ x. fromRule (s .origin) (ruleStyle (s .pseudo) (specificity (s .components)) x)) (s .styles)) (declaredBy a) (declaredBy b)))
 
+-- which of them match
 matching-append : (p : Path) (a b : List WalkedSelector) → matchingAt p (a ++ b) ≡ matchingAt p a ++ matchingAt p b
 unfolding matchingAt
 matching-append p [] b = refl
@@ -63,6 +65,7 @@ module _ (p : Path) where
   abbrev said : List CompiledSelector → List Declared
   said ss = declaredBy (matchingAt p (map toldSelector ss))
 
+  -- of two lists
   said-append : (a b : List CompiledSelector) → said (a ++ b) ≡ said a ++ said b
   said-append a b =
       rw (map-append toldSelector a b, matching-append p (map toldSelector a) (map toldSelector b), declared-append (matchingAt p (map toldSelector a)) (matchingAt p (map toldSelector b)))
@@ -74,6 +77,7 @@ module _ (p : Path) where
   one-said true o ds s = append-nil _ ∙ sym (map-map (fromRule o) (ruleStyle (pseudoNumber (s .pseudo)) (specificity (s .components))) (toldAll ds))
   one-said false o ds s = refl
 
+  -- it declares that where it matches
   first-said : (o : ℕ) (ds : List StyleDecl) (s : Selector) → said (compiledSelector o ds s ∷ []) ≡ map (fromRule o) (selectorSays p (toldAll ds) s)
   unfolding matchingAt selectorSays toldSelector compiledSelector
   first-said o ds s =
@@ -94,11 +98,13 @@ module _ (p : Path) where
   nothing-one true a b e f = e
   nothing-one false a b e f = f
 
+  -- whatever its selectors
   nothing-said : (ss : List Selector) → selectorsSay p [] ss ≡ []
   unfolding selectorsSay selectorSays
   nothing-said [] = refl
   nothing-said (s ∷ ss) = rw (nothing-one (matches (s .components) p) [] [] refl refl, nothing-said ss)
 
+  -- the selectors of a rule that are compiled: all, or none where it has no style
   styled-said : (o : ℕ) (ds : List StyleDecl) (ss : List Selector) → said (styledSelectors o ds ss) ≡ map (fromRule o) (selectorsSay p (toldAll ds) ss)
   unfolding styledSelectors
   styled-said o [] ss = unfold matchingAt declaredBy toldAll in rw (nothing-said ss)

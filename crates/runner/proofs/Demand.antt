@@ -4,8 +4,8 @@ use Prim.Native.Nat.{ℕ, zero, suc, _+_, _*_, _≤_, _<_}
 use mathlib.Core.Path.{_≡_, refl, ap, ap₂, sym, subst, _∙_}
 use mathlib.Core.Bool.{Bool}
 use mathlib.Core.Logic.{_⊎_, inl, inr}
-use mathlib.Core.List.{List, [], _∷_, _++_, append-assoc, append-nil}
-use native.Mathlib.Nat.{suc-mul, mul-le-mul-right, not-suc-le-zero}
+use mathlib.Core.List.{List, [], _∷_, _++_}
+use native.Mathlib.Nat.{not-suc-le-zero}
 use native.Mathlib.Omega.{arith}
 use lib.ListN.{length, take, drop, length-append, length-drop, length-set}
 use lib.Seq.{sets, length-sets, sets-eq, length-take-le, take-at, drop-at, drop-drop, drop-append-add}
@@ -17,10 +17,10 @@ use Rattle.cascade.specs.Record.{ComputedStyle, Formed, slotOf}
 use Rattle.cascade.specs.Row.{styleRowWidth, rowOf, styleAt}
 use Rattle.cascade.proofs.RowBack.{row-long, style-back}
 use Rattle.page.specs.Accepted.{noRefusal, pageRefusal}
-use Rattle.page.specs.Ancestors.{depthOf, placeOf}
+use Rattle.page.specs.Ancestors.{depthOf}
 use Rattle.page.specs.Path.{Element, Path}
 use Rattle.page.specs.PathOf.{elementAt, pathOf}
-use Rattle.page.specs.Rows.{nodeCount, nodeAt, documentKind, elementKind, otherKind}
+use Rattle.page.specs.Rows.{nodeCount, nodeAt, elementKind, otherKind}
 use Rattle.page.proofs.AcceptedPages.{Accepted, accepted}
 use Rattle.page.proofs.Paths.{path-document, path-element}
 use Rattle.page.proofs.RowFacts.{document-kind, parent-kind}
@@ -33,14 +33,14 @@ use Rattle.styles.specs.Computed.{sourcesAlong, computedStyle}
 use Rattle.styles.specs.StyleCall.{inlineContents, seenSlot, seenRecord, seenStyle, callStore, callRow}
 use Rattle.styles.proofs.Called.{cascaded-formed, call-told-alone}
 use Rattle.runner.specs.Walked.{WalkedSelector, walked}
-use Rattle.runner.specs.Groups.{allGroups, allBehind, matching, matchingAt}
-use Rattle.runner.specs.State.{partWidth, partPlace, countAt, raised, groupsFrom, opened}
+use Rattle.runner.specs.Groups.{allGroups, matching, matchingAt}
+use Rattle.runner.specs.State.{partWidth, partPlace, raised, groupsFrom}
 use Rattle.runner.specs.Run.{noStyle, styleBelow, Stepped, documentStep, elementStep, stepOn, Page, handedAt, Running, styleRowAt, runStep, runFrom, runOf, rowContents, contentsBefore, pageContents}
 use Rattle.runner.specs.Demand.{sheetsSelectors, AllRows}
 use Rattle.runner.proofs.GroupLaws.{matching-right}
 use Rattle.runner.proofs.StateParts.{part-kept, part-written}
 use Rattle.runner.proofs.OpenRows.{parent-most, kinds}
-use Rattle.runner.proofs.OpenParts.{used, depths, length-raised, length-opened, Ready, document-ready, other-ready, place-right, bytes-of, element-ready}
+use Rattle.runner.proofs.OpenParts.{depths, length-raised, length-opened, Ready, document-ready, other-ready, place-right, bytes-of, element-ready}
 use Rattle.runner.proofs.PartsFit.{parts-fit}
 use Rattle.runner.proofs.StepStyle.{Styled, document-styled, styled-further, styled-below}
 use Rattle.runner.proofs.Steps.{element-contents, no-contents, contents-most, other-step, document-step, element-step}
@@ -153,6 +153,7 @@ module _ (rules : Rules RuleSet) (fits : SheetFits (sheetsSelectors rules)) (on 
         further : (l m : List ℕ) (n k : ℕ) → n + styleRowWidth ≡ k → drop n l ≡ drop n m → drop k l ≡ drop k m
         further l m n k e h = rw (← e) (sym (drop-drop styleRowWidth n l) ∙ ap (drop styleRowWidth) h ∙ drop-drop styleRowWidth n m)
 
+        -- a row before it, or its own
         by-row : count * styleRowWidth ≤ length (r .rows) → (j : ℕ) → j < suc i → (j < i) ⊎ (i ≤ j)
             → RowRight (contentsBefore on g (suc i)) (styleRowAt (sets (r .rows) (i * styleRowWidth) (s .row)) j) j
         by-row rm j l (inl h) =
@@ -175,6 +176,7 @@ module _ (rules : Rules RuleSet) (fits : SheetFits (sheetsSelectors rules)) (on 
     nothing-new : (i n : ℕ) → ¬ (kindAt i ≡ elementKind) → n ≡ n + length (rowContents on g i)
     nothing-new i n d = rw (no-contents on g i d) (omega arith)
 
+    -- the document
     document-after : (r : Running) → Before 0 r → After 0 r (stepAt 0 r)
     unfolding documentStep
     document-after r b =
@@ -194,9 +196,11 @@ module _ (rules : Rules RuleSet) (fits : SheetFits (sheetsSelectors rules)) (on 
       abbrev p : ℕ
       p = nodeAt (g .nodes) (suc i) .parent
 
+      -- the state is long enough
       long : depths * partWidth code ≤ length (r .state)
       long = omega (arith, b .state-long)
 
+      -- other content
       other-after : kindAt (suc i) ≡ otherKind → After (suc i) r (stepAt (suc i) r)
       other-after e =
           let no : ¬ (kindAt (suc i) ≡ elementKind) = λ (z : kindAt (suc i) ≡ elementKind). omega (arith, e, z) in
@@ -237,6 +241,7 @@ module _ (rules : Rules RuleSet) (fits : SheetFits (sheetsSelectors rules)) (on 
         abbrev bytes : List ℕ
         bytes = allGroups (e ∷ []) (walked code) (groupsFrom (r .state) (partPlace code (depthOf (g .nodes) p)))
 
+        -- its path
         path-here : pathAt (suc i) ≡ e ∷ pathAt p
         path-here = path-element (g .nodes) (g .attributes) (g .text) ok (suc i) there (omega arith) element
 
@@ -247,12 +252,15 @@ module _ (rules : Rules RuleSet) (fits : SheetFits (sheetsSelectors rules)) (on 
             ∙ matching-right (walked code) (pathAt (suc i))
             ∙ ap (λ (x : Path). matchingAt x (walked code)) path-here
 
+        -- the row, by the path
         row-here : rowOf (styleBelow parent (matching (walked code) bytes) on (length code + r .fill) e) ≡ rowOf (styleBelow parent (matchingAt (e ∷ pathAt p) (walked code)) on (length code + length filled) e)
         row-here = ap₂ (λ (ss : List WalkedSelector) (n : ℕ). rowOf (styleBelow parent ss on (length code + n) e)) matching-here (b .fill)
 
+        -- which is the computed style
         below : Styled rules on (filled ++ inlineContents on e) (rowOf (styleBelow parent (matchingAt (e ∷ pathAt p) (walked code)) on (length code + length filled) e)) (e ∷ pathAt p)
         below = styled-below rules on fits filled e (pathAt p) parent parent-styled
 
+        -- an element
         element-after : After (suc i) r (stepAt (suc i) r)
         unfolding elementStep contentsBefore
         element-after =
@@ -270,6 +278,7 @@ module _ (rules : Rules RuleSet) (fits : SheetFits (sheetsSelectors rules)) (on 
             })
 
     -- ---- every row
+    -- one
     step-after : (i : ℕ) → i < count → (r : Running) → Before i r → After i r (stepAt i r)
     step-after zero there r b = document-after r b
     step-after (suc i) there r b = go (kinds (g .nodes) (g .attributes) (g .text) ok i there)
@@ -278,6 +287,7 @@ module _ (rules : Rules RuleSet) (fits : SheetFits (sheetsSelectors rules)) (on 
         go (inl e) = other-after i there r b e
         go (inr e) = element-after i there r b e
 
+    -- all that follow
     run-after : (k i : ℕ) (r : Running) → i + k ≡ count → Before i r → Before count (runFrom code on g k i r)
     unfolding runFrom runStep
     run-after zero i r e b = let z : i ≡ count = omega arith in subst (λ (n : ℕ). Before n r) z b
@@ -299,6 +309,7 @@ module _ (rules : Rules RuleSet) (fits : SheetFits (sheetsSelectors rules)) (on 
           right = λ j l. absurd (not-suc-le-zero l);
         }
 
+    -- the run
     pub run-right : AllRows rules on g code rows₀ store₀ (runOf code on g rows₀ state₀ store₀)
     unfolding runOf pageContents
     run-right =
@@ -337,6 +348,7 @@ formed-back t s f =
       after = sym (length-set (s .after .slots) contentSlot (seenSlot t (slotOf (s .after) contentSlot))) ∙ f .after;
     }
 
+-- a computed style has all its slots
 computed-formed : (rules : Rules RuleSet) (on : Bool) (p : Path) → Formed (computedStyle rules on p)
 unfolding computedStyle
 computed-formed rules on p = cascaded-formed (sourcesAlong rules on p)

@@ -1,5 +1,5 @@
 -- The bytes of an element's groups from its parent's: one pass over the components of each selector gives what the direct matcher says.
-use Prim.Native.Nat.{ℕ, zero, suc, _+_, _≤_}
+use Prim.Native.Nat.{ℕ, suc, _+_, _≤_}
 use mathlib.Core.Path.{_≡_, refl, ap, ap₂, sym, _∙_}
 use mathlib.Core.Bool.{Bool, true, false}
 use mathlib.Core.List.{List, [], _∷_, _++_, append-assoc}
@@ -70,16 +70,19 @@ abbrev pub alone : Path → Path
 alone [] = []
 alone (e ∷ up) = e ∷ []
 
+-- a second test that holds
 and-yes : (a : Bool) → and a true ≡ a
 unfolding and
 and-yes true = refl
 and-yes false = refl
 
+-- brackets do not matter
 and-assoc : (a b c : Bool) → and (and a b) c ≡ and a (and b c)
 unfolding and
 and-assoc true b c = refl
 and-assoc false b c = refl
 
+-- a first test that holds
 and-first : (r : Bool) → r ≡ and true r
 unfolding and
 and-first r = refl
@@ -112,10 +115,12 @@ matches-in true false = refl
 matches-in false true = refl
 matches-in false false = refl
 
+-- `>` looks at the lower fact
 pack-direct : (m h : Bool) → combined direct (pack m h) ≡ m
 unfolding combined
 pack-direct m h = matches-in m h
 
+-- a descendant step at either
 pack-anywhere : (m h : Bool) → combined anywhere (pack m h) ≡ or m h
 unfolding combined pack flag is pick or
 pack-anywhere true true = refl
@@ -138,29 +143,35 @@ combined-none anywhere rest = refl
 
 -- ---- what each definition is at a combinator and at a test
 module _ (cs : List Component) (p : Path) where
+  -- the bytes of the groups behind a combinator
   behind-combinator : (k : Combinator) → behind (joined k ∷ cs) p ≡ pack (matches cs p) (step (joined k) (matches cs) p) ∷ behind cs p
   unfolding behind
   behind-combinator k = on-combinator _ _ k
 
+  -- and behind a test
   behind-test : (c : Component) → IsTest c → behind (c ∷ cs) p ≡ behind cs p
   unfolding behind
   behind-test c u = on-test _ _ c u
 
 module _ (cs : List Component) where
+  -- one combinator more
   pub combinators-combinator : (k : Combinator) → combinators (joined k ∷ cs) ≡ suc (combinators cs)
   unfolding combinators
   combinators-combinator k = on-combinator _ _ k
 
+  -- a test is none
   pub combinators-test : (c : Component) → IsTest c → combinators (c ∷ cs) ≡ combinators cs
   unfolding combinators
   combinators-test c u = on-test _ _ c u
 
 module _ (row : Path) (ok holds : Bool) (cs : List Component) (above : List ℕ) where
+  -- a group ends at a combinator
   pub groups-combinator : (k : Combinator) → groups row ok holds (joined k ∷ cs) above
       ≡ pack (and ok (combined k (getD above 0 0))) holds ∷ groups row true (combined k (getD above 0 0)) cs (drop 1 above)
   unfolding groups
   groups-combinator k = on-combinator _ _ k
 
+  -- and goes on at a test
   pub groups-test : (c : Component) → IsTest c → groups row ok holds (c ∷ cs) above ≡ groups row (and ok (tested row c)) holds cs above
   unfolding groups
   groups-test c u = on-test _ _ c u
@@ -170,6 +181,7 @@ Right : List Component → Element → Path → Type 0
 Right cs e up = (ok holds : Bool) (more : List ℕ)
     → groups (e ∷ []) ok holds cs (behind cs up ++ more) ≡ pack (and ok (matches cs (e ∷ up))) holds ∷ behind cs (e ∷ up)
 
+-- one component more
 right-next : (c : Component) (cs : List Component) (e : Element) (up : Path) → Right cs e up → Right (c ∷ cs) e up
 unfolding Right matches
 right-next c cs e up ih = by-component (λ c. Right (c ∷ cs) e up) at-combinator at-test c
@@ -212,6 +224,7 @@ groups-right (c ∷ cs) e up ok holds more = right-next c cs e up (groups-right 
 RightAtTop : List Component → Type 0
 RightAtTop cs = (ok holds : Bool) → groups [] ok holds cs [] ≡ pack (and ok (matches cs [])) holds ∷ behind cs []
 
+-- one component more
 top-next : (c : Component) (cs : List Component) → RightAtTop cs → RightAtTop (c ∷ cs)
 unfolding RightAtTop matches
 top-next c cs ih = by-component (λ c. RightAtTop (c ∷ cs)) at-combinator at-test c
@@ -271,6 +284,7 @@ length-all-groups (s ∷ ss) row above =
     length-append (groups row true false (s .components) (drop 1 above)) (allGroups row ss (drop (suc (combinators (s .components))) above))
     ∙ ap₂ _+_ (length-groups (s .components) row true false (drop 1 above)) (length-all-groups ss row (drop (suc (combinators (s .components))) above))
 
+-- the same by the direct matcher
 pub length-all-behind : (ss : List WalkedSelector) (p : Path) → length (allBehind ss p) ≡ groupsCount ss
 unfolding allBehind groupsCount groupCount
 length-all-behind [] p = refl

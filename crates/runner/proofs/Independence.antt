@@ -1,6 +1,6 @@
 -- What a step does not depend on: the row that it writes, and the state and fill that it leaves, not on what the text store holds; the row, and the used bytes of
 -- its own part and its parent's, of the state on nothing but the used bytes of its parent's part.
-use Prim.Native.Nat.{ℕ, zero, suc, _+_, _*_, _≤_, _<_}
+use Prim.Native.Nat.{ℕ, zero, suc, _+_, _≤_, _<_}
 use mathlib.Core.Path.{_≡_, refl, ap, ap₂, sym, _∙_}
 use mathlib.Core.Bool.{Bool, true, false}
 use mathlib.Core.List.{List, [], _∷_, _++_}
@@ -17,7 +17,7 @@ use Rattle.page.specs.Path.{Element, Path}
 use Rattle.page.specs.Rows.{otherKind}
 use Rattle.styles.specs.StyleCall.{inlineContents}
 use Rattle.runner.specs.Walked.{WalkedSelector, walked}
-use Rattle.runner.specs.Groups.{Combinator, combined, tested, pack, groups, combinators, groupCount, groupsCount, allGroups, matching}
+use Rattle.runner.specs.Groups.{Combinator, combined, tested, groups, combinators, groupCount, groupsCount, allGroups, matching}
 use Rattle.runner.specs.State.{partWidth, partPlace, countWidth, countBytes, countAt, raised, groupsFrom, opened}
 use Rattle.runner.specs.Run.{Handed, Stepped, noStyle, styleBelow, documentStep, elementStep, openStep, stepOn}
 use Rattle.runner.proofs.GroupLaws.{IsTest, joined, by-component, combinators-combinator, combinators-test, groups-combinator, groups-test, length-all-groups}
@@ -30,6 +30,7 @@ module _ (code : List ℕ) (on : Bool) (x : Handed) (parent state store store′
   abbrev Left : Stepped → Stepped → Type 0
   Left s t = (s .row ≡ t .row) × (s .state ≡ t .state) × (s .fill ≡ t .fill)
 
+  -- by the kind of row and its depth
   store-free : (other : Bool) (depth : ℕ)
       → Left (pick other (record { row = noStyle; state = state; store = store; fill = fill }) (openStep code on x depth parent state store fill))
       (pick other (record { row = noStyle; state = state; store = store′; fill = fill }) (openStep code on x depth parent state store′ fill))
@@ -52,9 +53,11 @@ filled-next store new fill h =
     ap (take (fill + length new)) (sets-eq new store fill h) ∙ take-at (take fill store ++ new) (drop (fill + length new) store) (fill + length new) len
 
 module _ (code : List ℕ) (on : Bool) (x : Handed) (parent state store store′ : List ℕ) (fill : ℕ) (same : take fill store ≡ take fill store′) where
+  -- the step with another store
   abbrev stepFrom : Bool → ℕ → List ℕ → Stepped
   stepFrom other depth l = pick other (record { row = noStyle; state = state; store = l; fill = fill }) (openStep code on x depth parent state l fill)
 
+  -- by the kind of row and its depth
   texts-same : (other : Bool) (depth : ℕ) → stepFrom other depth store .fill ≤ length store → stepFrom other depth store′ .fill ≤ length store′
       → take (stepFrom other depth store .fill) (stepFrom other depth store .store) ≡ take (stepFrom other depth store′ .fill) (stepFrom other depth store′ .store)
   unfolding pick openStep documentStep elementStep
@@ -72,15 +75,17 @@ module _ (code : List ℕ) (on : Bool) (x : Handed) (parent state store store′
   step-texts-free depth h h′ = texts-same (is (x .kind) otherKind) depth h h′
 
 -- ---- the state
+-- what lies behind the first of some
 drop-one : {A : Type 0} (n : ℕ) (l : List A) → drop 1 (take (suc n) l) ≡ take n (drop 1 l)
 drop-one n [] = sym (take-nil n)
 drop-one n (x ∷ l) = refl
 
 module _ (n : ℕ) (a b : List ℕ) (e : take (suc n) a ≡ take (suc n) b) where
-  -- two lists that begin alike: the first, and what follows it
+  -- of two lists that begin alike the first
   first-same : getD a 0 0 ≡ getD b 0 0
   first-same = sym (getD-take (suc n) a 0 0 (omega arith)) ∙ ap (λ (l : List ℕ). getD l 0 0) e ∙ getD-take (suc n) b 0 0 (omega arith)
 
+  -- and what follows it
   rest-same : take n (drop 1 a) ≡ take n (drop 1 b)
   rest-same = sym (drop-one n a) ∙ ap (drop 1) e ∙ drop-one n b
 
@@ -88,6 +93,7 @@ module _ (n : ℕ) (a b : List ℕ) (e : take (suc n) a ≡ take (suc n) b) wher
 GroupsSame : List Component → Type 0
 GroupsSame cs = (row : Path) (ok holds : Bool) (a b : List ℕ) → take (combinators cs) a ≡ take (combinators cs) b → groups row ok holds cs a ≡ groups row ok holds cs b
 
+-- one component more
 groups-same-next : (c : Component) (cs : List Component) → GroupsSame cs → GroupsSame (c ∷ cs)
 unfolding GroupsSame
 groups-same-next c cs ih = by-component (λ c. GroupsSame (c ∷ cs)) at-combinator at-test c
@@ -106,6 +112,7 @@ groups-same-next c cs ih = by-component (λ c. GroupsSame (c ∷ cs)) at-combina
     at-test c u row ok holds a b e =
         rw (groups-test row ok holds cs a c u, groups-test row ok holds cs b c u) (ih row (and ok (tested row c)) holds a b (rw (combinators-test cs c u) at e))
 
+-- all components
 groups-same : (cs : List Component) → GroupsSame cs
 unfolding GroupsSame
 groups-same [] row ok holds a b e = unfold groups in refl
@@ -136,14 +143,16 @@ all-groups-same (s ∷ ss) row a b e =
 
 -- two states that agree on the used bytes of a part
 module _ (ss : List WalkedSelector) (state state′ : List ℕ) (at : ℕ) (same : part state at (used ss) ≡ part state′ at (used ss)) where
+  -- a byte of the part
   part-byte : (l : List ℕ) (j : ℕ) → j < used ss → getD (part l at (used ss)) j 0 ≡ getD l (at + j) 0
   unfolding part
   part-byte l j h = getD-take (used ss) (drop at l) j 0 h ∙ getD-drop at l j 0
 
+  -- have the same bytes there
   byte-same : (j : ℕ) → j < used ss → getD state (at + j) 0 ≡ getD state′ (at + j) 0
   byte-same j h = sym (part-byte state j h) ∙ ap (λ (l : List ℕ). getD l j 0) same ∙ part-byte state′ j h
 
-  -- have the same count there
+  -- the same count
   count-same : countAt state at ≡ countAt state′ at
   unfolding countAt
   count-same =
@@ -151,7 +160,7 @@ module _ (ss : List WalkedSelector) (state state′ : List ℕ) (at : ℕ) (same
       let low : getD state at 0 ≡ getD state′ at 0 = rw z at (byte-same 0 (omega arith)) in
       rw (low, byte-same 1 (omega arith))
 
-  -- and the same bytes behind it
+  -- and the same bytes behind the count
   behind-same : part state (at + countWidth) (groupsCount ss) ≡ part state′ (at + countWidth) (groupsCount ss)
   behind-same = part-behind state at (groupsCount ss) ∙ ap (drop countWidth) same ∙ sym (part-behind state′ at (groupsCount ss))
 
@@ -180,17 +189,19 @@ module _ (code : List ℕ) (fits : used (walked code) ≤ partWidth code) (on : 
   abbrev ss : List WalkedSelector
   ss = walked code
 
+  -- the element, its bytes and what the step leaves, by the state
   abbrev elementIn : List ℕ → Element
   elementIn l = record { name = x .name; attributes = x .attributes; place = countAt l (partPlace code d) + 1 }
 
   abbrev bytesIn : List ℕ → List ℕ
   bytesIn l = allGroups (elementIn l ∷ []) ss (groupsFrom l (partPlace code d))
 
-  -- the element is the same, and so are its bytes
+  -- the element is the same
   element-same : elementIn state ≡ elementIn state′
   element-same =
       ap (λ (n : ℕ). record { name = x .name; attributes = x .attributes; place = n + 1 }) (count-same ss state state′ (partPlace code d) same)
 
+  -- and so are its bytes
   own-bytes-same : bytesIn state ≡ bytesIn state′
   own-bytes-same =
       ap (λ (e : Element). allGroups (e ∷ []) ss (groupsFrom state (partPlace code d))) element-same ∙ bytes-same ss state state′ (partPlace code d) same (elementIn state′ ∷ [])
@@ -199,12 +210,15 @@ module _ (code : List ℕ) (fits : used (walked code) ≤ partWidth code) (on : 
   leftIn l = opened (raised l (partPlace code d)) (partPlace code (suc d)) (bytesIn l)
 
   module _ (l : List ℕ) (r : partPlace code (suc d) + partWidth code ≤ length l) where
+    -- what is written into its part
     abbrev own : List ℕ
     own = countBytes 0 ++ bytesIn l
 
+    -- as many as are used
     own-length : length own ≡ used ss
     own-length = length-append (countBytes 0) (bytesIn l) ∙ ap₂ _+_ (length-count 0) (length-all-groups ss (elementIn l ∷ []) (groupsFrom l (partPlace code d))) ∙ omega arith
 
+    -- which have room
     own-room : partPlace code (suc d) + length own ≤ length (raised l (partPlace code d))
     own-room = omega (arith, own-length, length-raised l (partPlace code d))
 
@@ -223,6 +237,7 @@ module _ (code : List ℕ) (fits : used (walked code) ≤ partWidth code) (on : 
   abbrev stepIn : List ℕ → Stepped
   stepIn l = stepOn code on x (suc d) parent l store fill
 
+  -- at an element
   step-in : (l : List ℕ) → ¬ (x .kind ≡ otherKind) → stepIn l ≡ elementStep code on (elementIn l) d parent l store fill
   unfolding stepOn openStep
   step-in l n = sym (pick-false _ _ _ _ (is-no _ _ n) refl)

@@ -2,10 +2,9 @@
 -- groups. A step of any row keeps that.
 use Prim.Native.Nat.{ℕ, zero, suc, _+_, _*_, _≤_, _<_}
 use mathlib.Core.Path.{_≡_, refl, ap, sym, subst, _∙_}
-use mathlib.Core.Logic.{_⊎_, inl, inr}
 use mathlib.Core.List.{List, [], _∷_, _++_}
 use native.Mathlib.Omega.{arith}
-use native.Mathlib.Nat.{suc-mul, zero-mul, mul-le-mul-right}
+use native.Mathlib.Nat.{suc-mul, mul-le-mul-right}
 use lib.ListN.{length, drop, length-append}
 use lib.Seq.{sets, length-sets}
 use Rattle.syntax.specs.Stream.{part}
@@ -16,14 +15,14 @@ use Rattle.page.specs.Accepted.{depthLimit}
 use Rattle.page.specs.PathOf.{elementAt, pathOf}
 use Rattle.page.proofs.AcceptedPages.{Accepted}
 use Rattle.page.proofs.Ancestry.{top-ancestors}
-use Rattle.page.proofs.RowFacts.{document-kind, parent-before, one-deeper, shallow}
+use Rattle.page.proofs.RowFacts.{one-deeper, shallow}
 use Rattle.page.proofs.Paths.{path-document, path-element, place-counts, none-yet}
 use Rattle.runner.specs.Walked.{WalkedSelector}
 use Rattle.runner.specs.Groups.{allGroups, allBehind, groupsCount}
 use Rattle.runner.specs.State.{partWidth, partPlace, countWidth, countBytes, countAt, raised, groupsFrom, opened}
 use Rattle.runner.proofs.GroupLaws.{length-all-groups, all-groups-right, all-groups-at-top}
 use Rattle.runner.proofs.StateParts.{part-kept, part-written, countLimit, length-count, count-right, bytes-right, raised-right}
-use Rattle.runner.proofs.OpenRows.{Below, weaken, children-same, child-counted, children-few, ancestors-before, parent-most, parent-no-other, line-next, parent-line, kinds}
+use Rattle.runner.proofs.OpenRows.{Below, weaken, children-same, child-counted, children-few, ancestors-before, parent-most, parent-no-other, line-next, parent-line}
 
 -- the bytes used of a part: the count and the groups
 abbrev pub used : List WalkedSelector → ℕ
@@ -80,10 +79,12 @@ module _ (code : List ℕ) (ss : List WalkedSelector) (nodes attributes text : L
         open-kept l b (length l) t t state v u bl (λ r q. refl) (omega arith) f h,
       )
 
+-- a raised count changes no length
 pub length-raised : (state : List ℕ) (at : ℕ) → length (raised state at) ≡ length state
 unfolding raised
 length-raised state at = length-sets state at (countBytes (countAt state at + 1))
 
+-- nor does a part that is opened
 pub length-opened : (state : List ℕ) (at : ℕ) (bytes : List ℕ) → length (opened state at bytes) ≡ length state
 unfolding opened
 length-opened state at bytes = length-sets state at (countBytes 0 ++ bytes)
@@ -128,10 +129,12 @@ module _ (code : List ℕ) (ss : List WalkedSelector) (nodes attributes text : L
     unfolding depthOf
     parent-part = parent-opened .0 (parent-no-other nodes attributes text ok i there)
 
+    -- a row below it is not too deep
     parent-shallow : suc (depthOf nodes p) ≤ depthLimit
     parent-shallow =
         omega (arith, one-deeper nodes attributes text ok (suc i) there (omega arith), shallow nodes attributes text ok (suc i) there)
 
+    -- its count fits two bytes
     few : elementChildren nodes p (suc i) < countLimit
     few = omega (arith, children-few nodes attributes text ok p (suc i) (omega arith))
 

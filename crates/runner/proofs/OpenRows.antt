@@ -1,17 +1,15 @@
 -- The rows open at a row of an accepted page, and the element children that they have had.
 use Prim.Native.Nat.{ℕ, zero, suc, _+_, _-_, _≤_, _<_}
-use mathlib.Core.Path.{_≡_, refl, ap, sym, _∙_}
+use mathlib.Core.Path.{_≡_, refl, _∙_}
 use mathlib.Core.Bool.{Bool, true, false}
 use mathlib.Core.Logic.{_⊎_, inl, inr}
 use mathlib.Core.List.{List, [], _∷_, _++_}
 use native.Mathlib.Omega.{arith}
 use native.Mathlib.Nat.{not-suc-le-zero}
-use native.Mathlib.Numerals.{add-one}
-use lib.ListN.{length}
 use Rattle.combinators.specs.Choice.{and, is}
 use Rattle.combinators.proofs.Rules.{and-both, and-left, and-right, is-yes, is-no, is-true}
-use Rattle.page.specs.Rows.{nodeCount, nodeAt, documentKind, elementKind, otherKind}
-use Rattle.page.specs.Ancestors.{ancestorsOf, lineOf, depthOf, isElementChild, elementChildren, placeOf}
+use Rattle.page.specs.Rows.{nodeCount, nodeAt, elementKind, otherKind}
+use Rattle.page.specs.Ancestors.{ancestorsOf, lineOf, isElementChild, elementChildren}
 use Rattle.page.specs.Accepted.{nodeLimit}
 use Rattle.page.proofs.Ancestry.{top-ancestors, below-ancestors, line-ends}
 use Rattle.page.proofs.AcceptedPages.{Accepted}
@@ -23,6 +21,7 @@ abbrev pub Below : ℕ → List ℕ → Type 0
 Below b [] = Unit
 Below b (r ∷ l) = (r < b) × Below b l
 
+-- and before a later one
 pub weaken : (l : List ℕ) (a b : ℕ) → a ≤ b → Below a l → Below b l
 weaken [] a b h u = tt
 weaken (r ∷ l) a b h u = (omega (arith, u .0), weaken l a b h (u .1))
@@ -54,6 +53,7 @@ module _ (nodes attributes text : List ℕ) (ok : Accepted nodes attributes text
   children-few p (suc k) l = omega (arith, children-most nodes attributes text ok p k, ok .few)
 
   -- ---- the ancestors of a row are before it
+  -- if it is so of the rows before
   below-step : (n row : ℕ) → ((r : ℕ) → r < n → r < nodeCount nodes → Below r (ancestorsOf nodes r)) → row < suc n → row < nodeCount nodes
       → Below row (ancestorsOf nodes row)
   below-step n zero ih h l = rw (top-ancestors nodes 0 (omega arith)) tt
@@ -62,10 +62,12 @@ module _ (nodes attributes text : List ℕ) (ok : Accepted nodes attributes text
       rw (below-ancestors nodes (suc row) b)
       (b, weaken (ancestorsOf nodes (nodeAt nodes (suc row) .parent)) (nodeAt nodes (suc row) .parent) (suc row) (omega arith) (ih (nodeAt nodes (suc row) .parent) (omega arith) (omega arith)))
 
+  -- so it is of the first rows
   below-first : (n row : ℕ) → row < n → row < nodeCount nodes → Below row (ancestorsOf nodes row)
   below-first zero row h l = absurd (not-suc-le-zero h)
   below-first (suc n) row h l = below-step n row (below-first n) h l
 
+  -- and of all
   pub ancestors-before : (row : ℕ) → row < nodeCount nodes → Below row (ancestorsOf nodes row)
   ancestors-before row l = below-first (suc row) row (omega arith) l
 

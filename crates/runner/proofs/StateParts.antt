@@ -1,12 +1,12 @@
 -- Parts of a buffer: one that is written is there, one before it is kept; and what raising the count of a part, and opening a part, leave of it.
-use Prim.Native.Nat.{ℕ, zero, suc, _+_, _*_, _/_, _%_, _≤_, _<_}
+use Prim.Native.Nat.{ℕ, suc, _+_, _/_, _%_, _≤_, _<_}
 use mathlib.Core.Path.{_≡_, refl, ap, sym, _∙_}
 use mathlib.Core.List.{List, [], _∷_, _++_, append-assoc}
 use native.Mathlib.Omega.{arith}
 use lib.ListN.{length, getD, take, drop, length-drop, take-append-drop}
-use lib.Seq.{sets, length-sets, sets-eq, drop-append-le, take-append-le, take-at, drop-at, length-take-le, drop-drop, take-nil, take-append-add, getD-drop}
+use lib.Seq.{sets, sets-eq, drop-append-le, take-append-le, take-at, drop-at, length-take-le, drop-drop, take-nil, take-append-add, getD-drop}
 use Rattle.syntax.specs.Stream.{part}
-use Rattle.runner.specs.State.{countWidth, byteLimit, countBytes, countAt, raised, groupsFrom, opened}
+use Rattle.runner.specs.State.{countWidth, byteLimit, countBytes, countAt, raised, groupsFrom}
 
 -- what lies in the first of two lists
 part-left : (x more : List ℕ) (at n : ℕ) → at + n ≤ length x → part (x ++ more) at n ≡ part x at n
@@ -53,6 +53,7 @@ pub part-split : (l v : List ℕ) (at n : ℕ) → part l at n ≡ v → drop at
 unfolding part
 part-split l v at n e = sym (take-append-drop n (drop at l)) ∙ ap (λ (x : List ℕ). x ++ drop n (drop at l)) e
 
+-- what lies behind the first two of some
 drop-two : (n : ℕ) (l : List ℕ) → take n (drop 2 l) ≡ drop 2 (take (suc (suc n)) l)
 drop-two n [] = take-nil n
 drop-two n (x ∷ []) = take-nil n
@@ -69,6 +70,7 @@ part-behind l at n = ap (take n) (sym (drop-drop 2 at l)) ∙ drop-two n (drop a
 abbrev pub countLimit : ℕ
 countLimit = 65536
 
+-- a count takes two bytes
 pub length-count : (c : ℕ) → length (countBytes c) ≡ countWidth
 unfolding countBytes
 length-count c = refl

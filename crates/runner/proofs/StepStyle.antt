@@ -2,9 +2,9 @@
 -- writes the computed style of the element's.
 use Prim.Native.Nat.{ℕ, _+_}
 use mathlib.Core.Path.{_≡_, refl, ap, ap₂, sym, _∙_}
-use mathlib.Core.Bool.{Bool, true, false}
+use mathlib.Core.Bool.{Bool, false}
 use mathlib.Core.List.{List, [], _∷_, _++_, map, map-append, foldl, append-assoc}
-use lib.ListN.{length, drop, length-append, replicate}
+use lib.ListN.{length, drop, length-append}
 use lib.Seq.{drop-at}
 use Rattle.syntax.specs.Layout.{flag}
 use Rattle.syntax.specs.Selector.{RuleSet}
@@ -25,7 +25,7 @@ use Rattle.styles.specs.StyleCall.{inlineContents, inlinePlaced, seenStyle}
 use Rattle.styles.specs.Seen.{seenDeclared}
 use Rattle.styles.proofs.Merges.{crate-blind, merges-seen, inherit-seen, empty-seen}
 use Rattle.styles.proofs.Placed.{inline-declared-seen}
-use Rattle.runner.specs.Walked.{WalkedSelector, walked, seenSelector, toldSelector}
+use Rattle.runner.specs.Walked.{walked}
 use Rattle.runner.specs.Groups.{matchingAt}
 use Rattle.runner.specs.Run.{noStyle, declaredBy, styleBelow}
 use Rattle.runner.specs.Demand.{sheetsSelectors}

@@ -1,16 +1,14 @@
 -- What a step is at each kind of row of an accepted page, and which contents a row has.
 use Prim.Native.Nat.{ℕ, zero, suc, _+_, _-_, _≤_, _<_}
-use mathlib.Core.Path.{_≡_, refl, ap, sym, _∙_}
-use mathlib.Core.Bool.{Bool, true, false}
-use mathlib.Core.List.{List, [], _∷_, _++_}
+use mathlib.Core.Path.{_≡_, refl, sym}
+use mathlib.Core.Bool.{Bool}
+use mathlib.Core.List.{List, []}
 use native.Mathlib.Omega.{arith}
 use lib.ListN.{length, length-append}
-use Rattle.combinators.specs.Choice.{pick, is}
 use Rattle.combinators.proofs.Rules.{pick-true, pick-false, is-yes, is-no}
 use Rattle.page.specs.Ancestors.{depthOf, placeOf}
-use Rattle.page.specs.Path.{Element}
 use Rattle.page.specs.PathOf.{elementAt}
-use Rattle.page.specs.Rows.{nodeCount, nodeAt, documentKind, elementKind, otherKind}
+use Rattle.page.specs.Rows.{nodeCount, nodeAt, elementKind, otherKind}
 use Rattle.page.proofs.AcceptedPages.{Accepted}
 use Rattle.page.proofs.Ancestry.{depth-most}
 use Rattle.page.proofs.RowFacts.{document-kind, one-deeper}
@@ -40,6 +38,7 @@ module _ (on : Bool) (g : Page) where
       length-before : (j : ℕ) → length (contentsBefore on g (suc j)) ≡ length (contentsBefore on g j) + length (rowContents on g j)
       length-before j = unfold contentsBefore in length-append (contentsBefore on g j) (rowContents on g j)
 
+  -- so they are among those of the page
   pub contents-most : (i : ℕ) → i ≤ nodeCount (g .nodes) → length (contentsBefore on g i) ≤ length (pageContents on g)
   unfolding pageContents
   contents-most i h =

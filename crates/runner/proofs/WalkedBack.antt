@@ -1,5 +1,5 @@
 -- The pass over the bytes of a sheet meets the selectors that the sheet was made of, and the contents of their styles by places where their texts lie.
-use Prim.Native.Nat.{ℕ, zero, suc, _+_, _≤_, _<_}
+use Prim.Native.Nat.{ℕ, _+_, _≤_, _<_}
 use mathlib.Core.Path.{_≡_, refl, ap, sym, _∙_}
 use mathlib.Core.Bool.{Bool}
 use mathlib.Core.List.{List, [], _∷_, _++_, map, append-assoc}
@@ -7,9 +7,8 @@ use native.Mathlib.Nat.{add-zero}
 use native.Mathlib.Omega.{arith}
 use lib.ListN.{length, getD, drop, length-append}
 use lib.Seq.{drop-append-le}
-use Rattle.syntax.specs.Layout.{flag, flagOf, styleValue, styleSecond, styleText, styleRowOf, styleRow}
+use Rattle.syntax.specs.Layout.{flag, styleValue, styleSecond, styleText, styleRowOf, styleRow}
 use Rattle.syntax.specs.RuleLayout.{pseudoNumber}
-use Rattle.syntax.specs.Selector.{Component}
 use Rattle.syntax.specs.Stream.{textsMany}
 use Rattle.syntax.specs.Style as style
 use Rattle.syntax.specs.Style.{agentOrigin, Style, StyleDecl}
@@ -19,14 +18,14 @@ use Rattle.compiled.specs.Decoded.{Decoded, read, onDecoded, andThen, mapped, c
 use Rattle.compiled.specs.Number.{numberLimit, numberBytes, numberAt}
 use Rattle.compiled.specs.Component.{componentBytes, componentAt}
 use Rattle.compiled.specs.Style.{styleSlotOf, styleBytes, styleNumbers, styleNumbersAt}
-use Rattle.compiled.specs.Sheet.{CompiledSelector, Head, headBytes, stylesBytes, selectorBytes, encode, headAt}
+use Rattle.compiled.specs.Sheet.{CompiledSelector, headBytes, stylesBytes, selectorBytes, encode, headAt}
 use Rattle.compiled.proofs.Fits.{ComponentFits, StyleFits, SelectorFits, NotFalling, SheetFits}
 use Rattle.compiled.proofs.Following.{held-within, then-read, mapped-read, ends-at, counted-back}
 use Rattle.compiled.proofs.NumberBack.{number-back}
 use Rattle.compiled.proofs.ComponentBack.{component-back}
 use Rattle.compiled.proofs.StyleBack.{place, text-there, numbers-back}
 use Rattle.compiled.proofs.RoundTrip.{head-back, whole}
-use Rattle.styles.specs.Numbered.{Numbered, numbered, told, toldAll}
+use Rattle.styles.specs.Numbered.{numbered, told, toldAll}
 use Rattle.styles.specs.Seen.{seenNumbered}
 use Rattle.styles.proofs.Placed.{numbered-seen}
 use Rattle.runner.specs.Walked.{WalkedSelector, walkedStyle, walkedStylesAt, walkedPartsAt, walkedSelectorAt, walkedSelectorsAt, walked, seenSelector, toldSelector}

@@ -1,10 +1,10 @@
 -- A run, computed: over rows, a state and a store full of 255, down an accepted page with content of another kind between elements, to depth 5 and back.
-use Prim.Native.Nat.{ℕ, _+_, _*_}
+use Prim.Native.Nat.{ℕ, _*_}
 use mathlib.Core.Bool.{Bool, true, false}
 use mathlib.Core.List.{List, [], _∷_, _++_, map}
 use mathlib.Core.Path.{_≡_, refl}
 use lib.IntN.{pos}
-use lib.ListN.{length, replicate}
+use lib.ListN.{replicate}
 use Rattle.combinators.specs.Choice as choice
 use Rattle.combinators.specs.Parsed as parsed
 use Rattle.combinators.specs.Repeat as repeat

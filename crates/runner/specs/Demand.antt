@@ -1,5 +1,5 @@
 -- Demand 3 in one record: what a run of the bytes of three sheets down a page leaves, all rows together.
-use Prim.Native.Nat.{ℕ, _+_, _*_, _<_}
+use Prim.Native.Nat.{ℕ, _*_, _<_}
 use mathlib.Core.Path.{_≡_}
 use mathlib.Core.Bool.{Bool}
 use mathlib.Core.List.{List, _++_}

@@ -1,11 +1,11 @@
 -- What the state holds of an open element. A group is a run of simple components between combinators; a selector has one group more than it has
 -- combinators. The byte of a group holds two facts: whether this group and all behind it match here, and whether the combinator before the group, with all
 -- behind it, holds here (of the first group it does not). Both follow from the row itself and from the parent's bytes.
-use Prim.Native.Nat.{ℕ, zero, suc, _+_, _*_, _%_}
+use Prim.Native.Nat.{ℕ, suc, _+_, _*_, _%_}
 use mathlib.Core.Bool.{Bool, true, false}
-use mathlib.Core.List.{List, [], _∷_, _++_, map}
-use lib.ListN.{length, getD, drop}
-use Rattle.combinators.specs.Choice.{pick, or, and, is}
+use mathlib.Core.List.{List, [], _∷_, _++_}
+use lib.ListN.{getD, drop}
+use Rattle.combinators.specs.Choice.{pick, and, is}
 use Rattle.syntax.specs.Layout.{flag}
 use Rattle.syntax.specs.Selector.{Component, star, class, element, hash, child, descendant, nth, attribute, attributeEqual}
 use Rattle.page.specs.Path.{Path}
