@@ -63,7 +63,7 @@ module _ (t : List ℕ) where
       ∙ ends-at ds _ _ e
 
   -- the numbers before the components
-  head-back : (origin : ℕ) (p : PseudoElement) (count least i : ℕ) → least ≤ origin → origin ≤ authorOrigin → count < numberLimit
+  pub head-back : (origin : ℕ) (p : PseudoElement) (count least i : ℕ) → least ≤ origin → origin ≤ authorOrigin → count < numberLimit
       → Held t i (headBytes origin (pseudoNumber p) count)
       → headAt t least i ≡ read (i + length (headBytes origin (pseudoNumber p) count)) (record { origin = origin; pseudo = pseudoNumber p; count = count })
   unfolding headAt pseudoAt countAt headBytes
@@ -112,7 +112,7 @@ module _ (t : List ℕ) where
       ∙ ends-at (s ∷ ss) _ _ e
 
 -- all bytes of a sheet lie at its start
-whole : (xs : List ℕ) → Held xs 0 xs
+pub whole : (xs : List ℕ) → Held xs 0 xs
 whole xs = record { more = []; held = sym (append-nil xs) }
 
 -- the round trip

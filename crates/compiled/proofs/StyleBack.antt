@@ -9,20 +9,20 @@ use lib.ListN.{length, getD, drop, length-append}
 use Rattle.combinators.specs.Choice.{pick, is}
 use Rattle.syntax.specs.Declaration.{Colour, WhiteSpace, normal, pre, preWrap}
 use Rattle.syntax.specs.Layout as layout
-use Rattle.syntax.specs.Layout.{flag, colourNumber, whiteSpaceNumber, colourSlot, contentSlot, styleTextOf, styleText, styleRowOf, styleRow, readStyle, styleRows, styleTexts}
+use Rattle.syntax.specs.Layout.{flag, colourNumber, whiteSpaceNumber, colourSlot, contentSlot, styleValue, styleSecond, styleTextOf, styleText, styleRowOf, styleRow, readStyle, styleRows, styleTexts}
 use Rattle.syntax.specs.Stream.{readMany, rowsMany, textsMany}
 use Rattle.syntax.specs.Style as style
 use Rattle.syntax.specs.Style.{Style, StyleDecl}
 use Rattle.syntax.proofs.Back as back
 use Rattle.syntax.proofs.Back.{OfBytes}
 use Rattle.syntax.proofs.Streams.{Held, held-left, held-right}
-use Rattle.compiled.specs.Decoded.{read, andThen, mapped}
+use Rattle.compiled.specs.Decoded.{read, andThen}
 use Rattle.compiled.specs.Number.{numberBytes, rangedAt}
 use Rattle.compiled.specs.Text.{spanAt}
-use Rattle.compiled.specs.Style.{greatestColour, greatestWhiteSpace, styleSlotOf, styleBody, styleBytes, styleNumbers, contentAt, numberUpTo, valueAt, slotAt, styleNumbersAt, styleIn, styleAt}
-use Rattle.compiled.proofs.Fits.{Bytes, TextFits, StyleFits}
-use Rattle.compiled.proofs.Following.{then-read, mapped-read, ends-at, all-append}
-use Rattle.compiled.proofs.NumberBack.{number-some, number-bytes, ranged-back}
+use Rattle.compiled.specs.Style.{greatestColour, greatestWhiteSpace, styleSlotOf, styleBody, styleBytes, StyleNumbers, styleNumbers, contentAt, numberUpTo, valueAt, slotAt, styleNumbersAt, styleIn, styleAt}
+use Rattle.compiled.proofs.Fits.{TextFits, StyleFits}
+use Rattle.compiled.proofs.Following.{then-read, mapped-read, ends-at}
+use Rattle.compiled.proofs.NumberBack.{number-some, ranged-back}
 use Rattle.compiled.proofs.TextBack.{span, span-back, text-held}
 
 -- ---- numbers in their ranges
@@ -64,6 +64,10 @@ style-some d =
 abbrev firstOf : List StyleDecl → StyleDecl
 firstOf ds = getD ds 0 (record { style = style.displayNone; important = false })
 
+-- where the text of a style lies whose body starts at n: behind its length
+abbrev pub textPlace : ℕ → Style → ℕ
+textPlace n s = n + length (numberBytes (length (styleTextOf s)))
+
 module _ (t : List ℕ) where
   -- nothing lies anywhere
   held-none : (f : ℕ) → Held t f []
@@ -79,7 +83,7 @@ module _ (t : List ℕ) where
   row-back d f u h = back.styles-back t (d ∷ []) f [] (u, tt) (held-one d f h)
 
   in-back : (i : Bool) (f : ℕ) (s : Style) → back.StyleFits s → Held t f (styleTextOf s)
-      → styleIn t (styleNumbers (flag i) (styleSlotOf s) (getD (styleRowOf (flag i) f s) 2 0) (getD (styleRowOf (flag i) f s) 3 0)) ≡ record { style = s; important = i }
+      → styleIn t (styleNumbers (flag i) (styleSlotOf s) (getD (styleRowOf (flag i) f s) styleValue 0) (getD (styleRowOf (flag i) f s) styleSecond 0)) ≡ record { style = s; important = i }
   unfolding styleIn styleNumbers styleSlotOf styleRowOf layout.stylesAt styleRows rowsMany readMany readStyle styleRow styleText
   in-back i f (style.colour c) u h = ap firstOf (row-back (record { style = (style.colour c); important = i }) f u h)
   in-back i f (style.background c) u h = ap firstOf (row-back (record { style = (style.background c); important = i }) f u h)
@@ -87,38 +91,74 @@ module _ (t : List ℕ) where
   in-back i f (style.whiteSpace w) u h = ap firstOf (row-back (record { style = (style.whiteSpace w); important = i }) f u h)
   in-back i f (style.content x) u h = ap firstOf (row-back (record { style = (style.content x); important = i }) f u h)
 
-  -- what stands behind the slot is read back
-  body-back : (i : Bool) (s : Style) (n : ℕ) → back.StyleFits s → TextFits (styleTextOf s) → Held t n (styleBody s)
-      → mapped (styleIn t) (valueAt t (flag i) (styleSlotOf s) n) ≡ read (n + length (styleBody s)) (record { style = s; important = i })
-  unfolding valueAt contentAt numberUpTo styleSlotOf styleBody styleTextOf styleRowOf back.StyleFits pick is
-  body-back i (style.colour c) n u f h =
-      mapped-read (styleIn t) _ _ _ (mapped-read _ (rangedAt t n 0 greatestColour) _ _ (ranged-back t n 0 greatestColour (colourNumber c) (omega (arith, colour-le c u)) (omega arith) (colour-le c u) h))
-      ∙ rw (in-back i n (style.colour c) u (held-none n))
-  body-back i (style.background c) n u f h =
-      mapped-read (styleIn t) _ _ _ (mapped-read _ (rangedAt t n 0 greatestColour) _ _ (ranged-back t n 0 greatestColour (colourNumber c) (omega (arith, colour-le c u)) (omega arith) (colour-le c u) h))
-      ∙ rw (in-back i n (style.background c) u (held-none n))
-  body-back i style.displayNone n u f h =
-      mapped-read (styleIn t) _ _ _ refl ∙ rw (in-back i n style.displayNone u (held-none n)) (ends-at _ _ _ (sym (add-zero n)))
-  body-back i (style.whiteSpace w) n u f h =
-      mapped-read (styleIn t) _ _ _ (mapped-read _ (rangedAt t n 0 greatestWhiteSpace) _ _ (ranged-back t n 0 greatestWhiteSpace (whiteSpaceNumber w) (omega (arith, white-space-le w)) (omega arith) (white-space-le w) h))
-      ∙ rw (in-back i n (style.whiteSpace w) u (held-none n))
-  body-back i (style.content x) n u f h =
-      mapped-read (styleIn t) _ _ _ (mapped-read _ (spanAt t n) _ (span t n x h) (span-back t n x h (f .short)))
-      ∙ rw (in-back i (n + length (numberBytes (length x))) (style.content x) u (text-held t n x h))
+  -- ---- the numbers of a style, and where its text lies
+  module _ (i : Bool) where
+    -- those of a style whose text starts at f, as a style row has them
+    abbrev numbersAt : ℕ → Style → StyleNumbers
+    numbersAt f s = styleNumbers (flag i) (styleSlotOf s) (getD (styleRowOf (flag i) f s) styleValue 0) (getD (styleRowOf (flag i) f s) styleSecond 0)
+
+    -- what stands at n, behind the slot, is read as these numbers
+    body-numbers : (s : Style) (n : ℕ) → back.StyleFits s → TextFits (styleTextOf s) → Held t n (styleBody s)
+        → valueAt t (flag i) (styleSlotOf s) n ≡ read (n + length (styleBody s)) (numbersAt (textPlace n s) s)
+    unfolding valueAt contentAt numberUpTo styleSlotOf styleBody styleTextOf styleRowOf back.StyleFits pick is
+    body-numbers (style.colour c) n u f h =
+        mapped-read _ (rangedAt t n 0 greatestColour) _ _ (ranged-back t n 0 greatestColour (colourNumber c) (omega (arith, colour-le c u)) (omega arith) (colour-le c u) h)
+    body-numbers (style.background c) n u f h =
+        mapped-read _ (rangedAt t n 0 greatestColour) _ _ (ranged-back t n 0 greatestColour (colourNumber c) (omega (arith, colour-le c u)) (omega arith) (colour-le c u) h)
+    body-numbers style.displayNone n u f h = ends-at _ _ _ (sym (add-zero n))
+    body-numbers (style.whiteSpace w) n u f h =
+        mapped-read _ (rangedAt t n 0 greatestWhiteSpace) _ _ (ranged-back t n 0 greatestWhiteSpace (whiteSpaceNumber w) (omega (arith, white-space-le w)) (omega arith) (white-space-le w) h)
+    body-numbers (style.content x) n u f h = mapped-read _ (spanAt t n) _ (span t n x h) (span-back t n x h (f .short))
+
+    -- its text lies behind its length
+    body-text : (s : Style) (n : ℕ) → Held t n (styleBody s) → Held t (textPlace n s) (styleTextOf s)
+    unfolding styleBody styleTextOf
+    body-text (style.colour c) n h = held-none (textPlace n (style.colour c))
+    body-text (style.background c) n h = held-none (textPlace n (style.background c))
+    body-text style.displayNone n h = held-none (textPlace n style.displayNone)
+    body-text (style.whiteSpace w) n h = held-none (textPlace n (style.whiteSpace w))
+    body-text (style.content x) n h = text-held t n x h
+
+  module _ (d : StyleDecl) (i : ℕ) (h : Held t i (styleBytes d)) where
+    -- its flag, its slot and its body
+    abbrev a : List ℕ
+    a = numberBytes (flag (d .important))
+
+    abbrev b : List ℕ
+    b = numberBytes (styleSlotOf (d .style))
+
+    abbrev c : List ℕ
+    c = styleBody (d .style)
+
+    -- the slot lies behind the flag
+    behind-flag : Held t (i + length a) (b ++ c)
+    unfolding styleBytes
+    behind-flag = held-right t i a (b ++ c) h
+
+    -- where its text lies, if it has one
+    abbrev pub place : ℕ
+    place = textPlace (i + length a + length b) (d .style)
+
+    -- the text lies there
+    pub text-there : Held t place (styleText d)
+    unfolding styleText
+    text-there = body-text (d .important) (d .style) (i + length a + length b) (held-right t (i + length a) b c behind-flag)
+
+    -- a style is read as the numbers of its row
+    pub numbers-back : StyleFits d → styleNumbersAt t i ≡ read (i + length (styleBytes d)) (numbersAt (d .important) place (d .style))
+    unfolding styleNumbersAt slotAt styleBytes styleText
+    numbers-back f =
+        let e : i + length a + length b + length c ≡ i + length (a ++ (b ++ c)) = omega (arith, length-append a (b ++ c), length-append b c) in
+        then-read (rangedAt t i 0 1) (λ n important. andThen (rangedAt t n colourSlot contentSlot) (λ m slot. valueAt t important slot m)) _ (flag (d .important))
+        (ranged-back t i 0 1 (flag (d .important)) (omega (arith, flag-le (d .important))) (omega arith) (flag-le (d .important)) (held-left t i a (b ++ c) h))
+        ∙ then-read (rangedAt t (i + length a) colourSlot contentSlot) (λ m slot. valueAt t (flag (d .important)) slot m) _ (styleSlotOf (d .style))
+        (ranged-back t (i + length a) colourSlot contentSlot (styleSlotOf (d .style)) (omega (arith, slot-le (d .style))) (omega arith) (slot-le (d .style)) (held-left t (i + length a) b c behind-flag))
+        ∙ body-numbers (d .important) (d .style) (i + length a + length b) (f .colour) (f .text) (held-right t (i + length a) b c behind-flag)
+        ∙ ends-at _ _ _ e
 
   -- a style is read back
   pub style-back : (d : StyleDecl) (i : ℕ) → StyleFits d → Held t i (styleBytes d) → styleAt t i ≡ read (i + length (styleBytes d)) d
-  unfolding styleAt styleNumbersAt slotAt styleBytes styleText
+  unfolding styleAt styleText
   style-back d i f h =
-      let a : List ℕ = numberBytes (flag (d .important)) in
-      let b : List ℕ = numberBytes (styleSlotOf (d .style)) in
-      let c : List ℕ = styleBody (d .style) in
-      let r = held-right t i a (b ++ c) h in
-      let e : i + length a + length b + length c ≡ i + length (a ++ (b ++ c)) = omega (arith, length-append a (b ++ c), length-append b c) in
-      ap (mapped (styleIn t))
-      (then-read (rangedAt t i 0 1) (λ n important. andThen (rangedAt t n colourSlot contentSlot) (λ m slot. valueAt t important slot m)) _ (flag (d .important))
-      (ranged-back t i 0 1 (flag (d .important)) (omega (arith, flag-le (d .important))) (omega arith) (flag-le (d .important)) (held-left t i a (b ++ c) h))
-      ∙ then-read (rangedAt t (i + length a) colourSlot contentSlot) (λ m slot. valueAt t (flag (d .important)) slot m) _ (styleSlotOf (d .style))
-      (ranged-back t (i + length a) colourSlot contentSlot (styleSlotOf (d .style)) (omega (arith, slot-le (d .style))) (omega arith) (slot-le (d .style)) (held-left t (i + length a) b c r)))
-      ∙ body-back (d .important) (d .style) (i + length a + length b) (f .colour) (f .text) (held-right t (i + length a) b c r)
-      ∙ ends-at d _ _ e
+      mapped-read (styleIn t) (styleNumbersAt t i) _ _ (numbers-back d i h f)
+      ∙ rw (in-back (d .important) (place d i h) (d .style) (f .colour) (text-there d i h))

@@ -1,15 +1,15 @@
 -- What the state holds of an open element. A group is a run of simple components between combinators; a selector has one group more than it has
 -- combinators. The byte of a group holds two facts: whether this group and all behind it match here, and whether the combinator before the group, with all
 -- behind it, holds here (of the first group it does not). Both follow from the row itself and from the parent's bytes.
-use Prim.Native.Nat.{ℕ, zero, suc, _+_, _*_, _%_}
+use Prim.Native.Nat.{ℕ, suc, _+_, _*_, _%_}
 use mathlib.Core.Bool.{Bool, true, false}
-use mathlib.Core.List.{List, [], _∷_, _++_, map}
-use lib.ListN.{length, getD, drop}
-use Rattle.combinators.specs.Choice.{pick, or, and, is}
+use mathlib.Core.List.{List, [], _∷_, _++_}
+use lib.ListN.{getD, drop}
+use Rattle.combinators.specs.Choice.{pick, and, is}
 use Rattle.syntax.specs.Layout.{flag}
 use Rattle.syntax.specs.Selector.{Component, star, class, element, hash, child, descendant, nth, attribute, attributeEqual}
 use Rattle.page.specs.Path.{Path}
-use Rattle.matching.specs.Matches.{step}
+use Rattle.matching.specs.Matches.{step, matches}
 use Rattle.runner.specs.Walked.{WalkedSelector}
 
 -- what the lower bit of a byte says, and what the upper one
@@ -63,7 +63,7 @@ groups row ok holds (c ∷ cs) above =
 -- how many combinators a selector has
 unfoldable pub combinators : List Component → ℕ
 combinators [] = 0
-combinators (c ∷ cs) = onComponent c (λ _. 1) (λ _. 0) + combinators cs
+combinators (c ∷ cs) = onComponent c (λ _. suc (combinators cs)) (λ _. combinators cs)
 
 unfoldable pub groupCount : WalkedSelector → ℕ
 groupCount s = suc (combinators (s .components))
@@ -77,3 +77,25 @@ allGroups row (s ∷ ss) above = groups row true false (s .components) (drop 1 a
 unfoldable pub matching : List WalkedSelector → List ℕ → List WalkedSelector
 matching [] bytes = []
 matching (s ∷ ss) bytes = pick (matchesIn (getD bytes 0 0)) (s ∷ []) [] ++ matching ss (drop (groupCount s) bytes)
+
+-- ---- the same by the direct matcher, at a path
+
+-- the bytes of the groups behind the first: each matches here with all behind it, and so does the combinator before it
+unfoldable pub behind : List Component → Path → List ℕ
+behind [] p = []
+behind (c ∷ cs) p = onComponent c (λ _. pack (matches cs p) (step c (matches cs) p) ∷ behind cs p) (λ _. behind cs p)
+
+-- the bytes of all selectors
+unfoldable pub allBehind : List WalkedSelector → Path → List ℕ
+allBehind [] p = []
+allBehind (s ∷ ss) p = (pack (matches (s .components) p) false ∷ behind (s .components) p) ++ allBehind ss p
+
+-- the selectors that match
+unfoldable pub matchingAt : Path → List WalkedSelector → List WalkedSelector
+matchingAt p [] = []
+matchingAt p (s ∷ ss) = pick (matches (s .components) p) (s ∷ []) [] ++ matchingAt p ss
+
+-- how many bytes all selectors have
+unfoldable pub groupsCount : List WalkedSelector → ℕ
+groupsCount [] = 0
+groupsCount (s ∷ ss) = groupCount s + groupsCount ss

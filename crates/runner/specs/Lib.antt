@@ -2,3 +2,5 @@ pub mod Walked
 pub mod Groups
 pub mod State
 pub mod Run
+pub mod Demand
+pub mod Cases

@@ -11,8 +11,8 @@ use Rattle.cascade.specs.Row.{styleRowWidth, rowOf, styleAt}
 use Rattle.cascade.specs.Specificity.{inlineSpecificity}
 use Rattle.page.specs.Ancestors.{depthOf}
 use Rattle.page.specs.Path.{Attribute, Element}
-use Rattle.page.specs.PathOf.{attributesFrom}
-use Rattle.page.specs.Rows.{otherKind, nodeAt, nodeCount, nameOf}
+use Rattle.page.specs.PathOf.{attributesFrom, elementAt}
+use Rattle.page.specs.Rows.{elementKind, otherKind, nodeAt, nodeCount, nameOf}
 use Rattle.matching.specs.Specificity.{specificity}
 use Rattle.styles.specs.Computed.{ruleStyle}
 use Rattle.styles.specs.StyleCall.{inlineContents, inlinePlaced}
@@ -117,3 +117,18 @@ runFrom code on g (suc k) i r = runFrom code on g k (suc i) (runStep code on g i
 unfoldable pub runOf : List ℕ → Bool → Page → List ℕ → List ℕ → List ℕ → Running
 runOf code on g rows state store =
     runFrom code on g (nodeCount (g .nodes)) 0 (record { rows = rows; state = state; store = store; fill = 0 })
+
+-- ---- what the text store holds: the content texts of `style` attributes "down the .. page", in page order
+
+-- those of a row
+unfoldable pub rowContents : Bool → Page → ℕ → List ℕ
+rowContents on g i =
+    pick (is (nodeAt (g .nodes) i .kind) elementKind) (inlineContents on (elementAt (g .nodes) (g .attributes) (g .text) i)) []
+
+-- those of the rows before a row
+unfoldable pub contentsBefore : Bool → Page → ℕ → List ℕ
+contentsBefore on g zero = []
+contentsBefore on g (suc i) = contentsBefore on g i ++ rowContents on g i
+
+unfoldable pub pageContents : Bool → Page → List ℕ
+pageContents on g = contentsBefore on g (nodeCount (g .nodes))

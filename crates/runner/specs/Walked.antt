@@ -1,15 +1,17 @@
 -- What a pass over the bytes of a compiled sheet meets: the selectors, their styles as a style row has them, a content by its place in the bytes.
 use Prim.Native.Nat.{ℕ, zero, suc}
-use mathlib.Core.List.{List, [], _∷_}
+use mathlib.Core.List.{List, [], _∷_, map}
 use Rattle.syntax.specs.Layout.{flagOf}
+use Rattle.syntax.specs.RuleLayout.{pseudoNumber}
 use Rattle.syntax.specs.Selector.{Component}
 use Rattle.syntax.specs.Style.{agentOrigin}
-use Rattle.styles.specs.Numbered.{Numbered}
+use Rattle.styles.specs.Numbered.{Numbered, toldAll}
+use Rattle.styles.specs.Seen.{seenNumbered}
 use Rattle.compiled.specs.Decoded.{Decoded, read, onDecoded, andThen, mapped, counted}
 use Rattle.compiled.specs.Number.{numberAt}
 use Rattle.compiled.specs.Component.{componentAt}
 use Rattle.compiled.specs.Style.{StyleNumbers, styleNumbersAt}
-use Rattle.compiled.specs.Sheet.{Head, headAt}
+use Rattle.compiled.specs.Sheet.{CompiledSelector, Head, headAt}
 
 pub record WalkedSelector : Type 0 where
   pub origin : ℕ
@@ -40,3 +42,10 @@ walkedSelectorsAt (suc k) t least i =
 -- the selectors of bytes that are a sheet
 unfoldable pub walked : List ℕ → List WalkedSelector
 walked t = onDecoded (andThen (numberAt t 0) (λ n count. walkedSelectorsAt count t agentOrigin n)) (λ _ ss. ss) (λ _. [])
+
+-- ---- a selector with the texts themselves in place of contents: of one that the pass meets, by the bytes that its contents lie in, and of one that is compiled
+unfoldable pub seenSelector : List ℕ → WalkedSelector → WalkedSelector
+seenSelector t s = record { origin = s .origin; pseudo = s .pseudo; components = s .components; styles = map (seenNumbered t) (s .styles) }
+
+unfoldable pub toldSelector : CompiledSelector → WalkedSelector
+toldSelector s = record { origin = s .origin; pseudo = pseudoNumber (s .pseudo); components = s .components; styles = toldAll (s .styles) }

@@ -1,0 +1,11 @@
+pub mod GroupLaws
+pub mod StateParts
+pub mod OpenRows
+pub mod OpenParts
+pub mod WalkedBack
+pub mod PartsFit
+pub mod Declaring
+pub mod StepStyle
+pub mod Steps
+pub mod Demand
+pub mod Independence
