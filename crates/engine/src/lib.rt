@@ -1,0 +1,4 @@
+// The functions that programs in C and Rust call (include/hicsolmab.h): the entry points, and what a comparison with html2text asks for. None of them
+// asks anything of its arguments. An answer that is an enum becomes a struct with the refusal's number, 0 where nothing is refused.
+pub mod sheet; // sheet.rt: a sheet into lent stores
+pub mod pages; // pages.rt: which pages are accepted
