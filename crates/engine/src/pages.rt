@@ -1,4 +1,7 @@
 // `hicsolmab_check_page`: which pages are accepted.
+use crate::refusals::BAD_ROW;
+use crate::refusals::BAD_TEXT;
+use crate::refusals::PAGE_LIMIT;
 use page::check::PageAnswer;
 use page::check::check_page;
 ghost use mathlib.Core.Path.{_≡_};
@@ -12,14 +15,8 @@ pub struct PageResult {
     pub place: usize,
 }
 
-pub const TOO_LARGE: u32 = 5;
-
-pub const BAD_ROW: u32 = 6;
-
-pub const BAD_TEXT: u32 = 7;
-
 // An answer in numbers.
-pub fn result_of(answer: PageAnswer) -> PageResult
+fn result_of(answer: PageAnswer) -> PageResult
     ensures { λ r. ⌜ r ≡ pageResult (refusalOf answer) ⌝ }
 {
     match answer {
@@ -31,7 +28,7 @@ pub fn result_of(answer: PageAnswer) -> PageResult
         }
         PageAnswer::TooLarge => {
             return PageResult {
-                refusal: TOO_LARGE,
+                refusal: PAGE_LIMIT,
                 place: 0,
             };
         }

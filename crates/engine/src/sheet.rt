@@ -1,4 +1,8 @@
 // `hicsolmab_read_sheet`: a sheet into lent stores.
+use crate::refusals::NOT_UTF8;
+use crate::refusals::PANIC;
+use crate::refusals::SHORT_STORE;
+use crate::refusals::TOO_LONG;
 use sheets::sheet::SheetAnswer;
 use sheets::sheet::read_sheet;
 ghost use mathlib.Core.Path.{_≡_};
@@ -16,14 +20,6 @@ pub struct SheetResult {
     pub numbers: usize,
     pub bytes: usize,
 }
-
-const TOO_LONG: u32 = 1;
-
-const SHORT_STORE: u32 = 2;
-
-const NOT_UTF8: u32 = 3;
-
-const PANIC: u32 = 4;
 
 // A sheet that is refused.
 fn refused(refusal: u32, place: usize) -> SheetResult
