@@ -1,3 +1,4 @@
 pub mod Sheet
 pub mod Page
 pub mod Attributes
+pub mod Matches

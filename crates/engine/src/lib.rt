@@ -4,3 +4,4 @@ pub mod refusals; // refusals.rt: the numbers of refusals
 pub mod sheet; // sheet.rt: a sheet into lent stores
 pub mod pages; // pages.rt: which pages are accepted
 pub mod attributes; // attributes.rt: style and colour attributes
+pub mod matches; // matches.rt: whether a selector matches an element
