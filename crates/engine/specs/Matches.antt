@@ -19,9 +19,9 @@ use Rattle.matching.specs.Rows.{componentsAt}
 use Rattle.matching.specs.Specificity.{specificity}
 use Rattle.engine.specs.declared.matches.MatchResult.{MatchResult}
 
--- "compiled bytes over 65,536": a component takes one of them or more
+-- the most components that a selector may have here
 abbrev pub componentLimit : ℕ
-componentLimit = 65536
+componentLimit = 4096
 
 -- "8 the asked row is no element or beyond the page"
 abbrev pub askedRefusal : ℕ

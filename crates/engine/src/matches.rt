@@ -30,8 +30,8 @@ pub struct MatchResult {
     pub types: u32,
 }
 
-// The components that a selector may have: no more than compiled bytes can hold.
-const COMPONENT_LIMIT: usize = 65536;
+// The components that a selector may have. The matcher calls itself for each, so this bounds the stack that it takes.
+const COMPONENT_LIMIT: usize = 4096;
 
 // A selector or a page that is refused.
 fn refused(refusal: u32, place: usize) -> MatchResult
