@@ -1,0 +1,106 @@
+-- Returns of `hicsolmab_style_attribute` and `hicsolmab_color_attribute`: the refusals in their order, and what is read in stores of the least lengths.
+use Prim.Native.Nat.{ℕ, _≤_, _<_}
+use mathlib.Core.Bool.{Bool, true, false}
+use mathlib.Core.List.{List}
+use mathlib.Core.Path.{_≡_, refl, ap, sym, _∙_}
+use native.Mathlib.Omega.{arith}
+use borrow.Author.Tests.{lt-ltb, le-ltb, leb-true}
+use lib.ListN.{length}
+use Rattle.combinators.proofs.Rules.{pick-true, pick-false, and-true}
+use Rattle.values.specs.Layout.{Room}
+use Rattle.values.specs.declared.colours.ColourAnswer.{ColourAnswer}
+use Rattle.declarations.specs.Leaving.{Leaves, ColourLeft, colourLeft, styleLeft, StyleRoom}
+use Rattle.declarations.specs.declared.attributes.StylesRead.{StylesRead}
+use Rattle.declarations.proofs.LeastLengths.{least-room, least-style-room}
+use Rattle.sheets.specs.SheetAnswer.{textLeast, bracketLeast, numberLeast, storesSuffice, limitRefusal, storeRefusal}
+use Rattle.page.specs.Accepted.{textLimit}
+use Rattle.engine.specs.Attributes.{refusedOr, refusedStyles, stylesResult, StyleCalled, styleRead, styleCalled, refusedColour, colourResult, ColourCalled, colourRead, colourCalled}
+use Rattle.engine.specs.declared.attributes.StylesResult.{StylesResult}
+use Rattle.engine.specs.declared.attributes.ColourResult.{ColourResult}
+
+-- ---- refusals, in their order
+module _ {A : Type 0} (s : List ℕ) (rules tokens brackets texts : ℕ) (refused : ℕ → A) (answer : A) where
+  limit-first : textLimit < length s → refused limitRefusal ≡ refusedOr s rules tokens brackets texts refused answer
+  unfolding refusedOr
+  limit-first h = pick-true _ _ _ _ (lt-ltb textLimit (length s) h) refl
+
+  module _ (h : length s ≤ textLimit) {t : Bool} (et : t ≡ storesSuffice (length s) rules tokens brackets texts) where
+    stores-then : t ≡ false → refused storeRefusal ≡ refusedOr s rules tokens brackets texts refused answer
+    unfolding refusedOr
+    stores-then e = pick-false _ _ _ _ (le-ltb textLimit (length s) h) (pick-false _ _ _ _ (sym et ∙ e) refl)
+
+    answered : t ≡ true → answer ≡ refusedOr s rules tokens brackets texts refused answer
+    unfolding refusedOr
+    answered e = pick-false _ _ _ _ (le-ltb textLimit (length s) h) (pick-true _ _ _ _ (sym et ∙ e) refl)
+
+-- ---- stores that suffice have the least lengths
+record Least (n rules tokens brackets texts : ℕ) : Type 0 where
+  for-texts : textLeast n ≤ texts
+  for-brackets : bracketLeast n ≤ brackets
+  for-rules : numberLeast n ≤ rules
+  for-tokens : numberLeast n ≤ tokens
+
+least : {n rules tokens brackets texts : ℕ} {t : Bool} → t ≡ storesSuffice n rules tokens brackets texts → t ≡ true → Least n rules tokens brackets texts
+unfolding storesSuffice
+least et e =
+    let p = and-true _ _ (sym et ∙ e) in
+    let q = and-true _ _ (p .1) in
+    let u = and-true _ _ (q .1) in
+    record { for-texts = leb-true _ _ (p .0); for-brackets = leb-true _ _ (q .0); for-rules = leb-true _ _ (u .0); for-tokens = leb-true _ _ (u .1) }
+
+-- ---- styles
+module _ (s rules tokens brackets texts : List ℕ) where
+  pub style-too-long : textLimit < length s
+      → record { result = record { refusal = limitRefusal; count = 0; bytes = 0 }; rules = rules; tokens = tokens; brackets = brackets; texts = texts }
+      ≡ styleCalled s rules tokens brackets texts
+  unfolding styleCalled refusedStyles
+  style-too-long h = limit-first s (length rules) (length tokens) (length brackets) (length texts) _ _ h
+
+  module _ (h : length s ≤ textLimit) {t : Bool} (et : t ≡ storesSuffice (length s) (length rules) (length tokens) (length brackets) (length texts)) where
+    pub style-short : t ≡ false
+        → record { result = record { refusal = storeRefusal; count = 0; bytes = 0 }; rules = rules; tokens = tokens; brackets = brackets; texts = texts }
+        ≡ styleCalled s rules tokens brackets texts
+    unfolding styleCalled refusedStyles
+    style-short e = stores-then s (length rules) (length tokens) (length brackets) (length texts) _ _ h et e
+
+    module _ (e : t ≡ true) where
+      pub style-room : StyleRoom s rules tokens brackets texts 0
+      style-room =
+          let l = least et e in
+          least-style-room (length s) s rules tokens brackets texts 0 (omega arith) (omega arith) (omega arith) (l .for-texts) (l .for-brackets) (l .for-rules) (l .for-tokens)
+
+      pub style-read : {a : StylesRead} {y x b z : List ℕ}
+          → record { answer = a; rules = y; tokens = x; brackets = b; store = z } ≡ styleLeft s rules tokens brackets texts 0
+          → record { result = record { refusal = 0; count = a .count; bytes = a .text }; rules = y; tokens = x; brackets = b; texts = z }
+          ≡ styleCalled s rules tokens brackets texts
+      unfolding styleCalled styleRead stylesResult
+      style-read p = ap styleRead p ∙ answered s (length rules) (length tokens) (length brackets) (length texts) _ _ h et e
+
+-- ---- colours
+module _ (s tokens brackets texts : List ℕ) where
+  pub colour-too-long : textLimit < length s
+      → record { result = record { refusal = limitRefusal; found = 0; colour = 0 }; tokens = tokens; brackets = brackets; texts = texts }
+      ≡ colourCalled s tokens brackets texts
+  unfolding colourCalled refusedColour
+  colour-too-long h = limit-first s (length tokens) (length tokens) (length brackets) (length texts) _ _ h
+
+  module _ (h : length s ≤ textLimit) {t : Bool} (et : t ≡ storesSuffice (length s) (length tokens) (length tokens) (length brackets) (length texts)) where
+    pub colour-short : t ≡ false
+        → record { result = record { refusal = storeRefusal; found = 0; colour = 0 }; tokens = tokens; brackets = brackets; texts = texts }
+        ≡ colourCalled s tokens brackets texts
+    unfolding colourCalled refusedColour
+    colour-short e = stores-then s (length tokens) (length tokens) (length brackets) (length texts) _ _ h et e
+
+    module _ (e : t ≡ true) where
+      pub colour-room : Room (length s) 0 tokens brackets texts
+      colour-room =
+          let l = least et e in
+          least-room (length s) s tokens tokens brackets texts 0 (omega arith) (omega arith) (omega arith) (l .for-texts) (l .for-brackets) (l .for-rules) (l .for-tokens)
+
+      -- with an answer in numbers
+      pub colour-read : {a v : ColourAnswer} {x b z : List ℕ} → record { answer = a; tokens = x; brackets = b; store = z } ≡ colourLeft s tokens brackets texts 0
+          → a ≡ v → record { result = colourResult v; tokens = x; brackets = b; texts = z } ≡ colourCalled s tokens brackets texts
+      unfolding colourCalled colourRead
+      colour-read {a} {v} {x} {b} {z} p q =
+          ap (λ (w : ColourAnswer). record { result = colourResult w; tokens = x; brackets = b; texts = z }) (sym q)
+          ∙ ap colourRead p ∙ answered s (length tokens) (length tokens) (length brackets) (length texts) _ _ h et e

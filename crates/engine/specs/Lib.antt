@@ -1,0 +1,4 @@
+pub mod Sheet
+pub mod Page
+pub mod Attributes
+pub mod Matches

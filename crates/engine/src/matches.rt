@@ -1,0 +1,116 @@
+// `hicsolmab_matches`: whether a selector, in component rows, matches an element of a page, and how specific it is.
+use crate::refusals::BAD_ROW;
+use crate::refusals::BAD_TEXT;
+use crate::refusals::NO_ELEMENT;
+use crate::refusals::PAGE_LIMIT;
+use crate::refusals::SHORT_STORE;
+use crate::refusals::TOO_LONG;
+use matching::components::specificity;
+use matching::matcher::do_matches;
+use page::check::PageAnswer;
+use page::check::check_page;
+use page::rows::ELEMENT;
+use page::rows::kind_of;
+use page::rows::node_count;
+use syntax::rows::COMPONENT_WIDTH;
+use syntax::rows::flag_of;
+ghost use mathlib.Core.Path.{_≡_};
+ghost use Prim.Native.Nat.{_≤_};
+ghost use Rattle.page.specs.Accepted.{noRefusal, pageRefusal};
+ghost use Rattle.engine.specs.Matches.{componentLimit, refusedMatch, rowMatch, pageMatch, matchCalled};
+
+// The refusal's number and place; 1 where the selector matches; how many ids, classes (with attributes and nth-child) and types it names.
+#[repr(C)]
+pub struct MatchResult {
+    pub refusal: u32,
+    pub place: usize,
+    pub matches: u32,
+    pub ids: u32,
+    pub classes: u32,
+    pub types: u32,
+}
+
+// The components that a selector may have. The matcher calls itself for each, so this bounds the stack that it takes.
+const COMPONENT_LIMIT: usize = 4096;
+
+// A selector or a page that is refused.
+fn refused(refusal: u32, place: usize) -> MatchResult
+    ensures { λ r. ⌜ r ≡ refusedMatch refusal place ⌝ }
+{
+    MatchResult {
+        refusal,
+        place,
+        matches: 0,
+        ids: 0,
+        classes: 0,
+        types: 0,
+    }
+}
+
+// Asks for a row of an accepted page.
+fn match_row(
+    components: &[u32],
+    count: usize,
+    texts: &[u8],
+    nodes: &[u32],
+    attributes: &[u32],
+    text: &[u8],
+    row: usize,
+) -> MatchResult
+    requires { ⌜ count ≤ componentLimit ⌝ }
+    requires { ⌜ pageRefusal (now nodes) (now attributes) (now text) ≡ noRefusal ⌝ }
+    ensures { λ r. ⌜ r ≡ rowMatch (now (components .entry)) count (now (texts .entry)) (now (nodes .entry)) (now (attributes .entry)) (now (text .entry)) row ⌝ }
+{
+    if row >= node_count(nodes) {
+        return refused(NO_ELEMENT, 0);
+    }
+    if kind_of(nodes, row) != ELEMENT {
+        return refused(NO_ELEMENT, 0);
+    }
+    let matches = do_matches(components, texts, count, nodes, attributes, text, row);
+    let named = specificity(components, count as u32);
+    MatchResult {
+        refusal: 0,
+        place: 0,
+        matches: flag_of(matches),
+        ids: named.id,
+        classes: named.class,
+        types: named.typ,
+    }
+}
+
+// Whether the first `count` components, with their texts in `texts`, match a row of the page: `do_matches` and `specificity` of a selector whose
+// components lie in reading order. Every component must be there.
+#[no_mangle]
+pub extern "C" fn hicsolmab_matches(
+    components: &[u32],
+    count: usize,
+    texts: &[u8],
+    nodes: &[u32],
+    attributes: &[u32],
+    text: &[u8],
+    row: usize,
+) -> MatchResult
+    ensures { λ r. ⌜ r ≡ matchCalled (now (components .entry)) count (now (texts .entry)) (now (nodes .entry)) (now (attributes .entry)) (now (text .entry)) row ⌝ }
+{
+    if count > COMPONENT_LIMIT {
+        return refused(TOO_LONG, 0);
+    }
+    if components.len() < COMPONENT_WIDTH * count {
+        return refused(SHORT_STORE, 0);
+    }
+    match check_page(nodes, attributes, text) {
+        PageAnswer::Page => {
+            return match_row(components, count, texts, nodes, attributes, text, row);
+        }
+        PageAnswer::TooLarge => {
+            return refused(PAGE_LIMIT, 0);
+        }
+        PageAnswer::BadRow(place) => {
+            return refused(BAD_ROW, place);
+        }
+        PageAnswer::BadText(place) => {
+            return refused(BAD_TEXT, place);
+        }
+    }
+}

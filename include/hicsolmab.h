@@ -1,0 +1,106 @@
+/* The stylesheet engine for programs in C. Link target/staticlib/libengine.a, which `rt staticlib engine` writes; x86-64 only.
+ *
+ * A pointer and a length are a slice: so many bytes or numbers that lie behind the pointer, which is not null, and that nothing else writes during the
+ * call. Slices that the call writes overlap no other. Nothing is kept after a call, and no call allocates memory.
+ *
+ * The first number of each result is the refusal, 0 where nothing is refused:
+ *   1 a text over its limit          5 a page over a limit, or a list that is no whole count of rows
+ *   2 a lent slice too short         6 a row of the page against the rules
+ *   3 a text that is not UTF-8       7 a text of the page outside its bytes, or not UTF-8
+ *   4 html2text panics on the sheet  8 the asked row is no element, or beyond the page
+ * The lowest number that applies is returned. After 4 every slice that the call writes is zero throughout, after others it is unchanged.
+ *
+ * For N bytes of text the least lengths are 8 N + 64 numbers in `rules` and in `tokens`, N bytes in `brackets`, 2 N + 12 bytes in `texts`. */
+#ifndef HICSOLMAB_H
+#define HICSOLMAB_H
+
+#include <stddef.h>
+#include <stdint.h>
+
+#ifdef __cplusplus
+extern "C" {
+#endif
+
+/* A sheet that was read: `count` rules in the first `numbers` numbers of `rules`, their texts in the first `bytes` bytes of `texts`, and `stop`, the
+ * first byte not read. `place` is that of a refusal: for 4 the byte where html2text panics. */
+typedef struct {
+    uint32_t refusal;
+    size_t place;
+    size_t count;
+    size_t stop;
+    size_t numbers;
+    size_t bytes;
+} hicsolmab_sheet_result;
+
+/* Reads a sheet of at most 32,768 bytes. How rules lie in the numbers: crates/syntax/specs/RuleLayout.antt. After an answer all beyond it is zero, and so
+ * are `tokens` and `brackets`. Refuses 1, 2, 3, 4. */
+hicsolmab_sheet_result hicsolmab_read_sheet(const uint8_t *sheet, size_t sheet_length,
+                                            uint32_t *rules, size_t rules_length,
+                                            uint32_t *tokens, size_t tokens_length,
+                                            uint8_t *brackets, size_t brackets_length,
+                                            uint8_t *texts, size_t texts_length);
+
+/* `place` is the first row that is refused, for 6 and 7. */
+typedef struct {
+    uint32_t refusal;
+    size_t place;
+} hicsolmab_page_result;
+
+/* Whether a page is accepted: node rows of six numbers, attribute rows of four, and the bytes of all names and values. Refuses 5, 6, 7. */
+hicsolmab_page_result hicsolmab_check_page(const uint32_t *nodes, size_t nodes_length,
+                                           const uint32_t *attributes, size_t attributes_length,
+                                           const uint8_t *text, size_t text_length);
+
+/* Styles that were read: `count` rows of four numbers in `tokens`, and `bytes` bytes of their texts in `texts`. */
+typedef struct {
+    uint32_t refusal;
+    size_t count;
+    size_t bytes;
+} hicsolmab_styles_result;
+
+/* Reads the value of a `style` attribute, of at most 65,536 bytes (all that a page's texts may have). How styles lie in rows:
+ * crates/syntax/specs/Layout.antt. What else the call used of the slices is zero, all else in them is unchanged. Refuses 1, 2. */
+hicsolmab_styles_result hicsolmab_style_attribute(const uint8_t *value, size_t value_length,
+                                                  uint32_t *rules, size_t rules_length,
+                                                  uint32_t *tokens, size_t tokens_length,
+                                                  uint8_t *brackets, size_t brackets_length,
+                                                  uint8_t *texts, size_t texts_length);
+
+/* `found` is 1 where there is a colour, which is red * 65536 + green * 256 + blue. */
+typedef struct {
+    uint32_t refusal;
+    uint32_t found;
+    uint32_t colour;
+} hicsolmab_colour_result;
+
+/* Reads the value of a `color` or `bgcolor` attribute, of at most 65,536 bytes. What the call used of the slices is zero, all else in them is
+ * unchanged. Refuses 1, 2. */
+hicsolmab_colour_result hicsolmab_color_attribute(const uint8_t *value, size_t value_length,
+                                                  uint32_t *tokens, size_t tokens_length,
+                                                  uint8_t *brackets, size_t brackets_length,
+                                                  uint8_t *texts, size_t texts_length);
+
+/* `matches` is 1 where the selector matches; `ids`, `classes` and `types` are its specificity. `place` is that of refusals 6 and 7. */
+typedef struct {
+    uint32_t refusal;
+    size_t place;
+    uint32_t matches;
+    uint32_t ids;
+    uint32_t classes;
+    uint32_t types;
+} hicsolmab_match_result;
+
+/* Whether a selector matches a row of a page: its first `count` components, at most 4,096, as they lie in a rule (four numbers each, in reading
+ * order, their texts in `texts`). The matcher calls itself for each component, with some 400 bytes of stack. Nothing is written. Refuses 1, 2 (fewer than 4 * count numbers), 5, 6, 7, 8. */
+hicsolmab_match_result hicsolmab_matches(const uint32_t *components, size_t components_length, size_t count,
+                                         const uint8_t *texts, size_t texts_length,
+                                         const uint32_t *nodes, size_t nodes_length,
+                                         const uint32_t *attributes, size_t attributes_length,
+                                         const uint8_t *text, size_t text_length,
+                                         size_t row);
+
+#ifdef __cplusplus
+}
+#endif
+
+#endif
