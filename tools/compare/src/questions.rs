@@ -1,0 +1,197 @@
+//! The questions that both sides are asked, and what counts as the same answer.
+use crate::engine::{self, Stores};
+use crate::generate;
+use crate::pages::{self, Tree};
+use crate::random::Random;
+use judge::answers::{Component, Rows, Selector};
+use judge::css::questions as html2text;
+
+/// Sheets or an attribute value, and a page where the question has one.
+#[derive(Clone)]
+pub struct Input {
+    pub texts: Vec<String>,
+    pub tree: Tree,
+}
+
+pub enum Answer {
+    /// The same, where html2text answers and where it panics.
+    Same,
+    SamePanic,
+    /// The comparison does not speak of this input.
+    Outside,
+    Different(String),
+}
+
+pub struct Question {
+    pub name: &'static str,
+    pub generate: fn(&mut Random) -> Input,
+    pub ask: fn(&Input) -> Answer,
+}
+
+pub const QUESTIONS: &[Question] = &[
+    Question { name: "sheet", generate: a_sheet, ask: ask_sheet },
+    Question { name: "style", generate: a_style_attribute, ask: ask_style_attribute },
+    Question { name: "colour", generate: a_color_attribute, ask: ask_color_attribute },
+    Question { name: "matches", generate: a_sheet_and_page, ask: ask_matches },
+    #[cfg(compiler)]
+    Question { name: "compile", generate: three_sheets, ask: ask_compile },
+];
+
+// What the stores hold before a call, so that a byte left as it was is seen.
+const FILLING: u8 = 0xa5;
+
+const PANICS: u32 = 4;
+#[cfg(compiler)]
+const TOO_LONG_COMPILED: u32 = 10;
+#[cfg(compiler)]
+const COMPILED_LIMIT: usize = 65536;
+
+fn text_input(text: String) -> Input {
+    Input { texts: vec![text], tree: Tree::new() }
+}
+
+fn a_sheet(random: &mut Random) -> Input {
+    text_input(generate::sheet(random))
+}
+
+fn a_style_attribute(random: &mut Random) -> Input {
+    text_input(generate::style_attribute(random))
+}
+
+fn a_color_attribute(random: &mut Random) -> Input {
+    text_input(generate::color_attribute(random))
+}
+
+fn a_sheet_and_page(random: &mut Random) -> Input {
+    Input { texts: vec![generate::matching_sheet(random)], tree: pages::tree(random) }
+}
+
+#[cfg(compiler)]
+fn three_sheets(random: &mut Random) -> Input {
+    let one = |random: &mut Random| if random.percent(30) { String::new() } else { generate::sheet(random) };
+    Input { texts: vec![one(random), one(random), generate::sheet(random)], tree: Tree::new() }
+}
+
+// ---- comparing
+
+fn same_or<T: PartialEq + std::fmt::Debug>(crate_says: T, this_says: T) -> Answer {
+    if crate_says == this_says {
+        return Answer::Same;
+    }
+    Answer::Different(format!("  html2text: {crate_says:?}\n  this:      {this_says:?}"))
+}
+
+fn different(what: &str) -> Answer {
+    Answer::Different(format!("  {what}"))
+}
+
+fn is_clear<T: Default + PartialEq>(store: &[T]) -> bool {
+    store.iter().all(|n| *n == T::default())
+}
+
+fn all_clear(stores: &Stores) -> bool {
+    is_clear(&stores.rules) && is_clear(&stores.tokens) && is_clear(&stores.brackets) && is_clear(&stores.texts)
+}
+
+// ---- read_sheet: the rule rows, the texts, the count, the stop; where html2text panics, refusal 4. What lies beyond is zero.
+
+fn ask_sheet(input: &Input) -> Answer {
+    let sheet = &input.texts[0];
+    let mut stores = Stores::new(sheet.len(), FILLING);
+    let this = stores.read_sheet(sheet.as_bytes());
+    let Some(read) = html2text::read_sheet(sheet) else {
+        return match this.refusal {
+            PANICS if all_clear(&stores) => Answer::SamePanic,
+            _ => Answer::Different(format!("  html2text panics\n  this:      {this:?}")),
+        };
+    };
+    if this.refusal != 0 {
+        return Answer::Different(format!("  html2text: {read:?}\n  this:      {this:?}"));
+    }
+    let beyond_is_clear = is_clear(&stores.rules[this.numbers..]) && is_clear(&stores.texts[this.bytes..]);
+    if !beyond_is_clear || !is_clear(&stores.tokens) || !is_clear(&stores.brackets) {
+        return different("this leaves something in the stores beyond its answer");
+    }
+    let rows = Rows { numbers: stores.rules[..this.numbers].to_vec(), texts: stores.texts[..this.bytes].to_vec() };
+    same_or((read.rules.len(), read.stop, Rows::of_rules(&read.rules)), (this.count, this.stop, rows))
+}
+
+// ---- style attributes: the style rows and the texts of contents
+
+fn ask_style_attribute(input: &Input) -> Answer {
+    const STYLE_WIDTH: usize = 4;
+    let value = &input.texts[0];
+    let styles = html2text::style_attribute(value).expect("a style attribute never panics");
+    let mut stores = Stores::new(value.len(), 0);
+    let this = stores.style_attribute(value.as_bytes());
+    let numbers = stores.tokens[..this.count * STYLE_WIDTH].to_vec();
+    let rows = Rows { numbers, texts: stores.texts[..this.bytes].to_vec() };
+    same_or((0, Rows::of_styles(&styles)), (this.refusal, rows))
+}
+
+// ---- colour attributes
+
+fn ask_color_attribute(input: &Input) -> Answer {
+    let value = &input.texts[0];
+    let colour = html2text::color_attribute(value).expect("a colour attribute never panics");
+    let this = Stores::new(value.len(), 0).color_attribute(value.as_bytes());
+    same_or((0, colour), (this.refusal, (this.found == 1).then_some(this.colour)))
+}
+
+// ---- matching: each selector of a sheet, each element of a page
+
+// Where idx - b passes 32 bits; idx is at most the count of nodes.
+fn may_overflow(selector: &Selector) -> bool {
+    let far = |c: &Component| matches!(c, Component::Nth(_, b) if *b < -i32::MAX + 4096);
+    selector.components.iter().any(far)
+}
+
+fn ask_matches(input: &Input) -> Answer {
+    let page = pages::page(&input.tree);
+    let refusal = engine::check_page(&page).refusal;
+    if refusal != 0 {
+        return different(&format!("the page is refused: {refusal}"));
+    }
+    let Some(matched) = html2text::matches(&input.texts[0], &page) else {
+        return Answer::Outside;
+    };
+    if matched.iter().any(|m| may_overflow(&m.selector)) {
+        return Answer::Outside;
+    }
+    let elements = page.elements();
+    for one in &matched {
+        let rows = Rows::of_components(&one.selector.components);
+        for (&row, &matches) in elements.iter().zip(&one.elements) {
+            let this = engine::matches(&rows.numbers, one.selector.components.len(), &rows.texts, &page, row);
+            let crate_says = (0, u32::from(matches), one.specificity.ids, one.specificity.classes, one.specificity.types);
+            let answer = same_or(crate_says, (this.refusal, this.matches, this.ids, this.classes, this.types));
+            if let Answer::Different(how) = answer {
+                return Answer::Different(format!("  {:?} at row {row}: refusal, match, ids, classes, types\n{how}", one.selector));
+            }
+        }
+    }
+    Answer::Same
+}
+
+// ---- compiled bytes of three sheets
+
+#[cfg(compiler)]
+fn ask_compile(input: &Input) -> Answer {
+    let [agent, user, author] = [&input.texts[0], &input.texts[1], &input.texts[2]];
+    let mut stores = Stores::new(agent.len() + user.len() + author.len(), FILLING);
+    let mut compiled = vec![FILLING; COMPILED_LIMIT];
+    let this = stores.compile([agent.as_bytes(), user.as_bytes(), author.as_bytes()], &mut compiled);
+    let Some(bytes) = html2text::compile(agent, user, author) else {
+        return match this.refusal {
+            PANICS if all_clear(&stores) && is_clear(&compiled) => Answer::SamePanic,
+            _ => Answer::Different(format!("  html2text panics\n  this:      {this:?}")),
+        };
+    };
+    if bytes.len() > COMPILED_LIMIT {
+        return same_or(TOO_LONG_COMPILED, this.refusal);
+    }
+    if this.refusal == 0 && !is_clear(&compiled[this.bytes..]) {
+        return different("this leaves something beyond the compiled bytes");
+    }
+    same_or((0, &bytes[..]), (this.refusal, &compiled[..this.bytes]))
+}
