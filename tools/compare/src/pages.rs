@@ -14,7 +14,7 @@ pub struct Node {
 pub type Tree = Vec<Node>;
 
 fn attribute(random: &mut Random) -> (String, String) {
-    let blanks = [" ", "  ", "\t", "\u{a0}", "\u{85}", "\u{2003}", "\u{200b}", "\u{1f}", ""];
+    let blanks = [" ", " ", "  ", "\t", "\u{a0}", "\u{85}", "\u{2003}", "\u{200b}", "\u{1f}", ""];
     let (name, value) = match random.below(6) {
         0..=2 => ("class", format!("{}{}{}", random.choose(&CLASSES), random.choose(&blanks), random.choose(&CLASSES))),
         3 => ("id", random.choose(&IDS).to_string()),

@@ -1,15 +1,23 @@
-//! Random numbers that a seed determines (splitmix64).
+//! Random numbers that a seed determines (splitmix64), and how odd the pieces are that they choose.
 
-pub struct Random(u64);
+pub struct Random {
+    state: u64,
+    oddness: usize,
+}
 
 impl Random {
     pub fn new(seed: u64) -> Random {
-        Random(seed)
+        Random { state: seed, oddness: 0 }
+    }
+
+    /// From now on so many pieces of a hundred are odd ones.
+    pub fn set_oddness(&mut self, percent: usize) {
+        self.oddness = percent;
     }
 
     fn next(&mut self) -> u64 {
-        self.0 = self.0.wrapping_add(0x9e37_79b9_7f4a_7c15);
-        let mut z = self.0;
+        self.state = self.state.wrapping_add(0x9e37_79b9_7f4a_7c15);
+        let mut z = self.state;
         z = (z ^ (z >> 30)).wrapping_mul(0xbf58_476d_1ce4_e5b9);
         z = (z ^ (z >> 27)).wrapping_mul(0x94d0_49bb_1331_11eb);
         z ^ (z >> 31)
@@ -25,7 +33,18 @@ impl Random {
         self.below(100) < percent
     }
 
-    pub fn choose<'a, T: ?Sized>(&mut self, from: &[&'a T]) -> &'a T {
+    pub fn choose<'a>(&mut self, from: &[&'a str]) -> &'a str {
         from[self.below(from.len())]
+    }
+
+    /// Whether the next piece is an odd one.
+    pub fn odd(&mut self) -> bool {
+        let oddness = self.oddness;
+        self.percent(oddness)
+    }
+
+    /// A usual piece, or an odd one.
+    pub fn either<'a>(&mut self, usual: &[&'a str], odd: &[&'a str]) -> &'a str {
+        if self.odd() { self.choose(odd) } else { self.choose(usual) }
     }
 }
