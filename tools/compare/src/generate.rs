@@ -318,6 +318,19 @@ pub fn matching_sheet(random: &mut Random) -> String {
     (0..1 + random.below(5)).map(|_| format!("{}{{}}", selector(random))).collect()
 }
 
+/// A short sheet whose rules mostly read, match and have styles.
+pub fn styling_sheet(random: &mut Random) -> String {
+    let damage = begin(random);
+    let heads = ["p", "div", "q", "a", "b", "span", ".k", ".m", ".foo", "#i", "#j", "*", "p.k", "div p", "div > *", ":nth-child(odd)", "p::before", ".k::after", "*::before"];
+    let one = |random: &mut Random| {
+        let head = if random.percent(75) { random.choose(&heads).to_string() } else { selectors(random) };
+        let body = if random.percent(60) { declaration(random) } else { declarations(random) };
+        format!("{head}{{{body}}}")
+    };
+    let text: String = (0..random.below(4)).map(|_| one(random)).collect();
+    if damage { damaged(random, text) } else { text }
+}
+
 // ---- damage
 
 fn boundary(random: &mut Random, text: &str) -> usize {

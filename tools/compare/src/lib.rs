@@ -6,3 +6,4 @@ pub mod pages;
 pub mod questions;
 pub mod random;
 pub mod shrink;
+pub mod vectors;

@@ -2,6 +2,7 @@
 //! difference with the smallest input that was found. tools/compare/run.sh builds and runs it.
 //!
 //!     compare SEED COUNT [QUESTION]
+//!     compare replay FILE              asks the engine what a file of vectors asks
 use compare::questions::{Answer, Input, QUESTIONS, Question};
 use compare::random::Random;
 use compare::{pages, shrink};
@@ -35,7 +36,7 @@ fn run(question: &Question, seed: u64, count: usize) -> Tally {
         match (question.ask)(&input) {
             Answer::Same => tally.same += 1,
             Answer::SamePanic => tally.panics += 1,
-            Answer::Outside => tally.outside += 1,
+            Answer::Outside | Answer::NotYet => tally.outside += 1,
             Answer::Different(_) => {
                 tally.different += 1;
                 if tally.different <= SHOWN {
@@ -59,8 +60,20 @@ fn compare(seed: u64, count: usize, only: Option<&str>) -> ExitCode {
     if differences == 0 { ExitCode::SUCCESS } else { ExitCode::FAILURE }
 }
 
+fn replay(file: &str) -> ExitCode {
+    let bytes = std::fs::read(file).expect("the file is read");
+    let (count, differ) = compare::vectors::replay(&bytes);
+    println!("{count} vectors, {differ} differ");
+    if differ == 0 { ExitCode::SUCCESS } else { ExitCode::FAILURE }
+}
+
 fn main() -> ExitCode {
     let words: Vec<String> = std::env::args().skip(1).collect();
+    if let [word, file] = &words[..] {
+        if word == "replay" {
+            return replay(file);
+        }
+    }
     let number = |i: usize| words.get(i).and_then(|w| w.parse::<u64>().ok());
     let (Some(seed), Some(count)) = (number(0), number(1)) else {
         eprintln!("compare SEED COUNT [QUESTION]");

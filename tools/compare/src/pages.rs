@@ -1,5 +1,5 @@
 //! Pages to ask about: a tree of elements, as rows.
-use crate::generate::{ATTRIBUTES, CLASSES, IDS, NAMES, VALUES};
+use crate::generate::{self, ATTRIBUTES, CLASSES, IDS, NAMES, VALUES};
 use crate::random::Random;
 use judge::answers::{DOCUMENT_KIND, ELEMENT_KIND, OTHER_KIND, Page};
 
@@ -15,9 +15,11 @@ pub type Tree = Vec<Node>;
 
 fn attribute(random: &mut Random) -> (String, String) {
     let blanks = [" ", " ", "  ", "\t", "\u{a0}", "\u{85}", "\u{2003}", "\u{200b}", "\u{1f}", ""];
-    let (name, value) = match random.below(6) {
+    let (name, value) = match random.below(9) {
         0..=2 => ("class", format!("{}{}{}", random.choose(&CLASSES), random.choose(&blanks), random.choose(&CLASSES))),
         3 => ("id", random.choose(&IDS).to_string()),
+        4 => (random.choose(&["color", "bgcolor"]), generate::color_attribute(random)),
+        5 => ("style", generate::style_attribute(random)),
         _ => (random.choose(&ATTRIBUTES), random.choose(&VALUES).to_string()),
     };
     (name.to_string(), value)

@@ -19,6 +19,8 @@ pub enum Answer {
     SamePanic,
     /// The comparison does not speak of this input.
     Outside,
+    /// The engine does not export this yet.
+    NotYet,
     Different(String),
 }
 
@@ -33,8 +35,8 @@ pub const QUESTIONS: &[Question] = &[
     Question { name: "style", generate: a_style_attribute, ask: ask_style_attribute },
     Question { name: "colour", generate: a_color_attribute, ask: ask_color_attribute },
     Question { name: "matches", generate: a_sheet_and_page, ask: ask_matches },
-    #[cfg(compiler)]
     Question { name: "compile", generate: three_sheets, ask: ask_compile },
+    Question { name: "computed", generate: three_sheets_and_page, ask: ask_computed },
 ];
 
 // What the stores hold before a call, so that a byte left as it was is seen.
@@ -66,10 +68,14 @@ fn a_sheet_and_page(random: &mut Random) -> Input {
     Input { texts: vec![generate::matching_sheet(random)], tree: pages::tree(random) }
 }
 
-#[cfg(compiler)]
 fn three_sheets(random: &mut Random) -> Input {
     let one = |random: &mut Random| if random.percent(30) { String::new() } else { generate::sheet(random) };
     Input { texts: vec![one(random), one(random), generate::sheet(random)], tree: Tree::new() }
+}
+
+fn three_sheets_and_page(random: &mut Random) -> Input {
+    let texts = (0..3).map(|_| generate::styling_sheet(random)).collect();
+    Input { texts, tree: pages::tree(random) }
 }
 
 // ---- comparing
@@ -175,6 +181,12 @@ fn ask_matches(input: &Input) -> Answer {
 
 // ---- compiled bytes of three sheets
 
+// Nothing is compared as long as the engine exports no compiler.
+#[cfg(not(compiler))]
+fn ask_compile(_: &Input) -> Answer {
+    Answer::NotYet
+}
+
 #[cfg(compiler)]
 fn ask_compile(input: &Input) -> Answer {
     let [agent, user, author] = [&input.texts[0], &input.texts[1], &input.texts[2]];
@@ -194,4 +206,10 @@ fn ask_compile(input: &Input) -> Answer {
         return different("this leaves something beyond the compiled bytes");
     }
     same_or((0, &bytes[..]), (this.refusal, &compiled[..this.bytes]))
+}
+
+// ---- computed styles: html2text is asked for vectors (src/vectors.rs); the engine exports no style call yet
+
+fn ask_computed(_: &Input) -> Answer {
+    Answer::NotYet
 }
