@@ -2,6 +2,9 @@
 //! Each kind of piece has usual forms, which read, and odd ones, of which many do not; how odd a text is as a whole is chosen first.
 use crate::random::Random;
 
+// The bytes that a sheet may have.
+const LONGEST: usize = 32768;
+
 // Names that pages use too, so that selectors match.
 pub const NAMES: [&str; 6] = ["p", "div", "q", "a", "b", "span"];
 pub const CLASSES: [&str; 5] = ["k", "m", "foo", "a-b", "x1"];
@@ -298,10 +301,30 @@ fn soup(random: &mut Random) -> String {
     (0..random.below(20)).map(|_| piece(random, 2)).collect()
 }
 
+// One piece again and again, up to the longest sheet that is accepted.
+fn long(random: &mut Random) -> String {
+    let unit = match random.below(6) {
+        0 => statement(random),
+        1 => declaration(random) + ";",
+        2 => selector(random) + ",",
+        3 => component(random),
+        4 => random.either(&SPACES, &ODD_SPACES).to_string(),
+        _ => piece(random, 2),
+    };
+    let before = random.choose(&["", "p{", "p{a:", "p{}", "@x ", "p{color:red}/*", "p[a=\"", "p{content:'"]);
+    let behind = random.choose(&["", "}", "p{}", "\"]{}", "'}"]);
+    let room = LONGEST - before.len() - behind.len();
+    let copies = if unit.is_empty() { 0 } else { random.below(room / unit.len() + 1) };
+    format!("{before}{}{behind}", unit.repeat(copies))
+}
+
 pub fn sheet(random: &mut Random) -> String {
     let damage = begin(random);
     if random.percent(5) {
         return soup(random);
+    }
+    if random.below(400) == 0 {
+        return long(random);
     }
     let count = if random.percent(3) { 40 } else { 1 + random.below(5) };
     let mut text = space(random).to_string();

@@ -20,27 +20,27 @@ struct Tally {
     different: usize,
 }
 
-fn show_difference(question: &Question, input: Input) {
-    let least = shrink::shrink(question, input);
-    println!("{}: different on {:?}\n{}", question.name, least.texts, pages::show(&least.tree));
-    if let Answer::Different(how) = (question.ask)(&least) {
+fn show_difference(name: &str, ask: fn(&Input) -> Answer, input: Input) {
+    let least = shrink::shrink(ask, input);
+    println!("{name}: different on {:?}\n{}", least.texts, pages::show(&least.tree));
+    if let Answer::Different(how) = ask(&least) {
         println!("{how}");
     }
 }
 
-fn run(question: &Question, seed: u64, count: usize) -> Tally {
+fn run(question: &Question, ask: fn(&Input) -> Answer, seed: u64, count: usize) -> Tally {
     let mut random = Random::new(seed);
     let mut tally = Tally::default();
     for _ in 0..count {
         let input = (question.generate)(&mut random);
-        match (question.ask)(&input) {
+        match ask(&input) {
             Answer::Same => tally.same += 1,
             Answer::SamePanic => tally.panics += 1,
-            Answer::Outside | Answer::NotYet => tally.outside += 1,
+            Answer::Outside => tally.outside += 1,
             Answer::Different(_) => {
                 tally.different += 1;
                 if tally.different <= SHOWN {
-                    show_difference(question, input);
+                    show_difference(question.name, ask, input);
                 }
             }
         }
@@ -53,7 +53,11 @@ fn compare(seed: u64, count: usize, only: Option<&str>) -> ExitCode {
     let mut differences = 0;
     println!("| question | seed | inputs | same | both panic or refuse | outside | different |\n|---|---|---|---|---|---|---|");
     for question in QUESTIONS.iter().filter(|q| only.is_none_or(|name| name == q.name)) {
-        let tally = run(question, seed, count);
+        let Some(ask) = question.ask else {
+            println!("| {} | not exported by the engine yet |", question.name);
+            continue;
+        };
+        let tally = run(question, ask, seed, count);
         differences += tally.different;
         println!("| {} | {seed} | {count} | {} | {} | {} | {} |", question.name, tally.same, tally.panics, tally.outside, tally.different);
     }

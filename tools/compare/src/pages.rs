@@ -38,11 +38,35 @@ fn open_rows(tree: &Tree, row: usize) -> Vec<usize> {
     rows
 }
 
+// Which of the open rows a new one stands below: in a deep page the last, in a wide one mostly the first, else any.
+#[derive(Clone, Copy)]
+enum Shape {
+    Deep,
+    Wide,
+    Any,
+}
+
+fn place(random: &mut Random, shape: Shape, open: usize) -> usize {
+    match shape {
+        Shape::Deep => 0,
+        Shape::Wide if random.percent(90) => open - 1,
+        _ => random.below(open).min(random.below(open)),
+    }
+}
+
+// The deepest row that is accepted.
+const DEEPEST: usize = 64;
+
 pub fn tree(random: &mut Random) -> Tree {
+    let (shape, rows) = match random.below(200) {
+        0 => (Shape::Deep, 1 + random.below(DEEPEST)),
+        1 | 2 => (Shape::Wide, 1 + random.below(60)),
+        _ => (Shape::Any, 1 + random.below(10)),
+    };
     let mut tree = Tree::new();
-    for row in 1..2 + random.below(10) {
+    for row in 1..1 + rows {
         let open = open_rows(&tree, row - 1);
-        let parent = open[random.below(open.len()).min(random.below(open.len()))];
+        let parent = open[place(random, shape, open.len())];
         let attributes = (0..random.below(4)).map(|_| attribute(random)).collect();
         let element = (!random.percent(10)).then(|| (random.choose(&NAMES).to_string(), attributes));
         tree.push(Node { parent, element });

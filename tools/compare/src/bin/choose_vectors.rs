@@ -64,7 +64,8 @@ fn length(input: &Input) -> usize {
 fn choose(question: &Question, seed: u64) -> Vec<Input> {
     let mut random = Random::new(seed);
     let mut inputs: Vec<Input> = (0..LOOKED_AT).map(|_| (question.generate)(&mut random)).collect();
-    inputs.retain(|i| length(i) <= LONGEST && !matches!((question.ask)(i), Answer::Outside));
+    let outside = |i: &Input| question.ask.is_some_and(|ask| matches!(ask(i), Answer::Outside));
+    inputs.retain(|i| length(i) <= LONGEST && !outside(i));
     let mut by_length: Vec<usize> = (0..inputs.len()).collect();
     by_length.sort_by_key(|&i| length(&inputs[i]));
     let (mut counters, mut sets, mut taken) = (HashSet::new(), HashSet::new(), vec![]);
