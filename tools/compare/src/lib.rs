@@ -5,5 +5,6 @@ pub mod generate;
 pub mod pages;
 pub mod questions;
 pub mod random;
+pub mod short;
 pub mod shrink;
 pub mod vectors;

@@ -2,9 +2,11 @@
 //! difference with the smallest input that was found. tools/compare/run.sh builds and runs it.
 //!
 //!     compare SEED COUNT [QUESTION]
+//!     compare short                    all short texts of src/short.rs
 //!     compare replay FILE              asks the engine what a file of vectors asks
-use compare::questions::{Answer, Input, QUESTIONS, Question};
+use compare::questions::{Answer, Input, QUESTIONS};
 use compare::random::Random;
+use compare::short::FRAMES;
 use compare::{pages, shrink};
 use std::process::ExitCode;
 
@@ -28,62 +30,95 @@ fn show_difference(name: &str, ask: fn(&Input) -> Answer, input: Input) {
     }
 }
 
-fn run(question: &Question, ask: fn(&Input) -> Answer, seed: u64, count: usize) -> Tally {
-    let mut random = Random::new(seed);
-    let mut tally = Tally::default();
-    for _ in 0..count {
-        let input = (question.generate)(&mut random);
+impl Tally {
+    fn add(&mut self, name: &str, ask: fn(&Input) -> Answer, input: Input) {
         match ask(&input) {
-            Answer::Same => tally.same += 1,
-            Answer::SamePanic => tally.panics += 1,
-            Answer::Outside => tally.outside += 1,
+            Answer::Same => self.same += 1,
+            Answer::SamePanic => self.panics += 1,
+            Answer::Outside => self.outside += 1,
             Answer::Different(_) => {
-                tally.different += 1;
-                if tally.different <= SHOWN {
-                    show_difference(question.name, ask, input);
+                self.different += 1;
+                if self.different <= SHOWN {
+                    show_difference(name, ask, input);
                 }
             }
         }
     }
-    tally
+
+    fn inputs(&self) -> usize {
+        self.same + self.panics + self.outside + self.different
+    }
+
+    // The columns of a table's row.
+    fn columns(&self) -> String {
+        format!("{} | {} | {} | {} | {}", self.inputs(), self.same, self.panics, self.outside, self.different)
+    }
 }
 
-fn compare(seed: u64, count: usize, only: Option<&str>) -> ExitCode {
-    judge::css::questions::silence_panics();
+const COLUMNS: &str = "inputs | same | both panic or refuse | outside | different |\n|---|---|---|---|---|---|---|";
+
+fn exit_code(differences: usize) -> ExitCode {
+    if differences == 0 { ExitCode::SUCCESS } else { ExitCode::FAILURE }
+}
+
+fn generated(seed: u64, count: usize, only: Option<&str>) -> ExitCode {
     let mut differences = 0;
-    println!("| question | seed | inputs | same | both panic or refuse | outside | different |\n|---|---|---|---|---|---|---|");
+    println!("| question | seed | {COLUMNS}");
     for question in QUESTIONS.iter().filter(|q| only.is_none_or(|name| name == q.name)) {
         let Some(ask) = question.ask else {
             println!("| {} | not exported by the engine yet |", question.name);
             continue;
         };
-        let tally = run(question, ask, seed, count);
+        let mut random = Random::new(seed);
+        let mut tally = Tally::default();
+        for _ in 0..count {
+            tally.add(question.name, ask, (question.generate)(&mut random));
+        }
         differences += tally.different;
-        println!("| {} | {seed} | {count} | {} | {} | {} | {} |", question.name, tally.same, tally.panics, tally.outside, tally.different);
+        println!("| {} | {seed} | {} |", question.name, tally.columns());
     }
-    if differences == 0 { ExitCode::SUCCESS } else { ExitCode::FAILURE }
+    exit_code(differences)
+}
+
+fn short() -> ExitCode {
+    let mut differences = 0;
+    println!("| question | frame | {COLUMNS}");
+    for frame in &FRAMES {
+        let ask = QUESTIONS.iter().find(|q| q.name == frame.question).and_then(|q| q.ask).expect("a question that is there");
+        let mut tally = Tally::default();
+        for number in 0..frame.count() {
+            tally.add(frame.question, ask, Input { texts: vec![frame.text(number)], tree: vec![] });
+        }
+        differences += tally.different;
+        println!("| {} | `{}`..`{}` | {} |", frame.question, frame.before, frame.behind, tally.columns());
+    }
+    exit_code(differences)
 }
 
 fn replay(file: &str) -> ExitCode {
     let bytes = std::fs::read(file).expect("the file is read");
     let (count, differ) = compare::vectors::replay(&bytes);
     println!("{count} vectors, {differ} differ");
-    if differ == 0 { ExitCode::SUCCESS } else { ExitCode::FAILURE }
+    exit_code(differ)
+}
+
+fn work(words: &[String]) -> ExitCode {
+    judge::css::questions::silence_panics();
+    match &words[..] {
+        [word] if word == "short" => return short(),
+        [word, file] if word == "replay" => return replay(file),
+        [seed, count, only @ ..] => {
+            if let (Ok(seed), Ok(count)) = (seed.parse(), count.parse()) {
+                return generated(seed, count, only.first().map(String::as_str));
+            }
+        }
+        _ => {}
+    }
+    eprintln!("compare SEED COUNT [QUESTION] | short | replay FILE");
+    ExitCode::from(2)
 }
 
 fn main() -> ExitCode {
     let words: Vec<String> = std::env::args().skip(1).collect();
-    if let [word, file] = &words[..] {
-        if word == "replay" {
-            return replay(file);
-        }
-    }
-    let number = |i: usize| words.get(i).and_then(|w| w.parse::<u64>().ok());
-    let (Some(seed), Some(count)) = (number(0), number(1)) else {
-        eprintln!("compare SEED COUNT [QUESTION]");
-        return ExitCode::from(2);
-    };
-    let only = words.get(2).cloned();
-    let work = move || compare(seed, count as usize, only.as_deref());
-    std::thread::Builder::new().stack_size(STACK).spawn(work).unwrap().join().unwrap()
+    std::thread::Builder::new().stack_size(STACK).spawn(move || work(&words)).unwrap().join().unwrap()
 }
