@@ -98,6 +98,34 @@ fn all_clear(stores: &Stores) -> bool {
     is_clear(&stores.rules) && is_clear(&stores.tokens) && is_clear(&stores.brackets) && is_clear(&stores.texts)
 }
 
+// ---- where html2text panics: it gives no place, but its readers go from left to right, so the shortest beginning of the sheet that makes it panic ends
+// in the number that is too large, or with the `=` that ends the whole sheet.
+
+// Beyond this length the place is not looked for.
+const SEARCHED: usize = 2000;
+
+fn place_of_panic(sheet: &str) -> Option<usize> {
+    if sheet.len() > SEARCHED {
+        return None;
+    }
+    let ends_in_number = |end: usize| sheet[..end].ends_with(|c: char| c.is_ascii_digit());
+    let panics = |end: usize| ends_in_number(end) && html2text::read_sheet(&sheet[..end]).is_none();
+    let ends = (1..=sheet.len()).filter(|&end| sheet.is_char_boundary(end));
+    match ends.into_iter().find(|&end| panics(end)) {
+        Some(end) => Some(sheet[..end].trim_end_matches(|c: char| c.is_ascii_digit()).len()),
+        None => Some(sheet.len() - 1),
+    }
+}
+
+// The same refusal, at the same place where that is known.
+fn same_panic(this: (u32, usize), sheet: &str, clear: bool) -> Answer {
+    let place = place_of_panic(sheet);
+    if this.0 == PANICS && clear && place.is_none_or(|p| p == this.1) {
+        return Answer::SamePanic;
+    }
+    Answer::Different(format!("  html2text panics, at {place:?}\n  this:      refusal and place {this:?}, stores clear: {clear}"))
+}
+
 // ---- read_sheet: the rule rows, the texts, the count, the stop; where html2text panics, refusal 4. What lies beyond is zero.
 
 fn ask_sheet(input: &Input) -> Answer {
@@ -105,10 +133,7 @@ fn ask_sheet(input: &Input) -> Answer {
     let mut stores = Stores::new(sheet.len(), FILLING);
     let this = stores.read_sheet(sheet.as_bytes());
     let Some(read) = html2text::read_sheet(sheet) else {
-        return match this.refusal {
-            PANICS if all_clear(&stores) => Answer::SamePanic,
-            _ => Answer::Different(format!("  html2text panics\n  this:      {this:?}")),
-        };
+        return same_panic((this.refusal, this.place), sheet, all_clear(&stores));
     };
     if this.refusal != 0 {
         return Answer::Different(format!("  html2text: {read:?}\n  this:      {this:?}"));
@@ -157,12 +182,16 @@ fn ask_matches(input: &Input) -> Answer {
     if refusal != 0 {
         return different(&format!("the page is refused: {refusal}"));
     }
-    let Some(matched) = html2text::matches(&input.texts[0], &page) else {
+    // Where reading panics there is nothing to match; the question of sheets asks for it.
+    let Some(read) = html2text::read_sheet(&input.texts[0]) else {
         return Answer::Outside;
     };
-    if matched.iter().any(|m| may_overflow(&m.selector)) {
+    if read.rules.iter().flat_map(|r| &r.selectors).any(may_overflow) {
         return Answer::Outside;
     }
+    let Some(matched) = html2text::matches(&input.texts[0], &page) else {
+        return different("html2text panics while it matches");
+    };
     let elements = page.elements();
     for one in &matched {
         let rows = Rows::of_components(&one.selector.components);
@@ -193,10 +222,11 @@ fn ask_compile(input: &Input) -> Answer {
     let mut compiled = vec![FILLING; COMPILED_LIMIT];
     let this = stores.compile([agent.as_bytes(), user.as_bytes(), author.as_bytes()], &mut compiled);
     let Some(bytes) = html2text::compile(agent, user, author) else {
-        return match this.refusal {
-            PANICS if all_clear(&stores) && is_clear(&compiled) => Answer::SamePanic,
-            _ => Answer::Different(format!("  html2text panics\n  this:      {this:?}")),
-        };
+        let text = input.texts.iter().position(|t| html2text::read_sheet(t).is_none()).expect("a sheet that panics");
+        if this.text != text {
+            return different(&format!("html2text panics in text {text}, this refuses text {}", this.text));
+        }
+        return same_panic((this.refusal, this.place), &input.texts[text], all_clear(&stores) && is_clear(&compiled));
     };
     if bytes.len() > COMPILED_LIMIT {
         return same_or(TOO_LONG_COMPILED, this.refusal);

@@ -25,7 +25,7 @@ const RGB: [&str; 8] = ["1", "255", "6", ",", " ", "+", "-", ")"];
 const COLOUR: [&str; 12] = ["0", "a", "g", "#", "+", " ", "\u{a0}", ";", "}", "(", "!important", "é"];
 const DECLARATIONS: [&str; 10] = ["a", ":", ";", " ", "color:red", "/**/", "}", "\\", "!important", "1"];
 
-pub const FRAMES: [Frame; 18] = [
+pub const FRAMES: [Frame; 20] = [
     Frame { question: "sheet", before: "", behind: "", pieces: &SHEET, length: 4 },
     Frame { question: "sheet", before: "p{color:red}", behind: "q{}", pieces: &SHEET, length: 3 },
     Frame { question: "sheet", before: "p{", behind: "}q{}", pieces: &DECLARATIONS, length: 5 },
@@ -36,6 +36,8 @@ pub const FRAMES: [Frame; 18] = [
     Frame { question: "sheet", before: "p{color:rgb(", behind: ")}", pieces: &RGB, length: 6 },
     Frame { question: "sheet", before: ":nth-child(", behind: "){}", pieces: &NTH, length: 5 },
     Frame { question: "sheet", before: "[a", behind: "{}", pieces: &ATTRIBUTE, length: 5 },
+    Frame { question: "sheet", before: ":nth-child(", behind: "", pieces: &NTH, length: 4 },
+    Frame { question: "sheet", before: "p{}[a", behind: "", pieces: &ATTRIBUTE, length: 5 },
     Frame { question: "sheet", before: "a", behind: "{}", pieces: &SELECTOR, length: 5 },
     Frame { question: "sheet", before: "", behind: "{}", pieces: &SELECTOR, length: 5 },
     Frame { question: "sheet", before: "@x", behind: "q{}", pieces: &VALUE, length: 3 },
