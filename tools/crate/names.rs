@@ -1,4 +1,3 @@
-
 // Appended to css/parser.rs: what a question needs that is private there.
 pub(crate) mod names {
     use super::*;

@@ -120,11 +120,7 @@ fn rule(value: &parser::RuleSet, starts: &(usize, Vec<usize>)) -> answers::Rule 
     answers::Rule {
         selectors: value.selectors.iter().map(selector).collect(),
         declarations: declarations
-            .map(|(d, &start)| answers::Declaration {
-                decl: decl(&d.data),
-                important: d.important == super::Importance::Important,
-                start,
-            })
+            .map(|(d, &start)| answers::Declaration { decl: decl(&d.data), important: d.important == super::Importance::Important, start })
             .collect(),
         start: starts.0,
     }
@@ -137,10 +133,7 @@ pub fn read_sheet(sheet: &str) -> Option<answers::Sheet> {
     let (rest, rules) = unless_panic(|| parser::parse_stylesheet(sheet).expect("many0 reads"))?;
     let starts = parser::names::starts(sheet);
     assert_eq!(rules.len(), starts.len(), "each rule has a start");
-    Some(answers::Sheet {
-        rules: rules.iter().zip(&starts).map(|(r, s)| rule(r, s)).collect(),
-        stop: sheet.len() - rest.len(),
-    })
+    Some(answers::Sheet { rules: rules.iter().zip(&starts).map(|(r, s)| rule(r, s)).collect(), stop: sheet.len() - rest.len() })
 }
 
 /// `parse_stylesheet`, and nothing but it, to be measured: the count of rules.
@@ -170,11 +163,7 @@ fn style_data(agent: &str, user: &str, author: &str) -> StyleData {
 }
 
 fn styled(origin: u32, rules: &[Ruleset]) -> Vec<Styled> {
-    let one = |rule: &Ruleset| Styled {
-        origin,
-        selector: selector(&rule.selector),
-        styles: rule.styles.iter().map(style).collect(),
-    };
+    let one = |rule: &Ruleset| Styled { origin, selector: selector(&rule.selector), styles: rule.styles.iter().map(style).collect() };
     rules.iter().map(one).collect()
 }
 
@@ -225,11 +214,7 @@ fn matched(value: &Selector, elements: &[Handle]) -> Matched {
     let specificity = value.specificity();
     Matched {
         selector: selector(value),
-        specificity: answers::Specificity {
-            ids: specificity.id.into(),
-            classes: specificity.class.into(),
-            types: specificity.typ.into(),
-        },
+        specificity: answers::Specificity { ids: specificity.id.into(), classes: specificity.class.into(), types: specificity.typ.into() },
         elements: elements.iter().map(|e| Selector::do_matches(&value.components, e)).collect(),
     }
 }

@@ -13,7 +13,8 @@ const TURN_BYTES: usize = 256 * KILOBYTE;
 
 // ---- sheets
 
-const PLAIN: &str = "p{color:red}\n.note,.hint{background-color:#ffeecc;color:#333}\ndiv > p.k{display:none}\n#top a{color:rgb(1,2,3)}\nli:nth-child(2n+1){white-space:pre}\n";
+const PLAIN: &str =
+    "p{color:red}\n.note,.hint{background-color:#ffeecc;color:#333}\ndiv > p.k{display:none}\n#top a{color:rgb(1,2,3)}\nli:nth-child(2n+1){white-space:pre}\n";
 const COMMENTS: &str = "/* The colours of the first channel, as they are printed on the instrument. */\np/**/{/* one */color:red;/* two, which is longer than one */}\n/* ---- */\n";
 const STRINGS: &str = "a::before{content:\"the reading of the first channel: \"}\n[title=\"a longer title, with blanks\"]{content:'x' \"y\" 'zz'}\n";
 const ESCAPES: &str = ".\\00003123\\:a{c\\00006flor:r\\000065d}\n#\\000041bc\\{{color:\\000072ed;\\00007az:\\01f600x}\n\\64iv\\.k > \\0000e9{\\7a:\\\\}\n";
@@ -86,8 +87,22 @@ fn table_of_unclosed_comments() {
     println!("\n| unclosed comments, bytes | this, ms | html2text, ms | ratio |\n|---|---|---|---|");
     for length in LENGTHS {
         let sheet = unclosed(length);
-        let m = measure(&sheet, 5);
+        let m = measure(&sheet, 9);
         println!("| {} | {:.2} | {:.2} | {:.2} |", sheet.len(), m.this / 1e6, m.html2text / 1e6, m.ratio);
+    }
+}
+
+// A sheet that stops at its first byte: html2text does nothing, and this clears the stores.
+fn clearing() {
+    println!();
+    for length in LENGTHS {
+        let m = measure(&"+".repeat(length), TURNS);
+        println!(
+            "a sheet of {length} bytes that stops at once: {:.0} ns, {:.1} a byte, to clear the stores (html2text: {:.0} ns)",
+            m.this,
+            m.this / length as f64,
+            m.html2text
+        );
     }
 }
 
@@ -118,4 +133,5 @@ fn main() {
     }
     table_of_ratios();
     table_of_unclosed_comments();
+    clearing();
 }

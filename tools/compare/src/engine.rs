@@ -57,6 +57,7 @@ pub struct CompileResult {
 }
 
 // A slice passes as a pointer and a length.
+#[rustfmt::skip]
 unsafe extern "C" {
     fn hicsolmab_read_sheet(
         sheet: *const u8, sheet_length: usize,
@@ -130,6 +131,7 @@ impl Stores {
         }
     }
 
+    #[rustfmt::skip]
     pub fn read_sheet(&mut self, sheet: &[u8]) -> SheetResult {
         // Sound: each pointer and length is that of a slice, which lives longer than the call; so in all calls below.
         unsafe {
@@ -143,6 +145,7 @@ impl Stores {
         }
     }
 
+    #[rustfmt::skip]
     pub fn style_attribute(&mut self, value: &[u8]) -> StylesResult {
         unsafe {
             hicsolmab_style_attribute(
@@ -155,6 +158,7 @@ impl Stores {
         }
     }
 
+    #[rustfmt::skip]
     pub fn color_attribute(&mut self, value: &[u8]) -> ColourResult {
         unsafe {
             hicsolmab_color_attribute(
@@ -167,6 +171,7 @@ impl Stores {
     }
 
     #[cfg(compiler)]
+    #[rustfmt::skip]
     pub fn compile(&mut self, sheets: [&[u8]; 3], compiled: &mut [u8]) -> CompileResult {
         let [agent, user, author] = sheets;
         unsafe {
@@ -184,6 +189,7 @@ impl Stores {
     }
 }
 
+#[rustfmt::skip]
 pub fn check_page(page: &Page) -> PageResult {
     unsafe {
         hicsolmab_check_page(
@@ -195,6 +201,7 @@ pub fn check_page(page: &Page) -> PageResult {
 }
 
 /// Whether the selector of these component rows matches a row of a page.
+#[rustfmt::skip]
 pub fn matches(components: &[u32], count: usize, texts: &[u8], page: &Page, row: usize) -> MatchResult {
     unsafe {
         hicsolmab_matches(

@@ -17,57 +17,51 @@ const SPACES: [&str; 9] = [" ", " ", "\n", "\t", "\r\n", "\u{c}", "/**/", "/* x 
 const ODD_SPACES: [&str; 8] = ["/*", "/*/", "/***/", "/*\n*/ /**/", "\u{b}", "\u{a0}", "/**", "*/"];
 
 const ODD_NAMES: [&str; 36] = [
-    "P", "Div", "Foo", "K", "-a", "--a", "-", "_", "a1", "a-", "A_b", "\\41 ", "\\41", "a\\42 c", "\\", "\\e9 ", "\\0 ", "\\d800 ", "\\110000 ",
-    "\\1234567", "\\00006b", "\\6b ", "\\k", "\\K", "\\\n", "\\é", "é", "\u{80}", "\u{81}", "a\\", "\\-", "-\\31 x", "\\64iv", "\\70", "\\10ffff ", "/**/p",
+    "P", "Div", "Foo", "K", "-a", "--a", "-", "_", "a1", "a-", "A_b", "\\41 ", "\\41", "a\\42 c", "\\", "\\e9 ", "\\0 ", "\\d800 ", "\\110000 ", "\\1234567",
+    "\\00006b", "\\6b ", "\\k", "\\K", "\\\n", "\\é", "é", "\u{80}", "\u{81}", "a\\", "\\-", "-\\31 x", "\\64iv", "\\70", "\\10ffff ", "/**/p",
 ];
 
 const MARKS: [&str; 34] = [
-    "{", "}", "(", ")", "[", "]", ";", ":", ",", ".", "#", "@", "!", "*", ">", "+", "-", "~", "|", "=", "<", "<!--", "-->", "--", "%", "/",
-    "\\", "\"", "'", "&", "::", "^", "\0", "\u{7f}",
+    "{", "}", "(", ")", "[", "]", ";", ":", ",", ".", "#", "@", "!", "*", ">", "+", "-", "~", "|", "=", "<", "<!--", "-->", "--", "%", "/", "\\", "\"", "'",
+    "&", "::", "^", "\0", "\u{7f}",
 ];
 
 const HEIGHTS: [&str; 10] = ["0", "0px", "1px", "0em", "5pt", ".5in", "12cm", "-0", "0 px", ".0ex"];
 const ODD_NUMBERS: [&str; 34] = [
-    "1", "2", "12", "255", "256", "007", "1.5", "5.", "0.0", "+0", "-1", "+1", "++1", "+-1", "-+1", "+ 1", "- 1", "1e3", "0PX", "5 px", "0%", "50%",
-    "0rem", "-.5", "+.5", "0.", "1/**/px", "99999999999999999999", "00", "+ 0px", "+-0px", "0p\\78", "0\\", "1px2",
+    "1", "2", "12", "255", "256", "007", "1.5", "5.", "0.0", "+0", "-1", "+1", "++1", "+-1", "-+1", "+ 1", "- 1", "1e3", "0PX", "5 px", "0%", "50%", "0rem",
+    "-.5", "+.5", "0.", "1/**/px", "99999999999999999999", "00", "+ 0px", "+-0px", "0p\\78", "0\\", "1px2",
 ];
 const UNITS: [&str; 9] = ["px", "em", "ex", "in", "cm", "mm", "pt", "pc", ""];
 
 const COLOURS: [&str; 22] = [
-    "red", "aqua", "black", "blue", "fuchsia", "gray", "green", "lime", "maroon", "navy", "olive", "orange", "purple", "silver", "teal", "white",
-    "yellow", "RED", "#fff", "#FFF", "#a1b2c3", "rgb(1,2,3)",
+    "red", "aqua", "black", "blue", "fuchsia", "gray", "green", "lime", "maroon", "navy", "olive", "orange", "purple", "silver", "teal", "white", "yellow",
+    "RED", "#fff", "#FFF", "#a1b2c3", "rgb(1,2,3)",
 ];
 const ODD_COLOURS: [&str; 32] = [
-    "grey", "transparent", "r\\65 d", "re\\64", "#12", "#1234", "#12345g", "#\\+ff", "# fff", "#-12", "#+12", "#", "#\\30 00", "rgb(255, 255, 255)", "rgb(256,0,0)",
-    "rgb(-1,0,0)", "rgb(-0,0,0)", "rgb(++1,2,003)", "rgb(+ 1,2,3)", "rgb(1,2)", "rgb(1,2,3,4)", "rgb(1 2 3)", "rgb(1%,2%,3%)", "RGB(1,2,3)", "rgb (1,2,3)",
-    "rgb(1,2,3", "rgba(1,2,3)", "rgb(1.5,2,3)", "red red", "rgb(1,2,3)x", "#é1", "#\\e9 1",
+    "grey", "transparent", "r\\65 d", "re\\64", "#12", "#1234", "#12345g", "#\\+ff", "# fff", "#-12", "#+12", "#", "#\\30 00", "rgb(255, 255, 255)",
+    "rgb(256,0,0)", "rgb(-1,0,0)", "rgb(-0,0,0)", "rgb(++1,2,003)", "rgb(+ 1,2,3)", "rgb(1,2)", "rgb(1,2,3,4)", "rgb(1 2 3)", "rgb(1%,2%,3%)", "RGB(1,2,3)",
+    "rgb (1,2,3)", "rgb(1,2,3", "rgba(1,2,3)", "rgb(1.5,2,3)", "red red", "rgb(1,2,3)x", "#é1", "#\\e9 1",
 ];
 
 const STRINGS: [&str; 8] = ["\"x\"", "'x'", "\"\"", "''", "\"a'b\"", "'a\"b'", "\"é\"", "\"{;}\""];
-const ODD_STRINGS: [&str; 14] = [
-    "\"\\41\"", "\"\\\"\"", "\"a\\\nb\"", "\"a\nb\"", "\"open", "'open", "\"\\", "\"a\\", "'}'", "\"/*\"", "\"\r\"", "'\\''", "'\\é'", "\"\n",
-];
+const ODD_STRINGS: [&str; 14] =
+    ["\"\\41\"", "\"\\\"\"", "\"a\\\nb\"", "\"a\nb\"", "\"open", "'open", "\"\\", "\"a\\", "'}'", "\"/*\"", "\"\r\"", "'\\''", "'\\é'", "\"\n"];
 
-const PROPERTIES: [&str; 13] = [
-    "color", "background-color", "background", "height", "max-height", "overflow", "overflow-y", "display", "white-space", "content", "zz", "COLOR", "-k",
-];
-const ODD_PROPERTIES: [&str; 10] =
-    ["x-syntax", "overflow-x", "c\\6flor", "Background", "colo\\72 ", "--x", "é", "\\", "1a", "content\\"];
+const PROPERTIES: [&str; 13] =
+    ["color", "background-color", "background", "height", "max-height", "overflow", "overflow-y", "display", "white-space", "content", "zz", "COLOR", "-k"];
+const ODD_PROPERTIES: [&str; 10] = ["x-syntax", "overflow-x", "c\\6flor", "Background", "colo\\72 ", "--x", "é", "\\", "1a", "content\\"];
 
 const WORDS: [&str; 12] = ["none", "block", "hidden", "visible", "scroll", "auto", "normal", "pre", "pre-wrap", "nowrap", "HIDDEN", "None"];
-const ODD_WORDS: [&str; 12] =
-    ["PRE", "x-raw-dom", "url(x)", "x", "important", "!important", "hidd\\65n", "n\\6fne", "p\\72 e", "\"none\"", "none(", "5"];
+const ODD_WORDS: [&str; 12] = ["PRE", "x-raw-dom", "url(x)", "x", "important", "!important", "hidd\\65n", "n\\6fne", "p\\72 e", "\"none\"", "none(", "5"];
 
 const MARKED: [&str; 3] = ["!important", " !important", "! IMPORTANT"];
 const ODDLY_MARKED: [&str; 6] = ["!/**/important", "!import", "! important x", "!impor\\74 ant", "!", "!important!important"];
 
 const AT_RULES: [&str; 8] = ["@x;", "@media x{p{}}", "@x{}", "@charset \"utf-8\";", "@import url(x);", "@x(;);", "@x[;];", "@-k;"];
-const ODD_AT_RULES: [&str; 12] =
-    ["@ x;", "@/**/x;", "@x", "@", "@x{é}", "@x)", "@x{{}}", "@x{;};", "@x <!-- ; --> ;", "@1;", "@x-->;", "@x]"];
+const ODD_AT_RULES: [&str; 12] = ["@ x;", "@/**/x;", "@x", "@", "@x{é}", "@x)", "@x{{}}", "@x{;};", "@x <!-- ; --> ;", "@1;", "@x-->;", "@x]"];
 
-const NTH_ARGUMENTS: [&str; 20] = [
-    "even", "odd", "n", "2n", "-n", "+n", "2n+1", "2n-1", "-n+3", "-2n+5", "3n+2", "0n+2", "1", "2", "-1", "+2", "0", "2n +1", " 2n", "2n ",
-];
+const NTH_ARGUMENTS: [&str; 20] =
+    ["even", "odd", "n", "2n", "-n", "+n", "2n+1", "2n-1", "-n+3", "-2n+5", "3n+2", "0n+2", "1", "2", "-1", "+2", "0", "2n +1", " 2n", "2n "];
 const ODD_NTH_ARGUMENTS: [&str; 28] = [
     "2n + 1", "2n+ 1", "2N+1", "ODD", "EVEN", "n+0", "n99999999999", "5 9999999999", "2147483647", "2147483648", "-2147483648", "2147483647n+2147483647",
     "9999999999n + 1", "9999999999n+1", "1n+9999999999", "n-2147483647", "00000000000001", "-0n-0", "+-1", "n+", "", "/**/3/**/", "2n/**/+1", "-2147483647n",
@@ -135,9 +129,16 @@ fn parts(random: &mut Random, part: fn(&mut Random) -> String, separators: &[&'s
     text
 }
 
+// One to eight digits, some of them no hexadecimal ones.
+fn hexadecimal(random: &mut Random) -> String {
+    let length = [3, 6, 1 + random.below(8)][random.below(3)];
+    (0..length).map(|_| random.either(&["0", "1", "9", "a", "f", "A", "F"], &["g", "+", "-", "\\+", "\\61 ", "\\000041", "_"])).collect()
+}
+
 fn colour(random: &mut Random) -> String {
-    match random.below(5) {
+    match random.below(6) {
         0 => format!("#{:03x}", random.below(4096)),
+        5 => format!("#{}", hexadecimal(random)),
         1 => format!("rgb({},{}{},{})", random.below(300), space(random), random.below(256), random.below(256)),
         _ => random.either(&COLOURS, &ODD_COLOURS).to_string(),
     }
@@ -344,7 +345,10 @@ pub fn matching_sheet(random: &mut Random) -> String {
 /// A short sheet whose rules mostly read, match and have styles.
 pub fn styling_sheet(random: &mut Random) -> String {
     let damage = begin(random);
-    let heads = ["p", "div", "q", "a", "b", "span", ".k", ".m", ".foo", "#i", "#j", "*", "p.k", "div p", "div > *", ":nth-child(odd)", "p::before", ".k::after", "*::before"];
+    let heads = [
+        "p", "div", "q", "a", "b", "span", ".k", ".m", ".foo", "#i", "#j", "*", "p.k", "div p", "div > *", ":nth-child(odd)", "p::before", ".k::after",
+        "*::before",
+    ];
     let one = |random: &mut Random| {
         let head = if random.percent(75) { random.choose(&heads).to_string() } else { selectors(random) };
         let body = if random.percent(60) { declaration(random) } else { declarations(random) };
