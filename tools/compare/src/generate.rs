@@ -11,14 +11,18 @@ pub const CLASSES: [&str; 5] = ["k", "m", "foo", "a-b", "x1"];
 pub const IDS: [&str; 4] = ["i", "j", "1", "a_b"];
 pub const ATTRIBUTES: [&str; 8] = ["class", "id", "href", "title", "style", "color", "bgcolor", "data-x"];
 pub const VALUES: [&str; 8] = ["b", "x y", "", "k", "red", "B", "é", "k m"];
+// Names and classes that pages have beside those; selectors reach them by escapes.
+pub const PAGE_NAMES: [&str; 4] = ["P", "é", "", "\u{fffd}"];
+pub const PAGE_CLASSES: [&str; 5] = ["Foo", "é", "K", "A", "\u{fffd}"];
 
 const NO_SPACE: [&str; 1] = [""];
 const SPACES: [&str; 9] = [" ", " ", "\n", "\t", "\r\n", "\u{c}", "/**/", "/* x */", " /*a*/ "];
 const ODD_SPACES: [&str; 8] = ["/*", "/*/", "/***/", "/*\n*/ /**/", "\u{b}", "\u{a0}", "/**", "*/"];
 
-const ODD_NAMES: [&str; 36] = [
-    "P", "Div", "Foo", "K", "-a", "--a", "-", "_", "a1", "a-", "A_b", "\\41 ", "\\41", "a\\42 c", "\\", "\\e9 ", "\\0 ", "\\d800 ", "\\110000 ", "\\1234567",
-    "\\00006b", "\\6b ", "\\k", "\\K", "\\\n", "\\é", "é", "\u{80}", "\u{81}", "a\\", "\\-", "-\\31 x", "\\64iv", "\\70", "\\10ffff ", "/**/p",
+const ODD_NAMES: [&str; 39] = [
+    "\\46oo", "\\50", "\\e9x", "P", "Div", "Foo", "K", "-a", "--a", "-", "_", "a1", "a-", "A_b", "\\41 ", "\\41", "a\\42 c", "\\", "\\e9 ", "\\0 ", "\\d800 ",
+    "\\110000 ", "\\1234567", "\\00006b", "\\6b ", "\\k", "\\K", "\\\n", "\\é", "é", "\u{80}", "\u{81}", "a\\", "\\-", "-\\31 x", "\\64iv", "\\70",
+    "\\10ffff ", "/**/p",
 ];
 
 const MARKS: [&str; 34] = [

@@ -1,5 +1,5 @@
 //! Pages to ask about: a tree of elements, as rows.
-use crate::generate::{self, ATTRIBUTES, CLASSES, IDS, NAMES, VALUES};
+use crate::generate::{self, ATTRIBUTES, CLASSES, IDS, NAMES, PAGE_CLASSES, PAGE_NAMES, VALUES};
 use crate::random::Random;
 use judge::answers::{DOCUMENT_KIND, ELEMENT_KIND, OTHER_KIND, Page};
 
@@ -13,10 +13,18 @@ pub struct Node {
 /// The nodes of a page behind row 0.
 pub type Tree = Vec<Node>;
 
+fn class(random: &mut Random) -> &'static str {
+    if random.percent(85) { random.choose(&CLASSES) } else { random.choose(&PAGE_CLASSES) }
+}
+
+fn name(random: &mut Random) -> &'static str {
+    if random.percent(90) { random.choose(&NAMES) } else { random.choose(&PAGE_NAMES) }
+}
+
 fn attribute(random: &mut Random) -> (String, String) {
     let blanks = [" ", " ", "  ", "\t", "\u{a0}", "\u{85}", "\u{2003}", "\u{200b}", "\u{1f}", ""];
     let (name, value) = match random.below(9) {
-        0..=2 => ("class", format!("{}{}{}", random.choose(&CLASSES), random.choose(&blanks), random.choose(&CLASSES))),
+        0..=2 => ("class", format!("{}{}{}", class(random), random.choose(&blanks), class(random))),
         3 => ("id", random.choose(&IDS).to_string()),
         4 => (random.choose(&["color", "bgcolor"]), generate::color_attribute(random)),
         5 => ("style", generate::style_attribute(random)),
@@ -68,7 +76,7 @@ pub fn tree(random: &mut Random) -> Tree {
         let open = open_rows(&tree, row - 1);
         let parent = open[place(random, shape, open.len())];
         let attributes = (0..random.below(4)).map(|_| attribute(random)).collect();
-        let element = (!random.percent(10)).then(|| (random.choose(&NAMES).to_string(), attributes));
+        let element = (!random.percent(10)).then(|| (name(random).to_string(), attributes));
         tree.push(Node { parent, element });
     }
     tree
