@@ -154,8 +154,11 @@ fn ask_style_attribute(input: &Input) -> Answer {
     let styles = html2text::style_attribute(value).expect("a style attribute never panics");
     let mut stores = Stores::new(value.len(), 0);
     let this = stores.style_attribute(value.as_bytes());
-    let numbers = stores.tokens[..this.count * STYLE_WIDTH].to_vec();
-    let rows = Rows { numbers, texts: stores.texts[..this.bytes].to_vec() };
+    let (numbers, beyond) = stores.tokens.split_at(this.count * STYLE_WIDTH);
+    if !is_clear(&stores.rules) || !is_clear(beyond) || !is_clear(&stores.brackets) || !is_clear(&stores.texts[this.bytes..]) {
+        return different("this leaves something in the stores beyond its answer");
+    }
+    let rows = Rows { numbers: numbers.to_vec(), texts: stores.texts[..this.bytes].to_vec() };
     same_or((0, Rows::of_styles(&styles)), (this.refusal, rows))
 }
 
@@ -164,7 +167,11 @@ fn ask_style_attribute(input: &Input) -> Answer {
 fn ask_color_attribute(input: &Input) -> Answer {
     let value = &input.texts[0];
     let colour = html2text::color_attribute(value).expect("a colour attribute never panics");
-    let this = Stores::new(value.len(), 0).color_attribute(value.as_bytes());
+    let mut stores = Stores::new(value.len(), 0);
+    let this = stores.color_attribute(value.as_bytes());
+    if !all_clear(&stores) {
+        return different("this leaves something in its work stores");
+    }
     same_or((0, colour), (this.refusal, (this.found == 1).then_some(this.colour)))
 }
 
