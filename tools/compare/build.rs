@@ -8,9 +8,11 @@ const LATER: [(&str, &str); 1] = [("hicsolmab_compile", "compiler")];
 
 fn main() {
     let default = PathBuf::from(env::var("CARGO_MANIFEST_DIR").unwrap()).join("../../target/staticlib/libengine.a");
-    let archive = env::var("ENGINE").map_or(default, PathBuf::from);
-    let archive = fs::canonicalize(&archive).unwrap_or_else(|_| panic!("no {}: run rt staticlib engine first", archive.display()));
+    let named = env::var("ENGINE").map_or(default, PathBuf::from);
+    let archive = fs::canonicalize(&named).unwrap_or_else(|_| panic!("no {}: run rt staticlib engine first", named.display()));
     println!("cargo:rerun-if-env-changed=ENGINE");
+    // Both, so that a link that leads elsewhere now is seen.
+    println!("cargo:rerun-if-changed={}", named.display());
     println!("cargo:rerun-if-changed={}", archive.display());
     println!("cargo:rustc-link-search=native={}", archive.parent().unwrap().display());
     println!("cargo:rustc-link-lib=static={}", archive.file_stem().unwrap().to_str().unwrap().trim_start_matches("lib"));
