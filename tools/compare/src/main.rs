@@ -97,9 +97,9 @@ fn short() -> ExitCode {
 
 fn replay(file: &str) -> ExitCode {
     let bytes = std::fs::read(file).expect("the file is read");
-    let (count, differ) = compare::vectors::replay(&bytes);
-    println!("{count} vectors, {differ} differ");
-    exit_code(differ)
+    let replayed = compare::vectors::replay(&bytes);
+    println!("{} vectors, {} asked, {} differ", replayed.count, replayed.asked, replayed.differ);
+    exit_code(replayed.differ)
 }
 
 fn work(words: &[String]) -> ExitCode {

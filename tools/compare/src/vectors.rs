@@ -251,32 +251,41 @@ fn this_compiles(sheets: [&[u8]; 3]) -> (u32, Vec<u8>) {
     (this.refusal, compiled[..this.bytes].to_vec())
 }
 
-fn replay_compile(file: &mut Reader) -> bool {
+// None as long as the engine exports no compiler.
+fn replay_compile(file: &mut Reader) -> Option<bool> {
     let _sheets = [file.text(), file.text(), file.text()];
     let refusal = file.number();
     let _bytes = if refusal == 0 { file.text() } else { &[] };
     #[cfg(compiler)]
-    return this_compiles(_sheets) == (refusal, _bytes.to_vec());
+    return Some(this_compiles(_sheets) == (refusal, _bytes.to_vec()));
     #[cfg(not(compiler))]
-    true
+    None
 }
 
-/// Replays a file of vectors: how many there are, and how many differ.
-pub fn replay(bytes: &[u8]) -> (usize, usize) {
+/// How many vectors a file has, how many of them were asked, and how many differ.
+pub struct Replayed {
+    pub count: usize,
+    pub asked: usize,
+    pub differ: usize,
+}
+
+/// Replays a file of vectors. Those of computed styles are not asked yet, for the engine exports no style call.
+pub fn replay(bytes: &[u8]) -> Replayed {
     let mut file = Reader { bytes, at: 0 };
-    let count = file.number() as usize;
-    let mut differ = 0;
-    for _ in 0..count {
+    let mut replayed = Replayed { count: file.number() as usize, asked: 0, differ: 0 };
+    for _ in 0..replayed.count {
         let same = match file.number() {
-            SHEET => replay_sheet(&mut file),
-            STYLE_ATTRIBUTE => replay_style_attribute(&mut file),
-            COLOR_ATTRIBUTE => replay_color_attribute(&mut file),
-            MATCHES => replay_matches(&mut file),
+            SHEET => Some(replay_sheet(&mut file)),
+            STYLE_ATTRIBUTE => Some(replay_style_attribute(&mut file)),
+            COLOR_ATTRIBUTE => Some(replay_color_attribute(&mut file)),
+            MATCHES => Some(replay_matches(&mut file)),
             COMPILE => replay_compile(&mut file),
+            COMPUTED => return replayed,
             kind => panic!("no vector has kind {kind}"),
         };
-        differ += usize::from(!same);
+        replayed.asked += usize::from(same.is_some());
+        replayed.differ += usize::from(same == Some(false));
     }
     assert_eq!(file.at, bytes.len(), "the file ends behind its last vector");
-    (count, differ)
+    replayed
 }
