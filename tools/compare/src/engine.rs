@@ -1,0 +1,217 @@
+//! The functions that the engine exports (crates/engine), and the lent stores that they work in.
+use judge::answers::Page;
+
+#[repr(C)]
+#[derive(Debug, Clone, Copy)]
+pub struct SheetResult {
+    pub refusal: u32,
+    pub place: usize,
+    pub count: usize,
+    pub stop: usize,
+    pub numbers: usize,
+    pub bytes: usize,
+}
+
+#[repr(C)]
+#[derive(Debug, Clone, Copy)]
+pub struct PageResult {
+    pub refusal: u32,
+    pub place: usize,
+}
+
+#[repr(C)]
+#[derive(Debug, Clone, Copy)]
+pub struct StylesResult {
+    pub refusal: u32,
+    pub count: usize,
+    pub bytes: usize,
+}
+
+#[repr(C)]
+#[derive(Debug, Clone, Copy)]
+pub struct ColourResult {
+    pub refusal: u32,
+    pub found: u32,
+    pub colour: u32,
+}
+
+#[repr(C)]
+#[derive(Debug, Clone, Copy)]
+pub struct MatchResult {
+    pub refusal: u32,
+    pub place: usize,
+    pub matches: u32,
+    pub ids: u32,
+    pub classes: u32,
+    pub types: u32,
+}
+
+#[cfg(compiler)]
+#[repr(C)]
+#[derive(Debug, Clone, Copy)]
+pub struct CompileResult {
+    pub refusal: u32,
+    pub text: usize,
+    pub place: usize,
+    pub bytes: usize,
+}
+
+// A slice passes as a pointer and a length.
+#[rustfmt::skip]
+unsafe extern "C" {
+    fn hicsolmab_read_sheet(
+        sheet: *const u8, sheet_length: usize,
+        rules: *mut u32, rules_length: usize,
+        tokens: *mut u32, tokens_length: usize,
+        brackets: *mut u8, brackets_length: usize,
+        texts: *mut u8, texts_length: usize,
+    ) -> SheetResult;
+
+    fn hicsolmab_check_page(
+        nodes: *const u32, nodes_length: usize,
+        attributes: *const u32, attributes_length: usize,
+        text: *const u8, text_length: usize,
+    ) -> PageResult;
+
+    fn hicsolmab_style_attribute(
+        value: *const u8, value_length: usize,
+        rules: *mut u32, rules_length: usize,
+        tokens: *mut u32, tokens_length: usize,
+        brackets: *mut u8, brackets_length: usize,
+        texts: *mut u8, texts_length: usize,
+    ) -> StylesResult;
+
+    fn hicsolmab_color_attribute(
+        value: *const u8, value_length: usize,
+        tokens: *mut u32, tokens_length: usize,
+        brackets: *mut u8, brackets_length: usize,
+        texts: *mut u8, texts_length: usize,
+    ) -> ColourResult;
+
+    fn hicsolmab_matches(
+        components: *const u32, components_length: usize,
+        count: usize,
+        texts: *const u8, texts_length: usize,
+        nodes: *const u32, nodes_length: usize,
+        attributes: *const u32, attributes_length: usize,
+        text: *const u8, text_length: usize,
+        row: usize,
+    ) -> MatchResult;
+
+    #[cfg(compiler)]
+    fn hicsolmab_compile(
+        agent: *const u8, agent_length: usize,
+        user: *const u8, user_length: usize,
+        author: *const u8, author_length: usize,
+        compiled: *mut u8, compiled_length: usize,
+        texts: *mut u8, texts_length: usize,
+        rules: *mut u32, rules_length: usize,
+        tokens: *mut u32, tokens_length: usize,
+        brackets: *mut u8, brackets_length: usize,
+    ) -> CompileResult;
+}
+
+/// Stores of the least lengths for `n` bytes of text.
+pub struct Stores {
+    pub rules: Vec<u32>,
+    pub tokens: Vec<u32>,
+    pub brackets: Vec<u8>,
+    pub texts: Vec<u8>,
+}
+
+impl Stores {
+    /// Stores that hold `filling` throughout.
+    pub fn new(n: usize, filling: u8) -> Stores {
+        let numbers = 8 * n + 64;
+        Stores {
+            rules: vec![u32::from(filling); numbers],
+            tokens: vec![u32::from(filling); numbers],
+            brackets: vec![filling; n],
+            texts: vec![filling; 2 * n + 12],
+        }
+    }
+
+    #[rustfmt::skip]
+    pub fn read_sheet(&mut self, sheet: &[u8]) -> SheetResult {
+        // Sound: each pointer and length is that of a slice, which lives longer than the call; so in all calls below.
+        unsafe {
+            hicsolmab_read_sheet(
+                sheet.as_ptr(), sheet.len(),
+                self.rules.as_mut_ptr(), self.rules.len(),
+                self.tokens.as_mut_ptr(), self.tokens.len(),
+                self.brackets.as_mut_ptr(), self.brackets.len(),
+                self.texts.as_mut_ptr(), self.texts.len(),
+            )
+        }
+    }
+
+    #[rustfmt::skip]
+    pub fn style_attribute(&mut self, value: &[u8]) -> StylesResult {
+        unsafe {
+            hicsolmab_style_attribute(
+                value.as_ptr(), value.len(),
+                self.rules.as_mut_ptr(), self.rules.len(),
+                self.tokens.as_mut_ptr(), self.tokens.len(),
+                self.brackets.as_mut_ptr(), self.brackets.len(),
+                self.texts.as_mut_ptr(), self.texts.len(),
+            )
+        }
+    }
+
+    #[rustfmt::skip]
+    pub fn color_attribute(&mut self, value: &[u8]) -> ColourResult {
+        unsafe {
+            hicsolmab_color_attribute(
+                value.as_ptr(), value.len(),
+                self.tokens.as_mut_ptr(), self.tokens.len(),
+                self.brackets.as_mut_ptr(), self.brackets.len(),
+                self.texts.as_mut_ptr(), self.texts.len(),
+            )
+        }
+    }
+
+    #[cfg(compiler)]
+    #[rustfmt::skip]
+    pub fn compile(&mut self, sheets: [&[u8]; 3], compiled: &mut [u8]) -> CompileResult {
+        let [agent, user, author] = sheets;
+        unsafe {
+            hicsolmab_compile(
+                agent.as_ptr(), agent.len(),
+                user.as_ptr(), user.len(),
+                author.as_ptr(), author.len(),
+                compiled.as_mut_ptr(), compiled.len(),
+                self.texts.as_mut_ptr(), self.texts.len(),
+                self.rules.as_mut_ptr(), self.rules.len(),
+                self.tokens.as_mut_ptr(), self.tokens.len(),
+                self.brackets.as_mut_ptr(), self.brackets.len(),
+            )
+        }
+    }
+}
+
+#[rustfmt::skip]
+pub fn check_page(page: &Page) -> PageResult {
+    unsafe {
+        hicsolmab_check_page(
+            page.nodes.as_ptr(), page.nodes.len(),
+            page.attributes.as_ptr(), page.attributes.len(),
+            page.text.as_ptr(), page.text.len(),
+        )
+    }
+}
+
+/// Whether the selector of these component rows matches a row of a page.
+#[rustfmt::skip]
+pub fn matches(components: &[u32], count: usize, texts: &[u8], page: &Page, row: usize) -> MatchResult {
+    unsafe {
+        hicsolmab_matches(
+            components.as_ptr(), components.len(),
+            count,
+            texts.as_ptr(), texts.len(),
+            page.nodes.as_ptr(), page.nodes.len(),
+            page.attributes.as_ptr(), page.attributes.len(),
+            page.text.as_ptr(), page.text.len(),
+            row,
+        )
+    }
+}

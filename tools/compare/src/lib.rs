@@ -1,0 +1,10 @@
+//! Both sides of the comparison with html2text: what is asked, how it is generated, and the engine's exported functions.
+
+pub mod engine;
+pub mod generate;
+pub mod pages;
+pub mod questions;
+pub mod random;
+pub mod short;
+pub mod shrink;
+pub mod vectors;

@@ -1,0 +1,340 @@
+//! Appended to css.rs: the questions that html2text is asked, by its own functions. Where it panics the answer is None.
+use std::cell::RefCell;
+use std::panic::{self, AssertUnwindSafe};
+
+use html5ever::{Attribute, LocalName, QualName};
+
+use super::{AttrOperator, PseudoElement, Ruleset, Selector, SelectorComponent, Style, StyleData, StyleDecl, parser, styles_from_properties};
+use crate::answers::{self, Component, Page, StyleRow, Styled};
+use crate::markup5ever_rcdom::{Handle, Node, NodeData, add_child};
+use crate::{Colour, ComputedStyle, StyleOrigin, WhiteSpace, WithSpec, css};
+
+/// Panics say nothing from now on.
+pub fn silence_panics() {
+    panic::set_hook(Box::new(|_| {}));
+}
+
+fn unless_panic<T>(question: impl FnOnce() -> T) -> Option<T> {
+    panic::catch_unwind(AssertUnwindSafe(question)).ok()
+}
+
+// ---- from the crate's values to plain data
+
+fn colour(r: u8, g: u8, b: u8) -> u32 {
+    u32::from(r) * 65536 + u32::from(g) * 256 + u32::from(b)
+}
+
+fn parsed_colour(value: &parser::Colour) -> u32 {
+    let parser::Colour::Rgb(r, g, b) = value;
+    colour(*r, *g, *b)
+}
+
+fn styled_colour(value: &Colour) -> u32 {
+    colour(value.r, value.g, value.b)
+}
+
+fn white_space(value: WhiteSpace) -> u32 {
+    match value {
+        WhiteSpace::Normal => 0,
+        WhiteSpace::Pre => 1,
+        WhiteSpace::PreWrap => 2,
+    }
+}
+
+fn overflow(value: &parser::Overflow) -> u32 {
+    match value {
+        parser::Overflow::Visible => 0,
+        parser::Overflow::Hidden => 1,
+        parser::Overflow::Scroll => 2,
+        parser::Overflow::Auto => 3,
+    }
+}
+
+fn is_zero(value: &parser::Height) -> bool {
+    matches!(value, parser::Height::Length(l, _) if *l == 0.0)
+}
+
+fn text(value: &str) -> Vec<u8> {
+    value.as_bytes().to_vec()
+}
+
+fn component(value: &SelectorComponent) -> Component {
+    match value {
+        SelectorComponent::Class(t) => Component::Class(text(t)),
+        SelectorComponent::Element(t) => Component::Element(text(t)),
+        SelectorComponent::Hash(t) => Component::Hash(text(t)),
+        SelectorComponent::Star => Component::Star,
+        SelectorComponent::CombChild => Component::Child,
+        SelectorComponent::CombDescendant => Component::Descendant,
+        SelectorComponent::NthChild { a, b, .. } => Component::Nth(*a, *b),
+        SelectorComponent::Attr { name, op: AttrOperator::Present, .. } => Component::Attribute(text(name)),
+        SelectorComponent::Attr { name, value, op: AttrOperator::Equal } => {
+            Component::AttributeEqual(text(name), text(value.as_ref().expect("a value to be equal to")))
+        }
+    }
+}
+
+fn selector(value: &Selector) -> answers::Selector {
+    answers::Selector {
+        components: value.components.iter().map(component).collect(),
+        pseudo: match value.pseudo_element {
+            None => 0,
+            Some(PseudoElement::Before) => 1,
+            Some(PseudoElement::After) => 2,
+        },
+    }
+}
+
+fn decl(value: &parser::Decl) -> answers::Decl {
+    use answers::Decl;
+    match value {
+        parser::Decl::Color { value } => Decl::Color(parsed_colour(value)),
+        parser::Decl::BackgroundColor { value } => Decl::BackgroundColor(parsed_colour(value)),
+        parser::Decl::Height { value } => Decl::Height { zero: is_zero(value) },
+        parser::Decl::MaxHeight { value } => Decl::MaxHeight { zero: is_zero(value) },
+        parser::Decl::Overflow { value } => Decl::Overflow(overflow(value)),
+        parser::Decl::OverflowY { value } => Decl::OverflowY(overflow(value)),
+        parser::Decl::Display { value } => Decl::Display { none: *value == parser::Display::None },
+        parser::Decl::WhiteSpace { value } => Decl::WhiteSpace(white_space(*value)),
+        parser::Decl::Content { text: t } => Decl::Content(text(t)),
+        parser::Decl::Unknown { name } => Decl::Unknown(text(parser::names::text(name))),
+    }
+}
+
+fn style(value: &StyleDecl) -> answers::StyleDecl {
+    answers::StyleDecl {
+        style: match &value.style {
+            Style::Colour(c) => answers::Style::Colour(styled_colour(c)),
+            Style::BgColour(c) => answers::Style::Background(styled_colour(c)),
+            Style::Display(css::Display::None) => answers::Style::DisplayNone,
+            Style::WhiteSpace(w) => answers::Style::WhiteSpace(white_space(*w)),
+            Style::Content(content) => answers::Style::Content(text(&content.text)),
+        },
+        important: value.importance == super::Importance::Important,
+    }
+}
+
+fn rule(value: &parser::RuleSet, starts: &(usize, Vec<usize>)) -> answers::Rule {
+    assert_eq!(value.declarations.len(), starts.1.len(), "each declaration has a start");
+    let declarations = value.declarations.iter().zip(&starts.1);
+    answers::Rule {
+        selectors: value.selectors.iter().map(selector).collect(),
+        declarations: declarations
+            .map(|(d, &start)| answers::Declaration { decl: decl(&d.data), important: d.important == super::Importance::Important, start })
+            .collect(),
+        start: starts.0,
+    }
+}
+
+// ---- reading
+
+/// `parse_stylesheet`: the rules of a sheet and the first byte not read.
+pub fn read_sheet(sheet: &str) -> Option<answers::Sheet> {
+    let (rest, rules) = unless_panic(|| parser::parse_stylesheet(sheet).expect("many0 reads"))?;
+    let starts = parser::names::starts(sheet);
+    assert_eq!(rules.len(), starts.len(), "each rule has a start");
+    Some(answers::Sheet { rules: rules.iter().zip(&starts).map(|(r, s)| rule(r, s)).collect(), stop: sheet.len() - rest.len() })
+}
+
+/// `parse_stylesheet`, and nothing but it, to be measured: the count of rules.
+pub fn count_rules(sheet: &str) -> usize {
+    parser::parse_stylesheet(sheet).map_or(0, |(_, rules)| rules.len())
+}
+
+/// `parse_style_attribute`: the styles of a style attribute.
+pub fn style_attribute(value: &str) -> Option<Vec<answers::StyleDecl>> {
+    let styles = unless_panic(|| parser::parse_style_attribute(value).unwrap_or_default())?;
+    Some(styles.iter().map(style).collect())
+}
+
+/// `parse_color_attribute`: the colour of a colour attribute, or none.
+pub fn color_attribute(value: &str) -> Option<Option<u32>> {
+    unless_panic(|| parser::parse_color_attribute(value).ok().map(|c| parsed_colour(&c)))
+}
+
+// ---- sheets over a page
+
+fn style_data(agent: &str, user: &str, author: &str) -> StyleData {
+    let mut data = StyleData::default();
+    data.add_agent_css(agent).expect("an agent sheet reads");
+    data.add_user_css(user).expect("a user sheet reads");
+    data.add_author_css(author).expect("an author sheet reads");
+    data
+}
+
+fn styled(origin: u32, rules: &[Ruleset]) -> Vec<Styled> {
+    let one = |rule: &Ruleset| Styled { origin, selector: selector(&rule.selector), styles: rule.styles.iter().map(style).collect() };
+    rules.iter().map(one).collect()
+}
+
+/// The compiled bytes of what `do_add_css` keeps of the three sheets.
+pub fn compile(agent: &str, user: &str, author: &str) -> Option<Vec<u8>> {
+    let data = unless_panic(|| style_data(agent, user, author))?;
+    let mut all = styled(1, &data.agent_rules);
+    all.extend(styled(2, &data.user_rules));
+    all.extend(styled(3, &data.author_rules));
+    Some(answers::compiled(&all))
+}
+
+fn local_attribute((name, value): (&str, &str)) -> Attribute {
+    Attribute { name: QualName::new(None, ns!(), LocalName::from(name)), value: value.into() }
+}
+
+fn node(page: &Page, row: usize) -> Handle {
+    Node::new(match page.kind(row) {
+        answers::DOCUMENT_KIND => NodeData::Document,
+        answers::ELEMENT_KIND => NodeData::Element {
+            name: QualName::new(None, ns!(html), LocalName::from(page.name(row))),
+            attrs: RefCell::new(page.attributes_of(row).into_iter().map(local_attribute).collect()),
+            template_contents: RefCell::new(None),
+            mathml_annotation_xml_integration_point: false,
+        },
+        _ => NodeData::Comment { contents: "".into() },
+    })
+}
+
+// A node of the crate's DOM for each row.
+fn tree(page: &Page) -> Vec<Handle> {
+    let handles: Vec<Handle> = (0..page.rows()).map(|row| node(page, row)).collect();
+    for row in 1..page.rows() {
+        add_child(&handles[page.parent(row)], handles[row].clone());
+    }
+    handles
+}
+
+/// A selector, its specificity, and for each element of a page whether it matches.
+#[derive(Debug, Clone, PartialEq, Eq)]
+pub struct Matched {
+    pub selector: answers::Selector,
+    pub specificity: answers::Specificity,
+    pub elements: Vec<bool>,
+}
+
+fn matched(value: &Selector, elements: &[Handle]) -> Matched {
+    let specificity = value.specificity();
+    Matched {
+        selector: selector(value),
+        specificity: answers::Specificity { ids: specificity.id.into(), classes: specificity.class.into(), types: specificity.typ.into() },
+        elements: elements.iter().map(|e| Selector::do_matches(&value.components, e)).collect(),
+    }
+}
+
+/// `do_matches` and `specificity` of each selector of each rule of a sheet, over the elements of a page.
+pub fn matches(sheet: &str, page: &Page) -> Option<Vec<Matched>> {
+    let handles = tree(page);
+    let elements: Vec<Handle> = page.elements().into_iter().map(|row| handles[row].clone()).collect();
+    unless_panic(|| {
+        let (_, rules) = parser::parse_stylesheet(sheet).expect("many0 reads");
+        rules.iter().flat_map(|r| &r.selectors).map(|s| matched(s, &elements)).collect()
+    })
+}
+
+// ---- computed styles
+
+fn origin(value: StyleOrigin) -> u32 {
+    match value {
+        StyleOrigin::None => 0,
+        StyleOrigin::Agent => 1,
+        StyleOrigin::User => 2,
+        StyleOrigin::Author => 3,
+    }
+}
+
+fn put_slot<T>(row: &mut StyleRow, slot: &WithSpec<T>, value: impl FnOnce(&T) -> u32) {
+    let spec = &slot.specificity;
+    row.numbers.extend([
+        u32::from(slot.val.is_some()),
+        origin(slot.origin),
+        u32::from(spec.inline),
+        spec.id.into(),
+        spec.class.into(),
+        spec.typ.into(),
+        u32::from(slot.important),
+        slot.val.as_ref().map_or(0, value),
+        0,
+    ]);
+}
+
+fn put_record(row: &mut StyleRow, record: Option<&ComputedStyle>) {
+    let empty = ComputedStyle::default();
+    let style = record.unwrap_or(&empty);
+    row.numbers.push(u32::from(record.is_some()));
+    put_slot(row, &style.colour, styled_colour);
+    put_slot(row, &style.bg_colour, styled_colour);
+    put_slot(row, &style.display, |_| 0);
+    put_slot(row, &style.white_space, |w| white_space(*w));
+    put_slot(row, &style.content, |_| 0);
+    row.contents.push(style.content.val.as_ref().map_or(vec![], |c| text(&c.text)));
+}
+
+fn style_row(style: &ComputedStyle) -> StyleRow {
+    let mut row = StyleRow::default();
+    put_record(&mut row, Some(style));
+    put_record(&mut row, style.content_before.as_deref());
+    put_record(&mut row, style.content_after.as_deref());
+    row
+}
+
+/// `computed_style` of each element of a page, in row order.
+pub fn computed_styles(sheets: [&str; 3], page: &Page, document_styles: bool) -> Option<Vec<StyleRow>> {
+    let [agent, user, author] = sheets;
+    let handles = tree(page);
+    unless_panic(|| {
+        let data = style_data(agent, user, author);
+        let mut styles = vec![ComputedStyle::default(); page.rows()];
+        for row in page.elements() {
+            styles[row] = data.computed_style(&styles[page.parent(row)], &handles[row], document_styles);
+        }
+        page.elements().into_iter().map(|row| style_row(&styles[row])).collect()
+    })
+}
+
+#[cfg(test)]
+mod tests {
+    use super::*;
+
+    // Cases of the scope.
+    #[test]
+    fn sheets() {
+        let sheet = read_sheet("p{color:red}").unwrap();
+        assert_eq!((sheet.rules.len(), sheet.stop), (1, 12));
+        let sheet = read_sheet("p{color:red;;color:blue}q{color:lime}").unwrap();
+        assert_eq!((sheet.rules.len(), sheet.stop), (0, 0));
+        assert_eq!(read_sheet(":nth-child(2147483647){}").unwrap().rules.len(), 1);
+        assert_eq!(read_sheet(":nth-child(2147483648){}"), None);
+        assert_eq!(read_sheet("[a="), None);
+    }
+
+    #[test]
+    fn starts() {
+        let sheet = read_sheet("@x; p{a:b; c:d} q { e:f }").unwrap();
+        let starts: Vec<usize> = sheet.rules.iter().map(|r| r.start).collect();
+        assert_eq!(starts, [4, 16]);
+        let declarations = |i: usize| -> Vec<usize> { sheet.rules[i].declarations.iter().map(|d| d.start).collect() };
+        assert_eq!((declarations(0), declarations(1)), (vec![6, 11], vec![20]));
+    }
+
+    #[test]
+    fn bytes() {
+        let expected = [1, 3, 0, 1, 2, 1, b'p', 1, 0, 0, 0x80, 0x80, 0xfc, 7];
+        assert_eq!(compile("", "", "p{color:red}").unwrap(), expected);
+        assert_eq!(compile("", "", "").unwrap(), [0]);
+    }
+
+    #[test]
+    fn colours() {
+        assert_eq!(color_attribute("#\\+ff"), Some(Some(0x00ffff)));
+        assert_eq!(color_attribute("00aabb"), Some(Some(0x00aabb)));
+        assert_eq!(color_attribute("no"), Some(None));
+    }
+
+    #[test]
+    fn pages() {
+        let page = Page { nodes: vec![0, 0, 0, 0, 0, 0, 1, 0, 0, 3, 0, 1], attributes: vec![3, 5, 8, 1], text: b"divclassk".to_vec() };
+        let answer = matches("div *{}.k{}q{}", &page).unwrap();
+        let elements: Vec<bool> = answer.iter().map(|m| m.elements[0]).collect();
+        assert_eq!(elements, [true, true, false]);
+        let rows = computed_styles(["", "", ".k{color:red}"], &page, true).unwrap();
+        assert_eq!(rows[0].numbers[..10], [1, 1, 3, 0, 0, 1, 0, 0, 0xff0000, 0]);
+    }
+}
