@@ -8,7 +8,9 @@
  *   2 a lent slice too short         6 a row of the page against the rules
  *   3 a text that is not UTF-8       7 a text of the page outside its bytes, or not UTF-8
  *   4 html2text panics on the sheet  8 the asked row is no element, or beyond the page
- * The lowest number that applies is returned. After 4 every slice that the call writes is zero throughout, after others it is unchanged.
+ *                                   10 the compiled sheet would exceed its buffer or 65,536 bytes
+ * The lowest number that applies is returned, 4 counting as above 8. After 4 and 10 every slice that the call writes is zero throughout, after others it is
+ * unchanged.
  *
  * For N bytes of text the least lengths are 8 N + 64 numbers in `rules` and in `tokens`, N bytes in `brackets`, 2 N + 12 bytes in `texts`. */
 #ifndef HICSOLMAB_H
@@ -39,6 +41,27 @@ hicsolmab_sheet_result hicsolmab_read_sheet(const uint8_t *sheet, size_t sheet_l
                                             uint32_t *tokens, size_t tokens_length,
                                             uint8_t *brackets, size_t brackets_length,
                                             uint8_t *texts, size_t texts_length);
+
+/* Sheets that were compiled: `bytes` bytes of `compiled`, and `texts` bytes of the texts that their rules name. For 4 `text` is the sheet (0 agent,
+ * 1 user, 2 author) and `place` the byte where html2text panics. */
+typedef struct {
+    uint32_t refusal;
+    size_t text;
+    size_t place;
+    size_t bytes;
+    size_t texts;
+} hicsolmab_compile_result;
+
+/* Compiles three sheets of at most 32,768 bytes each; N is the bytes of all three. What the bytes say: crates/compiled/specs/Sheet.antt. After an
+ * answer all beyond it is zero, and so are `rules`, `tokens` and `brackets`. Refuses 1, 2, 3, 4, 10; a short `compiled` is 10, not 2. */
+hicsolmab_compile_result hicsolmab_compile(const uint8_t *agent, size_t agent_length,
+                                           const uint8_t *user, size_t user_length,
+                                           const uint8_t *author, size_t author_length,
+                                           uint8_t *compiled, size_t compiled_length,
+                                           uint8_t *texts, size_t texts_length,
+                                           uint32_t *rules, size_t rules_length,
+                                           uint32_t *tokens, size_t tokens_length,
+                                           uint8_t *brackets, size_t brackets_length);
 
 /* `place` is the first row that is refused, for 6 and 7. */
 typedef struct {

@@ -1,4 +1,5 @@
 pub mod Sheet
+pub mod Compile
 pub mod Page
 pub mod Attributes
 pub mod Matches

@@ -22,3 +22,6 @@ pub const BAD_TEXT: u32 = 7;
 
 // The asked row is no element or beyond the page.
 pub const NO_ELEMENT: u32 = 8;
+
+// The compiled sheet would exceed its buffer.
+pub const NO_ROOM: u32 = 10;

@@ -54,6 +54,7 @@ pub struct CompileResult {
     pub text: usize,
     pub place: usize,
     pub bytes: usize,
+    pub texts: usize,
 }
 
 // A slice passes as a pointer and a length.
