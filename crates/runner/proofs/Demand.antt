@@ -13,6 +13,9 @@ use Rattle.combinators.proofs.Rules.{lt-or-ge}
 use Rattle.syntax.specs.Layout.{contentSlot}
 use Rattle.syntax.specs.Selector.{RuleSet}
 use Rattle.syntax.specs.Stream.{part}
+use Rattle.sheets.specs.Outcome.{reads}
+use Rattle.sheets.specs.Sheet.{sheetOf}
+use Rattle.sheets.specs.SheetAnswer.{sheetLimit}
 use Rattle.cascade.specs.Record.{ComputedStyle, Formed, slotOf}
 use Rattle.cascade.specs.Row.{styleRowWidth, rowOf, styleAt}
 use Rattle.cascade.proofs.RowBack.{row-long, style-back}
@@ -28,6 +31,7 @@ use Rattle.compiled.specs.Sheet.{encode}
 use Rattle.compiler.specs.Selectors.{selectorsOf}
 use Rattle.compiled.proofs.Fits.{SheetFits}
 use Rattle.compiled.proofs.RoundTrip.{round-trip}
+use Rattle.compiler.proofs.Range.{sheets-fit}
 use Rattle.styles.specs.Numbered.{Rules}
 use Rattle.styles.specs.Computed.{sourcesAlong, computedStyle}
 use Rattle.styles.specs.StyleCall.{inlineContents, seenSlot, seenRecord, seenStyle, callStore, callRow}
@@ -337,6 +341,18 @@ pub demand : (agent user author : List RuleSet) → SheetFits (selectorsOf agent
     (runOf (encode (selectorsOf agent user author)) on g rows state store)
 demand agent user author fits g ok on rows state store rows-room state-room store-room =
     run-right (record { agent = agent; user = user; author = author }) fits on g (accepted (g .nodes) (g .attributes) (g .text) ok) rows state store rows-room state-room store-room
+
+-- The same of the texts of any three sheets that are read, none above its limit: then their selectors fit.
+pub demand-of-texts : (agent user author : List ℕ) {a u w : ℕ} {agentRules userRules authorRules : List RuleSet}
+    → sheetOf agent ≡ reads a agentRules → sheetOf user ≡ reads u userRules → sheetOf author ≡ reads w authorRules
+    → length agent ≤ sheetLimit → length user ≤ sheetLimit → length author ≤ sheetLimit
+    → (g : Page) → pageRefusal (g .nodes) (g .attributes) (g .text) ≡ noRefusal
+    → (on : Bool) (rows state store : List ℕ) → nodeCount (g .nodes) * styleRowWidth ≤ length rows
+    → depths * partWidth (encode (selectorsOf agentRules userRules authorRules)) ≤ length state → length (pageContents on g) ≤ length store
+    → AllRows (record { agent = agentRules; user = userRules; author = authorRules }) on g (encode (selectorsOf agentRules userRules authorRules)) rows store
+    (runOf (encode (selectorsOf agentRules userRules authorRules)) on g rows state store)
+demand-of-texts agent user author {a} {u} {w} {agentRules} {userRules} {authorRules} ea eu ew la lu lw =
+    demand agentRules userRules authorRules (sheets-fit agent user author ea eu ew la lu lw)
 
 -- a style has all its slots if it has them with its contents seen
 formed-back : (t : List ℕ) (s : ComputedStyle) → Formed (seenStyle t s) → Formed s
