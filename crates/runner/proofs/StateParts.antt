@@ -3,8 +3,8 @@ use Prim.Native.Nat.{ℕ, suc, _+_, _/_, _%_, _≤_, _<_}
 use mathlib.Core.Path.{_≡_, refl, ap, sym, _∙_}
 use mathlib.Core.List.{List, [], _∷_, _++_, append-assoc}
 use native.Mathlib.Omega.{arith}
-use lib.ListN.{length, getD, take, drop, length-drop, take-append-drop}
-use lib.Seq.{sets, sets-eq, drop-append-le, take-append-le, take-at, drop-at, length-take-le, drop-drop, take-nil, take-append-add, getD-drop}
+use lib.ListN.{length, getD, take, drop, set, length-drop, take-append-drop}
+use lib.Seq.{sets, sets-eq, drop-set-lt, drop-append-le, take-append-le, take-at, drop-at, length-take-le, drop-drop, take-nil, take-append-add, getD-drop}
 use Rattle.syntax.specs.Stream.{part}
 use Rattle.runner.specs.State.{countWidth, byteLimit, countBytes, countAt, raised, groupsFrom}
 
@@ -102,3 +102,11 @@ raised-right state bytes at n c f l e =
     (ap (λ (x : ℕ). part (sets state at (countBytes (c + 1))) at x) z
     ∙ part-front state (countBytes (c + 1)) at l n
     ∙ ap (λ (x : List ℕ). countBytes (c + 1) ++ x) (part-behind state at n ∙ ap (drop 2) e))
+
+-- the bytes of the groups stay
+pub raised-groups : (state : List ℕ) (at : ℕ) → groupsFrom (raised state at) at ≡ groupsFrom state at
+unfolding groupsFrom raised countBytes
+raised-groups state at =
+    let c : ℕ = countAt state at + 1 in
+    drop-set-lt (at + countWidth) (set state at (c % byteLimit)) (suc at) (c / byteLimit % byteLimit) (omega arith)
+    ∙ drop-set-lt (at + countWidth) state at (c % byteLimit) (omega arith)
