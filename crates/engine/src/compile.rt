@@ -1,6 +1,6 @@
 // `hicsolmab_compile`: three sheets into the bytes of a compiled sheet.
-use crate::refusals::NOT_UTF8;
 use crate::refusals::NO_ROOM;
+use crate::refusals::NOT_UTF8;
 use crate::refusals::PANIC;
 use crate::refusals::SHORT_STORE;
 use crate::refusals::TOO_LONG;
@@ -81,5 +81,14 @@ pub extern "C" fn hicsolmab_compile(
     ensures { λ r. ⌜ record { result = r; compiled = now (compiled .exit); texts = now (texts .exit); rules = now (rules .exit); tokens = now (tokens .exit); brackets = now (brackets .exit) }
         ≡ compileCalled (compileOf (now (agent .entry)) (now (user .entry)) (now (author .entry)) (now (compiled .entry)) (now (texts .entry)) (now (rules .entry)) (now (tokens .entry)) (now (brackets .entry))) ⌝ }
 {
-    result_of(compile(agent, user, author, compiled, texts, rules, tokens, brackets))
+    result_of(compile(
+        agent,
+        user,
+        author,
+        compiled,
+        texts,
+        rules,
+        tokens,
+        brackets,
+    ))
 }

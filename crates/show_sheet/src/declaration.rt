@@ -1,5 +1,4 @@
 // Declarations as text, from their rows. Of a height only zero is known, of a display only none.
-use crate::selector::forward;
 use crate::writing::print;
 use crate::writing::print_colour;
 use crate::writing::print_name;
@@ -29,6 +28,7 @@ use syntax::rows::WHITE_SPACE_NORMAL;
 use syntax::rows::WHITE_SPACE_PRE;
 use syntax::rows::WHITE_SPACE_PRE_WRAP;
 use syntax::texts::part_of;
+use syntax::walk::forward;
 
 fn print_property(kind: u32) {
     match kind {

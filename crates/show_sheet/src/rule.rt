@@ -1,12 +1,12 @@
 // The rules of a sheet, from their rows, a line for each.
 use crate::declaration::print_declarations;
-use crate::selector::forward;
 use crate::selector::print_selectors;
 use crate::writing::print;
 use combinators::stores::number_at;
 use syntax::rows::RULE_DECLARATIONS;
 use syntax::rows::RULE_HEAD;
 use syntax::rows::RULE_SELECTORS;
+use syntax::walk::forward;
 
 // The rule at `at`; the place behind it.
 fn print_rule(rows: &[u32], at: usize, store: &[u8]) -> usize {

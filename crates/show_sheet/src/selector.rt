@@ -24,16 +24,7 @@ use syntax::rows::SELECTOR_HEAD;
 use syntax::rows::SELECTOR_PSEUDO;
 use syntax::rows::STAR;
 use syntax::texts::part_of;
-
-// The place `k` numbers behind `at`, or the end of the rows.
-pub fn forward(rows: &[u32], at: usize, k: usize) -> usize {
-    if at < rows.len() {
-        if k < rows.len() - at {
-            return at + k;
-        }
-    }
-    rows.len()
-}
+use syntax::walk::forward;
 
 // The size of a number with a sign, which is stored as 2v, or as -2v-1 where it is negative.
 fn size_of(n: usize) -> usize {
