@@ -7,5 +7,7 @@ pub mod PartsFit
 pub mod Declaring
 pub mod StepStyle
 pub mod Steps
+pub mod RunRight
+pub mod PageContents
 pub mod Demand
 pub mod Independence

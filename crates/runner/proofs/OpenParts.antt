@@ -19,7 +19,7 @@ use Rattle.page.proofs.RowFacts.{one-deeper, shallow}
 use Rattle.page.proofs.Paths.{path-document, path-element, place-counts, none-yet}
 use Rattle.runner.specs.Walked.{WalkedSelector}
 use Rattle.runner.specs.Groups.{allGroups, allBehind, groupsCount}
-use Rattle.runner.specs.State.{partWidth, partPlace, countWidth, countBytes, countAt, raised, groupsFrom, opened}
+use Rattle.runner.specs.State.{depths, partWidth, partPlace, countWidth, countBytes, countAt, raised, groupsFrom, opened}
 use Rattle.runner.proofs.GroupLaws.{length-all-groups, all-groups-right, all-groups-at-top}
 use Rattle.runner.proofs.StateParts.{part-kept, part-written, countLimit, length-count, count-right, bytes-right, raised-right}
 use Rattle.runner.proofs.OpenRows.{Below, weaken, children-same, child-counted, children-few, ancestors-before, parent-most, parent-no-other, line-next, parent-line}
@@ -27,10 +27,6 @@ use Rattle.runner.proofs.OpenRows.{Below, weaken, children-same, child-
 -- the bytes used of a part: the count and the groups
 abbrev pub used : List WalkedSelector → ℕ
 used ss = suc (suc (groupsCount ss))
-
--- one part for each depth
-abbrev pub depths : ℕ
-depths = suc depthLimit
 
 module _ (code : List ℕ) (ss : List WalkedSelector) (nodes attributes text : List ℕ) where
   abbrev pathAt : ℕ → Path

@@ -2,5 +2,6 @@ pub mod Walked
 pub mod Groups
 pub mod State
 pub mod Run
+pub mod LeastLengths
 pub mod Demand
 pub mod Cases

@@ -1,9 +1,14 @@
 -- The state of a run: one part for each depth, of as many bytes as the compiled sheet and one more. The part of an open row begins with the count of the
 -- element children that it has had so far, in two bytes, the lower first; the bytes of the groups follow.
-use Prim.Native.Nat.{ℕ, _+_, _*_, _/_, _%_}
+use Prim.Native.Nat.{ℕ, suc, _+_, _*_, _/_, _%_}
 use mathlib.Core.List.{List, [], _∷_, _++_}
 use lib.ListN.{length, getD, drop}
 use lib.Seq.{sets}
+use Rattle.page.specs.Accepted.{depthLimit}
+
+-- the depths of a page, from 0 on
+abbrev pub depths : ℕ
+depths = suc depthLimit
 
 abbrev pub partWidth : List ℕ → ℕ
 partWidth code = length code + 1

@@ -1,0 +1,79 @@
+-- How long the contents of a page can be: as long as the texts of its rows, and two bytes more for each attribute. On an accepted page these end within the
+-- text and the attribute rows lent.
+use Prim.Native.Nat.{ℕ, zero, suc, _+_, _*_, _≤_}
+use mathlib.Core.Path.{_≡_, refl, ap}
+use mathlib.Core.Bool.{Bool}
+use mathlib.Core.List.{List, []}
+use native.Mathlib.Omega.{arith}
+use lib.ListN.{length, length-append}
+use Rattle.combinators.specs.Choice.{is}
+use Rattle.combinators.proofs.Rules.{pick-holds}
+use Rattle.syntax.specs.Stream.{textsMany}
+use Rattle.page.specs.Accepted.{attributesBefore, attributesEnd, textsEnd, bytesBefore, noRefusal, pageRefusal}
+use Rattle.page.specs.Path.{Attribute}
+use Rattle.page.specs.PathOf.{attributesFrom, elementAt}
+use Rattle.page.specs.Rows.{nodeCount, nodeAt, elementKind, attributeAt, attributeValue}
+use Rattle.page.proofs.AcceptedPages.{Accepted, accepted}
+use Rattle.page.proofs.Sums.{bytes-within, attributes-before-within}
+use Rattle.compiled.proofs.Written.{part-le}
+use Rattle.styles.specs.StyleCall.{inlineContents}
+use Rattle.styles.proofs.Room.{valuesOf, inline-short}
+use Rattle.runner.specs.LeastLengths.{runTextBytes}
+use Rattle.runner.specs.Run.{Page, rowContents, contentsBefore, pageContents}
+
+module _ (attributes text : List ℕ) where
+  -- as many attributes as were asked for
+  attributes-counted : (k at : ℕ) → length (attributesFrom attributes text k at) ≡ k
+  unfolding attributesFrom
+  attributes-counted zero at = refl
+  attributes-counted (suc k) at = ap suc (attributes-counted k (at + 1))
+
+  -- the values of attribute rows are no longer than the texts of these rows
+  values-short : (k at start : ℕ) → start + valuesOf (attributesFrom attributes text k at) ≤ attributesEnd attributes k at start
+  unfolding valuesOf attributesFrom attributesEnd textsMany attributeValue
+  values-short zero at start = omega arith
+  values-short (suc k) at start =
+      let row = attributeAt attributes at in
+      let v : List ℕ = attributeValue attributes text at in
+      let others : List ℕ = textsMany (λ (a : Attribute). a .value) (attributesFrom attributes text k (at + 1)) in
+      omega (
+        arith,
+        length-append v others,
+        part-le text (row .valueStart) (row .valueLength),
+        values-short k (at + 1) (start + row .nameLength + row .valueLength),
+      )
+
+module _ (on : Bool) (g : Page) where
+  -- the contents of a row
+  row-short : (i : ℕ) → bytesBefore (g .nodes) (g .attributes) i + length (rowContents on g i)
+      ≤ bytesBefore (g .nodes) (g .attributes) (suc i) + 2 * nodeAt (g .nodes) i .attributeCount
+  unfolding rowContents bytesBefore textsEnd elementAt
+  row-short i =
+      let n = nodeAt (g .nodes) i in
+      let start : ℕ = bytesBefore (g .nodes) (g .attributes) i in
+      let values = values-short (g .attributes) (g .text) (n .attributeCount) (n .firstAttribute) (start + n .nameLength) in
+      let counted = attributes-counted (g .attributes) (g .text) (n .attributeCount) (n .firstAttribute) in
+      let inline = inline-short on (elementAt (g .nodes) (g .attributes) (g .text) i) in
+      pick-holds
+      (λ (x : List ℕ). start + length x ≤ textsEnd (g .attributes) n start + 2 * n .attributeCount)
+      (is (n .kind) elementKind) (inlineContents on (elementAt (g .nodes) (g .attributes) (g .text) i)) []
+      (λ _. omega (arith, values, counted, inline)) (λ _. omega (arith, values))
+
+  -- of the rows before a row
+  before-short : (i : ℕ) → length (contentsBefore on g i) ≤ bytesBefore (g .nodes) (g .attributes) i + 2 * attributesBefore (g .nodes) i
+  unfolding contentsBefore attributesBefore
+  before-short zero = omega arith
+  before-short (suc i) = omega (arith, length-append (contentsBefore on g i) (rowContents on g i), row-short i, before-short i)
+
+  -- of an accepted page
+  pub contents-short : pageRefusal (g .nodes) (g .attributes) (g .text) ≡ noRefusal → length (pageContents on g) ≤ runTextBytes g
+  unfolding pageContents
+  contents-short e =
+      let ok : Accepted (g .nodes) (g .attributes) (g .text) = accepted (g .nodes) (g .attributes) (g .text) e in
+      let n : ℕ = nodeCount (g .nodes) in
+      omega (
+        arith,
+        before-short n,
+        bytes-within (g .nodes) (g .attributes) (g .text) ok n (omega arith),
+        attributes-before-within (g .nodes) (g .attributes) (g .text) ok n (omega arith),
+      )

@@ -1,0 +1,322 @@
+-- A run over the bytes of three sheets whose selectors fit: every row that it writes is the computed style of the row's element. What holds before a row, what
+-- its step leaves, and so all rows.
+use Prim.Native.Nat.{ℕ, zero, suc, _+_, _*_, _≤_, _<_}
+use mathlib.Core.Path.{_≡_, refl, ap, ap₂, sym, subst, _∙_}
+use mathlib.Core.Bool.{Bool}
+use mathlib.Core.Logic.{_⊎_, inl, inr}
+use mathlib.Core.List.{List, [], _∷_, _++_}
+use native.Mathlib.Nat.{not-suc-le-zero}
+use native.Mathlib.Omega.{arith}
+use lib.ListN.{length, take, drop, length-append, length-drop}
+use lib.Seq.{sets, length-sets, sets-eq, length-take-le, take-at, drop-at, drop-drop, drop-append-add}
+use Rattle.combinators.proofs.Rules.{lt-or-ge}
+use Rattle.syntax.specs.Selector.{RuleSet}
+use Rattle.syntax.specs.Stream.{part}
+use Rattle.cascade.specs.Row.{styleRowWidth, rowOf}
+use Rattle.cascade.proofs.RowBack.{row-long}
+use Rattle.page.specs.Ancestors.{depthOf}
+use Rattle.page.specs.Path.{Element, Path}
+use Rattle.page.specs.PathOf.{elementAt, pathOf}
+use Rattle.page.specs.Rows.{nodeCount, nodeAt, elementKind, otherKind}
+use Rattle.page.proofs.AcceptedPages.{Accepted}
+use Rattle.page.proofs.Paths.{path-document, path-element}
+use Rattle.page.proofs.RowFacts.{document-kind, parent-kind}
+use Rattle.compiled.specs.Sheet.{encode}
+use Rattle.compiled.proofs.Fits.{SheetFits}
+use Rattle.compiled.proofs.RoundTrip.{round-trip}
+use Rattle.styles.specs.Numbered.{Rules}
+use Rattle.styles.specs.StyleCall.{inlineContents, seenStyle}
+use Rattle.runner.specs.Walked.{WalkedSelector, walked}
+use Rattle.runner.specs.Groups.{allGroups, matching, matchingAt}
+use Rattle.runner.specs.State.{depths, partWidth, partPlace, raised, groupsFrom}
+use Rattle.runner.specs.Run.{noStyle, styleBelow, Stepped, documentStep, elementStep, stepOn, Page, handedAt, Running, styleRowAt, runStep, runFrom, runOf, rowContents, contentsBefore, pageContents}
+use Rattle.runner.specs.Demand.{sheetsSelectors, AllRows}
+use Rattle.runner.proofs.GroupLaws.{matching-right}
+use Rattle.runner.proofs.StateParts.{part-kept, part-written}
+use Rattle.runner.proofs.OpenRows.{parent-most, kinds}
+use Rattle.runner.proofs.OpenParts.{length-raised, length-opened, Ready, document-ready, other-ready, place-right, bytes-of, element-ready}
+use Rattle.runner.proofs.PartsFit.{parts-fit}
+use Rattle.runner.proofs.StepStyle.{Styled, document-styled, styled-further, styled-below}
+use Rattle.runner.proofs.Steps.{element-contents, no-contents, contents-most, other-step, document-step, element-step}
+
+-- ---- rows and stores
+module _ (rows row : List ℕ) (i n : ℕ) (there : i < n) (long : n * styleRowWidth ≤ length rows) (whole : length row ≡ styleRowWidth) where
+  -- a row that is written is there
+  row-written : styleRowAt (sets rows (i * styleRowWidth) row) i ≡ row
+  unfolding styleRowAt part
+  row-written = part-written rows row (i * styleRowWidth) (omega arith) styleRowWidth whole
+
+  -- the rows before it stay
+  row-kept : (j : ℕ) → j < i → styleRowAt (sets rows (i * styleRowWidth) row) j ≡ styleRowAt rows j
+  unfolding styleRowAt part
+  row-kept j l = part-kept rows row (i * styleRowWidth) (omega arith) (j * styleRowWidth) styleRowWidth (omega arith)
+
+  -- so does what lies behind it
+  behind-kept : drop (suc i * styleRowWidth) (sets rows (i * styleRowWidth) row) ≡ drop (suc i * styleRowWidth) rows
+  behind-kept =
+      let at : ℕ = i * styleRowWidth in
+      let r : at + length row ≤ length rows = omega arith in
+      let e : suc i * styleRowWidth ≡ at + length row = omega arith in
+      let len : length (take at rows ++ row) ≡ at + length row = length-append (take at rows) row ∙ omega (arith, length-take-le at rows (omega arith)) in
+      rw e (ap (drop (at + length row)) (sets-eq row rows at r) ∙ drop-at (take at rows ++ row) (drop (at + length row) rows) (at + length row) len)
+
+-- contents that are written behind those so far
+store-next : (store before new : List ℕ) → length before + length new ≤ length store
+    → sets (before ++ drop (length before) store) (length before) new ≡ (before ++ new) ++ drop (length (before ++ new)) store
+store-next store before new h =
+    let rest : List ℕ = drop (length before) store in
+    let l : length before + length new ≤ length (before ++ rest) = omega (arith, length-append before rest, length-drop (length before) store) in
+    let e : drop (length before + length new) (before ++ rest) ≡ drop (length (before ++ new)) store =
+    drop-append-add before rest (length new) ∙ drop-drop (length new) (length before) store ∙ ap (λ (n : ℕ). drop n store) (sym (length-append before new)) in
+    sets-eq new (before ++ rest) (length before) l
+    ∙ ap₂ (λ (a b : List ℕ). a ++ new ++ b) (take-at before rest (length before) refl) e
+
+-- ---- a run
+module _ (rules : Rules RuleSet) (fits : SheetFits (sheetsSelectors rules)) (on : Bool) (g : Page) (ok : Accepted (g .nodes) (g .attributes) (g .text))
+    (rows₀ state₀ store₀ : List ℕ) where
+  abbrev code : List ℕ
+  code = encode (sheetsSelectors rules)
+
+  abbrev count : ℕ
+  count = nodeCount (g .nodes)
+
+  abbrev kindAt : ℕ → ℕ
+  kindAt i = nodeAt (g .nodes) i .kind
+
+  abbrev pathAt : ℕ → Path
+  pathAt i = pathOf (g .nodes) (g .attributes) (g .text) i
+
+  abbrev ReadyAt : ℕ → List ℕ → Type 0
+  ReadyAt i state = Ready code (walked code) (g .nodes) (g .attributes) (g .text) (parts-fit (sheetsSelectors rules) fits) ok i state
+
+  -- a style row is right where the store has these contents
+  pub record RowRight (filled row : List ℕ) (i : ℕ) : Type 0 where
+    pub styled : kindAt i ≡ elementKind → Styled rules on filled row (pathAt i)
+    pub zeros : ¬ (kindAt i ≡ elementKind) → row ≡ noStyle
+
+  -- before row i
+  pub record Before (i : ℕ) (r : Running) : Type 0 where
+    pub long : length (r .rows) ≡ length rows₀
+    pub behind : drop (i * styleRowWidth) (r .rows) ≡ drop (i * styleRowWidth) rows₀
+    pub state-long : length (r .state) ≡ length state₀
+    pub ready : ReadyAt i (r .state)
+    pub fill : r .fill ≡ length (contentsBefore on g i)
+    pub store : r .store ≡ contentsBefore on g i ++ drop (length (contentsBefore on g i)) store₀
+    pub right : (j : ℕ) → j < i → RowRight (contentsBefore on g i) (styleRowAt (r .rows) j) j
+
+  -- what the step of row i leaves
+  pub record After (i : ℕ) (r : Running) (s : Stepped) : Type 0 where
+    pub whole : length (s .row) ≡ styleRowWidth
+    pub right : RowRight (contentsBefore on g (suc i)) (s .row) i
+    pub state-long : length (s .state) ≡ length (r .state)
+    pub ready : ReadyAt (suc i) (s .state)
+    pub fill : s .fill ≡ r .fill + length (rowContents on g i)
+    pub store : s .store ≡ sets (r .store) (r .fill) (rowContents on g i)
+
+  module _ (rows-room : count * styleRowWidth ≤ length rows₀) (state-room : depths * partWidth code ≤ length state₀) (store-room : length (pageContents on g) ≤ length store₀) where
+    -- rows that are right stay so where the store is filled further
+    right-further : (i j : ℕ) (row row′ : List ℕ) → row′ ≡ row → RowRight (contentsBefore on g i) row j → RowRight (contentsBefore on g (suc i)) row′ j
+    unfolding contentsBefore
+    right-further i j row row′ e h =
+        record {
+          styled = λ k. rw e (styled-further rules on (contentsBefore on g i) (rowContents on g i) row (pathAt j) (h .styled k));
+          zeros = λ k. e ∙ h .zeros k;
+        }
+
+    -- one row further
+    next : (i : ℕ) (r : Running) (s : Stepped) → i < count → Before i r → After i r s
+        → Before (suc i) (record { rows = sets (r .rows) (i * styleRowWidth) (s .row); state = s .state; store = s .store; fill = s .fill })
+    unfolding contentsBefore
+    next i r s there b a =
+        let before : List ℕ = contentsBefore on g i in
+        let new : List ℕ = rowContents on g i in
+        let rm : count * styleRowWidth ≤ length (r .rows) = omega (arith, b .long) in
+        let at : i * styleRowWidth + styleRowWidth ≡ suc i * styleRowWidth = omega arith in
+        let most : length (before ++ new) ≤ length (pageContents on g) = contents-most on g (suc i) there in
+        let fits : length before + length new ≤ length store₀ = omega (arith, length-append before new) in
+        record {
+          long = length-sets (r .rows) (i * styleRowWidth) (s .row) ∙ b .long;
+          behind = behind-kept (r .rows) (s .row) i count there rm (a .whole) ∙ further (r .rows) rows₀ (i * styleRowWidth) (suc i * styleRowWidth) at (b .behind);
+          state-long = a .state-long ∙ b .state-long;
+          ready = a .ready;
+          fill = a .fill ∙ ap (λ (n : ℕ). n + length new) (b .fill) ∙ sym (length-append before new);
+          store = a .store ∙ ap₂ (λ (l : List ℕ) (n : ℕ). sets l n new) (b .store) (b .fill) ∙ store-next store₀ before new fits;
+          right = λ (j : ℕ) (l : j < suc i). by-row rm j l (lt-or-ge j i);
+        }
+      where
+        further : (l m : List ℕ) (n k : ℕ) → n + styleRowWidth ≡ k → drop n l ≡ drop n m → drop k l ≡ drop k m
+        further l m n k e h = rw (← e) (sym (drop-drop styleRowWidth n l) ∙ ap (drop styleRowWidth) h ∙ drop-drop styleRowWidth n m)
+
+        -- a row before it, or its own
+        by-row : count * styleRowWidth ≤ length (r .rows) → (j : ℕ) → j < suc i → (j < i) ⊎ (i ≤ j)
+            → RowRight (contentsBefore on g (suc i)) (styleRowAt (sets (r .rows) (i * styleRowWidth) (s .row)) j) j
+        by-row rm j l (inl h) =
+            right-further i j (styleRowAt (r .rows) j) (styleRowAt (sets (r .rows) (i * styleRowWidth) (s .row)) j) (row-kept (r .rows) (s .row) i count there rm (a .whole) j h) (b .right j h)
+        by-row rm j l (inr h) =
+            let e : i ≡ j = omega arith in
+            subst (λ (k : ℕ). RowRight (contentsBefore on g (suc i)) (styleRowAt (sets (r .rows) (i * styleRowWidth) (s .row)) k) k) e
+            (subst (λ (row : List ℕ). RowRight (contentsBefore on g (suc i)) row i) (sym (row-written (r .rows) (s .row) i count there rm (a .whole))) (a .right))
+
+    -- ---- the step of each kind of row
+    abbrev stepAt : ℕ → Running → Stepped
+    stepAt i r =
+        stepOn code on (handedAt g i) (depthOf (g .nodes) i) (styleRowAt (r .rows) (nodeAt (g .nodes) i .parent)) (r .state) (r .store) (r .fill)
+
+    -- a row without a style
+    zeros-right : (filled : List ℕ) (i : ℕ) → ¬ (kindAt i ≡ elementKind) → RowRight filled noStyle i
+    zeros-right filled i d = record { styled = λ k. absurd (d k); zeros = λ k. refl }
+
+    -- nothing is added to the store
+    nothing-new : (i n : ℕ) → ¬ (kindAt i ≡ elementKind) → n ≡ n + length (rowContents on g i)
+    nothing-new i n d = rw (no-contents on g i d) (omega arith)
+
+    -- the document
+    document-after : (r : Running) → Before 0 r → After 0 r (stepAt 0 r)
+    unfolding documentStep
+    document-after r b =
+        let no : ¬ (kindAt 0 ≡ elementKind) = λ (e : kindAt 0 ≡ elementKind). omega (arith, document-kind (g .nodes) (g .attributes) (g .text) ok) in
+        let long : depths * partWidth code ≤ length (r .state) = omega (arith, b .state-long) in
+        subst (After 0 r) (sym (document-step code on g (styleRowAt (r .rows) (nodeAt (g .nodes) 0 .parent)) (r .state) (r .store) (r .fill) ok))
+        (record {
+          whole = refl;
+          right = zeros-right (contentsBefore on g 1) 0 no;
+          state-long = length-opened (r .state) (partPlace code 0) (allGroups [] (walked code) []);
+          ready = document-ready code (walked code) (g .nodes) (g .attributes) (g .text) (parts-fit (sheetsSelectors rules) fits) ok (r .state) long;
+          fill = nothing-new 0 (r .fill) no;
+          store = ap (λ (x : List ℕ). sets (r .store) (r .fill) x) (sym (no-contents on g 0 no));
+        })
+
+    module _ (i : ℕ) (there : suc i < count) (r : Running) (b : Before (suc i) r) where
+      abbrev p : ℕ
+      p = nodeAt (g .nodes) (suc i) .parent
+
+      -- the state is long enough
+      long : depths * partWidth code ≤ length (r .state)
+      long = omega (arith, b .state-long)
+
+      -- other content
+      other-after : kindAt (suc i) ≡ otherKind → After (suc i) r (stepAt (suc i) r)
+      other-after e =
+          let no : ¬ (kindAt (suc i) ≡ elementKind) = λ (z : kindAt (suc i) ≡ elementKind). omega (arith, e, z) in
+          subst (After (suc i) r) (sym (other-step code on g (styleRowAt (r .rows) p) (r .state) (r .store) (r .fill) (suc i) e))
+          (record {
+            whole = refl;
+            right = zeros-right (contentsBefore on g (suc (suc i))) (suc i) no;
+            state-long = refl;
+            ready = other-ready code (walked code) (g .nodes) (g .attributes) (g .text) (parts-fit (sheetsSelectors rules) fits) ok i there (r .state) long (b .ready) e;
+            fill = nothing-new (suc i) (r .fill) no;
+            store = ap (λ (x : List ℕ). sets (r .store) (r .fill) x) (sym (no-contents on g (suc i) no));
+          })
+
+      -- the parent's row is the computed style of its path, or the zeros of the document
+      parent-styled : Styled rules on (contentsBefore on g (suc i)) (styleRowAt (r .rows) p) (pathAt p)
+      parent-styled = go (parent-kind (g .nodes) (g .attributes) (g .text) ok (suc i) there (omega arith))
+        where
+          here : RowRight (contentsBefore on g (suc i)) (styleRowAt (r .rows) p) p
+          here = b .right p (omega (arith, parent-most (g .nodes) (g .attributes) (g .text) ok i there))
+
+          go : (p ≡ 0) ⊎ (kindAt p ≡ elementKind) → Styled rules on (contentsBefore on g (suc i)) (styleRowAt (r .rows) p) (pathAt p)
+          go (inl e) =
+              let no : ¬ (kindAt p ≡ elementKind) = λ (k : kindAt p ≡ elementKind). (let z : kindAt 0 ≡ elementKind = rw e at k in omega (arith, z, document-kind (g .nodes) (g .attributes) (g .text) ok)) in
+              let top : pathAt p ≡ [] = ap pathAt e ∙ path-document (g .nodes) (g .attributes) (g .text) ok in
+              rw (here .zeros no, top) (document-styled rules on (contentsBefore on g (suc i)))
+          go (inr e) = here .styled e
+
+      module _ (element : kindAt (suc i) ≡ elementKind) where
+        abbrev e : Element
+        e = elementAt (g .nodes) (g .attributes) (g .text) (suc i)
+
+        abbrev parent : List ℕ
+        parent = styleRowAt (r .rows) p
+
+        abbrev filled : List ℕ
+        filled = contentsBefore on g (suc i)
+
+        abbrev bytes : List ℕ
+        bytes = allGroups (e ∷ []) (walked code) (groupsFrom (r .state) (partPlace code (depthOf (g .nodes) p)))
+
+        -- its path
+        path-here : pathAt (suc i) ≡ e ∷ pathAt p
+        path-here = path-element (g .nodes) (g .attributes) (g .text) ok (suc i) there (omega arith) element
+
+        -- the selectors that match, by the bytes
+        matching-here : matching (walked code) bytes ≡ matchingAt (e ∷ pathAt p) (walked code)
+        matching-here =
+            ap (matching (walked code)) (bytes-of code (walked code) (g .nodes) (g .attributes) (g .text) (parts-fit (sheetsSelectors rules) fits) ok i there (r .state) long (b .ready) element)
+            ∙ matching-right (walked code) (pathAt (suc i))
+            ∙ ap (λ (x : Path). matchingAt x (walked code)) path-here
+
+        -- the row, by the path
+        row-here : rowOf (styleBelow parent (matching (walked code) bytes) on (length code + r .fill) e) ≡ rowOf (styleBelow parent (matchingAt (e ∷ pathAt p) (walked code)) on (length code + length filled) e)
+        row-here = ap₂ (λ (ss : List WalkedSelector) (n : ℕ). rowOf (styleBelow parent ss on (length code + n) e)) matching-here (b .fill)
+
+        -- which is the computed style
+        below : Styled rules on (filled ++ inlineContents on e) (rowOf (styleBelow parent (matchingAt (e ∷ pathAt p) (walked code)) on (length code + length filled) e)) (e ∷ pathAt p)
+        below = styled-below rules on fits filled e (pathAt p) parent parent-styled
+
+        -- an element
+        element-after : After (suc i) r (stepAt (suc i) r)
+        unfolding elementStep contentsBefore
+        element-after =
+            let place = place-right code (walked code) (g .nodes) (g .attributes) (g .text) (parts-fit (sheetsSelectors rules) fits) ok i there (r .state) long (b .ready) element in
+            let new : rowContents on g (suc i) ≡ inlineContents on e = element-contents on g (suc i) element in
+            let at : ℕ = partPlace code (depthOf (g .nodes) p) in
+            subst (After (suc i) r) (sym (element-step code on g parent (r .state) (r .store) (r .fill) ok i there element place))
+            (record {
+              whole = ap length (row-here ∙ below .1) ∙ row-long (below .0) (below .2);
+              right = record { styled = λ k. rw (row-here, new, path-here) below; zeros = λ d. absurd (d element) };
+              state-long = length-opened (raised (r .state) at) (partPlace code (suc (depthOf (g .nodes) p))) bytes ∙ length-raised (r .state) at;
+              ready = element-ready code (walked code) (g .nodes) (g .attributes) (g .text) (parts-fit (sheetsSelectors rules) fits) ok i there (r .state) long (b .ready) element e refl;
+              fill = ap (λ (x : List ℕ). r .fill + length x) (sym new);
+              store = ap (λ (x : List ℕ). sets (r .store) (r .fill) x) (sym new);
+            })
+
+    -- ---- every row
+    -- one
+    step-after : (i : ℕ) → i < count → (r : Running) → Before i r → After i r (stepAt i r)
+    step-after zero there r b = document-after r b
+    step-after (suc i) there r b = go (kinds (g .nodes) (g .attributes) (g .text) ok i there)
+      where
+        go : (kindAt (suc i) ≡ otherKind) ⊎ (kindAt (suc i) ≡ elementKind) → After (suc i) r (stepAt (suc i) r)
+        go (inl e) = other-after i there r b e
+        go (inr e) = element-after i there r b e
+
+    -- all that follow
+    run-after : (k i : ℕ) (r : Running) → i + k ≡ count → Before i r → Before count (runFrom code on g k i r)
+    unfolding runFrom runStep
+    run-after zero i r e b = let z : i ≡ count = omega arith in subst (λ (n : ℕ). Before n r) z b
+    run-after (suc k) i r e b =
+        let there : i < count = omega arith in
+        run-after k (suc i) (runStep code on g i r) (omega arith) (next i r (stepAt i r) there b (step-after i there r b))
+
+    -- nothing is asked of what the run finds
+    at-start : Before 0 (record { rows = rows₀; state = state₀; store = store₀; fill = 0 })
+    unfolding contentsBefore
+    at-start =
+        record {
+          long = refl;
+          behind = refl;
+          state-long = refl;
+          ready = tt;
+          fill = refl;
+          store = refl;
+          right = λ j l. absurd (not-suc-le-zero l);
+        }
+
+    -- the run
+    pub run-right : AllRows rules on g code rows₀ store₀ (runOf code on g rows₀ state₀ store₀)
+    unfolding runOf pageContents
+    run-right =
+        let r : Running = runFrom code on g count 0 (record { rows = rows₀; state = state₀; store = store₀; fill = 0 }) in
+        let b : Before count r = run-after count 0 (record { rows = rows₀; state = state₀; store = store₀; fill = 0 }) (omega arith) at-start in
+        record {
+          sheet = round-trip (sheetsSelectors rules) fits;
+          element-rows = λ i l k.
+              let s = b .right i l .styled k in
+              (s .0, s .1, ap (λ (t : List ℕ). seenStyle (code ++ t) (s .0)) (b .store) ∙ s .3 (drop (length (contentsBefore on g count)) store₀));
+          other-rows = λ i l d. b .right i l .zeros d;
+          rows-long = b .long;
+          rows-behind = b .behind;
+          filled = b .fill;
+          stored = b .store;
+        }
