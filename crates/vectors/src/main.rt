@@ -1,6 +1,8 @@
 // Replays fixed answers of html2text 0.17.4 (tools/vectors/README.md says how they lie in bytes and how they were chosen), which it reads from standard
-// input: asks this engine the same, and prints the number and kind of each vector whose answer differs, then how many there are and how many differ.
+// input, one list behind the other: asks this engine the same, and prints the number and kind of each vector whose answer differs, then for each list how
+// many vectors it has and how many differ.
 mod attributes;
+mod compiling;
 mod lists;
 mod outcome;
 mod selector;
@@ -11,6 +13,7 @@ use attributes::replay_colour;
 use attributes::replay_styles;
 use compiled::numbers::NumberAnswer;
 use compiled::numbers::read_number;
+use compiling::replay_compile;
 use libc::STDOUT_FILENO;
 use outcome::Outcome;
 use selector::replay_selector;
@@ -29,6 +32,11 @@ const COLOUR: u32 = 3;
 
 const SELECTOR: u32 = 4;
 
+const COMPILE: u32 = 5;
+
+// The lists that standard input may hold.
+const MOST_LISTS: usize = 16;
+
 fn print(text: &[u8]) {
     io::write_all(STDOUT_FILENO, text);
 }
@@ -39,6 +47,7 @@ fn print_kind(kind: u32) {
         STYLES => print(b"style attribute"),
         COLOUR => print(b"colour attribute"),
         SELECTOR => print(b"selector"),
+        COMPILE => print(b"compiled sheet"),
         _ => print(b"no known kind"),
     }
 }
@@ -60,6 +69,7 @@ fn replay_kind(kind: u32, s: &[u8], at: usize) -> Outcome {
         STYLES => replay_styles(s, at),
         COLOUR => replay_colour(s, at),
         SELECTOR => replay_selector(s, at),
+        COMPILE => replay_compile(s, at),
         _ => Outcome::Unread,
     }
 }
@@ -96,8 +106,9 @@ fn print_counts(count: u32, differ: u32) {
     print(b" differ\n");
 }
 
-// Replays `count` vectors from `start` on, of which the window holds the first; those behind one that does not read are not replayed.
-fn replay_all(window: &mut [u8], filled: usize, start: usize, count: u32) {
+// Replays `count` vectors from `start` on, of which the window holds the first, and moves what is behind them to its front. Answers how many bytes
+// it holds then; none, where a vector does not read, for what is behind it cannot be told.
+fn replay_vectors(window: &mut [u8], filled: usize, start: usize, count: u32) -> usize {
     let mut held = filled;
     let mut at = start;
     let mut differ: u32 = 0;
@@ -106,24 +117,39 @@ fn replay_all(window: &mut [u8], filled: usize, start: usize, count: u32) {
         let place = move_on(window, at, held);
         held = place.held;
         let Outcome::Read(behind, same) = replay(number, part_of(window, 0, held), place.at) else {
-            return;
+            return 0;
         };
         at = behind;
         differ = counted(differ, same);
         number += 1;
     }
-    if refill(window, at, held) > 0 {
-        print(b"bytes are left over\n");
-    }
     print_counts(count, differ);
+    refill(window, at, held)
+}
+
+// Replays the list that the window starts with; how many bytes it holds behind that.
+fn replay_list(window: &mut [u8], held: usize) -> usize {
+    let NumberAnswer::Number(start, count) = read_number(part_of(window, 0, held), 0) else {
+        print(b"there is no count of vectors\n");
+        return 0;
+    };
+    replay_vectors(window, held, start, count)
+}
+
+// Replays the lists of standard input, through the window.
+fn replay_lists(window: &mut [u8]) {
+    let mut held = refill(window, 0, 0);
+    let mut left = MOST_LISTS;
+    while left > 0 {
+        if held == 0 {
+            return;
+        }
+        held = replay_list(window, held);
+        left -= 1;
+    }
 }
 
 fn main() {
     let mut window = [0u8; WINDOW];
-    let held = refill(&mut window, 0, 0);
-    let NumberAnswer::Number(start, count) = read_number(part_of(&window, 0, held), 0) else {
-        print(b"there is no count of vectors\n");
-        return;
-    };
-    replay_all(&mut window, held, start, count);
+    replay_lists(&mut window);
 }

@@ -2,14 +2,14 @@ use Prim.Native.Nat.{_≤_, _-_}
 use mathlib.Core.Path.{_≡_}
 use lib.ListN.{length}
 use borrow.Author.Needs.{needs}
-use Rattle.vectors.proofs.replay_all.Statement.{statement}
-use Rattle.vectors.proofs.replay_all.Tie as tie
+use Rattle.vectors.proofs.replay_vectors.Statement.{statement}
+use Rattle.vectors.proofs.replay_vectors.Tie as tie
 
 abbrev Inv-loop : tie.InvT-loop
-Inv-loop window₀ filled start count held₀ at₀ differ₀ number₀ t12 window held at differ number = (number ≤ count) × (length window ≡ length window₀)
+Inv-loop window₀ filled start count held₀ at₀ differ₀ number₀ window held at differ number = (number ≤ count) × (length window ≡ length window₀)
 
 abbrev μ-loop : tie.MeasureT-loop
-μ-loop window₀ filled start count held₀ at₀ differ₀ number₀ t12 window held at differ number = count - number
+μ-loop window₀ filled start count held₀ at₀ differ₀ number₀ window held at differ number = count - number
 
 loop-holds : tie.Need-loop-holds Inv-loop μ-loop
 loop-holds c = search needs
@@ -47,17 +47,11 @@ loop-less c = search needs
 loop-again : tie.Need-loop-again Inv-loop μ-loop
 loop-again c = search needs
 
-refill-requires : tie.Need-refill-requires Inv-loop μ-loop
-refill-requires c κs = search needs
-
-slice-aggregate-print : tie.Need-slice-aggregate-print Inv-loop μ-loop
-slice-aggregate-print c = search needs
-
-print-requires : tie.Need-print-requires Inv-loop μ-loop
-print-requires c κs = search needs
-
 print-counts-requires : tie.Need-print-counts-requires Inv-loop μ-loop
 print-counts-requires c κs = search needs
+
+refill-requires : tie.Need-refill-requires Inv-loop μ-loop
+refill-requires c κs = search needs
 
 same-length-2 : tie.Need-same-length-2 Inv-loop μ-loop
 same-length-2 c = search needs
@@ -65,8 +59,8 @@ same-length-2 c = search needs
 returns-2 : tie.Need-returns-2 Inv-loop μ-loop
 returns-2 c = search needs
 
-pub replay-all-spec : {M : Type 1} → statement M
-replay-all-spec =
+pub replay-vectors-spec : {M : Type 1} → statement M
+replay-vectors-spec =
     tie.close
     (tie.spec
     Inv-loop
@@ -83,9 +77,7 @@ replay-all-spec =
     add-number
     loop-less
     loop-again
-    refill-requires
-    slice-aggregate-print
-    print-requires
     print-counts-requires
+    refill-requires
     same-length-2
     returns-2)
