@@ -27,5 +27,6 @@ cd "$here/../target/crate"
 CARGO_TERM_QUIET=true RUSTC_WRAPPER=$cover/rustc-wrapper cargo build --offline -p compare --features cover --bin choose_vectors --profile release --target-dir "$cover"
 program=$cover/release/choose_vectors
 LLVM_PROFILE_FILE=$cover/vectors.profraw "$program" "${1:-1}" "$here/vectors"
+cat "$here/vectors/vectors" "$here/vectors/compile_vectors" > "$here/../crates/vectors/stdin"
 "$llvm/llvm-profdata" merge -o "$cover/vectors.profdata" "$cover/vectors.profraw"
 "$llvm/llvm-cov" export "$program" -instr-profile="$cover/vectors.profdata" | python3 "$here/vectors/uncovered.py"
