@@ -113,8 +113,8 @@ typedef struct {
     uint32_t types;
 } hicsolmab_match_result;
 
-/* Whether a selector matches a row of a page: its first `count` components, at most 4,096, as they lie in a rule (four numbers each, in reading
- * order, their texts in `texts`). The matcher calls itself for each component, with some 400 bytes of stack. Nothing is written. Refuses 1, 2 (fewer than 4 * count numbers), 5, 6, 7, 8. */
+/* Whether a selector matches a row of a page: its first `count` components, at most 32,768, as they lie in a rule (four numbers each, in reading
+ * order, their texts in `texts`). The matcher calls itself only to go up a row. Nothing is written. Refuses 1, 2 (fewer than 4 * count numbers), 5, 6, 7, 8. */
 hicsolmab_match_result hicsolmab_matches(const uint32_t *components, size_t components_length, size_t count,
                                          const uint8_t *texts, size_t texts_length,
                                          const uint32_t *nodes, size_t nodes_length,

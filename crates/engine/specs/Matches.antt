@@ -9,7 +9,7 @@ use Rattle.syntax.specs.Layout.{flag}
 use Rattle.syntax.specs.RuleLayout.{componentWidth}
 use Rattle.syntax.specs.Selector.{Component}
 use Rattle.cascade.specs.declared.specificity.Specificity.{Specificity}
-use Rattle.sheets.specs.SheetAnswer.{limitRefusal, storeRefusal}
+use Rattle.sheets.specs.SheetAnswer.{sheetLimit, limitRefusal, storeRefusal}
 use Rattle.page.specs.Accepted.{Refusal, pageRefusal}
 use Rattle.page.specs.Path.{Path}
 use Rattle.page.specs.PathOf.{pathOf}
@@ -19,9 +19,9 @@ use Rattle.matching.specs.Rows.{componentsAt}
 use Rattle.matching.specs.Specificity.{specificity}
 use Rattle.engine.specs.declared.matches.MatchResult.{MatchResult}
 
--- the most components that a selector may have here
+-- the most components that a selector may have here: as many as a sheet may have bytes, for each takes one
 abbrev pub componentLimit : ℕ
-componentLimit = 4096
+componentLimit = sheetLimit
 
 -- "8 the asked row is no element or beyond the page"
 abbrev pub askedRefusal : ℕ

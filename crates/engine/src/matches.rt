@@ -30,8 +30,8 @@ pub struct MatchResult {
     pub types: u32,
 }
 
-// The components that a selector may have. The matcher calls itself for each, so this bounds the stack that it takes.
-const COMPONENT_LIMIT: usize = 4096;
+// The components that a selector may have: each takes a byte of its sheet, so no selector of an accepted sheet has more.
+const COMPONENT_LIMIT: usize = 32768;
 
 // A selector or a page that is refused.
 fn refused(refusal: u32, place: usize) -> MatchResult

@@ -8,3 +8,4 @@ pub mod PathLaws
 pub mod PassLaws
 pub mod MatchLaws
 pub mod Roots
+pub mod TestLaws

@@ -1,5 +1,5 @@
 -- The returns of `passes` and `do_matches`: each step of the code is one of the definition, on the path of the row.
-use Prim.Native.Nat.{ℕ, suc, _+_, _-_, _<_}
+use Prim.Native.Nat.{ℕ, suc, _-_}
 use mathlib.Core.Bool.{Bool, true, false}
 use mathlib.Core.List.{List, [], _∷_}
 use mathlib.Core.Path.{_≡_, sym, ap, ap₂, _∙_}
@@ -14,7 +14,7 @@ use Rattle.matching.specs.Matches.{onParent, onAncestors, step, matches}
 use Rattle.matching.specs.Rows.{componentNumber, componentAt, componentsAt, firstText, secondText, SimpleAt, Rooted, elementPasses}
 use Rattle.matching.proofs.ComponentLaws.{components-none, components-more}
 use Rattle.matching.proofs.PassLaws.{from-child, from-descendant, from-star, document-fails, simple-beside, asked-of-element}
-use Rattle.matching.proofs.PathLaws.{top-path, no-element-path, some-element-path, other-path, parent-before}
+use Rattle.matching.proofs.PathLaws.{top-path, no-element-path, some-element-path, other-path}
 
 -- ---- `passes`
 module _ (store components nodes attributes text : List ℕ) (i row k : ℕ) (ek : k ≡ componentNumber components i componentKindAt) where
@@ -130,15 +130,3 @@ module _ (store components nodes attributes text : List ℕ) (left row : ℕ) wh
 
           pub match-fails : b ≡ false → false ≡ Matched left row
           match-fails h = sym (asked ∙ and-left _ _ h)
-
--- ---- the measure: components left and the row
-module _ (nodes : List ℕ) (left row t : ℕ) (some : ¬ (left ≡ 0)) (et : left + row ≡ t) where
-  pub falls-here : (left - 1) + row < t
-  falls-here = omega arith
-
-  module _ (rooted : Rooted nodes row) (z : ¬ (row ≡ 0)) (p : ℕ) (ep : p ≡ nodeAt nodes row .parent) where
-    pub falls-both : (left - 1) + p < t
-    falls-both = let l = parent-before nodes row rooted z p ep in omega arith
-
-    pub falls-above : left + p < t
-    falls-above = let l = parent-before nodes row rooted z p ep in omega arith

@@ -4,3 +4,4 @@ pub mod Matches
 pub mod Specificity
 pub mod Selectors
 pub mod Rows
+pub mod Tests

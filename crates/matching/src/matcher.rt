@@ -28,6 +28,7 @@ ghost use Rattle.syntax.specs.Signed.{signedOf};
 ghost use Rattle.matching.specs.Matches.{matches};
 ghost use Rattle.matching.specs.Nth.{nthMatches};
 ghost use Rattle.matching.specs.Rows.{componentNumber, componentAt, componentsAt, SimpleAt, Rooted, elementPasses};
+ghost use Rattle.matching.specs.Tests.{TestsPassed};
 
 // Whether an nth-child holds of a row's place among its siblings.
 fn is_nth(components: &[u32], i: usize, nodes: &[u32], row: usize) -> bool
@@ -94,6 +95,44 @@ fn passes(
     false
 }
 
+// How many components are left behind tests that a row passed, the last of which is a combinator; or that the row fails one.
+pub enum Tested {
+    Left(usize),
+    Failed,
+}
+
+// Asks a row for the tests at the end of the first `left` components, up to a combinator. They are passed in a loop, so that the matcher calls itself
+// only to go up a row, however many tests a selector has.
+fn pass_tests(
+    components: &[u32],
+    store: &[u8],
+    left: usize,
+    nodes: &[u32],
+    attributes: &[u32],
+    text: &[u8],
+    row: usize,
+) -> Tested
+    requires { ⌜ Rooted (now nodes) row ⌝ }
+    ensures { λ r. ⌜ TestsPassed (now (store .entry)) (now (components .entry)) (pathOf (now (nodes .entry)) (now (attributes .entry)) (now (text .entry)) row) left r ⌝ }
+{
+    let mut n = left;
+    while n > 0 {
+        let kind = kind_at(components, n - 1);
+        if kind == CHILD {
+            return Tested::Left(n);
+        }
+        if kind == DESCENDANT {
+            return Tested::Left(n);
+        }
+        if passes(components, store, n - 1, nodes, attributes, text, row) {
+            n -= 1;
+        } else {
+            return Tested::Failed;
+        }
+    }
+    Tested::Left(0)
+}
+
 // Whether the first `left` components match a row, the last of them first. The row is the document or an element, and parents lead from it to the
 // document; on an accepted page they do from every element (law `accepted-element`).
 pub fn do_matches(
@@ -108,30 +147,22 @@ pub fn do_matches(
     requires { ⌜ Rooted (now nodes) row ⌝ }
     ensures { λ r. ⌜ r ≡ matches (componentsAt (now (store .entry)) (now (components .entry)) left) (pathOf (now (nodes .entry)) (now (attributes .entry)) (now (text .entry)) row) ⌝ }
 {
-    if left == 0 {
+    let Tested::Left(n) = pass_tests(components, store, left, nodes, attributes, text, row) else {
+        return false;
+    };
+    if n == 0 {
         return true;
     }
-    let next = left - 1;
-    let kind = kind_at(components, next);
-    if kind == CHILD {
-        if row == 0 {
-            return false;
-        }
-        let above = parent_of(nodes, row);
-        return do_matches(components, store, next, nodes, attributes, text, above);
+    if row == 0 {
+        return false;
     }
-    if kind == DESCENDANT {
-        if row == 0 {
-            return false;
-        }
-        let parent = parent_of(nodes, row);
-        if do_matches(components, store, next, nodes, attributes, text, parent) {
-            return true;
-        }
-        return do_matches(components, store, left, nodes, attributes, text, parent);
+    let next = n - 1;
+    let parent = parent_of(nodes, row);
+    if do_matches(components, store, next, nodes, attributes, text, parent) {
+        return true;
     }
-    if passes(components, store, next, nodes, attributes, text, row) {
-        return do_matches(components, store, next, nodes, attributes, text, row);
+    if kind_at(components, next) == CHILD {
+        return false;
     }
-    false
+    do_matches(components, store, n, nodes, attributes, text, parent)
 }

@@ -1,4 +1,4 @@
-use Rattle.matching.proofs.MatchLaws.{match-end, child-of-document, child-of-parent, descendant-of-document, descendant-of-parent, descendant-of-ancestor, match-simple, match-passes, match-fails, falls-here, falls-both, falls-above}
+use Rattle.matching.proofs.TestLaws as laws
 use Rattle.matching.proofs.PathLaws.{parent-rooted}
 use borrow.Author.Needs.{needs}
 use Prim.Native.Nat.{ℕ, _+_, _<_}
@@ -8,7 +8,7 @@ use Rattle.matching.proofs.matcher.do_matches.Reads as do-matches
 use Rattle.matching.proofs.matcher.do_matches.Kinds as do-matches-kinds
 use Rattle.matching.proofs.matcher.+do_matches.Lts-do_matches as do-matches-lts
 use Rattle.matching.proofs.components.kind_at.Reads as kind-at-reads
-use Rattle.matching.proofs.matcher.passes.Reads as passes-reads
+use Rattle.matching.proofs.matcher.pass_tests.Reads as pass-tests-reads
 use Rattle.page.proofs.rows.parent_of.Reads as parent-of-reads
 use Rattle.matching.proofs.matcher.+do_matches.{statement}
 use Rattle.matching.proofs.matcher.+do_matches.Tie.{close}
@@ -26,48 +26,42 @@ do-matches-below t =
 
 pub +do-matches-spec : {M : Type 1} → statement M
 +do-matches-spec = close μ-do-matches λ t. do-matches-lts.spec (
-  kind-at-reads.Asked,
-  kind-at-reads.Learnt,
+  pass-tests-reads.Asked,
+  pass-tests-reads.Learnt,
   parent-of-reads.Asked,
   parent-of-reads.Learnt,
   do-matches-below t,
   do-matches.Post,
-  passes-reads.Asked,
-  passes-reads.Learnt,
+  kind-at-reads.Asked,
+  kind-at-reads.Learnt,
 )
     (do-matches-at t)
     do-matches.Post
+    -- pass-tests-requires
+    (λ c κs. search needs)
+    -- enum-known-n
+    (λ c. search needs)
+    -- enum-told
+    (λ c. search needs)
     -- returns
-    (λ c. search (needs, match-end))
+    (λ c. laws.failed _ _ _ _ _ _ _ (c .before .before .before .before .before .before .before .before .pre .1) _ (c .before .before .pass-tests .ensures) (c .enum-told .given .1))
+    -- returns-2
+    (λ c. laws.all-passed _ _ _ _ _ _ _ (c .before .before .before .before .before .before .before .before .before .before .pre .1) _ (c .before .before .before .before .pass-tests .ensures) (c .before .before .n .given .1) (c .if1 .taken))
+    -- returns-3
+    (λ c. laws.no-parent _ _ _ _ _ _ _ (c .before .before .before .before .before .before .before .before .before .before .before .pre .1) _ (c .before .before .before .before .before .pass-tests .ensures) (c .before .before .before .n .given .1) (c .before .if1 .left) (c .if2 .taken))
     -- sub-next
     (λ c. search needs)
-    -- kind-at-requires
-    (λ c κs. search needs)
-    -- returns-2
-    (λ c. search (needs, child-of-document))
     -- parent-of-requires
     (λ c κs. search needs)
     -- do-matches-requires
-    (λ c κs. (search (needs, falls-both, falls-above), search (needs, parent-rooted)))
-    -- returns-3
-    (λ c. search (needs, child-of-parent))
+    (λ c κs. (laws.falls-next _ _ _ _ _ _ _ (c .before .before .before .before .before .before .before .before .before .before .before .before .pre .1) _ (c .before .before .before .before .before .before .pass-tests .ensures) (c .before .before .before .before .n .given .1) (c .before .before .if1 .left) (c .before .if2 .left) _ (c .parent-of .ensures .0) _ (c .before .before .before .before .before .before .before .before .before .before .before .before .pre .0), search (needs, parent-rooted)))
     -- returns-4
-    (λ c. search (needs, descendant-of-document))
-    -- parent-of-requires-2
+    (λ c. laws.parent-matches _ _ _ _ _ _ _ (c .before .before .before .before .before .before .before .before .before .before .before .before .before .before .pre .1) _ (c .before .before .before .before .before .before .before .before .pass-tests .ensures) (c .before .before .before .before .before .before .n .given .1) (c .before .before .before .before .if1 .left) (c .before .before .before .if2 .left) _ (c .before .before .parent-of .ensures .0) _ (c .before .do-matches .ensures) (c .if3 .taken))
+    -- kind-at-requires
     (λ c κs. search needs)
-    -- do-matches-requires-2
-    (λ c κs. (search (needs, falls-both, falls-above), search (needs, parent-rooted)))
     -- returns-5
-    (λ c. search (needs, descendant-of-parent))
-    -- do-matches-requires-3
-    (λ c κs. (search (needs, falls-both, falls-above), search (needs, parent-rooted)))
+    (λ c. laws.parent-alone _ _ _ _ _ _ _ (c .before .before .before .before .before .before .before .before .before .before .before .before .before .before .before .before .pre .1) _ (c .before .before .before .before .before .before .before .before .before .before .pass-tests .ensures) (c .before .before .before .before .before .before .before .before .n .given .1) (c .before .before .before .before .before .before .if1 .left) (c .before .before .before .before .before .if2 .left) _ (c .before .before .before .before .parent-of .ensures .0) _ (c .before .before .before .do-matches .ensures) (c .before .before .if3 .left) _ (c .before .kind-at .ensures) (c .if4 .taken))
+    -- do-matches-requires-2
+    (λ c κs. (laws.falls-again _ _ _ _ _ _ _ (c .before .before .before .before .before .before .before .before .before .before .before .before .before .before .before .before .pre .1) _ (c .before .before .before .before .before .before .before .before .before .before .pass-tests .ensures) (c .before .before .before .before .before .before .before .before .n .given .1) (c .before .before .before .before .before .before .if1 .left) (c .before .before .before .before .before .if2 .left) _ (c .before .before .before .before .parent-of .ensures .0) _ (c .before .before .before .before .before .before .before .before .before .before .before .before .before .before .before .before .pre .0), search (needs, parent-rooted)))
     -- returns-6
-    (λ c. search (needs, descendant-of-ancestor))
-    -- passes-requires
-    (λ c κs. search (needs, match-simple))
-    -- do-matches-requires-4
-    (λ c κs. (search (needs, falls-here), search needs))
-    -- returns-7
-    (λ c. search (needs, match-passes))
-    -- returns-8
-    (λ c. search (needs, match-fails))
+    (λ c. laws.ancestors-asked _ _ _ _ _ _ _ (c .before .before .before .before .before .before .before .before .before .before .before .before .before .before .before .before .before .pre .1) _ (c .before .before .before .before .before .before .before .before .before .before .before .pass-tests .ensures) (c .before .before .before .before .before .before .before .before .before .n .given .1) (c .before .before .before .before .before .before .before .if1 .left) (c .before .before .before .before .before .before .if2 .left) _ (c .before .before .before .before .before .parent-of .ensures .0) _ (c .before .before .before .before .do-matches .ensures) (c .before .before .before .if3 .left) _ (c .before .before .kind-at .ensures) (c .before .if4 .left) _ (c .do-matches2 .ensures))
