@@ -54,13 +54,13 @@ pub fn ask_bytes(t: Tally, words: &[u8], bytes: &[u8], expected: Verdict) -> Tal
     tallied(t, false)
 }
 
-// Asks for the first `n` bytes, where they are not to be a sheet.
+// Asks for bytes that are not to be a sheet, whatever the place of the fault.
 fn ask_prefix(t: Tally, words: &[u8], bytes: &[u8]) -> Tally {
     let v = verdict_of(check_sheet(bytes));
     if v.sheet {
         print(b"DIFFERS, ");
         print(words);
-        print(b": came a sheet from the bytes before");
+        print(b": came a sheet of the first bytes, up to");
         print_number(bytes.len());
         print(b"\n");
         return tallied(t, false);
