@@ -1,0 +1,234 @@
+#!/usr/bin/env python3
+"""Holds the definitions `computedStyle` and `runOf` against html2text's computed styles (style_vectors), by computing them.
+
+    python3 tools/vectors/definitions.py FOLDER style|run [FIRST COUNT]
+    cd FOLDER && rt check held
+
+FOLDER, outside this repository, becomes one: the crates of this one, what target/ holds of them, and a crate `held`, where each vector is a case that `refl`
+has to prove. A case says that the sheets are read, that the page is accepted, and what the style of each element is; rows, state and store of a run have the
+least lengths and are full of 255. The vectors are taken in order of size, COUNT of them from the FIRST on; a run costs some ten times a style."""
+import pathlib
+import re
+import shutil
+import sys
+
+HERE = pathlib.Path(__file__).resolve().parent
+ROOT = HERE.parent.parent
+LIBRARIES = "combinators unicode lexer decimal syntax values declarations sheets cascade page matching compiled compiler styles runner".split()
+COMPUTED = 6
+SHEETS = 3
+NODE_WIDTH = 6
+ELEMENT_KIND = 1
+RECORDS = 3
+SLOTS = 5
+NUMBERS_BEFORE_VALUE = 6
+CONTENT_SLOT = 4
+CASES_A_FILE = 50
+
+# How a vector is asked, over the definitions.
+ASKED = """-- How a vector is asked.
+use Prim.Native.Nat.{ℕ}
+use mathlib.Core.Bool.{Bool, true, false}
+use mathlib.Core.List.{List, [], _++_, map}
+use lib.ListN.{replicate}
+use Rattle.combinators.specs.Choice.{and}
+use Rattle.syntax.specs.Selector.{RuleSet}
+use Rattle.sheets.specs.Outcome.{onOutcome}
+use Rattle.sheets.specs.Sheet.{sheetOf}
+use Rattle.sheets.specs.SheetAnswer.{textLeast}
+use Rattle.cascade.specs.declared.slots.Slot.{Slot}
+use Rattle.cascade.specs.Record.{ComputedStyle}
+use Rattle.cascade.specs.Row.{styleAt}
+use Rattle.page.specs.PathOf.{pathOf}
+use Rattle.page.specs.Accepted.{Refusal, noRefusal, pageRefusal}
+use Rattle.compiled.specs.Sheet.{encode}
+use Rattle.compiler.specs.Selectors.{selectorsOf}
+use Rattle.styles.specs.Numbered.{Rules}
+use Rattle.styles.specs.Computed.{computedStyle}
+use Rattle.styles.specs.StyleCall.{seenStyle}
+use Rattle.runner.specs.LeastLengths.{runTextBytes, stateLeast, rowsLeast}
+use Rattle.runner.specs.Run.{Page, Running, runOf, styleRowAt}
+
+pub record Answer : Type 0 where
+  pub read : Bool
+  pub page : Refusal
+  pub styles : List ComputedStyle
+
+unfoldable pub accepted : List ComputedStyle → Answer
+accepted l = record { read = true; page = noRefusal; styles = l }
+
+abbrev pub unfilled : Slot
+unfilled = record { filled = false; origin = 0; spec = record { inline = false; id = 0; class = 0; typ = 0 }; important = false; value = 0; second = 0 }
+
+abbrev pub filled : ℕ → Bool → ℕ → ℕ → ℕ → Bool → ℕ → ℕ → Slot
+filled o i id class type important value second =
+    record { filled = true; origin = o; spec = record { inline = i; id = id; class = class; typ = type }; important = important; value = value; second = second }
+
+unfoldable pub isRead : List ℕ → Bool
+isRead s = onOutcome (sheetOf s) (λ n rs. true) false (λ p. false)
+
+unfoldable pub rulesOf : List ℕ → List RuleSet
+rulesOf s = onOutcome (sheetOf s) (λ n rs. rs) [] (λ p. [])
+
+unfoldable pub answer : List ℕ → List ℕ → List ℕ → Page → List ComputedStyle → Answer
+answer agent user author g l =
+    record { read = and (isRead agent) (and (isRead user) (isRead author)); page = pageRefusal (g .nodes) (g .attributes) (g .text); styles = l }
+
+unfoldable pub style : List ℕ → List ℕ → List ℕ → Page → Bool → List ℕ → Answer
+style agent user author g on elements =
+    let rules : Rules RuleSet = record { agent = rulesOf agent; user = rulesOf user; author = rulesOf author } in
+    answer agent user author g (map (λ i. computedStyle rules on (pathOf (g .nodes) (g .attributes) (g .text) i)) elements)
+
+unfoldable pub seen : List ℕ → Running → List ℕ → List ComputedStyle
+seen code r elements = map (λ i. seenStyle (code ++ r .store) (styleAt (styleRowAt (r .rows) i))) elements
+
+unfoldable pub ran : List ℕ → Page → Bool → Running
+ran code g on =
+    runOf code on g (replicate (rowsLeast g) 255) (replicate (stateLeast code) 255) (replicate (textLeast (runTextBytes g)) 255)
+
+unfoldable pub seenInRun : List ℕ → Page → Bool → List ℕ → List ComputedStyle
+seenInRun code g on elements = seen code (ran code g on) elements
+
+unfoldable pub run : List ℕ → List ℕ → List ℕ → Page → Bool → List ℕ → Answer
+run agent user author g on elements =
+    answer agent user author g (seenInRun (encode (selectorsOf (rulesOf agent) (rulesOf user) (rulesOf author))) g on elements)
+"""
+
+
+class Reader:
+    """The format of README.md."""
+
+    def __init__(self, bytes):
+        self.bytes, self.at = bytes, 0
+
+    def number(self):
+        n, shift = 0, 0
+        while True:
+            byte = self.bytes[self.at]
+            self.at += 1
+            n += byte % 128 << shift
+            if byte < 128:
+                return n
+            shift += 7
+
+    def text(self):
+        length = self.number()
+        self.at += length
+        return self.bytes[self.at - length:self.at]
+
+    def list(self):
+        return [self.number() for _ in range(self.number())]
+
+    def record(self):
+        present, slots = self.number(), [None] * SLOTS
+        for _ in range(self.number()):
+            slot = self.number()
+            source = [self.number() for _ in range(NUMBERS_BEFORE_VALUE)]
+            slots[slot] = (source, self.text() if slot == CONTENT_SLOT else self.number())
+        return present, slots
+
+    def vector(self, index):
+        assert self.number() == COMPUTED
+        v = {"index": index, "sheets": [self.text() for _ in range(SHEETS)], "nodes": self.list(), "attributes": self.list(), "text": self.text(), "on": self.number()}
+        v["elements"] = [row for row, kind in enumerate(v["nodes"][::NODE_WIDTH]) if kind == ELEMENT_KIND]
+        v["styles"] = [[self.record() for _ in range(RECORDS)] for _ in v["elements"]]
+        return v
+
+
+def size(v):
+    return 4 * sum(map(len, v["sheets"])) + (len(v["text"]) + len(v["nodes"])) * (1 + len(v["elements"]))
+
+
+# ---- a vector in the notation of the definitions
+
+def items(texts):
+    return " ∷ ".join([*texts, "[]"])
+
+
+def numbers(l):
+    return f"({items(map(str, l))})"
+
+
+def flag(b):
+    return ["false", "true"][b]
+
+
+def slot_of(slot):
+    if slot is None:
+        return "asked.unfilled"
+    (origin, inline, ids, classes, types, important), value = slot
+    value, second = (int.from_bytes(value, "little"), len(value)) if isinstance(value, bytes) else (value, 0)
+    return f"asked.filled {origin} {flag(inline)} {ids} {classes} {types} {flag(important)} {value} {second}"
+
+
+def record_of(present, slots):
+    return f"record {{ present = {flag(present)}; slots = {items(map(slot_of, slots))} }}"
+
+
+def style_of(records):
+    main, before, after = (record_of(*r) for r in records)
+    return f"record {{ main = {main}; before = {before}; after = {after} }}"
+
+
+def case(v, question, unfolding):
+    sheets = " ".join(map(numbers, v["sheets"]))
+    page = f"(record {{ nodes = {numbers(v['nodes'])}; attributes = {numbers(v['attributes'])}; text = {numbers(v['text'])} }})"
+    name = f"vector-{v['index']}"
+    return (f"{name} : asked.{question} {sheets} {page} {flag(v['on'])} {numbers(v['elements'])}\n"
+            f"    ≡ asked.accepted ({items(map(style_of, v['styles']))})\nunfolding {unfolding}\n{name} = refl\n")
+
+
+# ---- the repository
+
+def unfoldable(definitions):
+    return re.findall(r"^ *unfoldable pub (\S+)", definitions, re.M)
+
+
+def opened():
+    """The `use` lines for the definitions of the libraries, and the names of all that can be unfolded."""
+    uses, names = ["use Rattle.held.specs.Asked as asked"], [f"asked.{f}" for f in unfoldable(ASKED)]
+    for library in LIBRARIES:
+        for file in sorted((ROOT / "crates" / library / "specs").glob("*.antt")):
+            name, found = f"{library}-{file.stem.lower()}", unfoldable(file.read_text())
+            if found:
+                uses.append(f"use Rattle.{library}.specs.{file.stem} as {name}")
+                names += [f"{name}.{f}" for f in found]
+    return "\n".join(uses), " ".join(names)
+
+
+def chosen(first, count):
+    file = Reader((HERE / "style_vectors").read_bytes())
+    vectors = sorted((file.vector(i) for i in range(file.number())), key=size)
+    assert file.at == len(file.bytes)
+    return vectors[first:first + count]
+
+
+def main(folder, question, first=0, count=sys.maxsize):
+    folder = pathlib.Path(folder).resolve()
+    if ROOT in [folder, *folder.parents] or (folder / "crates").exists() and not (folder / "crates" / "held").exists():
+        sys.exit(f"{folder} is a repository already")
+    shutil.rmtree(folder / "crates", ignore_errors=True)
+    shutil.copytree(ROOT / "crates", folder / "crates")
+    if (ROOT / "target").exists() and not (folder / "target").exists():
+        shutil.copytree(ROOT / "target", folder / "target")
+    (folder / "crates.txt").write_text((ROOT / "crates.txt").read_text() + f"held: {' '.join(LIBRARIES)}\n")
+    held = folder / "crates" / "held"
+    for part in ["src", "specs", "proofs"]:
+        (held / part).mkdir(parents=True)
+    (held / "src" / "lib.rt").write_text("// Definitions held against html2text's answers.\n")
+    (held / "proofs" / "Lib.antt").write_text("")
+    (held / "specs" / "Asked.antt").write_text(ASKED)
+
+    vectors = chosen(int(first), int(count))
+    uses, unfolding = opened()
+    modules = ["Asked"]
+    for at in range(0, len(vectors), CASES_A_FILE):
+        modules.append(f"Held{at}")
+        cases = [case(v, question, unfolding) for v in vectors[at:at + CASES_A_FILE]]
+        head = "use mathlib.Core.Bool.{true, false}\nuse mathlib.Core.List.{[], _∷_}\nuse mathlib.Core.Path.{_≡_, refl}"
+        (held / "specs" / f"Held{at}.antt").write_text(f"-- Vectors.\n{head}\n{uses}\n\n" + "\n".join(cases))
+    (held / "specs" / "Lib.antt").write_text("".join(f"pub mod {m}\n" for m in modules))
+    print(f"{len(vectors)} vectors, {sum(len(v['elements']) for v in vectors)} elements")
+
+
+main(*sys.argv[1:])
