@@ -8,7 +8,8 @@ use lib.ListN.{length, drop}
 use lib.Seq.{sets}
 use Rattle.combinators.specs.Choice.{pick, is}
 use Rattle.syntax.specs.Declaration.{Colour, Overflow, visible, hidden, scroll, auto, WhiteSpace, normal, pre, preWrap, Decl, color, backgroundColor, height, maxHeight, overflow, overflowY, display, whiteSpace, content, unknown, Declaration}
-use Rattle.syntax.specs.Layout.{flag, flagOf, overflowNumber, overflowOf, whiteSpaceNumber, whiteSpaceOf, colourNumber, colourOf, declText, declarationText, declRow, declarationRow, declOf, readDeclaration, declarationRows, declarationTexts, declarationsAt, styleTextOf, styleText, styleRowOf, styleRow, styleOf, readStyle, styleRows, styleTexts, stylesAt}
+use Rattle.syntax.specs.Layout.{flag, flagOf, overflowNumber, overflowOf, whiteSpaceNumber, whiteSpaceOf, colourNumber, colourOf, declText, declarationText, declRow, declarationRow, declOf, readDeclaration, declarationRows, declarationTexts, declarationsAt, styleWidth, styleTextOf, styleText, styleSlotOf, valueFrom, numbersFrom, valueNumbers, rowOfNumbers, styleRow, numbersAt, styleOf, styleIn, readStyle, styleRows, styleTexts, stylesAt}
+use Rattle.syntax.specs.declared.styles.StyleNumbers.{StyleNumbers}
 use Rattle.syntax.specs.Stream.{Read, readMany, textsMany}
 use Rattle.syntax.specs.Style as style
 use Rattle.syntax.specs.Style.{Style, StyleDecl}
@@ -73,6 +74,16 @@ DeclarationsFit ds = All (λ d. DeclFits (d .decl)) ds
 abbrev pub StylesFit : List StyleDecl → Type 0
 StylesFit ds = All (λ d. StyleFits (d .style)) ds
 
+-- the row of a style in numbers is read back
+pub row-numbers-back : (x : StyleNumbers) (t : List ℕ) → numbersAt (rowOfNumbers x ++ t) ≡ x
+unfolding numbersAt rowOfNumbers valueNumbers
+row-numbers-back x t = rw (flag-back (x .important))
+
+-- and what stands behind it is left
+pub row-numbers-rest : (x : StyleNumbers) (t : List ℕ) → drop styleWidth (rowOfNumbers x ++ t) ≡ t
+unfolding rowOfNumbers valueNumbers
+row-numbers-rest x t = refl
+
 module _ (store : List ℕ) where
   -- ---- one declaration
   decl-back : (i s f : ℕ) (d : Decl) (t : List ℕ) → DeclFits d → Held store f (declText d)
@@ -108,18 +119,22 @@ module _ (store : List ℕ) where
   declarations-back ds f t u h = ap (λ (r : Read (List Declaration)). r .value) (declarations-read ds f t u h)
 
   -- ---- one style
-  style-of-back : (i f : ℕ) (d : Style) (t : List ℕ) → StyleFits d → Held store f (styleTextOf d)
-      → readStyle store (styleRowOf i f d ++ t) ≡ record { value = record { style = d; important = flagOf i }; rest = t }
-  unfolding readStyle styleRowOf styleTextOf styleOf StyleFits pick is
-  style-of-back i f (style.colour c) t b h = rw (colour-back c b)
-  style-of-back i f (style.background c) t b h = rw (colour-back c b)
-  style-of-back i f style.displayNone t u h = refl
-  style-of-back i f (style.whiteSpace w) t u h = rw (white-space-back w)
-  style-of-back i f (style.content b) t u h = rw (held-part store f b h)
+  style-of-back : (f : ℕ) (d : Style) → StyleFits d → Held store f (styleTextOf d) → styleOf store (styleSlotOf d) (valueFrom f d) ≡ d
+  unfolding styleOf styleSlotOf valueFrom styleTextOf StyleFits pick is
+  style-of-back f (style.colour c) b h = rw (colour-back c b)
+  style-of-back f (style.background c) b h = rw (colour-back c b)
+  style-of-back f style.displayNone u h = refl
+  style-of-back f (style.whiteSpace w) u h = rw (white-space-back w)
+  style-of-back f (style.content b) u h = rw (held-part store f b h)
+
+  -- a style in numbers says the style, where its text lies in the store
+  pub numbers-say : (f : ℕ) (d : StyleDecl) → StyleFits (d .style) → Held store f (styleText d) → styleIn store (numbersFrom f d) ≡ d
+  unfolding styleIn numbersFrom styleText
+  numbers-say f d u h = rw (style-of-back f (d .style) u h)
 
   style-back : (f : ℕ) (d : StyleDecl) (t : List ℕ) → StyleFits (d .style) → Held store f (styleText d) → readStyle store (styleRow f d ++ t) ≡ record { value = d; rest = t }
-  unfolding styleRow styleText
-  style-back f d t u h = rw (style-of-back (flag (d .important)) f (d .style) t u h, flag-back (d .important))
+  unfolding readStyle styleRow
+  style-back f d t u h = rw (row-numbers-back (numbersFrom f d) t, row-numbers-rest (numbersFrom f d) t, numbers-say f d u h)
 
   pub styles-back : (ds : List StyleDecl) (f : ℕ) (t : List ℕ) → StylesFit ds → Held store f (styleTexts ds) → stylesAt (styleRows f ds ++ t) store (length ds) ≡ ds
   unfolding stylesAt styleRows styleTexts

@@ -6,7 +6,8 @@ use native.Mathlib.Nat.{mul-zero, mul-suc}
 use native.Mathlib.Omega.{arith}
 use lib.ListN.{length, length-append, length-reverse}
 use Rattle.syntax.specs.Declaration.{Decl, color, backgroundColor, height, maxHeight, overflow, overflowY, display, whiteSpace, content, unknown, Declaration}
-use Rattle.syntax.specs.Layout.{declarationWidth, declRow, declarationRow, declarationText, declarationRows, styleWidth, styleText, styleRowOf, styleRow, styleRows}
+use Rattle.syntax.specs.Layout.{declarationWidth, declRow, declarationRow, declarationText, declarationRows, styleWidth, styleText, numbersFrom, valueNumbers, rowOfNumbers, styleRow, styleRows}
+use Rattle.syntax.specs.declared.styles.StyleNumbers.{StyleNumbers}
 use Rattle.syntax.specs.RuleLayout.{componentWidth, componentRow, componentText, componentRows, selectorRow, selectorText, selectorRows, selectorTexts, ruleRow, ruleText, ruleRows}
 use Rattle.syntax.specs.RuleSize.{sizes, selectorSize, ruleSize}
 use Rattle.syntax.specs.Selector.{Component, Selector, RuleSet}
@@ -55,18 +56,14 @@ unfolding declarationRows
 length-declarations f ds = length-wide declarationRow declarationText declarationWidth length-declaration ds f
 
 -- ---- styles
-length-style : (i f : ℕ) (d : Style) → length (styleRowOf i f d) ≡ styleWidth
-unfolding styleRowOf
-length-style i f (style.colour c) = refl
-length-style i f (style.background c) = refl
-length-style i f style.displayNone = refl
-length-style i f (style.whiteSpace w) = refl
-length-style i f (style.content t) = refl
+length-style : (x : StyleNumbers) → length (rowOfNumbers x) ≡ styleWidth
+unfolding rowOfNumbers valueNumbers
+length-style x = refl
 
 -- the rows of styles
 pub length-styles : (f : ℕ) (ds : List StyleDecl) → length (styleRows f ds) ≡ styleWidth * length ds
 unfolding styleRows styleRow
-length-styles f ds = length-wide styleRow styleText styleWidth (λ f d. length-style _ f (d .style)) ds f
+length-styles f ds = length-wide styleRow styleText styleWidth (λ f d. length-style (numbersFrom f d)) ds f
 
 -- ---- components
 pub length-component : (f : ℕ) (c : Component) → length (componentRow f c) ≡ componentWidth

@@ -9,6 +9,8 @@ use Rattle.syntax.specs.Declaration.{Colour, Overflow, visible, hidden, 
 use Rattle.syntax.specs.Stream.{Read, readMany, textsMany, rowsMany, part}
 use Rattle.syntax.specs.Style as style
 use Rattle.syntax.specs.Style.{Style, StyleDecl}
+use Rattle.syntax.specs.declared.styles.Value.{Value}
+use Rattle.syntax.specs.declared.styles.StyleNumbers.{StyleNumbers}
 
 -- ---- numbers for what a declaration can be. No declaration has 0, so that a cleared row is told from a written one.
 abbrev pub colorKind : ℕ
@@ -161,7 +163,7 @@ declarationTexts ds = textsMany declarationText ds
 unfoldable pub declarationsAt : List ℕ → List ℕ → ℕ → List Declaration
 declarationsAt rows store n = readMany (readDeclaration store) n rows .value
 
--- ---- styles: slot, important, two numbers. The slots are those of the compiled sheet.
+-- ---- styles: slot, important, and the numbers of its value. The slots are those of the compiled sheet.
 abbrev pub colourSlot : ℕ
 colourSlot = 0
 
@@ -186,8 +188,8 @@ styleSlot = 0
 abbrev pub styleImportant : ℕ
 styleImportant = 1
 
-abbrev pub styleValue : ℕ
-styleValue = 2
+abbrev pub styleNumber : ℕ
+styleNumber = 2
 
 abbrev pub styleSecond : ℕ
 styleSecond = 3
@@ -202,30 +204,60 @@ styleTextOf (style.content t) = t
 unfoldable pub styleText : StyleDecl → List ℕ
 styleText d = styleTextOf (d .style)
 
-unfoldable pub styleRowOf : ℕ → ℕ → Style → List ℕ
-styleRowOf i f (style.colour c) = colourSlot ∷ i ∷ colourNumber c ∷ 0 ∷ []
-styleRowOf i f (style.background c) = backgroundSlot ∷ i ∷ colourNumber c ∷ 0 ∷ []
-styleRowOf i f style.displayNone = displaySlot ∷ i ∷ 0 ∷ 0 ∷ []
-styleRowOf i f (style.whiteSpace w) = whiteSpaceSlot ∷ i ∷ whiteSpaceNumber w ∷ 0 ∷ []
-styleRowOf i f (style.content t) = contentSlot ∷ i ∷ f ∷ length t ∷ []
+-- the slot of a style, and what it gives the slot: a number, or a text that starts at f
+unfoldable pub styleSlotOf : Style → ℕ
+styleSlotOf (style.colour c) = colourSlot
+styleSlotOf (style.background c) = backgroundSlot
+styleSlotOf style.displayNone = displaySlot
+styleSlotOf (style.whiteSpace w) = whiteSpaceSlot
+styleSlotOf (style.content t) = contentSlot
+
+unfoldable pub valueFrom : ℕ → Style → Value
+valueFrom f (style.colour c) = record { number = colourNumber c; second = 0 }
+valueFrom f (style.background c) = record { number = colourNumber c; second = 0 }
+valueFrom f style.displayNone = record { number = 0; second = 0 }
+valueFrom f (style.whiteSpace w) = record { number = whiteSpaceNumber w; second = 0 }
+valueFrom f (style.content t) = record { number = f; second = length t }
+
+-- the style in numbers
+unfoldable pub numbersFrom : ℕ → StyleDecl → StyleNumbers
+numbersFrom f d = record { slot = styleSlotOf (d .style); important = d .important; value = valueFrom f (d .style) }
+
+-- the numbers of a value, in a style's row and in a slot
+unfoldable pub valueNumbers : Value → List ℕ
+valueNumbers v = v .number ∷ v .second ∷ []
+
+-- a style's row
+unfoldable pub rowOfNumbers : StyleNumbers → List ℕ
+rowOfNumbers x = x .slot ∷ flag (x .important) ∷ valueNumbers (x .value)
 
 unfoldable pub styleRow : ℕ → StyleDecl → List ℕ
-styleRow f d = styleRowOf (flag (d .important)) f (d .style)
+styleRow f d = rowOfNumbers (numbersFrom f d)
 
-unfoldable pub styleOf : List ℕ → ℕ → ℕ → ℕ → Style
-styleOf store k a b =
-    pick (is k colourSlot) (style.colour (colourOf a))
-    (pick (is k backgroundSlot) (style.background (colourOf a))
+-- the style in numbers that the row at the start of a stream has
+unfoldable pub numbersAt : List ℕ → StyleNumbers
+numbersAt t =
+    record {
+      slot = getD t styleSlot 0;
+      important = flagOf (getD t styleImportant 0);
+      value = record { number = getD t styleNumber 0; second = getD t styleSecond 0 };
+    }
+
+-- the style of a slot and a value, whose text is a part of the store
+unfoldable pub styleOf : List ℕ → ℕ → Value → Style
+styleOf store k v =
+    pick (is k colourSlot) (style.colour (colourOf (v .number)))
+    (pick (is k backgroundSlot) (style.background (colourOf (v .number)))
     (pick (is k displaySlot) style.displayNone
-    (pick (is k whiteSpaceSlot) (style.whiteSpace (whiteSpaceOf a))
-    (style.content (part store a b)))))
+    (pick (is k whiteSpaceSlot) (style.whiteSpace (whiteSpaceOf (v .number)))
+    (style.content (part store (v .number) (v .second))))))
+
+-- the style that numbers say
+unfoldable pub styleIn : List ℕ → StyleNumbers → StyleDecl
+styleIn store x = record { style = styleOf store (x .slot) (x .value); important = x .important }
 
 unfoldable pub readStyle : List ℕ → List ℕ → Read StyleDecl
-readStyle store t =
-    record {
-      value = record { style = styleOf store (getD t styleSlot 0) (getD t styleValue 0) (getD t styleSecond 0); important = flagOf (getD t styleImportant 0) };
-      rest = drop styleWidth t;
-    }
+readStyle store t = record { value = styleIn store (numbersAt t); rest = drop styleWidth t }
 
 unfoldable pub styleRows : ℕ → List StyleDecl → List ℕ
 styleRows f ds = rowsMany styleRow styleText f ds
