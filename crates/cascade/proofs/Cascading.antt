@@ -10,313 +10,302 @@ use lib.ListN.{length, getD, length-set, length-map, List·getD-map}
 use lib.Seq.{getD-set-same, getD-set-other}
 use Rattle.combinators.specs.Choice.{pick, and, is}
 use Rattle.combinators.proofs.Rules.{pick-true, pick-false, and-both, and-left, and-right, is-yes, is-no, is-true, is-false}
-use Rattle.cascade.specs.declared.slots.Slot.{Slot}
-use Rattle.cascade.specs.Slot.{Candidate, emptySlot, Decided, unset, decided, maybeUpdate, bookUpdate, inheritedCandidate, inheritedSlot}
-use Rattle.cascade.specs.Record.{slotCount, recordCount, mainRecord, beforeRecord, afterRecord, Record, ComputedStyle, Formed, recordIn, slotOf, slotIn, updateRecord, updateStyle, Declared, isNamed, mergeBy, mergeComputedStyle, mergeInBookOrder, inherit, inheritRecord, inheritInBookOrder, Sources, crateCascade, crateDeclared, bookCascade, bookDeclared, colourAttributes, styleAttributes, candidatesFor, inheritedCandidates}
+use Rattle.cascade.specs.declared.slots.Cascade.{Cascade}
+use Rattle.cascade.specs.declared.slots.Cascade.the-variants.{Crate, Book}
+use Rattle.cascade.specs.Slot.{Candidate, Slot, empty, held, Decided, unset, decided, maybeUpdate, bookUpdate, updateBy, inheritedCandidate, inheritedSlot}
+use Rattle.cascade.specs.Record.{slotCount, recordCount, mainRecord, beforeRecord, afterRecord, Record, ComputedStyle, Formed, recordIn, slotOf, slotIn, updateRecord, updateStyle, Declared, isNamed, mergeBy, inherit, inheritRecord, inheritInBookOrder, inheritBy, Sources, crateDeclared, bookDeclared, declaredBy, cascadeBy, colourAttributes, styleAttributes, candidatesFor, inheritedCandidates}
 use Rattle.cascade.proofs.RowLaws.{Which, isMain, isBefore, isAfter, which, update-main, update-before, update-after}
 use Rattle.cascade.proofs.Merging.{named, named-says}
 use Rattle.cascade.proofs.Winners.{won, won-inherited}
-
--- ---- nothing of no declarations
-pub no-declarations : (u : Slot → Candidate → Slot) (s : ComputedStyle) → foldl (mergeBy u) s [] ≡ s
-no-declarations u s = refl
-
-abbrev pub noSources : Sources
-noSources = record { agent = []; user = []; author = []; attributes = [] }
-
--- where nothing is said, a child has what it inherits
-pub crate-nothing-said : (s : ComputedStyle) → crateCascade s noSources ≡ inherit s
-unfolding crateCascade crateDeclared
-crate-nothing-said s = refl
-
--- the same in the book order
-pub book-nothing-said : (s : ComputedStyle) → bookCascade s noSources ≡ inheritInBookOrder s
-unfolding bookCascade bookDeclared colourAttributes styleAttributes
-book-nothing-said s = refl
-
--- ---- records by their numbers
-module _ (s : ComputedStyle) (r : ℕ) where
-  in-main : r ≡ mainRecord → recordIn s r ≡ s .main
-  unfolding recordIn
-  in-main e = sym (pick-true _ _ _ _ (is-yes r mainRecord e) refl)
-
-  in-before : r ≡ beforeRecord → recordIn s r ≡ s .before
-  unfolding recordIn
-  in-before e = sym (pick-false _ _ _ _ (is-no r mainRecord (λ z. omega arith)) (pick-true _ _ _ _ (is-yes r beforeRecord e) refl))
-
-  in-after : r ≡ afterRecord → recordIn s r ≡ s .after
-  unfolding recordIn
-  in-after e = sym (pick-false _ _ _ _ (is-no r mainRecord (λ z. omega arith)) (pick-false _ _ _ _ (is-no r beforeRecord (λ z. omega arith)) refl))
-
--- the updated record, and the others
-module _ (k : ℕ) (u : Slot → Slot) (s : ComputedStyle) where
-  own-record : (r : ℕ) → Which r → recordIn (updateStyle r k u s) r ≡ updateRecord k u (recordIn s r)
-  own-record r (isMain e) = in-main (updateStyle r k u s) r e ∙ ap (λ (t : ComputedStyle). t .main) (update-main r k u s e) ∙ ap (updateRecord k u) (sym (in-main s r e))
-  own-record r (isBefore e) = in-before (updateStyle r k u s) r e ∙ ap (λ (t : ComputedStyle). t .before) (update-before r k u s e) ∙ ap (updateRecord k u) (sym (in-before s r e))
-  own-record r (isAfter e) = in-after (updateStyle r k u s) r e ∙ ap (λ (t : ComputedStyle). t .after) (update-after r k u s e) ∙ ap (updateRecord k u) (sym (in-after s r e))
-
-  other-record : (q r : ℕ) → Which q → Which r → ¬ (q ≡ r) → recordIn (updateStyle q k u s) r ≡ recordIn s r
-  other-record q r (isMain e) (isMain f) n = absurd (n (e ∙ sym f))
-  other-record q r (isMain e) (isBefore f) n = in-before (updateStyle q k u s) r f ∙ ap (λ (t : ComputedStyle). t .before) (update-main q k u s e) ∙ sym (in-before s r f)
-  other-record q r (isMain e) (isAfter f) n = in-after (updateStyle q k u s) r f ∙ ap (λ (t : ComputedStyle). t .after) (update-main q k u s e) ∙ sym (in-after s r f)
-  other-record q r (isBefore e) (isMain f) n = in-main (updateStyle q k u s) r f ∙ ap (λ (t : ComputedStyle). t .main) (update-before q k u s e) ∙ sym (in-main s r f)
-  other-record q r (isBefore e) (isBefore f) n = absurd (n (e ∙ sym f))
-  other-record q r (isBefore e) (isAfter f) n = in-after (updateStyle q k u s) r f ∙ ap (λ (t : ComputedStyle). t .after) (update-before q k u s e) ∙ sym (in-after s r f)
-  other-record q r (isAfter e) (isMain f) n = in-main (updateStyle q k u s) r f ∙ ap (λ (t : ComputedStyle). t .main) (update-after q k u s e) ∙ sym (in-main s r f)
-  other-record q r (isAfter e) (isBefore f) n = in-before (updateStyle q k u s) r f ∙ ap (λ (t : ComputedStyle). t .before) (update-after q k u s e) ∙ sym (in-before s r f)
-  other-record q r (isAfter e) (isAfter f) n = absurd (n (e ∙ sym f))
-
--- the updated slot, and the others of its record
-module _ (k : ℕ) (u : Slot → Slot) (p : Record) where
-  own-slot : k < length (p .slots) → slotOf (updateRecord k u p) k ≡ u (slotOf p k)
-  unfolding slotOf updateRecord
-  own-slot h = getD-set-same (p .slots) k (u (getD (p .slots) k emptySlot)) emptySlot h
-
-  other-slot : (j : ℕ) → ¬ (j ≡ k) → slotOf (updateRecord k u p) j ≡ slotOf p j
-  unfolding slotOf updateRecord
-  other-slot j n = getD-set-other (p .slots) k j (u (getD (p .slots) k emptySlot)) emptySlot n
-
-  record-long : length (updateRecord k u p .slots) ≡ length (p .slots)
-  unfolding updateRecord slotOf
-  record-long = length-set (p .slots) k (u (getD (p .slots) k emptySlot))
-
-  now-present : updateRecord k u p .present ≡ true
-  unfolding updateRecord
-  now-present = refl
 
 either-way : (t : Bool) → (t ≡ true) ⊎ (t ≡ false)
 either-way true = inl refl
 either-way false = inr refl
 
--- ---- one declaration, by any update of slots
-module _ (u : Slot → Candidate → Slot) (s : ComputedStyle) (d : Declared) where
-  abbrev v : Slot → Slot
-  v x = u x (d .candidate)
-
-  merge-named : isNamed (d .pseudo) (d .slot) ≡ true → mergeBy u s d ≡ updateStyle (d .pseudo) (d .slot) v s
-  unfolding mergeBy
-  merge-named e = sym (pick-true _ _ _ _ e refl)
-
-  merge-unnamed : isNamed (d .pseudo) (d .slot) ≡ false → mergeBy u s d ≡ s
-  unfolding mergeBy
-  merge-unnamed e = sym (pick-false _ _ _ _ e refl)
-
-  module _ (r : ℕ) (h : r < recordCount) where
-    -- what holds of a record, and of it with any slot updated, holds of it after the merge
-    record-keeps : (P : Record → Type 0) → P (recordIn s r) → (P (updateRecord (d .slot) v (recordIn s r))) → P (recordIn (mergeBy u s d) r)
-    record-keeps P p q = ⊎-elim when-named (λ (e : isNamed (d .pseudo) (d .slot) ≡ false). rw (merge-unnamed e) p) (either-way (isNamed (d .pseudo) (d .slot)))
-      where
-        when-here : d .pseudo ≡ r → P (recordIn (updateStyle (d .pseudo) (d .slot) v s) r)
-        when-here f = rw f (rw (own-record (d .slot) v s r (which r h)) q)
-
-        when-named : isNamed (d .pseudo) (d .slot) ≡ true → P (recordIn (mergeBy u s d) r)
-        when-named e =
-            rw (merge-named e)
-            (⊎-elim (λ (f : is (d .pseudo) r ≡ true). when-here (is-true (d .pseudo) r f))
-            (λ (f : is (d .pseudo) r ≡ false). rw (other-record (d .slot) v s (d .pseudo) r (which (d .pseudo) (named-says (d .pseudo) (d .slot) e .0)) (which r h) (is-false (d .pseudo) r f)) p)
-            (either-way (is (d .pseudo) r)))
-
-    -- a record once present stays present
-    pub stays-present : recordIn s r .present ≡ true → recordIn (mergeBy u s d) r .present ≡ true
-    stays-present e = record-keeps (λ (p : Record). p .present ≡ true) e (now-present (d .slot) v (recordIn s r))
-
-    -- and keeps all its slots
-    pub stays-formed : length (recordIn s r .slots) ≡ slotCount → length (recordIn (mergeBy u s d) r .slots) ≡ slotCount
-    stays-formed e = record-keeps (λ (p : Record). length (p .slots) ≡ slotCount) e (record-long (d .slot) v (recordIn s r) ∙ e)
-
-    module _ (k : ℕ) where
-      -- what does not name a slot leaves it alone
-      pub leaves-alone : ¬ ((d .pseudo ≡ r) × (d .slot ≡ k)) → slotIn (mergeBy u s d) r k ≡ slotIn s r k
-      unfolding slotIn
-      leaves-alone n = ⊎-elim when-named (λ (e : isNamed (d .pseudo) (d .slot) ≡ false). rw (merge-unnamed e)) (either-way (isNamed (d .pseudo) (d .slot)))
-        where
-          when-here : d .pseudo ≡ r → slotOf (recordIn (updateStyle (d .pseudo) (d .slot) v s) r) k ≡ slotOf (recordIn s r) k
-          when-here f = rw f (rw (own-record (d .slot) v s r (which r h)) (other-slot (d .slot) v (recordIn s r) k (λ g. n (f, sym g))))
-
-          when-named : isNamed (d .pseudo) (d .slot) ≡ true → slotOf (recordIn (mergeBy u s d) r) k ≡ slotOf (recordIn s r) k
-          when-named e =
-              rw (merge-named e)
-              (⊎-elim (λ (f : is (d .pseudo) r ≡ true). when-here (is-true (d .pseudo) r f))
-              (λ (f : is (d .pseudo) r ≡ false). rw (other-record (d .slot) v s (d .pseudo) r (which (d .pseudo) (named-says (d .pseudo) (d .slot) e .0)) (which r h) (is-false (d .pseudo) r f)))
-              (either-way (is (d .pseudo) r)))
-
-      -- what names it updates it
-      pub updates : k < slotCount → length (recordIn s r .slots) ≡ slotCount → d .pseudo ≡ r → d .slot ≡ k → slotIn (mergeBy u s d) r k ≡ u (slotIn s r k) (d .candidate)
-      unfolding slotIn
-      updates l f e g =
-          ap (λ (t : ComputedStyle). slotOf (recordIn t r) k) (merge-named (rw (e, g) (named r k h l)))
-          ∙ rw (e, g) (rw (own-record k v s r (which r h)) (own-slot k v (recordIn s r) (omega (arith, f))))
-
--- ---- many declarations
 fold-append : {A B : Type 0} (f : B → A → B) (b : B) (xs ys : List A) → foldl f b (xs ++ ys) ≡ foldl f (foldl f b xs) ys
 fold-append f b [] ys = refl
 fold-append f b (x ∷ xs) ys = fold-append f (f b x) xs ys
 
--- a style whose record r has all its slots
-abbrev Whole : ComputedStyle → ℕ → Type 0
-Whole s r = length (recordIn s r .slots) ≡ slotCount
+module _ {A : Type 0} where
+  -- ---- nothing of no declarations
+  pub no-declarations : (u : Slot A → Candidate A → Slot A) (s : ComputedStyle A) → foldl (mergeBy u) s [] ≡ s
+  no-declarations u s = refl
 
-module _ (u : Slot → Candidate → Slot) (r : ℕ) (h : r < recordCount) where
-  -- a record once present stays present
-  pub stay-present : (ds : List Declared) (s : ComputedStyle) → recordIn s r .present ≡ true → recordIn (foldl (mergeBy u) s ds) r .present ≡ true
-  stay-present [] s e = e
-  stay-present (d ∷ ds) s e = stay-present ds (mergeBy u s d) (stays-present u s d r h e)
+  abbrev pub noSources : Sources A
+  noSources = record { agent = []; user = []; author = []; attributes = [] }
 
-  module _ (k : ℕ) (l : k < slotCount) where
-    one-candidate : (d : Declared) (s : ComputedStyle) → Whole s r
-        → slotIn (mergeBy u s d) r k ≡ foldl u (slotIn s r k) (pick (and (is (d .pseudo) r) (is (d .slot) k)) (d .candidate ∷ []) [])
-    one-candidate d s f = go (is (d .pseudo) r) (is (d .slot) k) refl refl
-      where
-        go : (a b : Bool) → is (d .pseudo) r ≡ a → is (d .slot) k ≡ b
-            → slotIn (mergeBy u s d) r k ≡ foldl u (slotIn s r k) (pick (and (is (d .pseudo) r) (is (d .slot) k)) (d .candidate ∷ []) [])
-        go true true e g =
-            updates u s d r h k l f (is-true (d .pseudo) r e) (is-true (d .slot) k g)
-            ∙ ap (foldl u (slotIn s r k)) (pick-true (d .candidate ∷ []) _ _ _ (and-both _ _ e g) refl)
-        go true false e g =
-            leaves-alone u s d r h k (λ n. is-false (d .slot) k g (n .1)) ∙ ap (foldl u (slotIn s r k)) (pick-false [] _ _ _ (and-right _ _ g) refl)
-        go false b e g =
-            leaves-alone u s d r h k (λ n. is-false (d .pseudo) r e (n .0)) ∙ ap (foldl u (slotIn s r k)) (pick-false [] _ _ _ (and-left _ _ e) refl)
+  -- where nothing is said, a child has what it inherits
+  pub nothing-said : (c : Cascade) (s : ComputedStyle A) → cascadeBy c s noSources ≡ inheritBy c s
+  unfolding cascadeBy declaredBy crateDeclared bookDeclared colourAttributes styleAttributes
+  nothing-said Crate s = refl
+  nothing-said Book s = refl
 
-    -- a slot is what its own candidates make of it
-    pub slot-folds : (ds : List Declared) (s : ComputedStyle) → Whole s r → slotIn (foldl (mergeBy u) s ds) r k ≡ foldl u (slotIn s r k) (candidatesFor r k ds)
-    unfolding candidatesFor
-    slot-folds [] s f = refl
-    slot-folds (d ∷ ds) s f =
-        slot-folds ds (mergeBy u s d) (stays-formed u s d r h f)
-        ∙ ap (λ (t : Slot). foldl u t (candidatesFor r k ds)) (one-candidate d s f)
-        ∙ sym (fold-append u (slotIn s r k) (pick (and (is (d .pseudo) r) (is (d .slot) k)) (d .candidate ∷ []) []) (candidatesFor r k ds))
+  -- ---- records by their numbers
+  module _ (s : ComputedStyle A) (r : ℕ) where
+    in-main : r ≡ mainRecord → recordIn s r ≡ s .main
+    unfolding recordIn
+    in-main e = sym (pick-true _ _ _ _ (is-yes r mainRecord e) refl)
 
-    -- one that none of them names is left alone
-    pub unnamed-slot : (ds : List Declared) (s : ComputedStyle) → Whole s r → candidatesFor r k ds ≡ [] → slotIn (foldl (mergeBy u) s ds) r k ≡ slotIn s r k
-    unnamed-slot ds s f e = slot-folds ds s f ∙ ap (foldl u (slotIn s r k)) e
+    in-before : r ≡ beforeRecord → recordIn s r ≡ s .before
+    unfolding recordIn
+    in-before e = sym (pick-false _ _ _ _ (is-no r mainRecord (λ z. omega arith)) (pick-true _ _ _ _ (is-yes r beforeRecord e) refl))
 
--- ---- what a child begins with
-formed-record : (s : ComputedStyle) (r : ℕ) → Formed s → r < recordCount → Whole s r
-formed-record s r f h = go (which r h)
-  where
-    go : Which r → Whole s r
-    go (isMain e) = ap (λ (p : Record). length (p .slots)) (in-main s r e) ∙ f .main
-    go (isBefore e) = ap (λ (p : Record). length (p .slots)) (in-before s r e) ∙ f .before
-    go (isAfter e) = ap (λ (p : Record). length (p .slots)) (in-after s r e) ∙ f .after
+    in-after : r ≡ afterRecord → recordIn s r ≡ s .after
+    unfolding recordIn
+    in-after e = sym (pick-false _ _ _ _ (is-no r mainRecord (λ z. omega arith)) (pick-false _ _ _ _ (is-no r beforeRecord (λ z. omega arith)) refl))
 
--- in both orders records stay whole
-pub inherit-formed : (s : ComputedStyle) → Formed s → Formed (inherit s)
-unfolding inherit
-inherit-formed s f = record { main = f .main; before = f .before; after = f .after }
+  -- the updated record, and the others
+  module _ (k : ℕ) (u : Slot A → Slot A) (s : ComputedStyle A) where
+    own-record : (r : ℕ) → Which r → recordIn (updateStyle r k u s) r ≡ updateRecord k u (recordIn s r)
+    own-record r (isMain e) = in-main (updateStyle r k u s) r e ∙ ap (λ (t : ComputedStyle A). t .main) (update-main r k u s e) ∙ ap (updateRecord k u) (sym (in-main s r e))
+    own-record r (isBefore e) = in-before (updateStyle r k u s) r e ∙ ap (λ (t : ComputedStyle A). t .before) (update-before r k u s e) ∙ ap (updateRecord k u) (sym (in-before s r e))
+    own-record r (isAfter e) = in-after (updateStyle r k u s) r e ∙ ap (λ (t : ComputedStyle A). t .after) (update-after r k u s e) ∙ ap (updateRecord k u) (sym (in-after s r e))
 
--- the same in the book order
-pub inherit-book-formed : (s : ComputedStyle) → Formed s → Formed (inheritInBookOrder s)
-unfolding inheritInBookOrder inheritRecord
-inherit-book-formed s f = record {
-  main = length-map (s .main .slots) inheritedSlot ∙ f .main;
-  before = length-map (s .before .slots) inheritedSlot ∙ f .before;
-  after = length-map (s .after .slots) inheritedSlot ∙ f .after;
-}
+    other-record : (q r : ℕ) → Which q → Which r → ¬ (q ≡ r) → recordIn (updateStyle q k u s) r ≡ recordIn s r
+    other-record q r (isMain e) (isMain f) n = absurd (n (e ∙ sym f))
+    other-record q r (isMain e) (isBefore f) n = in-before (updateStyle q k u s) r f ∙ ap (λ (t : ComputedStyle A). t .before) (update-main q k u s e) ∙ sym (in-before s r f)
+    other-record q r (isMain e) (isAfter f) n = in-after (updateStyle q k u s) r f ∙ ap (λ (t : ComputedStyle A). t .after) (update-main q k u s e) ∙ sym (in-after s r f)
+    other-record q r (isBefore e) (isMain f) n = in-main (updateStyle q k u s) r f ∙ ap (λ (t : ComputedStyle A). t .main) (update-before q k u s e) ∙ sym (in-main s r f)
+    other-record q r (isBefore e) (isBefore f) n = absurd (n (e ∙ sym f))
+    other-record q r (isBefore e) (isAfter f) n = in-after (updateStyle q k u s) r f ∙ ap (λ (t : ComputedStyle A). t .after) (update-before q k u s e) ∙ sym (in-after s r f)
+    other-record q r (isAfter e) (isMain f) n = in-main (updateStyle q k u s) r f ∙ ap (λ (t : ComputedStyle A). t .main) (update-after q k u s e) ∙ sym (in-main s r f)
+    other-record q r (isAfter e) (isBefore f) n = in-before (updateStyle q k u s) r f ∙ ap (λ (t : ComputedStyle A). t .before) (update-after q k u s e) ∙ sym (in-before s r f)
+    other-record q r (isAfter e) (isAfter f) n = absurd (n (e ∙ sym f))
 
-empty-inherited : inheritedSlot emptySlot ≡ emptySlot
-unfolding inheritedSlot emptySlot
-empty-inherited = sym (pick-false _ _ _ _ refl refl)
+  -- the updated slot, and the others of its record
+  module _ (k : ℕ) (u : Slot A → Slot A) (p : Record A) where
+    own-slot : k < length (p .slots) → slotOf (updateRecord k u p) k ≡ u (slotOf p k)
+    unfolding slotOf updateRecord
+    own-slot h = getD-set-same (p .slots) k (u (getD (p .slots) k empty)) empty h
 
-module _ (s : ComputedStyle) (r k : ℕ) (h : r < recordCount) where
-  mapped : (a b : Record) → a .slots ≡ map inheritedSlot (b .slots) → slotOf a k ≡ inheritedSlot (slotOf b k)
-  unfolding slotOf
-  mapped a b e =
-      ap (λ (l : List Slot). getD l k emptySlot) e
-      ∙ ap (λ (d : Slot). getD (map inheritedSlot (b .slots)) k d) (sym empty-inherited)
-      ∙ List·getD-map inheritedSlot (b .slots) k emptySlot
+    other-slot : (j : ℕ) → ¬ (j ≡ k) → slotOf (updateRecord k u p) j ≡ slotOf p j
+    unfolding slotOf updateRecord
+    other-slot j n = getD-set-other (p .slots) k j (u (getD (p .slots) k empty)) empty n
 
-  -- each slot is inherited by itself
-  pub inherits-slot : slotIn (inheritInBookOrder s) r k ≡ inheritedSlot (slotIn s r k)
-  unfolding slotIn inheritInBookOrder inheritRecord
-  inherits-slot = go (which r h)
+    record-long : length (updateRecord k u p .slots) ≡ length (p .slots)
+    unfolding updateRecord slotOf
+    record-long = length-set (p .slots) k (u (getD (p .slots) k empty))
+
+    now-present : updateRecord k u p .present ≡ true
+    unfolding updateRecord
+    now-present = refl
+
+  -- ---- one declaration, by any update of slots
+  module _ (u : Slot A → Candidate A → Slot A) (s : ComputedStyle A) (d : Declared A) where
+    abbrev v : Slot A → Slot A
+    v x = u x (d .candidate)
+
+    merge-named : isNamed (d .pseudo) (d .slot) ≡ true → mergeBy u s d ≡ updateStyle (d .pseudo) (d .slot) v s
+    unfolding mergeBy
+    merge-named e = sym (pick-true _ _ _ _ e refl)
+
+    merge-unnamed : isNamed (d .pseudo) (d .slot) ≡ false → mergeBy u s d ≡ s
+    unfolding mergeBy
+    merge-unnamed e = sym (pick-false _ _ _ _ e refl)
+
+    module _ (r : ℕ) (h : r < recordCount) where
+      -- what holds of a record, and of it with any slot updated, holds of it after the merge
+      record-keeps : (P : Record A → Type 0) → P (recordIn s r) → (P (updateRecord (d .slot) v (recordIn s r))) → P (recordIn (mergeBy u s d) r)
+      record-keeps P p q = ⊎-elim when-named (λ (e : isNamed (d .pseudo) (d .slot) ≡ false). rw (merge-unnamed e) p) (either-way (isNamed (d .pseudo) (d .slot)))
+        where
+          when-here : d .pseudo ≡ r → P (recordIn (updateStyle (d .pseudo) (d .slot) v s) r)
+          when-here f = rw f (rw (own-record (d .slot) v s r (which r h)) q)
+
+          when-named : isNamed (d .pseudo) (d .slot) ≡ true → P (recordIn (mergeBy u s d) r)
+          when-named e =
+              rw (merge-named e)
+              (⊎-elim (λ (f : is (d .pseudo) r ≡ true). when-here (is-true (d .pseudo) r f))
+              (λ (f : is (d .pseudo) r ≡ false). rw (other-record (d .slot) v s (d .pseudo) r (which (d .pseudo) (named-says (d .pseudo) (d .slot) e .0)) (which r h) (is-false (d .pseudo) r f)) p)
+              (either-way (is (d .pseudo) r)))
+
+      -- a record once present stays present
+      pub stays-present : recordIn s r .present ≡ true → recordIn (mergeBy u s d) r .present ≡ true
+      stays-present e = record-keeps (λ (p : Record A). p .present ≡ true) e (now-present (d .slot) v (recordIn s r))
+
+      -- and keeps all its slots
+      pub stays-formed : length (recordIn s r .slots) ≡ slotCount → length (recordIn (mergeBy u s d) r .slots) ≡ slotCount
+      stays-formed e = record-keeps (λ (p : Record A). length (p .slots) ≡ slotCount) e (record-long (d .slot) v (recordIn s r) ∙ e)
+
+      module _ (k : ℕ) where
+        -- what does not name a slot leaves it alone
+        pub leaves-alone : ¬ ((d .pseudo ≡ r) × (d .slot ≡ k)) → slotIn (mergeBy u s d) r k ≡ slotIn s r k
+        unfolding slotIn
+        leaves-alone n = ⊎-elim when-named (λ (e : isNamed (d .pseudo) (d .slot) ≡ false). rw (merge-unnamed e)) (either-way (isNamed (d .pseudo) (d .slot)))
+          where
+            when-here : d .pseudo ≡ r → slotOf (recordIn (updateStyle (d .pseudo) (d .slot) v s) r) k ≡ slotOf (recordIn s r) k
+            when-here f = rw f (rw (own-record (d .slot) v s r (which r h)) (other-slot (d .slot) v (recordIn s r) k (λ g. n (f, sym g))))
+
+            when-named : isNamed (d .pseudo) (d .slot) ≡ true → slotOf (recordIn (mergeBy u s d) r) k ≡ slotOf (recordIn s r) k
+            when-named e =
+                rw (merge-named e)
+                (⊎-elim (λ (f : is (d .pseudo) r ≡ true). when-here (is-true (d .pseudo) r f))
+                (λ (f : is (d .pseudo) r ≡ false). rw (other-record (d .slot) v s (d .pseudo) r (which (d .pseudo) (named-says (d .pseudo) (d .slot) e .0)) (which r h) (is-false (d .pseudo) r f)))
+                (either-way (is (d .pseudo) r)))
+
+        -- what names it updates it
+        pub updates : k < slotCount → length (recordIn s r .slots) ≡ slotCount → d .pseudo ≡ r → d .slot ≡ k → slotIn (mergeBy u s d) r k ≡ u (slotIn s r k) (d .candidate)
+        unfolding slotIn
+        updates l f e g =
+            ap (λ (t : ComputedStyle A). slotOf (recordIn t r) k) (merge-named (rw (e, g) (named r k h l)))
+            ∙ rw (e, g) (rw (own-record k v s r (which r h)) (own-slot k v (recordIn s r) (omega (arith, f))))
+
+  -- ---- many declarations
+  -- a style whose record r has all its slots
+  abbrev Whole : ComputedStyle A → ℕ → Type 0
+  Whole s r = length (recordIn s r .slots) ≡ slotCount
+
+  module _ (u : Slot A → Candidate A → Slot A) (r : ℕ) (h : r < recordCount) where
+    -- a record once present stays present
+    pub stay-present : (ds : List (Declared A)) (s : ComputedStyle A) → recordIn s r .present ≡ true → recordIn (foldl (mergeBy u) s ds) r .present ≡ true
+    stay-present [] s e = e
+    stay-present (d ∷ ds) s e = stay-present ds (mergeBy u s d) (stays-present u s d r h e)
+
+    module _ (k : ℕ) (l : k < slotCount) where
+      one-candidate : (d : Declared A) (s : ComputedStyle A) → Whole s r
+          → slotIn (mergeBy u s d) r k ≡ foldl u (slotIn s r k) (pick (and (is (d .pseudo) r) (is (d .slot) k)) (d .candidate ∷ []) [])
+      one-candidate d s f = go (is (d .pseudo) r) (is (d .slot) k) refl refl
+        where
+          go : (a b : Bool) → is (d .pseudo) r ≡ a → is (d .slot) k ≡ b
+              → slotIn (mergeBy u s d) r k ≡ foldl u (slotIn s r k) (pick (and (is (d .pseudo) r) (is (d .slot) k)) (d .candidate ∷ []) [])
+          go true true e g =
+              updates u s d r h k l f (is-true (d .pseudo) r e) (is-true (d .slot) k g)
+              ∙ ap (foldl u (slotIn s r k)) (pick-true (d .candidate ∷ []) _ _ _ (and-both _ _ e g) refl)
+          go true false e g =
+              leaves-alone u s d r h k (λ n. is-false (d .slot) k g (n .1)) ∙ ap (foldl u (slotIn s r k)) (pick-false [] _ _ _ (and-right _ _ g) refl)
+          go false b e g =
+              leaves-alone u s d r h k (λ n. is-false (d .pseudo) r e (n .0)) ∙ ap (foldl u (slotIn s r k)) (pick-false [] _ _ _ (and-left _ _ e) refl)
+
+      -- a slot is what its own candidates make of it
+      pub slot-folds : (ds : List (Declared A)) (s : ComputedStyle A) → Whole s r → slotIn (foldl (mergeBy u) s ds) r k ≡ foldl u (slotIn s r k) (candidatesFor r k ds)
+      unfolding candidatesFor
+      slot-folds [] s f = refl
+      slot-folds (d ∷ ds) s f =
+          slot-folds ds (mergeBy u s d) (stays-formed u s d r h f)
+          ∙ ap (λ (t : Slot A). foldl u t (candidatesFor r k ds)) (one-candidate d s f)
+          ∙ sym (fold-append u (slotIn s r k) (pick (and (is (d .pseudo) r) (is (d .slot) k)) (d .candidate ∷ []) []) (candidatesFor r k ds))
+
+      -- one that none of them names is left alone
+      pub unnamed-slot : (ds : List (Declared A)) (s : ComputedStyle A) → Whole s r → candidatesFor r k ds ≡ [] → slotIn (foldl (mergeBy u) s ds) r k ≡ slotIn s r k
+      unnamed-slot ds s f e = slot-folds ds s f ∙ ap (foldl u (slotIn s r k)) e
+
+  -- ---- what a child begins with
+  formed-record : (s : ComputedStyle A) (r : ℕ) → Formed s → r < recordCount → Whole s r
+  formed-record s r f h = go (which r h)
     where
-      go : Which r → slotOf (recordIn (inheritInBookOrder s) r) k ≡ inheritedSlot (slotOf (recordIn s r) k)
-      go (isMain e) = rw (in-main (inheritInBookOrder s) r e, in-main s r e) (mapped _ (s .main) refl)
-      go (isBefore e) = rw (in-before (inheritInBookOrder s) r e, in-before s r e) (mapped _ (s .before) refl)
-      go (isAfter e) = rw (in-after (inheritInBookOrder s) r e, in-after s r e) (mapped _ (s .after) refl)
+      go : Which r → Whole s r
+      go (isMain e) = ap (λ (p : Record A). length (p .slots)) (in-main s r e) ∙ f .main
+      go (isBefore e) = ap (λ (p : Record A). length (p .slots)) (in-before s r e) ∙ f .before
+      go (isAfter e) = ap (λ (p : Record A). length (p .slots)) (in-after s r e) ∙ f .after
 
--- ---- the book order
-decides : (s : Slot) (xs : List Candidate) → Decided (foldl bookUpdate (inheritedSlot s) xs) (inheritedCandidates s ++ xs)
-decides s xs = go (s .filled) refl xs
-  where
-    go : (t : Bool) → s .filled ≡ t → (xs : List Candidate) → Decided (foldl bookUpdate (inheritedSlot s) xs) (inheritedCandidates s ++ xs)
-    go true e xs =
-        let i : inheritedCandidates s ≡ inheritedCandidate s ∷ [] = unfold inheritedCandidates in sym (pick-true _ _ _ _ e refl) in
-        rw i (decided (won-inherited s e xs))
-    go false e [] =
-        let i : inheritedCandidates s ≡ [] = unfold inheritedCandidates in sym (pick-false _ _ _ _ e refl) in
-        let n : inheritedSlot s ≡ s = unfold inheritedSlot in sym (pick-false _ _ _ _ e refl) in
-        rw (i, n) (unset e)
-    go false e (x ∷ xs) =
-        let i : inheritedCandidates s ≡ [] = unfold inheritedCandidates in sym (pick-false _ _ _ _ e refl) in
-        let n : inheritedSlot s ≡ s = unfold inheritedSlot in sym (pick-false _ _ _ _ e refl) in
-        rw (i, n) (decided (won s e x xs))
+  -- in both orders records stay whole
+  pub inherit-formed : (s : ComputedStyle A) → Formed s → Formed (inherit s)
+  unfolding inherit
+  inherit-formed s f = record { main = f .main; before = f .before; after = f .after }
 
--- each slot of the style holds the value of the last greatest of all its candidates: what is inherited, then the declarations in order of appearance
-pub book-decides : (parent : ComputedStyle) (x : Sources) (r k : ℕ) → Formed parent → r < recordCount → k < slotCount
-    → Decided (slotIn (bookCascade parent x) r k) (inheritedCandidates (slotIn parent r k) ++ candidatesFor r k (bookDeclared x))
-unfolding bookCascade mergeInBookOrder
-book-decides parent x r k f h l =
-    let ds = bookDeclared x in
-    rw (slot-folds bookUpdate r h k l ds (inheritInBookOrder parent) (formed-record (inheritInBookOrder parent) r (inherit-book-formed parent f) h), inherits-slot parent r k h)
-    (decides (slotIn parent r k) (candidatesFor r k ds))
+  -- the same in the book order
+  pub inherit-book-formed : (s : ComputedStyle A) → Formed s → Formed (inheritInBookOrder s)
+  unfolding inheritInBookOrder inheritRecord
+  inherit-book-formed s f = record {
+    main = length-map (s .main .slots) inheritedSlot ∙ f .main;
+    before = length-map (s .before .slots) inheritedSlot ∙ f .before;
+    after = length-map (s .after .slots) inheritedSlot ∙ f .after;
+  }
 
--- ---- what holds of every style that a cascade leaves
--- all its records have all their slots
-pub merges-formed : (u : Slot → Candidate → Slot) (ds : List Declared) (s : ComputedStyle) → Formed s → Formed (foldl (mergeBy u) s ds)
-merges-formed u ds s f = formed (foldl (mergeBy u) s ds) (λ r h. go ds s r h (formed-record s r f h))
-  where
-    go : (ds : List Declared) (s : ComputedStyle) (r : ℕ) → r < recordCount → Whole s r → Whole (foldl (mergeBy u) s ds) r
-    go [] s r h e = e
-    go (d ∷ ds) s r h e = go ds (mergeBy u s d) r h (stays-formed u s d r h e)
+  empty-inherited : inheritedSlot {A = A} empty ≡ empty
+  unfolding inheritedSlot
+  empty-inherited = refl
 
-    formed : (t : ComputedStyle) → ((r : ℕ) → r < recordCount → Whole t r) → Formed t
-    formed t w = record {
-      main = ap (λ (p : Record). length (p .slots)) (sym (in-main t mainRecord refl)) ∙ w mainRecord (omega arith);
-      before = ap (λ (p : Record). length (p .slots)) (sym (in-before t beforeRecord refl)) ∙ w beforeRecord (omega arith);
-      after = ap (λ (p : Record). length (p .slots)) (sym (in-after t afterRecord refl)) ∙ w afterRecord (omega arith);
-    }
+  module _ (s : ComputedStyle A) (r k : ℕ) (h : r < recordCount) where
+    mapped : (a b : Record A) → a .slots ≡ map inheritedSlot (b .slots) → slotOf a k ≡ inheritedSlot (slotOf b k)
+    unfolding slotOf
+    mapped a b e =
+        ap (λ (l : List (Slot A)). getD l k empty) e
+        ∙ ap (λ (d : Slot A). getD (map inheritedSlot (b .slots)) k d) (sym empty-inherited)
+        ∙ List·getD-map inheritedSlot (b .slots) k empty
 
--- so those of the crate's cascade do
-pub crate-formed : (parent : ComputedStyle) (x : Sources) → Formed parent → Formed (crateCascade parent x)
-unfolding crateCascade mergeComputedStyle
-crate-formed parent x f = merges-formed maybeUpdate (crateDeclared x) (inherit parent) (inherit-formed parent f)
+    -- each slot is inherited by itself
+    pub inherits-slot : slotIn (inheritInBookOrder s) r k ≡ inheritedSlot (slotIn s r k)
+    unfolding slotIn inheritInBookOrder inheritRecord
+    inherits-slot = go (which r h)
+      where
+        go : Which r → slotOf (recordIn (inheritInBookOrder s) r) k ≡ inheritedSlot (slotOf (recordIn s r) k)
+        go (isMain e) = rw (in-main (inheritInBookOrder s) r e, in-main s r e) (mapped _ (s .main) refl)
+        go (isBefore e) = rw (in-before (inheritInBookOrder s) r e, in-before s r e) (mapped _ (s .before) refl)
+        go (isAfter e) = rw (in-after (inheritInBookOrder s) r e, in-after s r e) (mapped _ (s .after) refl)
 
--- and those of the book order
-pub book-formed : (parent : ComputedStyle) (x : Sources) → Formed parent → Formed (bookCascade parent x)
-unfolding bookCascade mergeInBookOrder
-book-formed parent x f = merges-formed bookUpdate (bookDeclared x) (inheritInBookOrder parent) (inherit-book-formed parent f)
+  -- ---- the update of a cascade, by its name
+  by-crate : (xs : List (Candidate A)) (s : Slot A) → foldl (updateBy Crate) s xs ≡ foldl maybeUpdate s xs
+  by-crate [] s = refl
+  by-crate (x ∷ xs) s = by-crate xs (updateBy Crate s x) ∙ ap (λ (t : Slot A). foldl maybeUpdate t xs) (unfold updateBy in refl)
 
--- and its main record is present
-main-present : (u : Slot → Candidate → Slot) (ds : List Declared) (s : ComputedStyle) → s .main .present ≡ true → foldl (mergeBy u) s ds .main .present ≡ true
-main-present u ds s e =
-    ap (λ (p : Record). p .present) (sym (in-main (foldl (mergeBy u) s ds) mainRecord refl))
-    ∙ stay-present u mainRecord (omega arith) ds s (ap (λ (p : Record). p .present) (in-main s mainRecord refl) ∙ e)
+  by-book : (xs : List (Candidate A)) (s : Slot A) → foldl (updateBy Book) s xs ≡ foldl bookUpdate s xs
+  by-book [] s = refl
+  by-book (x ∷ xs) s = by-book xs (updateBy Book s x) ∙ ap (λ (t : Slot A). foldl bookUpdate t xs) (unfold updateBy in refl)
 
--- so it is in the crate's cascade
-pub crate-main-present : (parent : ComputedStyle) (x : Sources) → crateCascade parent x .main .present ≡ true
-unfolding crateCascade mergeComputedStyle inherit
-crate-main-present parent x = main-present maybeUpdate (crateDeclared x) (inherit parent) refl
+  -- ---- the book order
+  decides : (s : Slot A) (xs : List (Candidate A)) → Decided (foldl bookUpdate (inheritedSlot s) xs) (inheritedCandidates s ++ xs)
+  decides empty [] = unfold inheritedSlot in unfold inheritedCandidates in unset refl
+  decides empty (x ∷ xs) = unfold inheritedSlot in unfold inheritedCandidates in decided (won x xs)
+  decides (held c) xs = unfold inheritedCandidates in decided (won-inherited c xs)
 
--- and in the book order
-pub book-main-present : (parent : ComputedStyle) (x : Sources) → bookCascade parent x .main .present ≡ true
-unfolding bookCascade mergeInBookOrder inheritInBookOrder
-book-main-present parent x = main-present bookUpdate (bookDeclared x) (inheritInBookOrder parent) refl
+  -- each slot of the style holds the value of the last greatest of all its candidates: what is inherited, then the declarations in order of appearance
+  pub book-decides : (parent : ComputedStyle A) (x : Sources A) (r k : ℕ) → Formed parent → r < recordCount → k < slotCount
+      → Decided (slotIn (cascadeBy Book parent x) r k) (inheritedCandidates (slotIn parent r k) ++ candidatesFor r k (bookDeclared x))
+  unfolding cascadeBy inheritBy declaredBy
+  book-decides parent x r k f h l =
+      let ds = bookDeclared x in
+      rw (slot-folds (updateBy Book) r h k l ds (inheritInBookOrder parent) (formed-record (inheritInBookOrder parent) r (inherit-book-formed parent f) h), inherits-slot parent r k h, by-book (candidatesFor r k ds) (inheritedSlot (slotIn parent r k)))
+      (decides (slotIn parent r k) (candidatesFor r k ds))
 
--- ---- the crate's cascade is the fold: each slot is what its candidates make, one after the other, of the parent's
-inherit-slot : (s : ComputedStyle) (r k : ℕ) → r < recordCount → slotIn (inherit s) r k ≡ slotIn s r k
-unfolding slotIn inherit slotOf
-inherit-slot s r k h = go (which r h)
-  where
-    go : Which r → getD (recordIn (inherit s) r .slots) k emptySlot ≡ getD (recordIn s r .slots) k emptySlot
-    go (isMain e) = rw (in-main (inherit s) r e, in-main s r e)
-    go (isBefore e) = rw (in-before (inherit s) r e, in-before s r e)
-    go (isAfter e) = rw (in-after (inherit s) r e, in-after s r e)
+  -- ---- what holds of every style that a cascade leaves
+  -- all its records have all their slots
+  pub merges-formed : (u : Slot A → Candidate A → Slot A) (ds : List (Declared A)) (s : ComputedStyle A) → Formed s → Formed (foldl (mergeBy u) s ds)
+  merges-formed u ds s f = formed (foldl (mergeBy u) s ds) (λ r h. go ds s r h (formed-record s r f h))
+    where
+      go : (ds : List (Declared A)) (s : ComputedStyle A) (r : ℕ) → r < recordCount → Whole s r → Whole (foldl (mergeBy u) s ds) r
+      go [] s r h e = e
+      go (d ∷ ds) s r h e = go ds (mergeBy u s d) r h (stays-formed u s d r h e)
 
--- it is the fold of the crate's update over the candidates, and no order's maximum
-pub crate-folds : (parent : ComputedStyle) (x : Sources) (r k : ℕ) → Formed parent → r < recordCount → k < slotCount
-    → slotIn (crateCascade parent x) r k ≡ foldl maybeUpdate (slotIn parent r k) (candidatesFor r k (crateDeclared x))
-unfolding crateCascade mergeComputedStyle
-crate-folds parent x r k f h l =
-    slot-folds maybeUpdate r h k l (crateDeclared x) (inherit parent) (formed-record (inherit parent) r (inherit-formed parent f) h)
-    ∙ ap (λ (t : Slot). foldl maybeUpdate t (candidatesFor r k (crateDeclared x))) (inherit-slot parent r k h)
+      formed : (t : ComputedStyle A) → ((r : ℕ) → r < recordCount → Whole t r) → Formed t
+      formed t w = record {
+        main = ap (λ (p : Record A). length (p .slots)) (sym (in-main t mainRecord refl)) ∙ w mainRecord (omega arith);
+        before = ap (λ (p : Record A). length (p .slots)) (sym (in-before t beforeRecord refl)) ∙ w beforeRecord (omega arith);
+        after = ap (λ (p : Record A). length (p .slots)) (sym (in-after t afterRecord refl)) ∙ w afterRecord (omega arith);
+      }
+
+  -- so those of a cascade do
+  pub cascade-formed : (c : Cascade) (parent : ComputedStyle A) (x : Sources A) → Formed parent → Formed (cascadeBy c parent x)
+  unfolding cascadeBy inheritBy
+  cascade-formed Crate parent x f = merges-formed (updateBy Crate) (declaredBy Crate x) (inherit parent) (inherit-formed parent f)
+  cascade-formed Book parent x f = merges-formed (updateBy Book) (declaredBy Book x) (inheritInBookOrder parent) (inherit-book-formed parent f)
+
+  -- and its main record is present
+  main-present : (u : Slot A → Candidate A → Slot A) (ds : List (Declared A)) (s : ComputedStyle A) → s .main .present ≡ true → foldl (mergeBy u) s ds .main .present ≡ true
+  main-present u ds s e =
+      ap (λ (p : Record A). p .present) (sym (in-main (foldl (mergeBy u) s ds) mainRecord refl))
+      ∙ stay-present u mainRecord (omega arith) ds s (ap (λ (p : Record A). p .present) (in-main s mainRecord refl) ∙ e)
+
+  -- so it is in both cascades
+  pub cascade-main-present : (c : Cascade) (parent : ComputedStyle A) (x : Sources A) → cascadeBy c parent x .main .present ≡ true
+  unfolding cascadeBy inheritBy inherit inheritInBookOrder
+  cascade-main-present Crate parent x = main-present (updateBy Crate) (declaredBy Crate x) (inherit parent) refl
+  cascade-main-present Book parent x = main-present (updateBy Book) (declaredBy Book x) (inheritInBookOrder parent) refl
+
+  -- ---- the crate's cascade is the fold: each slot is what its candidates make, one after the other, of the parent's
+  inherit-slot : (s : ComputedStyle A) (r k : ℕ) → r < recordCount → slotIn (inherit s) r k ≡ slotIn s r k
+  unfolding slotIn inherit slotOf
+  inherit-slot s r k h = go (which r h)
+    where
+      go : Which r → getD (recordIn (inherit s) r .slots) k empty ≡ getD (recordIn s r .slots) k empty
+      go (isMain e) = rw (in-main (inherit s) r e, in-main s r e)
+      go (isBefore e) = rw (in-before (inherit s) r e, in-before s r e)
+      go (isAfter e) = rw (in-after (inherit s) r e, in-after s r e)
+
+  -- it is the fold of the crate's update over the candidates, and no order's maximum
+  pub crate-folds : (parent : ComputedStyle A) (x : Sources A) (r k : ℕ) → Formed parent → r < recordCount → k < slotCount
+      → slotIn (cascadeBy Crate parent x) r k ≡ foldl maybeUpdate (slotIn parent r k) (candidatesFor r k (crateDeclared x))
+  unfolding cascadeBy inheritBy declaredBy
+  crate-folds parent x r k f h l =
+      slot-folds (updateBy Crate) r h k l (crateDeclared x) (inherit parent) (formed-record (inherit parent) r (inherit-formed parent f) h)
+      ∙ by-crate (candidatesFor r k (crateDeclared x)) (slotIn (inherit parent) r k)
+      ∙ ap (λ (t : Slot A). foldl maybeUpdate t (candidatesFor r k (crateDeclared x))) (inherit-slot parent r k h)

@@ -6,46 +6,18 @@ use native.Mathlib.Omega.{arith}
 use lib.ListN.{length, set, take, drop, length-set, length-take, length-drop}
 use lib.Seq.{sets, length-sets, getD-set-same}
 use borrow.Rule.Slice.PartMut.{putMid, post-is}
-use Rattle.cascade.specs.declared.slots.Slot.{Slot}
-use Rattle.cascade.specs.Slot.{inheritedSlot}
-use Rattle.cascade.specs.Record.{slotCount, recordCount, mainRecord, beforeRecord, afterRecord, ComputedStyle, Formed, inherit, inheritInBookOrder}
-use Rattle.cascade.specs.Row.{recordWidth, styleRowWidth, recordPlace, rowOf, readSlot, windows, AllFine, RecordFine, RowFine, RowRoom, inheritRow, rewrites, rewriteRecord, inheritRowInBookOrder}
+use Rattle.syntax.specs.declared.styles.Value.{Value}
+use Rattle.cascade.specs.declared.slots.Cascade.{Cascade}
+use Rattle.cascade.specs.declared.slots.Cascade.the-variants.{Crate, Book}
+use Rattle.cascade.specs.Slot.{Slot, inheritedSlot}
+use Rattle.cascade.specs.Record.{slotCount, recordCount, mainRecord, beforeRecord, afterRecord, ComputedStyle, Formed, inherit, inheritInBookOrder, inheritBy}
+use Rattle.cascade.specs.Row.{recordWidth, styleRowWidth, recordPlace, rowOf, readSlot, windows, styleAt, AllFine, RecordFine, RowFine, RowRoom, presentRow, rewrites, rewriteRecord, inheritedRow}
 use Rattle.cascade.proofs.RowLaws.{slots-fine, same-windows, Which, isMain, isBefore, isAfter, which}
 use Rattle.cascade.proofs.RowBack.{same-fine, row-long, row-fine, row-back, style-back}
-use Rattle.cascade.proofs.Rewriting.{inherit-number, inherit-presence, inherit-view, rewrites-low, rewrites-high, rewrites-windows, rewritten-long, present-number, inherit-book-view}
-
--- ---- the crate's cascade
-module _ (parent xs : List ℕ) (f : RowFine parent) (l : length xs ≡ styleRowWidth) where
-  whole : styleRowWidth ≤ length parent
-  whole = omega (arith, f .long)
-
-  inherit-long : length (inheritRow parent xs) ≡ styleRowWidth
-  unfolding inheritRow
-  inherit-long = length-set (sets xs 0 (take styleRowWidth parent)) 0 1 ∙ length-sets xs 0 (take styleRowWidth parent) ∙ l
-
-  main-fine : RecordFine (inheritRow parent xs) 0
-  main-fine = record {
-    presence = rw (inherit-presence parent xs whole (omega (arith, l))) (omega arith);
-    all = subst AllFine (sym (same-windows slotCount (inheritRow parent xs) parent 1 (λ p a b. inherit-number parent xs whole (omega (arith, l)) p (omega arith) (omega arith)))) (f .main .all);
-  }
-
-  -- the row that a child begins with is well formed
-  pub inherit-fine : RowFine (inheritRow parent xs)
-  inherit-fine = record {
-    long = inherit-long;
-    main = main-fine;
-    before = same-fine parent (inheritRow parent xs) recordWidth (λ p a b. inherit-number parent xs whole (omega (arith, l)) p (omega arith) (omega arith)) (f .before);
-    after = same-fine parent (inheritRow parent xs) (2 * recordWidth) (λ p a b. inherit-number parent xs whole (omega (arith, l)) p (omega arith) (omega arith)) (f .after);
-  }
-
--- what a child of a written style begins with is the written inherited style
-pub inherit-layout : (s : ComputedStyle) (xs : List ℕ) → Formed s → length xs ≡ styleRowWidth → inheritRow (rowOf s) xs ≡ rowOf (inherit s)
-inherit-layout s xs f l =
-    sym (row-back (inheritRow (rowOf s) xs) (inherit-fine (rowOf s) xs (row-fine s f) l))
-    ∙ ap rowOf (inherit-view (rowOf s) xs (omega (arith, row-long s f)) (omega (arith, l)) ∙ ap inherit (style-back s f))
+use Rattle.cascade.proofs.Rewriting.{present-view, rewrites-low, rewrites-high, rewrites-windows, rewritten-long, present-number, inherit-book-view}
 
 -- ---- the book order
-module _ (u : Slot → Slot) (r : ℕ) (xs : List ℕ) (h : r < recordCount) (f : RowFine xs) where
+module _ (u : Slot Value → Slot Value) (r : ℕ) (xs : List ℕ) (h : r < recordCount) (f : RowFine xs) where
   fine-there : RecordFine xs (recordPlace r) → RecordFine (rewriteRecord u r xs) (recordPlace r)
   unfolding rewriteRecord
   fine-there g = record {
@@ -85,17 +57,24 @@ present-fine xs f = record {
 }
 
 -- the row that a child begins with is well formed
-pub inherit-book-fine : (xs : List ℕ) → RowFine xs → RowFine (inheritRowInBookOrder xs)
-unfolding inheritRowInBookOrder
-inherit-book-fine xs f =
+pub inherit-fine : (c : Cascade) (xs : List ℕ) → RowFine xs → RowFine (inheritedRow c xs)
+unfolding inheritedRow presentRow
+inherit-fine Crate xs f = present-fine xs f
+inherit-fine Book xs f =
     present-fine _
     (rewrite-fine inheritedSlot afterRecord _ (omega arith) (rewrite-fine inheritedSlot beforeRecord _ (omega arith) (rewrite-fine inheritedSlot mainRecord xs (omega arith) f)))
 
--- the same in the book order
-pub inherit-book-layout : (s : ComputedStyle) → Formed s → inheritRowInBookOrder (rowOf s) ≡ rowOf (inheritInBookOrder s)
-inherit-book-layout s f =
-    sym (row-back (inheritRowInBookOrder (rowOf s)) (inherit-book-fine (rowOf s) (row-fine s f)))
-    ∙ ap rowOf (inherit-book-view (rowOf s) (omega (arith, row-long s f)) ∙ ap inheritInBookOrder (style-back s f))
+-- its style is the inherited one
+pub inherited-view : (c : Cascade) (xs : List ℕ) → styleRowWidth ≤ length xs → styleAt (inheritedRow c xs) ≡ inheritBy c (styleAt xs)
+unfolding inheritBy
+inherited-view Crate xs h = unfold inheritedRow in present-view xs h
+inherited-view Book xs h = inherit-book-view xs h
+
+-- what a child of a written style begins with is the written inherited style
+pub inherit-layout : (c : Cascade) (s : ComputedStyle Value) → Formed s → inheritedRow c (rowOf s) ≡ rowOf (inheritBy c s)
+inherit-layout c s f =
+    sym (row-back (inheritedRow c (rowOf s)) (inherit-fine c (rowOf s) (row-fine s f)))
+    ∙ ap rowOf (inherited-view c (rowOf s) (omega (arith, row-long s f)) ∙ ap (inheritBy c) (style-back s f))
 
 -- ---- a row lent out of a longer store, and put back
 module _ (xs : List ℕ) (i : ℕ) (h : i + styleRowWidth ≤ length xs) where

@@ -8,11 +8,15 @@ use lib.Seq.{sets}
 use borrow.Author.Tests.{lt-ltb, le-ltb, ltb-true}
 use Rattle.combinators.specs.Choice.{pick, and}
 use Rattle.combinators.proofs.Rules.{pick-true, pick-false, pick-holds, and-both, and-left, and-right, and-true}
-use Rattle.cascade.specs.declared.slots.Slot.{Slot}
-use Rattle.cascade.specs.Slot.{Candidate, maybeUpdate, bookUpdate}
-use Rattle.cascade.specs.Record.{slotCount, recordCount, updateStyle, Declared, isNamed, mergeBy, mergeComputedStyle, mergeInBookOrder}
-use Rattle.cascade.specs.Row.{styleRowWidth, recordPlace, slotPlace, slotNumbers, slotAt, styleAt, RowRoom, updateRow, mergeRowBy, mergeRow, mergeRowInBookOrder, Merged, MergedInBookOrder}
+use Rattle.syntax.specs.declared.styles.Value.{Value}
+use Rattle.cascade.specs.declared.slots.Slot as code
+use Rattle.cascade.specs.declared.slots.Cascade.{Cascade}
+use Rattle.cascade.specs.Slot.{Candidate, Slot, held, updateBy, slotBy}
+use Rattle.cascade.specs.Record.{slotCount, recordCount, updateStyle, Declared, isNamed, mergeBy}
+use Rattle.cascade.specs.Row.{styleRowWidth, recordPlace, slotPlace, slotNumbers, slotWidth, slotAt, styleAt, RowRoom, updateRow, mergeRowBy, Merged}
 use Rattle.cascade.proofs.RowLaws.{update-long, update-view}
+use Rattle.cascade.proofs.SlotLaws.{filled-slot, unfilled-slot}
+use Rattle.combinators.specs.Store.{wiped}
 
 -- ---- which declarations name a slot
 module _ (r k : ℕ) where
@@ -36,8 +40,19 @@ module _ (r k : ℕ) where
   unfolding isNamed
   named-says e = let p = and-true _ _ e in (ltb-true r recordCount (p .0), ltb-true k slotCount (p .1))
 
+-- ---- what writing a slot leaves
+module _ (s : code.Slot) (xs ys : List ℕ) (i : ℕ) where
+  -- one that holds something
+  pub wrote-held : s .filled ≡ true → ys ≡ sets xs i (slotNumbers (held (record { weight = s .weight; value = s .value }))) → ys ≡ sets xs i (slotNumbers (slotBy s))
+  wrote-held f e = rw (filled-slot s f) e
+
+  -- one that holds nothing
+  pub wrote-empty : s .filled ≡ false → ys ≡ wiped i slotWidth xs → ys ≡ sets xs i (slotNumbers (slotBy s))
+  unfolding wiped slotNumbers
+  wrote-empty f e = rw (unfilled-slot s f) e
+
 -- ---- by any update of slots
-module _ (u : Slot → Candidate → Slot) (xs : List ℕ) (d : Declared) where
+module _ (u : Slot Value → Candidate Value → Slot Value) (xs : List ℕ) (d : Declared Value) where
   -- the row stays as long as it is
   pub merge-long : length (mergeRowBy u xs d) ≡ length xs
   unfolding mergeRowBy
@@ -57,7 +72,7 @@ module _ (u : Slot → Candidate → Slot) (xs : List ℕ) (d : Declared) where
       go false e = ap styleAt (sym (pick-false _ _ _ _ e refl)) ∙ pick-false _ _ _ _ e refl
 
   -- by its steps
-  pub merge-steps : (old new : Slot) (ys : List ℕ) → d .pseudo < recordCount → d .slot < slotCount → old ≡ slotAt xs (slotPlace (d .pseudo) (d .slot)) → new ≡ u old (d .candidate)
+  pub merge-steps : (old new : Slot Value) (ys : List ℕ) → d .pseudo < recordCount → d .slot < slotCount → old ≡ slotAt xs (slotPlace (d .pseudo) (d .slot)) → new ≡ u old (d .candidate)
       → ys ≡ set (sets xs (slotPlace (d .pseudo) (d .slot)) (slotNumbers new)) (recordPlace (d .pseudo)) 1 → ys ≡ mergeRowBy u xs d
   unfolding mergeRowBy updateRow
   merge-steps old new ys h l e f g = pick-true _ _ _ _ (named (d .pseudo) (d .slot) h l) (rw (f, e) at g)
@@ -67,28 +82,16 @@ module _ (u : Slot → Candidate → Slot) (xs : List ℕ) (d : Declared) where
   unfolding mergeRowBy
   merge-nothing e = pick-false _ _ _ _ e refl
 
--- ---- by the crate's update, and by that of the book order
-module _ (xs ys : List ℕ) (d : Declared) (h : RowRoom xs) where
-  merged : ys ≡ mergeRowBy maybeUpdate xs d → Merged xs ys d
-  merged e = record { numbers = unfold mergeRow in e; meaning = unfold mergeComputedStyle in (ap styleAt e ∙ merge-view maybeUpdate xs d (h .room)) }
-
-  merged-in-book-order : ys ≡ mergeRowBy bookUpdate xs d → MergedInBookOrder xs ys d
-  merged-in-book-order e = record { numbers = unfold mergeRowInBookOrder in e; meaning = unfold mergeInBookOrder in (ap styleAt e ∙ merge-view bookUpdate xs d (h .room)) }
+-- ---- by the update of a cascade
+module _ (c : Cascade) (xs ys : List ℕ) (d : Declared Value) (h : RowRoom xs) where
+  by-numbers : ys ≡ mergeRowBy (updateBy c) xs d → Merged c xs ys d
+  by-numbers e = record { numbers = e; meaning = ap styleAt e ∙ merge-view (updateBy c) xs d (h .room) }
 
   -- a slot taken out, updated and put back
-  pub crate-merged : (old new : Slot) → d .pseudo < recordCount → d .slot < slotCount → old ≡ slotAt xs (slotPlace (d .pseudo) (d .slot)) → new ≡ maybeUpdate old (d .candidate)
-      → ys ≡ set (sets xs (slotPlace (d .pseudo) (d .slot)) (slotNumbers new)) (recordPlace (d .pseudo)) 1 → Merged xs ys d
-  crate-merged old new a b e f g = merged (merge-steps maybeUpdate xs d old new ys a b e f g)
-
-  -- the same in the book order
-  pub book-merged : (old new : Slot) → d .pseudo < recordCount → d .slot < slotCount → old ≡ slotAt xs (slotPlace (d .pseudo) (d .slot)) → new ≡ bookUpdate old (d .candidate)
-      → ys ≡ set (sets xs (slotPlace (d .pseudo) (d .slot)) (slotNumbers new)) (recordPlace (d .pseudo)) 1 → MergedInBookOrder xs ys d
-  book-merged old new a b e f g = merged-in-book-order (merge-steps bookUpdate xs d old new ys a b e f g)
+  pub merged : (old new : code.Slot) → d .pseudo < recordCount → d .slot < slotCount → slotBy old ≡ slotAt xs (slotPlace (d .pseudo) (d .slot)) → slotBy new ≡ updateBy c (slotBy old) (d .candidate)
+      → ys ≡ set (sets xs (slotPlace (d .pseudo) (d .slot)) (slotNumbers (slotBy new))) (recordPlace (d .pseudo)) 1 → Merged c xs ys d
+  merged old new a b e f g = by-numbers (merge-steps (updateBy c) xs d (slotBy old) (slotBy new) ys a b e f g)
 
   -- nothing changes where there is no such slot
-  pub crate-nothing : isNamed (d .pseudo) (d .slot) ≡ false → ys ≡ xs → Merged xs ys d
-  crate-nothing e f = merged (f ∙ merge-nothing maybeUpdate xs d e)
-
-  -- the same in the book order
-  pub book-nothing : isNamed (d .pseudo) (d .slot) ≡ false → ys ≡ xs → MergedInBookOrder xs ys d
-  book-nothing e f = merged-in-book-order (f ∙ merge-nothing bookUpdate xs d e)
+  pub merged-nothing : isNamed (d .pseudo) (d .slot) ≡ false → ys ≡ xs → Merged c xs ys d
+  merged-nothing e f = by-numbers (f ∙ merge-nothing (updateBy c) xs d e)

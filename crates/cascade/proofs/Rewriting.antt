@@ -7,14 +7,16 @@ use native.Mathlib.Nat.{add-zero}
 use native.Mathlib.Omega.{arith}
 use lib.ListN.{length, getD, set, take, drop, replicate, length-set, length-replicate, length-drop}
 use lib.Seq.{sets, length-sets, length-take-le, getD-set-same, getD-set-other, getD-take, getD-drop, drop-cons, take-set-le}
-use Rattle.combinators.specs.Choice.{is}
+use Rattle.combinators.specs.Choice.{pick, is}
 use Rattle.combinators.specs.Store.{wiped}
 use Rattle.syntax.specs.Layout.{flagOf}
-use Rattle.cascade.specs.declared.slots.Slot.{Slot}
-use Rattle.cascade.specs.Specificity.{noSpecificity, specificityOf}
-use Rattle.cascade.specs.Slot.{emptySlot, inheritedSlot}
-use Rattle.cascade.specs.Record.{slotCount, mainRecord, beforeRecord, afterRecord, Record, emptyRecord, emptyStyle, inherit, inheritRecord, inheritInBookOrder}
-use Rattle.cascade.specs.Row.{slotWidth, recordWidth, styleRowWidth, recordPlace, slotNumbers, reads, readSlot, slotAt, windows, recordAt, styleAt, RowRoom, TwoRooms, presentFlag, inheritRow, inheritRowInPlace, inheritRowWithin, rewrites, rewriteRecord, inheritRowInBookOrder, Inherited, InheritedInPlace, InheritedWithin, InheritedInBookOrder, Emptied}
+use Rattle.syntax.specs.declared.styles.Value.{Value}
+use Rattle.cascade.specs.declared.slots.Slot as code
+use Rattle.cascade.specs.declared.slots.Cascade.{Cascade}
+use Rattle.cascade.specs.declared.slots.Cascade.the-variants.{Crate, Book}
+use Rattle.cascade.specs.Slot.{Slot, inheritedSlot, slotBy}
+use Rattle.cascade.specs.Record.{slotCount, mainRecord, beforeRecord, afterRecord, Record, emptyRecord, emptyStyle, inherit, inheritRecord, inheritInBookOrder, inheritBy}
+use Rattle.cascade.specs.Row.{slotWidth, recordWidth, styleRowWidth, recordPlace, slotNumbers, reads, readSlot, slotAt, windows, recordAt, styleAt, RowRoom, TwoRooms, presentFlag, presentRow, rewrites, rewriteRecord, inheritedRow, Inherited, Emptied}
 use Rattle.cascade.proofs.Windows.{reads-same, reads-sets, sets-low, sets-high}
 use Rattle.cascade.proofs.RowLaws.{cons-same, record-same, style-same, flag-one, slot-width, slots-back, same-windows, same-record}
 
@@ -45,43 +47,10 @@ inherit-by zs parent f e =
     (same-record zs parent recordWidth (λ p a b. f p (omega arith) (omega arith)))
     (same-record zs parent (2 * recordWidth) (λ p a b. f p (omega arith) (omega arith)))
 
--- ---- a row over another
-module _ (parent : List ℕ) (h : styleRowWidth ≤ length parent) where
-  -- the loop: what is left to copy, onto what is copied so far, gives the whole
-  pub copy-more : (row : List ℕ) (i : ℕ) → i < styleRowWidth → sets row i (take (styleRowWidth - i) (drop i parent)) ≡ sets (set row i (getD parent i 0)) (i + 1) (take (styleRowWidth - (i + 1)) (drop (i + 1) parent))
-  copy-more row i k =
-      let z : styleRowWidth - i ≡ suc (styleRowWidth - (i + 1)) = omega arith in
-      let y : i + 1 ≡ suc i = omega arith in
-      rw (z, y, drop-cons parent i 0 (omega arith))
-
--- and where nothing is left, the row is the whole
-pub copy-done : (parent row : List ℕ) (i : ℕ) → styleRowWidth ≤ i → sets row i (take (styleRowWidth - i) (drop i parent)) ≡ row
-copy-done parent row i k = let z : styleRowWidth - i ≡ 0 = omega arith in rw z
-
-module _ (parent xs : List ℕ) (h : styleRowWidth ≤ length parent) (l : styleRowWidth ≤ length xs) where
-  -- its numbers are the parent's, but for the presence of the main record
-  pub inherit-number : (p : ℕ) → 0 < p → p < styleRowWidth → getD (inheritRow parent xs) p 0 ≡ getD parent p 0
-  unfolding inheritRow
-  inherit-number p a b =
-      let vs = take styleRowWidth parent in
-      let n : length vs ≡ styleRowWidth = length-take-le styleRowWidth parent h in
-      getD-set-other (sets xs 0 vs) 0 p 1 0 (λ e. omega arith)
-      ∙ sets-first vs xs p (omega (arith, n)) (omega (arith, n))
-      ∙ getD-take styleRowWidth parent p 0 b
-
-  -- which is set
-  pub inherit-presence : getD (inheritRow parent xs) 0 0 ≡ 1
-  unfolding inheritRow
-  inherit-presence = getD-set-same (sets xs 0 (take styleRowWidth parent)) 0 1 0 (omega (arith, length-sets xs 0 (take styleRowWidth parent)))
-
-  -- the style in a row that was inherited is the parent's, with the main record present
-  pub inherit-view : styleAt (inheritRow parent xs) ≡ inherit (styleAt parent)
-  inherit-view = inherit-by (inheritRow parent xs) parent inherit-number inherit-presence
-
--- in place
-pub inherit-in-place-view : (xs : List ℕ) → styleRowWidth ≤ length xs → styleAt (inheritRowInPlace xs) ≡ inherit (styleAt xs)
-unfolding inheritRowInPlace
-inherit-in-place-view xs h = inherit-by (set xs 0 1) xs (λ p a b. getD-set-other xs 0 p 1 0 (λ e. omega arith)) (getD-set-same xs 0 1 0 (omega arith))
+-- the main record made present, in place
+pub present-view : (xs : List ℕ) → styleRowWidth ≤ length xs → styleAt (presentRow xs) ≡ inherit (styleAt xs)
+unfolding presentRow
+present-view xs h = inherit-by (set xs 0 1) xs (λ p a b. getD-set-other xs 0 p 1 0 (λ e. omega arith)) (getD-set-same xs 0 1 0 (omega arith))
 
 -- ---- a row over one that stands behind it in the same store
 module _ (xs : List ℕ) (from to : ℕ) (h : TwoRooms xs from to) where
@@ -107,36 +76,14 @@ module _ (xs : List ℕ) (from to : ℕ) (h : TwoRooms xs from to) where
   pub within-done : (ys : List ℕ) (i : ℕ) → styleRowWidth ≤ i → sets ys (to + i) (take (styleRowWidth - i) (drop (from + i) xs)) ≡ ys
   within-done ys i k = let z : styleRowWidth - i ≡ 0 = omega arith in rw z
 
-  within-number : (p : ℕ) → 0 < p → p < styleRowWidth → getD (drop to (inheritRowWithin xs from to)) p 0 ≡ getD (drop from xs) p 0
-  unfolding inheritRowWithin
-  within-number p a b =
-      let vs = take styleRowWidth (drop from xs) in
-      let n : length vs ≡ styleRowWidth = length-take-le styleRowWidth (drop from xs) (omega (arith, length-drop from xs, h .apart, h .room)) in
-      getD-drop to (set (sets xs to vs) to 1) p 0
-      ∙ getD-set-other (sets xs to vs) to (to + p) 1 0 (λ e. omega arith)
-      ∙ sets-there vs xs to p (omega (arith, n)) (omega (arith, n, h .room))
-      ∙ getD-take styleRowWidth (drop from xs) p 0 b
-
-  within-presence : getD (drop to (inheritRowWithin xs from to)) 0 0 ≡ presentFlag
-  unfolding inheritRowWithin
-  within-presence =
-      let vs = take styleRowWidth (drop from xs) in
-      getD-drop to (set (sets xs to vs) to 1) 0 0
-      ∙ ap (λ (p : ℕ). getD (set (sets xs to vs) to 1) p 0) (add-zero to)
-      ∙ getD-set-same (sets xs to vs) to 1 0 (omega (arith, length-sets xs to vs, h .room))
-
-  -- the style in the child's row is the parent's, with the main record present
-  pub within-view : styleAt (drop to (inheritRowWithin xs from to)) ≡ inherit (styleAt (drop from xs))
-  within-view = inherit-by (drop to (inheritRowWithin xs from to)) (drop from xs) within-number within-presence
-
 -- ---- slots rewritten one after the other
-pub rewrites-long : (u : Slot → Slot) (n i : ℕ) (xs : List ℕ) → length (rewrites u i n xs) ≡ length xs
+pub rewrites-long : (u : Slot Value → Slot Value) (n i : ℕ) (xs : List ℕ) → length (rewrites u i n xs) ≡ length xs
 unfolding rewrites
 rewrites-long u zero i xs = refl
 rewrites-long u (suc n) i xs = rewrites-long u n (i + slotWidth) (sets xs i (slotNumbers (u (slotAt xs i)))) ∙ length-sets xs i (slotNumbers (u (slotAt xs i)))
 
 -- numbers before them stay
-pub rewrites-low : (u : Slot → Slot) (n i : ℕ) (xs : List ℕ) (p : ℕ) → p < i → getD (rewrites u i n xs) p 0 ≡ getD xs p 0
+pub rewrites-low : (u : Slot Value → Slot Value) (n i : ℕ) (xs : List ℕ) (p : ℕ) → p < i → getD (rewrites u i n xs) p 0 ≡ getD xs p 0
 unfolding rewrites
 rewrites-low u zero i xs p h = refl
 rewrites-low u (suc n) i xs p h =
@@ -144,7 +91,7 @@ rewrites-low u (suc n) i xs p h =
     rewrites-low u n (i + slotWidth) (sets xs i vs) p (omega arith) ∙ sets-low vs xs i p h
 
 -- and those behind them
-pub rewrites-high : (u : Slot → Slot) (n i : ℕ) (xs : List ℕ) (p : ℕ) → i + n * slotWidth ≤ p → getD (rewrites u i n xs) p 0 ≡ getD xs p 0
+pub rewrites-high : (u : Slot Value → Slot Value) (n i : ℕ) (xs : List ℕ) (p : ℕ) → i + n * slotWidth ≤ p → getD (rewrites u i n xs) p 0 ≡ getD xs p 0
 unfolding rewrites
 rewrites-high u zero i xs p h = refl
 rewrites-high u (suc n) i xs p h =
@@ -152,7 +99,7 @@ rewrites-high u (suc n) i xs p h =
     rewrites-high u n (i + slotWidth) (sets xs i vs) p (omega arith) ∙ sets-high vs xs i p (omega (arith, slot-width (u (slotAt xs i))))
 
 -- the slots are then the rewritten ones, number by number
-pub rewrites-windows : (u : Slot → Slot) (n i : ℕ) (xs : List ℕ) → i + n * slotWidth ≤ length xs
+pub rewrites-windows : (u : Slot Value → Slot Value) (n i : ℕ) (xs : List ℕ) → i + n * slotWidth ≤ length xs
     → windows (rewrites u i n xs) i n ≡ map slotNumbers (map u (map readSlot (windows xs i n)))
 unfolding rewrites windows
 rewrites-windows u zero i xs h = refl
@@ -166,18 +113,18 @@ rewrites-windows u (suc n) i xs h =
     (rewrites-windows u n (i + slotWidth) ys (omega (arith, length-sets xs i vs))
     ∙ ap (λ (w : List (List ℕ)). map slotNumbers (map u (map readSlot w))) (same-windows n ys xs (i + slotWidth) (λ p a b. sets-high vs xs i p (omega (arith, slot-width s)))))
   where
-    there : (xs : List ℕ) (i : ℕ) (s : Slot) → i + slotWidth ≤ length xs → reads (sets xs i (slotNumbers s)) i 0 slotWidth ≡ slotNumbers s
+    there : (xs : List ℕ) (i : ℕ) (s : Slot Value) → i + slotWidth ≤ length xs → reads (sets xs i (slotNumbers s)) i 0 slotWidth ≡ slotNumbers s
     there xs i s h = rw (slot-width s) at (reads-sets (slotNumbers s) xs i (omega (arith, slot-width s)))
 
     here : (xs : List ℕ) (i : ℕ) → slotNumbers (u (slotAt xs i)) ≡ slotNumbers (u (readSlot (reads xs i 0 slotWidth)))
     here xs i = unfold slotAt in refl
 
 -- and as slots
-pub rewrites-slots : (u : Slot → Slot) (n i : ℕ) (xs : List ℕ) → i + n * slotWidth ≤ length xs → map readSlot (windows (rewrites u i n xs) i n) ≡ map u (map readSlot (windows xs i n))
+pub rewrites-slots : (u : Slot Value → Slot Value) (n i : ℕ) (xs : List ℕ) → i + n * slotWidth ≤ length xs → map readSlot (windows (rewrites u i n xs) i n) ≡ map u (map readSlot (windows xs i n))
 rewrites-slots u n i xs h = ap (map readSlot) (rewrites-windows u n i xs h) ∙ slots-back (map u (map readSlot (windows xs i n)))
 
 -- the record in the row is then the rewritten one, and as present as before
-module _ (u : Slot → Slot) (r : ℕ) (xs : List ℕ) where
+module _ (u : Slot Value → Slot Value) (r : ℕ) (xs : List ℕ) where
   -- the row stays as long as it is
   pub rewritten-long : length (rewriteRecord u r xs) ≡ length xs
   unfolding rewriteRecord
@@ -201,22 +148,22 @@ module _ (u : Slot → Slot) (r : ℕ) (xs : List ℕ) where
   rewritten-behind b h = same-record (rewrites u (recordPlace r + 1) slotCount xs) xs b (λ p a c. rewrites-high u slotCount (recordPlace r + 1) xs p (omega arith))
 
 -- the first of the slots that are left
-pub rewrites-more : (u : Slot → Slot) (i left : ℕ) (xs : List ℕ) → 0 < left → rewrites u (i + slotWidth) (left - 1) (sets xs i (slotNumbers (u (slotAt xs i)))) ≡ rewrites u i left xs
+pub rewrites-more : (u : Slot Value → Slot Value) (i left : ℕ) (xs : List ℕ) → 0 < left → rewrites u (i + slotWidth) (left - 1) (sets xs i (slotNumbers (u (slotAt xs i)))) ≡ rewrites u i left xs
 unfolding rewrites
 rewrites-more u i zero xs h = absurd (omega arith)
 rewrites-more u i (suc n) xs h = let z : suc n - 1 ≡ n = omega arith in rw z
 
 -- and where none is left, the row is the whole
-pub rewrites-done : (u : Slot → Slot) (i left : ℕ) (xs : List ℕ) → left ≤ 0 → rewrites u i left xs ≡ xs
+pub rewrites-done : (u : Slot Value → Slot Value) (i left : ℕ) (xs : List ℕ) → left ≤ 0 → rewrites u i left xs ≡ xs
 unfolding rewrites
 rewrites-done u i zero xs h = refl
 rewrites-done u i (suc n) xs h = absurd (omega arith)
 
 -- the loop: s is taken out, n put back; what is left to rewrite, in what is rewritten so far, gives the whole
-pub rewrite-turn : (u : Slot → Slot) (i left : ℕ) (xs ys w : List ℕ) (s n : Slot) → 0 < left → s ≡ slotAt xs i → n ≡ u s → ys ≡ sets xs i (slotNumbers n)
+pub rewrite-turn : (u : Slot Value → Slot Value) (i left : ℕ) (xs ys w : List ℕ) (s n : code.Slot) → 0 < left → slotBy s ≡ slotAt xs i → slotBy n ≡ u (slotBy s) → ys ≡ sets xs i (slotNumbers (slotBy n))
     → rewrites u i left xs ≡ w → rewrites u (i + slotWidth) (left - 1) ys ≡ w
 rewrite-turn u i left xs ys w s n h e f g k =
-    ap (rewrites u (i + slotWidth) (left - 1)) (g ∙ ap (λ (t : Slot). sets xs i (slotNumbers t)) (f ∙ ap u e)) ∙ rewrites-more u i left xs h ∙ k
+    ap (rewrites u (i + slotWidth) (left - 1)) (g ∙ ap (λ (t : Slot Value). sets xs i (slotNumbers t)) (f ∙ ap u e)) ∙ rewrites-more u i left xs h ∙ k
 
 -- ---- the main record made present
 module _ (xs : List ℕ) (h : styleRowWidth ≤ length xs) where
@@ -237,7 +184,7 @@ module _ (xs : List ℕ) (h : styleRowWidth ≤ length xs) where
 
 -- ---- the style in a row that was rewritten is the inherited one
 module _ (xs : List ℕ) (h : styleRowWidth ≤ length xs) where
-  abbrev u : Slot → Slot
+  abbrev u : Slot Value → Slot Value
   u = inheritedSlot
 
   abbrev one : List ℕ
@@ -277,11 +224,11 @@ module _ (xs : List ℕ) (h : styleRowWidth ≤ length xs) where
   after-three = after-two ∙ ap inheritRecord (rewritten-behind u beforeRecord one (2 * recordWidth) (omega arith) ∙ rewritten-behind u mainRecord xs (2 * recordWidth) (omega arith))
 
   -- each slot as a normal author value of specificity 0
-  pub inherit-book-view : styleAt (inheritRowInBookOrder xs) ≡ inheritInBookOrder (styleAt xs)
-  unfolding styleAt inheritInBookOrder inheritRowInBookOrder
+  pub inherit-book-view : styleAt (inheritedRow Book xs) ≡ inheritInBookOrder (styleAt xs)
+  unfolding styleAt inheritInBookOrder inheritedRow presentRow
   inherit-book-view =
       style-same _ _ _ _ _ _
-      (present-main three (omega (arith, long-three)) ∙ ap (λ (p : Record). record { present = true; slots = p .slots }) main-slots)
+      (present-main three (omega (arith, long-three)) ∙ ap (λ (p : Record Value). record { present = true; slots = p .slots }) main-slots)
       (present-other three (omega (arith, long-three)) recordWidth (omega arith) ∙ before-three)
       (present-other three (omega (arith, long-three)) (2 * recordWidth) (omega arith) ∙ after-three)
     where
@@ -294,7 +241,7 @@ zeros-number n xs p h l = let e : length (replicate {A = ℕ} n 0) ≡ n = lengt
 
 -- nothing is declared in it
 pub empty-row : styleAt (replicate styleRowWidth 0) ≡ emptyStyle
-unfolding styleAt recordAt windows readSlot emptyStyle emptyRecord emptySlot noSpecificity specificityOf flagOf is
+unfolding styleAt recordAt windows readSlot emptyStyle emptyRecord flagOf is pick
 empty-row = refl
 
 -- nor in a row over which zeros were written
@@ -310,27 +257,18 @@ empty-view xs h = all-same ∙ empty-row
         (same-record (sets xs 0 (replicate styleRowWidth 0)) (replicate styleRowWidth 0) (2 * recordWidth) (λ p a b. zeros-number styleRowWidth xs p h (omega arith)))
 
 -- ---- what the functions leave
-pub inherited : (parent xs row ys : List ℕ) → RowRoom parent → RowRoom xs → row ≡ sets xs 0 (take styleRowWidth parent) → ys ≡ set row 0 1 → Inherited parent xs ys
-inherited parent xs row ys h l e f =
-    let n : ys ≡ inheritRow parent xs = unfold inheritRow in (f ∙ ap (λ (r : List ℕ). set r 0 1) e) in
-    record { numbers = n; meaning = ap styleAt n ∙ inherit-view parent xs (h .room) (l .room) }
-
 -- the main record made present
-pub inherited-in-place : (xs ys : List ℕ) → RowRoom xs → ys ≡ set xs 0 presentFlag → InheritedInPlace xs ys
-inherited-in-place xs ys h e = let n : ys ≡ inheritRowInPlace xs = unfold inheritRowInPlace in e in record { numbers = n; meaning = ap styleAt n ∙ inherit-in-place-view xs (h .room) }
-
--- copied within a store
-pub inherited-within : (xs row ys : List ℕ) (from to : ℕ) → TwoRooms xs from to → row ≡ sets xs to (take styleRowWidth (drop from xs)) → ys ≡ set row to presentFlag → InheritedWithin xs from to ys
-inherited-within xs row ys from to h e f =
-    let n : ys ≡ inheritRowWithin xs from to = unfold inheritRowWithin in (f ∙ ap (λ (r : List ℕ). set r to presentFlag) e) in
-    record { numbers = n; meaning = ap (λ (r : List ℕ). styleAt (drop to r)) n ∙ within-view xs from to h }
+pub inherited-by-crate : (k : Cascade) (xs ys : List ℕ) → k ≡ Crate → RowRoom xs → ys ≡ set xs 0 presentFlag → Inherited k xs ys
+inherited-by-crate k xs ys i h e =
+    let n : ys ≡ inheritedRow Crate xs = unfold inheritedRow in unfold presentRow in e in
+    rw i (record { numbers = n; meaning = ap styleAt n ∙ (unfold inheritedRow in unfold inheritBy in present-view xs (h .room)) })
 
 -- the three records rewritten, and the main one present
-pub inherited-in-book-order : (xs a b c ys : List ℕ) → RowRoom xs → a ≡ rewriteRecord inheritedSlot mainRecord xs → b ≡ rewriteRecord inheritedSlot beforeRecord a
-    → c ≡ rewriteRecord inheritedSlot afterRecord b → ys ≡ set c 0 1 → InheritedInBookOrder xs ys
-inherited-in-book-order xs a b c ys h e f g k =
-    let n : ys ≡ inheritRowInBookOrder xs = unfold inheritRowInBookOrder in (k ∙ ap (λ (r : List ℕ). set r 0 1) (g ∙ ap (rewriteRecord inheritedSlot afterRecord) (f ∙ ap (rewriteRecord inheritedSlot beforeRecord) e))) in
-    record { numbers = n; meaning = ap styleAt n ∙ inherit-book-view xs (h .room) }
+pub inherited-in-book-order : (k : Cascade) (xs a b c ys : List ℕ) → k ≡ Book → RowRoom xs → a ≡ rewriteRecord inheritedSlot mainRecord xs → b ≡ rewriteRecord inheritedSlot beforeRecord a
+    → c ≡ rewriteRecord inheritedSlot afterRecord b → ys ≡ set c 0 1 → Inherited k xs ys
+inherited-in-book-order k xs a b c ys i h e f g j =
+    let n : ys ≡ inheritedRow Book xs = unfold inheritedRow in unfold presentRow in (j ∙ ap (λ (r : List ℕ). set r 0 1) (g ∙ ap (rewriteRecord inheritedSlot afterRecord) (f ∙ ap (rewriteRecord inheritedSlot beforeRecord) e))) in
+    rw i (record { numbers = n; meaning = ap styleAt n ∙ (unfold inheritBy in inherit-book-view xs (h .room)) })
 
 -- zeros over the row
 pub emptied : (xs ys : List ℕ) → RowRoom xs → ys ≡ wiped 0 styleRowWidth xs → Emptied xs ys

@@ -8,21 +8,21 @@ use lib.ListN.{length, getD, set, take, drop, length-append, length-drop, take-a
 use lib.Seq.{drop-cons, take-add, drop-drop, take-all, getD-at}
 use Rattle.combinators.proofs.Rules.{pick-holds}
 use Rattle.syntax.specs.Layout.{flag, flagOf}
-use Rattle.cascade.specs.declared.slots.Slot.{Slot}
-use Rattle.cascade.specs.Slot.{Candidate}
+use Rattle.syntax.specs.declared.styles.Value.{Value}
+use Rattle.cascade.specs.Slot.{Candidate, Slot}
 use Rattle.cascade.specs.Record.{slotCount, recordCount, mainRecord, beforeRecord, afterRecord, emptyRecord, emptyStyle, Record, ComputedStyle, Formed, Declared, isNamed, mergeBy}
-use Rattle.cascade.specs.Row.{presenceWidth, slotWidth, recordWidth, styleRowWidth, recordPlace, slotPlace, slotNumbers, slotsNumbers, recordNumbers, rowOf, reads, readSlot, slotAt, windows, recordAt, styleAt, FlagsFine, AllFine, RecordFine, RowFine, updateRow, mergeRowBy}
+use Rattle.cascade.specs.Row.{presenceWidth, slotWidth, recordWidth, styleRowWidth, recordPlace, slotPlace, slotNumbers, slotsNumbers, recordNumbers, rowOf, reads, readSlot, slotAt, windows, recordAt, styleAt, SlotFine, AllFine, RecordFine, RowFine, updateRow, mergeRowBy}
 use Rattle.cascade.proofs.Windows.{reads-is, reads-at}
-use Rattle.cascade.proofs.RowLaws.{cons-same, record-same, style-same, flag-back, flag-forth, flag-small, slot-width, slot-fine, slot-forth, slots-back, slots-fine, same-windows, update-long, update-low, update-high, update-presence, update-windows, Which, isMain, isBefore, isAfter, which}
+use Rattle.cascade.proofs.RowLaws.{cons-same, record-same, style-same, flag-back, flag-forth, flag-small, slot-width, slot-fine, slots-back, slots-fine, same-windows, update-long, update-low, update-high, update-presence, update-windows, Which, isMain, isBefore, isAfter, which}
 use Rattle.cascade.proofs.Merging.{named-says, merge-long, merge-view}
 
 -- ---- written, then read
-slots-width : (ss : List Slot) → length (slotsNumbers ss) ≡ length ss * slotWidth
+slots-width : (ss : List (Slot Value)) → length (slotsNumbers ss) ≡ length ss * slotWidth
 unfolding slotsNumbers
 slots-width [] = refl
 slots-width (s ∷ ss) = omega (arith, length-append (slotNumbers s) (slotsNumbers ss), slot-width s, slots-width ss)
 
-windows-of : (ss : List Slot) (p q : List ℕ) (i : ℕ) → length p ≡ i → windows (p ++ (slotsNumbers ss ++ q)) i (length ss) ≡ map slotNumbers ss
+windows-of : (ss : List (Slot Value)) (p q : List ℕ) (i : ℕ) → length p ≡ i → windows (p ++ (slotsNumbers ss ++ q)) i (length ss) ≡ map slotNumbers ss
 unfolding windows slotsNumbers
 windows-of [] p q i e = refl
 windows-of (s ∷ ss) p q i e =
@@ -33,11 +33,11 @@ windows-of (s ∷ ss) p q i e =
     (ap (λ (l : List ℕ). reads l i 0 slotWidth) y ∙ subst (λ (n : ℕ). reads (p ++ (slotNumbers s ++ (slotsNumbers ss ++ q))) i 0 n ≡ slotNumbers s) (slot-width s) (reads-at p (slotNumbers s) (slotsNumbers ss ++ q) i e))
     (ap (λ (l : List ℕ). windows l (i + slotWidth) (length ss)) z ∙ windows-of ss (p ++ slotNumbers s) q (i + slotWidth) (omega (arith, length-append p (slotNumbers s), slot-width s)))
 
-record-width : (a : Record) → length (a .slots) ≡ slotCount → length (recordNumbers a) ≡ recordWidth
+record-width : (a : Record Value) → length (a .slots) ≡ slotCount → length (recordNumbers a) ≡ recordWidth
 unfolding recordNumbers
 record-width a h = omega (arith, slots-width (a .slots))
 
-module _ (p q : List ℕ) (a : Record) (b : ℕ) (e : length p ≡ b) (h : length (a .slots) ≡ slotCount) where
+module _ (p q : List ℕ) (a : Record Value) (b : ℕ) (e : length p ≡ b) (h : length (a .slots) ≡ slotCount) where
   slots-there : windows (p ++ (recordNumbers a ++ q)) (b + 1) slotCount ≡ map slotNumbers (a .slots)
   unfolding recordNumbers
   slots-there =
@@ -61,7 +61,7 @@ module _ (p q : List ℕ) (a : Record) (b : ℕ) (e : length p ≡ b) (h : lengt
   record-fine = record { presence = rw presence-there (flag-small (a .present)); all = subst AllFine (sym slots-there) (slots-fine (a .slots)) }
 
 -- the row as each of its records sees it
-module _ (s : ComputedStyle) (f : Formed s) where
+module _ (s : ComputedStyle Value) (f : Formed s) where
   abbrev A : List ℕ
   A = recordNumbers (s .main)
 
@@ -109,7 +109,7 @@ slots-forth (suc n) xs i h f =
     let z : suc n * slotWidth ≡ slotWidth + n * slotWidth = omega arith in
     let l : reads xs i 0 slotWidth ≡ take slotWidth (drop i xs) = reads-is slotWidth xs i 0 (omega arith) ∙ ap (λ (j : ℕ). take slotWidth (drop j xs)) (add-zero i) in
     let r : take (n * slotWidth) (drop (i + slotWidth) xs) ≡ take (n * slotWidth) (drop slotWidth (drop i xs)) = ap (take (n * slotWidth)) (sym (drop-drop slotWidth i xs)) in
-    ap (λ (y : List ℕ). y ++ slotsNumbers (map readSlot (windows xs (i + slotWidth) n))) (slot-forth xs i (f .0) ∙ l)
+    ap (λ (y : List ℕ). y ++ slotsNumbers (map readSlot (windows xs (i + slotWidth) n))) (f .0 ∙ l)
     ∙ ap (λ (y : List ℕ). take slotWidth (drop i xs) ++ y) (slots-forth n xs (i + slotWidth) (omega arith) (f .1) ∙ r)
     ∙ sym (ap (λ (m : ℕ). take m (drop i xs)) z ∙ take-add slotWidth (n * slotWidth) (drop i xs))
 
@@ -150,12 +150,12 @@ unfolding styleAt recordAt
 view-formed xs = record { main = slots-count xs (recordPlace mainRecord + presenceWidth); before = slots-count xs (recordPlace beforeRecord + presenceWidth); after = slots-count xs (recordPlace afterRecord + presenceWidth) }
 
 -- the style in which nothing is declared has them too
-pub empty-formed : Formed emptyStyle
+pub empty-formed : {A : Type 0} → Formed (emptyStyle {A = A})
 unfolding emptyStyle emptyRecord
 empty-formed = record { main = refl; before = refl; after = refl }
 
 -- ---- an update keeps a row well formed
-all-set : (ws : List (List ℕ)) (k : ℕ) (v : List ℕ) → AllFine ws → FlagsFine v → AllFine (set ws k v)
+all-set : (ws : List (List ℕ)) (k : ℕ) (v : List ℕ) → AllFine ws → SlotFine v → AllFine (set ws k v)
 all-set [] k v f g = f
 all-set (w ∷ ws) zero v f g = (g, f .1)
 all-set (w ∷ ws) (suc k) v f g = (f .0, all-set ws k v (f .1) g)
@@ -167,7 +167,7 @@ same-fine xs ys b f g = record {
   all = subst AllFine (sym (same-windows slotCount ys xs (b + 1) (λ p h k. f p (omega arith) (omega arith)))) (g .all);
 }
 
-module _ (r k : ℕ) (u : Slot → Slot) (xs : List ℕ) (long : styleRowWidth ≤ length xs) (h : r < recordCount) (l : k < slotCount) where
+module _ (r k : ℕ) (u : Slot Value → Slot Value) (xs : List ℕ) (long : styleRowWidth ≤ length xs) (h : r < recordCount) (l : k < slotCount) where
   fine-there : RecordFine xs (recordPlace r) → RecordFine (updateRow r k u xs) (recordPlace r)
   fine-there g =
       let s = u (slotAt xs (slotPlace r k)) in
@@ -195,9 +195,9 @@ module _ (r k : ℕ) (u : Slot → Slot) (xs : List ℕ) (long : styleRowWidth �
       go (isAfter e) = record { long = update-long r k u xs ∙ f .long; main = fine-before 0 (omega arith) (f .main); before = fine-before recordWidth (omega arith) (f .before); after = fine-here (2 * recordWidth) (omega arith) (f .after) }
 
 -- ---- declarations merged into a row, one and many, by any update of slots
-module _ (u : Slot → Candidate → Slot) where
+module _ (u : Slot Value → Candidate Value → Slot Value) where
   -- a declaration leaves a row well formed
-  pub merge-fine : (xs : List ℕ) (d : Declared) → RowFine xs → RowFine (mergeRowBy u xs d)
+  pub merge-fine : (xs : List ℕ) (d : Declared Value) → RowFine xs → RowFine (mergeRowBy u xs d)
   unfolding mergeRowBy
   merge-fine xs d f =
       pick-holds RowFine (isNamed (d .pseudo) (d .slot)) _ xs
@@ -205,17 +205,17 @@ module _ (u : Slot → Candidate → Slot) where
       (λ e. f)
 
   -- the style in the row is the fold of the declarations
-  pub merges-view : (ds : List Declared) (xs : List ℕ) → styleRowWidth ≤ length xs → styleAt (foldl (mergeRowBy u) xs ds) ≡ foldl (mergeBy u) (styleAt xs) ds
+  pub merges-view : (ds : List (Declared Value)) (xs : List ℕ) → styleRowWidth ≤ length xs → styleAt (foldl (mergeRowBy u) xs ds) ≡ foldl (mergeBy u) (styleAt xs) ds
   merges-view [] xs h = refl
-  merges-view (d ∷ ds) xs h = merges-view ds (mergeRowBy u xs d) (omega (arith, merge-long u xs d)) ∙ ap (λ (s : ComputedStyle). foldl (mergeBy u) s ds) (merge-view u xs d h)
+  merges-view (d ∷ ds) xs h = merges-view ds (mergeRowBy u xs d) (omega (arith, merge-long u xs d)) ∙ ap (λ (s : ComputedStyle Value). foldl (mergeBy u) s ds) (merge-view u xs d h)
 
   -- the row stays well formed
-  pub merges-fine : (ds : List Declared) (xs : List ℕ) → RowFine xs → RowFine (foldl (mergeRowBy u) xs ds)
+  pub merges-fine : (ds : List (Declared Value)) (xs : List ℕ) → RowFine xs → RowFine (foldl (mergeRowBy u) xs ds)
   merges-fine [] xs f = f
   merges-fine (d ∷ ds) xs f = merges-fine ds (mergeRowBy u xs d) (merge-fine xs d f)
 
   -- and a written row, merged into, is the written row of the merged style
-  pub merges-layout : (ds : List Declared) (s : ComputedStyle) → Formed s → foldl (mergeRowBy u) (rowOf s) ds ≡ rowOf (foldl (mergeBy u) s ds)
+  pub merges-layout : (ds : List (Declared Value)) (s : ComputedStyle Value) → Formed s → foldl (mergeRowBy u) (rowOf s) ds ≡ rowOf (foldl (mergeBy u) s ds)
   merges-layout ds s f =
       sym (row-back (foldl (mergeRowBy u) (rowOf s) ds) (merges-fine ds (rowOf s) (row-fine s f)))
-      ∙ ap rowOf (merges-view ds (rowOf s) (omega (arith, row-long s f)) ∙ ap (λ (t : ComputedStyle). foldl (mergeBy u) t ds) (style-back s f))
+      ∙ ap rowOf (merges-view ds (rowOf s) (omega (arith, row-long s f)) ∙ ap (λ (t : ComputedStyle Value). foldl (mergeBy u) t ds) (style-back s f))

@@ -6,14 +6,14 @@ use Prim.Native.Nat.{ℕ, zero, suc, _+_, _*_, _≤_, _<_}
 use native.Mathlib.Omega.{arith}
 use lib.ListN.{length, getD, set, length-set, List·getD-map}
 use lib.Seq.{sets, length-sets, getD-set-same, getD-set-other}
-use Rattle.combinators.specs.Choice.{is}
+use Rattle.combinators.specs.Choice.{pick, is}
 use Rattle.combinators.proofs.Rules.{pick-true, pick-false, is-yes, is-no}
 use Rattle.syntax.specs.Layout.{flag, flagOf}
-use Rattle.cascade.specs.declared.slots.Slot.{Slot}
-use Rattle.cascade.specs.Slot.{emptySlot}
-use Rattle.cascade.specs.Specificity.{noSpecificity, specificityOf}
+use Rattle.syntax.specs.Layout.{valueNumbers}
+use Rattle.syntax.specs.declared.styles.Value.{Value}
+use Rattle.cascade.specs.Slot.{Candidate, Slot, empty, held}
 use Rattle.cascade.specs.Record.{slotCount, recordCount, mainRecord, beforeRecord, afterRecord, Record, ComputedStyle, slotOf, updateRecord, updateStyle}
-use Rattle.cascade.specs.Row.{slotFilled, slotInline, slotImportant, slotWidth, recordWidth, styleRowWidth, recordPlace, slotPlace, slotNumbers, reads, readSlot, slotAt, windows, recordAt, styleAt, FlagsFine, AllFine, updateRow}
+use Rattle.cascade.specs.Row.{slotWidth, recordWidth, styleRowWidth, recordPlace, slotPlace, slotNumbers, reads, readCandidate, readSlot, slotAt, windows, recordAt, styleAt, SlotFine, AllFine, updateRow}
 use Rattle.cascade.proofs.Windows.{reads-same, reads-sets, sets-low, sets-high}
 
 -- ---- pairs of equal things
@@ -21,12 +21,12 @@ pub cons-same : {A : Type 0} (a b : A) (l m : List A) → a ≡ b → l ≡ m �
 cons-same a b l m e f = rw (e, f)
 
 -- records
-pub record-same : (b c : Bool) (l m : List Slot) → b ≡ c → l ≡ m → _≡_ {A = Record} (record { present = b; slots = l }) (record { present = c; slots = m })
+pub record-same : {A : Type 0} (b c : Bool) (l m : List (Slot A)) → b ≡ c → l ≡ m → _≡_ {A = Record A} (record { present = b; slots = l }) (record { present = c; slots = m })
 record-same b c l m e f = rw (e, f)
 
 -- styles
-pub style-same : (a b c d e f : Record) → a ≡ d → b ≡ e → c ≡ f
-    → _≡_ {A = ComputedStyle} (record { main = a; before = b; after = c }) (record { main = d; before = e; after = f })
+pub style-same : {A : Type 0} (a b c d e f : Record A) → a ≡ d → b ≡ e → c ≡ f
+    → _≡_ {A = ComputedStyle A} (record { main = a; before = b; after = c }) (record { main = d; before = e; after = f })
 style-same a b c d e f p q r = rw (p, q, r)
 
 -- a list after a change, each member by a function
@@ -60,38 +60,40 @@ unfolding flagOf is
 flag-one = refl
 
 -- ---- one slot: its numbers, and back. These name the numbers of a slot
-pub slot-width : (s : Slot) → length (slotNumbers s) ≡ slotWidth
-unfolding slotNumbers
-slot-width s = refl
+pub slot-width : (s : Slot Value) → length (slotNumbers s) ≡ slotWidth
+unfolding slotNumbers valueNumbers
+slot-width empty = refl
+slot-width (held c) = refl
 
 -- read back
-pub slot-back : (s : Slot) → readSlot (slotNumbers s) ≡ s
-unfolding readSlot slotNumbers
-slot-back s = rw (flag-back (s .filled), flag-back (s .spec .inline), flag-back (s .important))
+candidate-back : (c : Candidate Value) → readCandidate (slotNumbers (held c)) ≡ c
+unfolding readCandidate slotNumbers valueNumbers
+candidate-back c = rw (flag-back (c .weight .spec .inline), flag-back (c .weight .important))
 
--- its flags are flags
-pub slot-fine : (s : Slot) → FlagsFine (slotNumbers s)
-unfolding slotNumbers
-slot-fine s = (flag-small (s .filled), flag-small (s .spec .inline), flag-small (s .important))
+pub slot-back : (s : Slot Value) → readSlot (slotNumbers s) ≡ s
+slot-back empty = unfold readSlot in unfold slotNumbers in unfold flagOf in unfold is in unfold pick in refl
+slot-back (held c) = unfold readSlot in (filled ∙ ap held (candidate-back c))
+  where
+    filled : pick (flagOf (getD (slotNumbers (held c)) 0 0)) (held (readCandidate (slotNumbers (held c)))) empty ≡ held (readCandidate (slotNumbers (held c)))
+    filled = unfold slotNumbers in unfold flagOf in unfold is in unfold pick in refl
 
--- written again, where the flags are flags
-pub slot-forth : (xs : List ℕ) (i : ℕ) → FlagsFine (reads xs i 0 slotWidth) → slotNumbers (readSlot (reads xs i 0 slotWidth)) ≡ reads xs i 0 slotWidth
-unfolding readSlot slotNumbers
-slot-forth xs i h = rw (flag-forth (getD xs (i + slotFilled) 0) (h .0), flag-forth (getD xs (i + slotInline) 0) (h .1), flag-forth (getD xs (i + slotImportant) 0) (h .2))
+-- so written again it is itself
+pub slot-fine : (s : Slot Value) → SlotFine (slotNumbers s)
+slot-fine s = ap slotNumbers (slot-back s)
 
 -- the same for all slots of a record
-pub slots-back : (ss : List Slot) → map readSlot (map slotNumbers ss) ≡ ss
+pub slots-back : (ss : List (Slot Value)) → map readSlot (map slotNumbers ss) ≡ ss
 slots-back [] = refl
 slots-back (s ∷ ss) = cons-same (readSlot (slotNumbers s)) s (map readSlot (map slotNumbers ss)) ss (slot-back s) (slots-back ss)
 
--- their flags are flags
-pub slots-fine : (ss : List Slot) → AllFine (map slotNumbers ss)
+-- written again they are themselves
+pub slots-fine : (ss : List (Slot Value)) → AllFine (map slotNumbers ss)
 slots-fine [] = tt
 slots-fine (s ∷ ss) = (slot-fine s, slots-fine ss)
 
 -- no numbers are the empty slot
-pub slot-empty : readSlot [] ≡ emptySlot
-unfolding readSlot emptySlot noSpecificity specificityOf flagOf is
+pub slot-empty : readSlot [] ≡ empty
+unfolding readSlot flagOf is pick
 slot-empty = refl
 
 -- ---- the slots of a record, number by number
@@ -128,11 +130,11 @@ get-windows (suc n) (suc k) xs i h =
     rw z (get-windows n k xs (i + slotWidth) (omega arith))
 
 -- ---- the view after an update of slot k of record r
-pub update-long : (r k : ℕ) (u : Slot → Slot) (xs : List ℕ) → length (updateRow r k u xs) ≡ length xs
+pub update-long : (r k : ℕ) (u : Slot Value → Slot Value) (xs : List ℕ) → length (updateRow r k u xs) ≡ length xs
 unfolding updateRow
 update-long r k u xs = simp (length-set, length-sets)
 
-module _ (r k : ℕ) (u : Slot → Slot) (xs : List ℕ) (h : recordPlace r + recordWidth ≤ length xs) (l : k < slotCount) where
+module _ (r k : ℕ) (u : Slot Value → Slot Value) (xs : List ℕ) (h : recordPlace r + recordWidth ≤ length xs) (l : k < slotCount) where
   -- numbers before the record stay
   pub update-low : (p : ℕ) → p < recordPlace r → getD (updateRow r k u xs) p 0 ≡ getD xs p 0
   unfolding updateRow
@@ -171,7 +173,7 @@ module _ (r k : ℕ) (u : Slot → Slot) (xs : List ℕ) (h : recordPlace r + re
   pub slot-there : slotOf (recordAt xs (recordPlace r)) k ≡ slotAt xs (slotPlace r k)
   unfolding slotOf recordAt slotAt
   slot-there =
-      ap (λ (d : Slot). getD (map readSlot (windows xs (recordPlace r + 1) slotCount)) k d) (sym slot-empty)
+      ap (λ (d : Slot Value). getD (map readSlot (windows xs (recordPlace r + 1) slotCount)) k d) (sym slot-empty)
       ∙ List·getD-map readSlot (windows xs (recordPlace r + 1) slotCount) k []
       ∙ ap readSlot (get-windows slotCount k xs (recordPlace r + 1) l)
 
@@ -187,7 +189,7 @@ module _ (r k : ℕ) (u : Slot → Slot) (xs : List ℕ) (h : recordPlace r + re
       (ap flagOf update-presence ∙ flag-one)
       (ap (map readSlot) update-windows
       ∙ map-set readSlot ws k (slotNumbers s)
-      ∙ ap (λ (v : Slot). set (map readSlot ws) k v) (slot-back s ∙ t))
+      ∙ ap (λ (v : Slot Value). set (map readSlot ws) k v) (slot-back s ∙ t))
 
 -- the same numbers are the same record
 pub same-record : (xs ys : List ℕ) (b : ℕ) → ((p : ℕ) → b ≤ p → p < b + recordWidth → getD xs p 0 ≡ getD ys p 0) → recordAt xs b ≡ recordAt ys b
@@ -210,7 +212,7 @@ which (suc zero) h = isBefore refl
 which (suc (suc zero)) h = isAfter refl
 which (suc (suc (suc r))) h = absurd (omega arith)
 
-module _ (r k : ℕ) (u : Slot → Slot) (s : ComputedStyle) where
+module _ {A : Type 0} (r k : ℕ) (u : Slot A → Slot A) (s : ComputedStyle A) where
   -- the main record is updated
   pub update-main : r ≡ mainRecord → updateStyle r k u s ≡ record { main = updateRecord k u (s .main); before = s .before; after = s .after }
   unfolding updateStyle
@@ -226,7 +228,7 @@ module _ (r k : ℕ) (u : Slot → Slot) (s : ComputedStyle) where
   unfolding updateStyle
   update-after e = sym (pick-false _ _ _ _ (is-no r mainRecord (λ z. omega arith)) (pick-false _ _ _ _ (is-no r beforeRecord (λ z. omega arith)) refl))
 
-module _ (r k : ℕ) (u : Slot → Slot) (xs : List ℕ) (long : styleRowWidth ≤ length xs) (h : r < recordCount) (l : k < slotCount) where
+module _ (r k : ℕ) (u : Slot Value → Slot Value) (xs : List ℕ) (long : styleRowWidth ≤ length xs) (h : r < recordCount) (l : k < slotCount) where
   record-here : (b : ℕ) → recordPlace r ≡ b → recordAt (updateRow r k u xs) b ≡ updateRecord k u (recordAt xs b)
   record-here b e = rw e at (record-updated r k u xs (omega arith) l)
 

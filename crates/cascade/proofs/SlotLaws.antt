@@ -1,76 +1,102 @@
 -- What the tests of the code say of a slot after an update. Assumes nothing.
-use mathlib.Core.Path.{_≡_, refl}
+use mathlib.Core.Path.{_≡_, refl, sym, ap, _∙_}
 use mathlib.Core.Bool.{Bool, true, false}
 use Prim.Native.Nat.{ℕ, _≤_, _<_}
-use Rattle.combinators.specs.Choice.{and}
-use Rattle.combinators.proofs.Rules.{pick-true, pick-false, and-both, and-left, and-right, told}
-use Rattle.cascade.specs.declared.specificity.Specificity.{Specificity}
-use Rattle.cascade.specs.declared.slots.Slot.{Slot}
-use Rattle.cascade.specs.Specificity.{specificityOf, noSpecificity, less}
+use Rattle.combinators.proofs.Rules.{pick-true, pick-false, told}
 use Rattle.syntax.specs.Style.{authorOrigin}
-use Rattle.cascade.specs.Slot.{Candidate, held, heldAgainst, maybeUpdate, rank, heldInBook, bookUpdate, inheritedCandidate, inheritedSlot}
+use Rattle.syntax.specs.declared.styles.Value.{Value}
+use Rattle.cascade.specs.declared.specificity.Specificity.{Specificity}
+use Rattle.cascade.specs.declared.slots.Weight.{Weight}
+use Rattle.cascade.specs.declared.slots.Slot as code
+use Rattle.cascade.specs.declared.slots.Cascade.{Cascade}
+use Rattle.cascade.specs.declared.slots.Cascade.the-variants.{Crate, Book}
+use Rattle.cascade.specs.Specificity.{specificityOf, noSpecificity, less}
+use Rattle.cascade.specs.Slot.{Candidate, Slot, empty, held, heldAgainst, maybeUpdate, rank, rankOf, weaker, heldInBook, bookUpdate, updateBy, inheritedWeight, inheritedCandidate, inheritedSlot, slotBy}
 use Rattle.cascade.proofs.Orders.{then-lower, then-higher, then-same}
 
--- ---- the crate's update: t is what the tests say, n the slot made of the candidate
-module _ (s : Slot) (x : Candidate) where
-  -- a filled slot that holds its value against the candidate stays
-  pub crate-keeps : (t : Bool) → s .filled ≡ true → t ≡ heldAgainst s (x .important) (x .origin) (x .spec) → t ≡ true → s ≡ maybeUpdate s x
-  unfolding maybeUpdate
-  crate-keeps t f e y = pick-true _ _ _ _ (and-both _ _ f (told _ _ _ e y)) refl
+-- ---- the slot that the code's value says
+-- one that holds something
+pub filled-slot : (s : code.Slot) → s .filled ≡ true → slotBy s ≡ held (record { weight = s .weight; value = s .value })
+unfolding slotBy
+filled-slot s f = sym (pick-true _ _ _ _ f refl)
 
-  -- one that does not takes it
-  pub crate-takes : (t : Bool) (n : Slot) → t ≡ heldAgainst s (x .important) (x .origin) (x .spec) → t ≡ false → n ≡ held x → n ≡ maybeUpdate s x
+-- and one that holds nothing
+pub unfilled-slot : (s : code.Slot) → s .filled ≡ false → slotBy s ≡ empty
+unfolding slotBy
+unfilled-slot s f = sym (pick-false _ _ _ _ f refl)
+
+-- ---- the crate's update: t is what the tests say, n the slot made of the candidate
+module _ (s : code.Slot) (w : Weight) (v : Value) where
+  -- a filled slot whose value stays against the candidate stays
+  pub crate-keeps : (t : Bool) → s .filled ≡ true → t ≡ heldAgainst (s .weight) w → t ≡ true → slotBy s ≡ maybeUpdate (slotBy s) (record { weight = w; value = v })
   unfolding maybeUpdate
-  crate-takes t n e y h = pick-false _ _ _ _ (and-right _ _ (told _ _ _ e y)) h
+  crate-keeps t f e y = rw (filled-slot s f) (pick-true _ _ _ _ (told _ _ _ e y) refl)
+
+  -- one whose value does not takes it
+  pub crate-takes : (t : Bool) (n : code.Slot) → s .filled ≡ true → t ≡ heldAgainst (s .weight) w → t ≡ false → slotBy n ≡ held (record { weight = w; value = v })
+      → slotBy n ≡ maybeUpdate (slotBy s) (record { weight = w; value = v })
+  unfolding maybeUpdate
+  crate-takes t n f e y h = rw (filled-slot s f) (pick-false _ _ _ _ (told _ _ _ e y) h)
 
   -- and so does an empty slot
-  pub crate-fills : (n : Slot) → s .filled ≡ false → n ≡ held x → n ≡ maybeUpdate s x
+  pub crate-fills : (n : code.Slot) → s .filled ≡ false → slotBy n ≡ held (record { weight = w; value = v }) → slotBy n ≡ maybeUpdate (slotBy s) (record { weight = w; value = v })
   unfolding maybeUpdate
-  crate-fills n f h = pick-false _ _ _ _ (and-left _ _ f) h
+  crate-fills n f h = rw (unfilled-slot s f) h
 
--- ---- the book order: a and b are the ranks of the candidate and of the slot's value
-module _ (s : Slot) (i : Bool) (o : ℕ) (p : Specificity) (a b : ℕ) (ea : a ≡ rank o i) (eb : b ≡ rank (s .origin) (s .important)) where
-  -- a candidate of a lower rank loses
-  pub lower-rank : a < b → true ≡ heldInBook s i o p
-  unfolding heldInBook
-  lower-rank h = rw (← ea, ← eb) (then-lower a b (less p (s .spec)) h)
+-- ---- the book order: a and b are the ranks of the new value and of the slot's own
+module _ (s w : Weight) (a b : ℕ) (ea : a ≡ rank (w .origin) (w .important)) (eb : b ≡ rank (s .origin) (s .important)) where
+  -- a value of a lower rank loses
+  pub lower-rank : a < b → true ≡ heldInBook s w
+  unfolding heldInBook weaker rankOf
+  lower-rank h = rw (← ea, ← eb) (then-lower a b (less (w .spec) (s .spec)) h)
 
   -- one of a higher rank wins
-  pub higher-rank : b < a → false ≡ heldInBook s i o p
-  unfolding heldInBook
-  higher-rank h = rw (← ea, ← eb) (then-higher a b (less p (s .spec)) h)
+  pub higher-rank : b < a → false ≡ heldInBook s w
+  unfolding heldInBook weaker rankOf
+  higher-rank h = rw (← ea, ← eb) (then-higher a b (less (w .spec) (s .spec)) h)
 
   -- and one of the same rank loses where it is less specific
-  pub same-rank : (r : Bool) → a ≤ b → b ≤ a → r ≡ less p (s .spec) → r ≡ heldInBook s i o p
-  unfolding heldInBook
-  same-rank r h l e = rw (← ea, ← eb) (then-same a b (less p (s .spec)) r h l e)
+  pub same-rank : (r : Bool) → a ≤ b → b ≤ a → r ≡ less (w .spec) (s .spec) → r ≡ heldInBook s w
+  unfolding heldInBook weaker rankOf
+  same-rank r h l e = rw (← ea, ← eb) (then-same a b (less (w .spec) (s .spec)) r h l e)
 
-module _ (s : Slot) (x : Candidate) where
+module _ (s : code.Slot) (w : Weight) (v : Value) where
   -- a filled slot whose value is stronger stays
-  pub book-keeps : (t : Bool) → s .filled ≡ true → t ≡ heldInBook s (x .important) (x .origin) (x .spec) → t ≡ true → s ≡ bookUpdate s x
+  pub book-keeps : (t : Bool) → s .filled ≡ true → t ≡ heldInBook (s .weight) w → t ≡ true → slotBy s ≡ bookUpdate (slotBy s) (record { weight = w; value = v })
   unfolding bookUpdate
-  book-keeps t f e y = pick-true _ _ _ _ (and-both _ _ f (told _ _ _ e y)) refl
+  book-keeps t f e y = rw (filled-slot s f) (pick-true _ _ _ _ (told _ _ _ e y) refl)
 
   -- one whose value is not takes the candidate
-  pub book-takes : (t : Bool) (n : Slot) → t ≡ heldInBook s (x .important) (x .origin) (x .spec) → t ≡ false → n ≡ held x → n ≡ bookUpdate s x
+  pub book-takes : (t : Bool) (n : code.Slot) → s .filled ≡ true → t ≡ heldInBook (s .weight) w → t ≡ false → slotBy n ≡ held (record { weight = w; value = v })
+      → slotBy n ≡ bookUpdate (slotBy s) (record { weight = w; value = v })
   unfolding bookUpdate
-  book-takes t n e y h = pick-false _ _ _ _ (and-right _ _ (told _ _ _ e y)) h
+  book-takes t n f e y h = rw (filled-slot s f) (pick-false _ _ _ _ (told _ _ _ e y) h)
 
   -- and so does an empty slot
-  pub book-fills : (n : Slot) → s .filled ≡ false → n ≡ held x → n ≡ bookUpdate s x
+  pub book-fills : (n : code.Slot) → s .filled ≡ false → slotBy n ≡ held (record { weight = w; value = v }) → slotBy n ≡ bookUpdate (slotBy s) (record { weight = w; value = v })
   unfolding bookUpdate
-  book-fills n f h = pick-false _ _ _ _ (and-left _ _ f) h
+  book-fills n f h = rw (unfilled-slot s f) h
 
 -- ---- inheriting in the book order
-module _ (s : Slot) where
+module _ (s : code.Slot) where
   -- a value is handed on as a normal author one of specificity 0
-  pub handed-on : (n : Slot) → s .filled ≡ true
-      → n ≡ held (record { important = false; origin = authorOrigin; spec = record { inline = false; id = 0; class = 0; typ = 0 }; value = s .value; second = s .second })
-      → n ≡ inheritedSlot s
-  unfolding inheritedSlot inheritedCandidate noSpecificity specificityOf
-  handed-on n f h = pick-true _ _ _ _ f h
+  pub handed-on : (n : code.Slot) → s .filled ≡ true
+      → slotBy n ≡ held (record { weight = record { important = false; origin = authorOrigin; spec = record { inline = false; id = 0; class = 0; typ = 0 } }; value = s .value })
+      → slotBy n ≡ inheritedSlot (slotBy s)
+  unfolding inheritedSlot inheritedCandidate inheritedWeight noSpecificity specificityOf
+  handed-on n f h = rw (filled-slot s f) h
 
   -- an empty slot stays as it is
-  pub handed-on-empty : s .filled ≡ false → s ≡ inheritedSlot s
+  pub handed-on-empty : s .filled ≡ false → slotBy s ≡ inheritedSlot (slotBy s)
   unfolding inheritedSlot
-  handed-on-empty f = pick-false _ _ _ _ f refl
+  handed-on-empty f = rw (unfilled-slot s f) refl
+
+-- ---- either cascade
+module _ (k : Cascade) (s n : Slot Value) (x : Candidate Value) where
+  -- the crate's
+  pub by-crate : k ≡ Crate → n ≡ maybeUpdate s x → n ≡ updateBy k s x
+  by-crate e h = rw e (unfold updateBy in h)
+
+  -- the book's
+  pub by-book : k ≡ Book → n ≡ bookUpdate s x → n ≡ updateBy k s x
+  by-book e h = rw e (unfold updateBy in h)

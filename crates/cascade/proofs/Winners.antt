@@ -6,14 +6,13 @@ use mathlib.Core.Logic.{_⊎_, inl, inr, ⊎-elim}
 use Prim.Native.Nat.{suc}
 use native.Mathlib.Omega.{arith}
 use lib.ListN.{length, length-append}
-use Rattle.combinators.specs.Choice.{and}
-use Rattle.combinators.proofs.Rules.{never, pick-true, pick-false, and-both, and-left, and-right}
-use Rattle.cascade.specs.declared.slots.Slot.{Slot}
-use Rattle.cascade.specs.Slot.{Candidate, held, rankOf, Weaker, by-rank, by-specificity, weaker, All, none, more, Winner, Won, heldInBook, bookUpdate, inheritedCandidate, inheritedSlot}
+use Rattle.combinators.proofs.Rules.{never, pick-true, pick-false}
+use Rattle.cascade.specs.declared.slots.Weight.{Weight}
+use Rattle.cascade.specs.Slot.{Candidate, Slot, empty, held, rankOf, Weaker, by-rank, by-specificity, weaker, All, none, more, Winner, Won, heldInBook, bookUpdate, inheritedCandidate, inheritedSlot}
 use Rattle.cascade.proofs.Orders.{then-lower, then-equal, then-true, then-trans, then-trans-not, less-trans, less-trans-not, less-says, less-said}
 
 -- ---- the test is the order
-module _ (x y : Candidate) where
+module _ (x y : Weight) where
   -- what the test says
   pub weaker-says : weaker x y ≡ true → Weaker x y
   unfolding weaker
@@ -38,7 +37,7 @@ module _ (x y : Candidate) where
       go false e = e
 
 -- it carries over, and so does its absence
-module _ (x y z : Candidate) where
+module _ (x y z : Weight) where
   -- weaker than what is weaker
   pub weaker-trans : weaker x y ≡ true → weaker y z ≡ true → weaker x z ≡ true
   unfolding weaker
@@ -49,7 +48,7 @@ module _ (x y z : Candidate) where
   unfolding weaker
   weaker-trans-not = then-trans-not (rankOf x) (rankOf y) (rankOf z) _ _ _ (less-trans-not (x .spec) (y .spec) (z .spec))
 
-module _ (x y z : Candidate) where
+module _ (x y z : Weight) where
   -- what x does not lose to, and what that beats
   pub stays-above : ¬ (Weaker x y) → Weaker z y → ¬ (Weaker x z)
   stays-above n w v = n (weaker-says x y (weaker-trans x z y (weaker-said x z v) (weaker-said z y w)))
@@ -57,6 +56,10 @@ module _ (x y z : Candidate) where
   -- what x does not lose to, and what that does not lose to
   pub stays-unbeaten : ¬ (Weaker x y) → ¬ (Weaker y z) → ¬ (Weaker x z)
   stays-unbeaten n m = weaker-denies x z (weaker-trans-not x y z (weaker-denied x y n) (weaker-denied y z m))
+
+decide : (t : Bool) → (t ≡ true) ⊎ (t ≡ false)
+decide true = inl refl
+decide false = inr refl
 
 -- ---- lists of which something holds
 all-append : {A : Type 0} {P : A → Type 0} {l m : List A} → All P l → All P m → All P (l ++ m)
@@ -67,109 +70,105 @@ all-map : {A : Type 0} {P Q : A → Type 0} → ((x : A) → P x → Q x) → {l
 all-map f none = none
 all-map f (more {x} p ps) = more (f x p) (all-map f ps)
 
--- ---- one update: the candidate is taken unless it is the weaker
-module _ (w x : Candidate) where
-  -- a weaker one leaves the slot
-  pub update-keeps : weaker x w ≡ true → bookUpdate (held w) x ≡ held w
-  unfolding bookUpdate heldInBook weaker rankOf held
-  update-keeps e = sym (pick-true _ _ _ _ (and-both _ _ refl e) refl)
+module _ {A : Type 0} where
+  -- ---- one update: the candidate is taken unless it is the weaker
+  module _ (w x : Candidate A) where
+    -- a weaker one leaves the slot
+    pub update-keeps : weaker (x .weight) (w .weight) ≡ true → bookUpdate (held w) x ≡ held w
+    unfolding bookUpdate heldInBook
+    update-keeps e = sym (pick-true _ _ _ _ e refl)
 
-  -- any other takes it
-  pub update-takes : weaker x w ≡ false → bookUpdate (held w) x ≡ held x
-  unfolding bookUpdate heldInBook weaker rankOf held
-  update-takes e = sym (pick-false _ _ _ _ (and-right _ _ e) refl)
+    -- any other takes it
+    pub update-takes : weaker (x .weight) (w .weight) ≡ false → bookUpdate (held w) x ≡ held x
+    unfolding bookUpdate heldInBook
+    update-takes e = sym (pick-false _ _ _ _ e refl)
 
--- what an empty slot takes
-pub update-fills : (s : Slot) (x : Candidate) → s .filled ≡ false → bookUpdate s x ≡ held x
-unfolding bookUpdate
-update-fills s x e = sym (pick-false _ _ _ _ (and-left _ _ e) refl)
+  -- ---- the winner of a fold
+  -- a slot and a list, each by another name
+  moved : (s t : Slot A) (l m : List (Candidate A)) → s ≡ t → l ≡ m → Won t l → Won s m
+  moved s t l m e f h = subst (λ r. Won r m) (sym e) (subst (Won t) f h)
 
--- ---- the winner of a fold
-decide : (t : Bool) → (t ≡ true) ⊎ (t ≡ false)
-decide true = inl refl
-decide false = inr refl
+  abbrev Unbeaten : Candidate A → List (Candidate A) → Type 0
+  Unbeaten w l = All (λ y. ¬ (Weaker (w .weight) (y .weight))) l
 
--- a slot and a list, each by another name
-moved : (s t : Slot) (l m : List Candidate) → s ≡ t → l ≡ m → Won t l → Won s m
-moved s t l m e f h = subst (λ r. Won r m) (sym e) (subst (Won t) f h)
+  abbrev Beats : Candidate A → List (Candidate A) → Type 0
+  Beats w l = All (λ y. Weaker (y .weight) (w .weight)) l
 
--- w is ahead of b before it and of a behind it, and xs are to come
-go : (xs : List Candidate) (w : Candidate) (b a : List Candidate) → All (λ y. ¬ (Weaker w y)) b → All (λ y. Weaker y w) a
-    → Won (foldl bookUpdate (held w) xs) ((b ++ (w ∷ a)) ++ xs)
-go [] w b a hb ha =
-    record { candidate = w; holds = refl; wins = record { earlier = b; later = a; split = append-nil (b ++ (w ∷ a)); unbeaten = hb; beats = ha } }
-go (x ∷ xs) w b a hb ha = ⊎-elim (kept (go xs w b (a ++ (x ∷ [])))) (taken (go xs x (b ++ (w ∷ a)) [])) (decide (weaker x w))
-  where
-    kept : (All (λ y. ¬ (Weaker w y)) b → All (λ y. Weaker y w) (a ++ (x ∷ [])) → Won (foldl bookUpdate (held w) xs) ((b ++ (w ∷ (a ++ (x ∷ [])))) ++ xs)) → weaker x w ≡ true → Won (foldl bookUpdate (bookUpdate (held w) x) xs) ((b ++ (w ∷ a)) ++ (x ∷ xs))
-    kept f e = moved _ _ _ _ (ap (λ s. foldl bookUpdate s xs) (update-keeps w x e)) (simp append-assoc) (f hb (all-append ha (more (weaker-says x w e) none)))
+  -- w is ahead of b before it and of a behind it, and xs are to come
+  go : (xs : List (Candidate A)) (w : Candidate A) (b a : List (Candidate A)) → Unbeaten w b → Beats w a → Won (foldl bookUpdate (held w) xs) ((b ++ (w ∷ a)) ++ xs)
+  go [] w b a hb ha =
+      record { candidate = w; holds = refl; wins = record { earlier = b; later = a; split = append-nil (b ++ (w ∷ a)); unbeaten = hb; beats = ha } }
+  go (x ∷ xs) w b a hb ha = ⊎-elim (kept (go xs w b (a ++ (x ∷ [])))) (taken (go xs x (b ++ (w ∷ a)) [])) (decide (weaker (x .weight) (w .weight)))
+    where
+      kept : (Unbeaten w b → Beats w (a ++ (x ∷ [])) → Won (foldl bookUpdate (held w) xs) ((b ++ (w ∷ (a ++ (x ∷ [])))) ++ xs)) → weaker (x .weight) (w .weight) ≡ true → Won (foldl bookUpdate (bookUpdate (held w) x) xs) ((b ++ (w ∷ a)) ++ (x ∷ xs))
+      kept f e = moved _ _ _ _ (ap (λ s. foldl bookUpdate s xs) (update-keeps w x e)) (simp append-assoc) (f hb (all-append ha (more (weaker-says (x .weight) (w .weight) e) none)))
 
-    taken : (All (λ y. ¬ (Weaker x y)) (b ++ (w ∷ a)) → All (λ y. Weaker y x) [] → Won (foldl bookUpdate (held x) xs) (((b ++ (w ∷ a)) ++ (x ∷ [])) ++ xs)) → weaker x w ≡ false → Won (foldl bookUpdate (bookUpdate (held w) x) xs) ((b ++ (w ∷ a)) ++ (x ∷ xs))
-    taken f e =
-        let n : ¬ (Weaker x w) = weaker-denies x w e in
-        moved _ _ _ _ (ap (λ s. foldl bookUpdate s xs) (update-takes w x e)) (append-assoc (b ++ (w ∷ a)) (x ∷ []) xs)
-        (f (all-append (all-map (λ y p. stays-unbeaten x w y n p) hb) (more n (all-map (λ y p. stays-above x w y n p) ha))) none)
+      taken : (Unbeaten x (b ++ (w ∷ a)) → Beats x [] → Won (foldl bookUpdate (held x) xs) (((b ++ (w ∷ a)) ++ (x ∷ [])) ++ xs)) → weaker (x .weight) (w .weight) ≡ false → Won (foldl bookUpdate (bookUpdate (held w) x) xs) ((b ++ (w ∷ a)) ++ (x ∷ xs))
+      taken f e =
+          let n : ¬ (Weaker (x .weight) (w .weight)) = weaker-denies (x .weight) (w .weight) e in
+          moved _ _ _ _ (ap (λ s. foldl bookUpdate s xs) (update-takes w x e)) (append-assoc (b ++ (w ∷ a)) (x ∷ []) xs)
+          (f (all-append (all-map (λ y p. stays-unbeaten (x .weight) (w .weight) (y .weight) n p) hb) (more n (all-map (λ y p. stays-above (x .weight) (w .weight) (y .weight) n p) ha))) none)
 
--- from a slot that holds the first candidate
-pub won-from : (x : Candidate) (xs : List Candidate) → Won (foldl bookUpdate (held x) xs) (x ∷ xs)
-won-from x xs = go xs x [] [] none none
+  -- from a slot that holds the first candidate
+  pub won-from : (x : Candidate A) (xs : List (Candidate A)) → Won (foldl bookUpdate (held x) xs) (x ∷ xs)
+  won-from x xs = go xs x [] [] none none
 
--- from a slot that holds nothing
-pub won : (s : Slot) → s .filled ≡ false → (x : Candidate) (xs : List Candidate) → Won (foldl bookUpdate s (x ∷ xs)) (x ∷ xs)
-won s e x xs = moved _ _ _ _ (ap (λ t. foldl bookUpdate t xs) (update-fills s x e)) refl (won-from x xs)
+  -- from a slot that holds nothing
+  pub won : (x : Candidate A) (xs : List (Candidate A)) → Won (foldl bookUpdate empty (x ∷ xs)) (x ∷ xs)
+  unfolding bookUpdate
+  won x xs = won-from x xs
 
--- what is inherited is the first of the candidates
-pub won-inherited : (s : Slot) → s .filled ≡ true → (xs : List Candidate) → Won (foldl bookUpdate (inheritedSlot s) xs) (inheritedCandidate s ∷ xs)
-won-inherited s e xs =
-    let h : inheritedSlot s ≡ held (inheritedCandidate s) = unfold inheritedSlot in sym (pick-true _ _ _ _ e refl) in
-    moved _ _ _ _ (ap (λ t. foldl bookUpdate t xs) h) refl (won-from (inheritedCandidate s) xs)
+  -- what is inherited is the first of the candidates
+  pub won-inherited : (c : Candidate A) (xs : List (Candidate A)) → Won (foldl bookUpdate (inheritedSlot (held c)) xs) (inheritedCandidate c ∷ xs)
+  unfolding inheritedSlot
+  won-inherited c xs = won-from (inheritedCandidate c) xs
 
--- ---- there is one winner only
-all-head : {P : Candidate → Type 0} {x : Candidate} {xs : List Candidate} → All P (x ∷ xs) → P x
-all-head (more p ps) = p
+  -- ---- there is one winner only
+  all-head : {P : Candidate A → Type 0} {x : Candidate A} {xs : List (Candidate A)} → All P (x ∷ xs) → P x
+  all-head (more p ps) = p
 
-all-tail : {P : Candidate → Type 0} {x : Candidate} {xs : List Candidate} → All P (x ∷ xs) → All P xs
-all-tail (more p ps) = ps
+  all-tail : {P : Candidate A → Type 0} {x : Candidate A} {xs : List (Candidate A)} → All P (x ∷ xs) → All P xs
+  all-tail (more p ps) = ps
 
-all-at : {P : Candidate → Type 0} (b : List Candidate) (w : Candidate) (a : List Candidate) → All P (b ++ (w ∷ a)) → P w
-all-at [] w a p = all-head p
-all-at (x ∷ b) w a p = all-at b w a (all-tail p)
+  all-at : {P : Candidate A → Type 0} (b : List (Candidate A)) (w : Candidate A) (a : List (Candidate A)) → All P (b ++ (w ∷ a)) → P w
+  all-at [] w a p = all-head p
+  all-at (x ∷ b) w a p = all-at b w a (all-tail p)
 
-abbrev firstOr : Candidate → List Candidate → Candidate
-firstOr d [] = d
-firstOr d (x ∷ xs) = x
+  abbrev firstOr : Candidate A → List (Candidate A) → Candidate A
+  firstOr d [] = d
+  firstOr d (x ∷ xs) = x
 
-abbrev behindFirst : List Candidate → List Candidate
-behindFirst [] = []
-behindFirst (x ∷ xs) = xs
+  abbrev behindFirst : List (Candidate A) → List (Candidate A)
+  behindFirst [] = []
+  behindFirst (x ∷ xs) = xs
 
--- the same list split twice at a winner is split at the same place
-same-place : (b₁ b₂ : List Candidate) (w₁ w₂ : Candidate) (a₁ a₂ : List Candidate) → b₁ ++ (w₁ ∷ a₁) ≡ b₂ ++ (w₂ ∷ a₂)
-    → All (λ y. ¬ (Weaker w₁ y)) b₁ → All (λ y. Weaker y w₁) a₁ → All (λ y. ¬ (Weaker w₂ y)) b₂ → All (λ y. Weaker y w₂) a₂
-    → (length b₁ ≡ length b₂) × (w₁ ≡ w₂)
-same-place [] [] w₁ w₂ a₁ a₂ e p q r s = (refl, ap (firstOr w₁) e)
-same-place [] (y ∷ b₂) w₁ w₂ a₁ a₂ e p q r s =
-    let f : w₁ ≡ y = ap (firstOr w₁) e in
-    let l : a₁ ≡ b₂ ++ (w₂ ∷ a₂) = ap behindFirst e in
-    absurd (all-head r (subst (λ v. Weaker w₂ v) f (all-at b₂ w₂ a₂ (subst (All (λ v. Weaker v w₁)) l q))))
-same-place (x ∷ b₁) [] w₁ w₂ a₁ a₂ e p q r s =
-    let f : w₂ ≡ x = sym (ap (firstOr w₂) e) in
-    let l : a₂ ≡ b₁ ++ (w₁ ∷ a₁) = sym (ap behindFirst e) in
-    absurd (all-head p (subst (λ v. Weaker w₁ v) f (all-at b₁ w₁ a₁ (subst (All (λ v. Weaker v w₂)) l s))))
-same-place (x ∷ b₁) (y ∷ b₂) w₁ w₂ a₁ a₂ e p q r s =
-    let g = same-place b₁ b₂ w₁ w₂ a₁ a₂ (ap behindFirst e) (all-tail p) q (all-tail r) s in
-    (ap suc (g .0), g .1)
+  -- the same list split twice at a winner is split at the same place
+  same-place : (b₁ b₂ : List (Candidate A)) (w₁ w₂ : Candidate A) (a₁ a₂ : List (Candidate A)) → b₁ ++ (w₁ ∷ a₁) ≡ b₂ ++ (w₂ ∷ a₂)
+      → Unbeaten w₁ b₁ → Beats w₁ a₁ → Unbeaten w₂ b₂ → Beats w₂ a₂ → (length b₁ ≡ length b₂) × (w₁ ≡ w₂)
+  same-place [] [] w₁ w₂ a₁ a₂ e p q r s = (refl, ap (firstOr w₁) e)
+  same-place [] (y ∷ b₂) w₁ w₂ a₁ a₂ e p q r s =
+      let f : w₁ ≡ y = ap (firstOr w₁) e in
+      let l : a₁ ≡ b₂ ++ (w₂ ∷ a₂) = ap behindFirst e in
+      absurd (all-head r (subst (λ v. Weaker (w₂ .weight) (v .weight)) f (all-at b₂ w₂ a₂ (subst (All (λ v. Weaker (v .weight) (w₁ .weight))) l q))))
+  same-place (x ∷ b₁) [] w₁ w₂ a₁ a₂ e p q r s =
+      let f : w₂ ≡ x = sym (ap (firstOr w₂) e) in
+      let l : a₂ ≡ b₁ ++ (w₁ ∷ a₁) = sym (ap behindFirst e) in
+      absurd (all-head p (subst (λ v. Weaker (w₁ .weight) (v .weight)) f (all-at b₁ w₁ a₁ (subst (All (λ v. Weaker (v .weight) (w₂ .weight))) l s))))
+  same-place (x ∷ b₁) (y ∷ b₂) w₁ w₂ a₁ a₂ e p q r s =
+      let g = same-place b₁ b₂ w₁ w₂ a₁ a₂ (ap behindFirst e) (all-tail p) q (all-tail r) s in
+      (ap suc (g .0), g .1)
 
--- two winners of a list are one, at one place
-pub winner-once : (l : List Candidate) (v w : Candidate) (p : Winner v l) (q : Winner w l) → (length (p .earlier) ≡ length (q .earlier)) × (v ≡ w)
-winner-once l v w p q = same-place (p .earlier) (q .earlier) v w (p .later) (q .later) (sym (p .split) ∙ q .split) (p .unbeaten) (p .beats) (q .unbeaten) (q .beats)
+  -- two winners of a list are one, at one place
+  pub winner-once : (l : List (Candidate A)) (v w : Candidate A) (p : Winner v l) (q : Winner w l) → (length (p .earlier) ≡ length (q .earlier)) × (v ≡ w)
+  winner-once l v w p q = same-place (p .earlier) (q .earlier) v w (p .later) (q .later) (sym (p .split) ∙ q .split) (p .unbeaten) (p .beats) (q .unbeaten) (q .beats)
 
--- every list of candidates has a winner, the empty one apart
-pub winner-there : (x : Candidate) (xs : List Candidate) → Winner (won-from x xs .candidate) (x ∷ xs)
-winner-there x xs = won-from x xs .wins
+  -- every list of candidates has a winner, the empty one apart
+  pub winner-there : (x : Candidate A) (xs : List (Candidate A)) → Winner (won-from x xs .candidate) (x ∷ xs)
+  winner-there x xs = won-from x xs .wins
 
--- no winner of no candidates
-pub winner-none : (w : Candidate) → ¬ (Winner w [])
-winner-none w p = no-list (p .earlier) (p .split)
-  where
-    no-list : (b : List Candidate) → [] ≡ b ++ (w ∷ p .later) → ⊥
-    no-list b e = absurd (omega (arith, ap length e, length-append b (w ∷ p .later)))
+  -- no winner of no candidates
+  pub winner-none : (w : Candidate A) → ¬ (Winner w [])
+  winner-none w p = no-list (p .earlier) (p .split)
+    where
+      no-list : (b : List (Candidate A)) → [] ≡ b ++ (w ∷ p .later) → ⊥
+      no-list b e = absurd (omega (arith, ap length e, length-append b (w ∷ p .later)))

@@ -7,8 +7,11 @@ use Rattle.combinators.specs.Choice.{pick, or, and, is}
 use Rattle.syntax.specs.Layout.{colourSlot, flag}
 use Rattle.cascade.specs.declared.specificity.Specificity.{Specificity}
 use Rattle.cascade.specs.Specificity.{specificityOf, noSpecificity, inlineSpecificity, lessThen, lessBySelector, less}
-use Rattle.cascade.specs.Slot.{held, emptySlot, heldByImportance, heldByOrigin, heldAgainst, maybeUpdate, rank, heldInBook, bookUpdate, inheritedCandidate, inheritedSlot}
-use Rattle.cascade.specs.Record.{mainRecord, beforeRecord, ComputedStyle, recordIn, slotOf, slotIn, emptyRecord, emptyStyle, updateRecord, updateStyle, isNamed, mergeBy, mergeComputedStyle, mergeInBookOrder, inherit, inheritRecord, inheritInBookOrder, RuleStyle, AttributeStyle, Sources, fromRule, fromAttribute, crateDeclared, crateCascade, colourAttributes, styleAttributes, bookDeclared, bookCascade}
+use Rattle.syntax.specs.Layout.{valueNumbers}
+use Rattle.syntax.specs.declared.styles.Value.{Value}
+use Rattle.cascade.specs.declared.slots.Cascade.the-variants.{Crate, Book}
+use Rattle.cascade.specs.Slot.{heldByImportance, heldByOrigin, heldAgainst, maybeUpdate, rank, rankOf, weaker, heldInBook, bookUpdate, updateBy, inheritedWeight, inheritedCandidate, inheritedSlot}
+use Rattle.cascade.specs.Record.{mainRecord, beforeRecord, ComputedStyle, recordIn, slotOf, slotIn, emptyRecord, emptyStyle, updateRecord, updateStyle, isNamed, mergeBy, inherit, inheritRecord, inheritInBookOrder, inheritBy, RuleStyle, AttributeStyle, Sources, fromRule, fromAttribute, crateDeclared, colourAttributes, styleAttributes, bookDeclared, declaredBy, cascadeBy}
 use Rattle.cascade.specs.Row.{slotNumbers}
 
 -- ---- what is said in the cases
@@ -29,103 +32,103 @@ abbrev pub byId : Specificity
 byId = record { inline = false; id = 1; class = 0; typ = 0 }
 
 -- a rule's `color`, and one of a `style` attribute or a `color` attribute
-abbrev pub rule : ℕ → Specificity → Bool → ℕ → RuleStyle
-rule r p i v = record { pseudo = r; slot = colourSlot; important = i; spec = p; value = v; second = 0 }
+abbrev pub rule : ℕ → Specificity → Bool → ℕ → RuleStyle Value
+rule r p i v = record { pseudo = r; spec = p; style = record { slot = colourSlot; important = i; value = record { number = v; second = 0 } } }
 
-abbrev attribute : Bool → Bool → ℕ → AttributeStyle
-attribute s i v = record { isStyle = s; slot = colourSlot; important = i; value = v; second = 0 }
+abbrev attribute : Bool → Bool → ℕ → AttributeStyle Value
+attribute s i v = record { isStyle = s; style = record { slot = colourSlot; important = i; value = record { number = v; second = 0 } } }
 
-abbrev pub byAuthor : List RuleStyle → List AttributeStyle → Sources
+abbrev pub byAuthor : List (RuleStyle Value) → List (AttributeStyle Value) → Sources Value
 byAuthor rs xs = record { agent = []; user = []; author = rs; attributes = xs }
 
 -- the colour slot of a record that the cascade leaves: the crate's, then the book's
-abbrev numbersIn : ComputedStyle → ℕ → List ℕ
+abbrev numbersIn : ComputedStyle Value → ℕ → List ℕ
 numbersIn s r = slotNumbers (slotIn s r colourSlot)
 
 -- ---- the cases of document 01
 -- agent normal, then author important: the crate keeps the agent's, the book order takes the author's
 test-agent-then-important-author :
-    (numbersIn (crateCascade emptyStyle (record { agent = rule mainRecord byType false red ∷ []; user = []; author = rule mainRecord byType true blue ∷ []; attributes = [] })) mainRecord ≡ 1 ∷ 1 ∷ 0 ∷ 0 ∷ 0 ∷ 1 ∷ 0 ∷ red ∷ 0 ∷ [])
-    × (numbersIn (bookCascade emptyStyle (record { agent = rule mainRecord byType false red ∷ []; user = []; author = rule mainRecord byType true blue ∷ []; attributes = [] })) mainRecord ≡ 1 ∷ 3 ∷ 0 ∷ 0 ∷ 0 ∷ 1 ∷ 1 ∷ blue ∷ 0 ∷ [])
-unfolding pick or and is flag specificityOf noSpecificity inlineSpecificity lessThen lessBySelector less held emptySlot heldByImportance heldByOrigin heldAgainst maybeUpdate rank heldInBook bookUpdate inheritedCandidate inheritedSlot recordIn slotOf slotIn emptyRecord emptyStyle updateRecord updateStyle isNamed mergeBy mergeComputedStyle mergeInBookOrder inherit inheritRecord inheritInBookOrder fromRule fromAttribute crateDeclared crateCascade colourAttributes styleAttributes bookDeclared bookCascade slotNumbers
+    (numbersIn (cascadeBy Crate emptyStyle (record { agent = rule mainRecord byType false red ∷ []; user = []; author = rule mainRecord byType true blue ∷ []; attributes = [] })) mainRecord ≡ 1 ∷ 1 ∷ 0 ∷ 0 ∷ 0 ∷ 1 ∷ 0 ∷ red ∷ 0 ∷ [])
+    × (numbersIn (cascadeBy Book emptyStyle (record { agent = rule mainRecord byType false red ∷ []; user = []; author = rule mainRecord byType true blue ∷ []; attributes = [] })) mainRecord ≡ 1 ∷ 3 ∷ 0 ∷ 0 ∷ 0 ∷ 1 ∷ 1 ∷ blue ∷ 0 ∷ [])
+unfolding pick or and is flag valueNumbers specificityOf noSpecificity inlineSpecificity lessThen lessBySelector less heldByImportance heldByOrigin heldAgainst maybeUpdate rank rankOf weaker heldInBook bookUpdate updateBy inheritedWeight inheritedCandidate inheritedSlot recordIn slotOf slotIn emptyRecord emptyStyle updateRecord updateStyle isNamed mergeBy inherit inheritRecord inheritInBookOrder inheritBy fromRule fromAttribute crateDeclared colourAttributes styleAttributes bookDeclared declaredBy cascadeBy slotNumbers
 test-agent-then-important-author = (refl, refl)
 
 -- the parent is coloured by `#i`, the child by `.k`: the crate keeps the parent's colour, the book order takes the child's
 test-inherited-id :
-    (numbersIn (crateCascade (crateCascade emptyStyle (byAuthor (rule mainRecord byId false red ∷ []) [])) (byAuthor (rule mainRecord byClass false blue ∷ []) [])) mainRecord ≡ 1 ∷ 3 ∷ 0 ∷ 1 ∷ 0 ∷ 0 ∷ 0 ∷ red ∷ 0 ∷ [])
-    × (numbersIn (bookCascade (bookCascade emptyStyle (byAuthor (rule mainRecord byId false red ∷ []) [])) (byAuthor (rule mainRecord byClass false blue ∷ []) [])) mainRecord ≡ 1 ∷ 3 ∷ 0 ∷ 0 ∷ 1 ∷ 0 ∷ 0 ∷ blue ∷ 0 ∷ [])
-unfolding pick or and is flag specificityOf noSpecificity inlineSpecificity lessThen lessBySelector less held emptySlot heldByImportance heldByOrigin heldAgainst maybeUpdate rank heldInBook bookUpdate inheritedCandidate inheritedSlot recordIn slotOf slotIn emptyRecord emptyStyle updateRecord updateStyle isNamed mergeBy mergeComputedStyle mergeInBookOrder inherit inheritRecord inheritInBookOrder fromRule fromAttribute crateDeclared crateCascade colourAttributes styleAttributes bookDeclared bookCascade slotNumbers
+    (numbersIn (cascadeBy Crate (cascadeBy Crate emptyStyle (byAuthor (rule mainRecord byId false red ∷ []) [])) (byAuthor (rule mainRecord byClass false blue ∷ []) [])) mainRecord ≡ 1 ∷ 3 ∷ 0 ∷ 1 ∷ 0 ∷ 0 ∷ 0 ∷ red ∷ 0 ∷ [])
+    × (numbersIn (cascadeBy Book (cascadeBy Book emptyStyle (byAuthor (rule mainRecord byId false red ∷ []) [])) (byAuthor (rule mainRecord byClass false blue ∷ []) [])) mainRecord ≡ 1 ∷ 3 ∷ 0 ∷ 0 ∷ 1 ∷ 0 ∷ 0 ∷ blue ∷ 0 ∷ [])
+unfolding pick or and is flag valueNumbers specificityOf noSpecificity inlineSpecificity lessThen lessBySelector less heldByImportance heldByOrigin heldAgainst maybeUpdate rank rankOf weaker heldInBook bookUpdate updateBy inheritedWeight inheritedCandidate inheritedSlot recordIn slotOf slotIn emptyRecord emptyStyle updateRecord updateStyle isNamed mergeBy inherit inheritRecord inheritInBookOrder inheritBy fromRule fromAttribute crateDeclared colourAttributes styleAttributes bookDeclared declaredBy cascadeBy slotNumbers
 test-inherited-id = (refl, refl)
 
 -- ---- others
 -- `style` against `#i` with `!important`: the rule wins in both
 test-style-against-important :
-    (numbersIn (crateCascade emptyStyle (byAuthor (rule mainRecord byId true red ∷ []) (attribute true false blue ∷ []))) mainRecord ≡ 1 ∷ 3 ∷ 0 ∷ 1 ∷ 0 ∷ 0 ∷ 1 ∷ red ∷ 0 ∷ [])
-    × (numbersIn (bookCascade emptyStyle (byAuthor (rule mainRecord byId true red ∷ []) (attribute true false blue ∷ []))) mainRecord ≡ 1 ∷ 3 ∷ 0 ∷ 1 ∷ 0 ∷ 0 ∷ 1 ∷ red ∷ 0 ∷ [])
-unfolding pick or and is flag specificityOf noSpecificity inlineSpecificity lessThen lessBySelector less held emptySlot heldByImportance heldByOrigin heldAgainst maybeUpdate rank heldInBook bookUpdate inheritedCandidate inheritedSlot recordIn slotOf slotIn emptyRecord emptyStyle updateRecord updateStyle isNamed mergeBy mergeComputedStyle mergeInBookOrder inherit inheritRecord inheritInBookOrder fromRule fromAttribute crateDeclared crateCascade colourAttributes styleAttributes bookDeclared bookCascade slotNumbers
+    (numbersIn (cascadeBy Crate emptyStyle (byAuthor (rule mainRecord byId true red ∷ []) (attribute true false blue ∷ []))) mainRecord ≡ 1 ∷ 3 ∷ 0 ∷ 1 ∷ 0 ∷ 0 ∷ 1 ∷ red ∷ 0 ∷ [])
+    × (numbersIn (cascadeBy Book emptyStyle (byAuthor (rule mainRecord byId true red ∷ []) (attribute true false blue ∷ []))) mainRecord ≡ 1 ∷ 3 ∷ 0 ∷ 1 ∷ 0 ∷ 0 ∷ 1 ∷ red ∷ 0 ∷ [])
+unfolding pick or and is flag valueNumbers specificityOf noSpecificity inlineSpecificity lessThen lessBySelector less heldByImportance heldByOrigin heldAgainst maybeUpdate rank rankOf weaker heldInBook bookUpdate updateBy inheritedWeight inheritedCandidate inheritedSlot recordIn slotOf slotIn emptyRecord emptyStyle updateRecord updateStyle isNamed mergeBy inherit inheritRecord inheritInBookOrder inheritBy fromRule fromAttribute crateDeclared colourAttributes styleAttributes bookDeclared declaredBy cascadeBy slotNumbers
 test-style-against-important = (refl, refl)
 
 -- `style` with `!important` against it: the crate does not count it as important, the book order does
 test-important-style-against-important :
-    (numbersIn (crateCascade emptyStyle (byAuthor (rule mainRecord byId true red ∷ []) (attribute true true blue ∷ []))) mainRecord ≡ 1 ∷ 3 ∷ 0 ∷ 1 ∷ 0 ∷ 0 ∷ 1 ∷ red ∷ 0 ∷ [])
-    × (numbersIn (bookCascade emptyStyle (byAuthor (rule mainRecord byId true red ∷ []) (attribute true true blue ∷ []))) mainRecord ≡ 1 ∷ 3 ∷ 1 ∷ 0 ∷ 0 ∷ 0 ∷ 1 ∷ blue ∷ 0 ∷ [])
-unfolding pick or and is flag specificityOf noSpecificity inlineSpecificity lessThen lessBySelector less held emptySlot heldByImportance heldByOrigin heldAgainst maybeUpdate rank heldInBook bookUpdate inheritedCandidate inheritedSlot recordIn slotOf slotIn emptyRecord emptyStyle updateRecord updateStyle isNamed mergeBy mergeComputedStyle mergeInBookOrder inherit inheritRecord inheritInBookOrder fromRule fromAttribute crateDeclared crateCascade colourAttributes styleAttributes bookDeclared bookCascade slotNumbers
+    (numbersIn (cascadeBy Crate emptyStyle (byAuthor (rule mainRecord byId true red ∷ []) (attribute true true blue ∷ []))) mainRecord ≡ 1 ∷ 3 ∷ 0 ∷ 1 ∷ 0 ∷ 0 ∷ 1 ∷ red ∷ 0 ∷ [])
+    × (numbersIn (cascadeBy Book emptyStyle (byAuthor (rule mainRecord byId true red ∷ []) (attribute true true blue ∷ []))) mainRecord ≡ 1 ∷ 3 ∷ 1 ∷ 0 ∷ 0 ∷ 0 ∷ 1 ∷ blue ∷ 0 ∷ [])
+unfolding pick or and is flag valueNumbers specificityOf noSpecificity inlineSpecificity lessThen lessBySelector less heldByImportance heldByOrigin heldAgainst maybeUpdate rank rankOf weaker heldInBook bookUpdate updateBy inheritedWeight inheritedCandidate inheritedSlot recordIn slotOf slotIn emptyRecord emptyStyle updateRecord updateStyle isNamed mergeBy inherit inheritRecord inheritInBookOrder inheritBy fromRule fromAttribute crateDeclared colourAttributes styleAttributes bookDeclared declaredBy cascadeBy slotNumbers
 test-important-style-against-important = (refl, refl)
 
 -- an important `style` alone: the crate writes important 0
 test-important-style :
-    (numbersIn (crateCascade emptyStyle (byAuthor [] (attribute true true blue ∷ []))) mainRecord ≡ 1 ∷ 3 ∷ 1 ∷ 0 ∷ 0 ∷ 0 ∷ 0 ∷ blue ∷ 0 ∷ [])
-    × (numbersIn (bookCascade emptyStyle (byAuthor [] (attribute true true blue ∷ []))) mainRecord ≡ 1 ∷ 3 ∷ 1 ∷ 0 ∷ 0 ∷ 0 ∷ 1 ∷ blue ∷ 0 ∷ [])
-unfolding pick or and is flag specificityOf noSpecificity inlineSpecificity lessThen lessBySelector less held emptySlot heldByImportance heldByOrigin heldAgainst maybeUpdate rank heldInBook bookUpdate inheritedCandidate inheritedSlot recordIn slotOf slotIn emptyRecord emptyStyle updateRecord updateStyle isNamed mergeBy mergeComputedStyle mergeInBookOrder inherit inheritRecord inheritInBookOrder fromRule fromAttribute crateDeclared crateCascade colourAttributes styleAttributes bookDeclared bookCascade slotNumbers
+    (numbersIn (cascadeBy Crate emptyStyle (byAuthor [] (attribute true true blue ∷ []))) mainRecord ≡ 1 ∷ 3 ∷ 1 ∷ 0 ∷ 0 ∷ 0 ∷ 0 ∷ blue ∷ 0 ∷ [])
+    × (numbersIn (cascadeBy Book emptyStyle (byAuthor [] (attribute true true blue ∷ []))) mainRecord ≡ 1 ∷ 3 ∷ 1 ∷ 0 ∷ 0 ∷ 0 ∷ 1 ∷ blue ∷ 0 ∷ [])
+unfolding pick or and is flag valueNumbers specificityOf noSpecificity inlineSpecificity lessThen lessBySelector less heldByImportance heldByOrigin heldAgainst maybeUpdate rank rankOf weaker heldInBook bookUpdate updateBy inheritedWeight inheritedCandidate inheritedSlot recordIn slotOf slotIn emptyRecord emptyStyle updateRecord updateStyle isNamed mergeBy inherit inheritRecord inheritInBookOrder inheritBy fromRule fromAttribute crateDeclared colourAttributes styleAttributes bookDeclared declaredBy cascadeBy slotNumbers
 test-important-style = (refl, refl)
 
 -- a `color` attribute against an author rule: in the crate it is inline and wins, in the book order it loses
 test-colour-attribute :
-    (numbersIn (crateCascade emptyStyle (byAuthor (rule mainRecord byType false red ∷ []) (attribute false false blue ∷ []))) mainRecord ≡ 1 ∷ 3 ∷ 1 ∷ 0 ∷ 0 ∷ 0 ∷ 0 ∷ blue ∷ 0 ∷ [])
-    × (numbersIn (bookCascade emptyStyle (byAuthor (rule mainRecord byType false red ∷ []) (attribute false false blue ∷ []))) mainRecord ≡ 1 ∷ 3 ∷ 0 ∷ 0 ∷ 0 ∷ 1 ∷ 0 ∷ red ∷ 0 ∷ [])
-unfolding pick or and is flag specificityOf noSpecificity inlineSpecificity lessThen lessBySelector less held emptySlot heldByImportance heldByOrigin heldAgainst maybeUpdate rank heldInBook bookUpdate inheritedCandidate inheritedSlot recordIn slotOf slotIn emptyRecord emptyStyle updateRecord updateStyle isNamed mergeBy mergeComputedStyle mergeInBookOrder inherit inheritRecord inheritInBookOrder fromRule fromAttribute crateDeclared crateCascade colourAttributes styleAttributes bookDeclared bookCascade slotNumbers
+    (numbersIn (cascadeBy Crate emptyStyle (byAuthor (rule mainRecord byType false red ∷ []) (attribute false false blue ∷ []))) mainRecord ≡ 1 ∷ 3 ∷ 1 ∷ 0 ∷ 0 ∷ 0 ∷ 0 ∷ blue ∷ 0 ∷ [])
+    × (numbersIn (cascadeBy Book emptyStyle (byAuthor (rule mainRecord byType false red ∷ []) (attribute false false blue ∷ []))) mainRecord ≡ 1 ∷ 3 ∷ 0 ∷ 0 ∷ 0 ∷ 1 ∷ 0 ∷ red ∷ 0 ∷ [])
+unfolding pick or and is flag valueNumbers specificityOf noSpecificity inlineSpecificity lessThen lessBySelector less heldByImportance heldByOrigin heldAgainst maybeUpdate rank rankOf weaker heldInBook bookUpdate updateBy inheritedWeight inheritedCandidate inheritedSlot recordIn slotOf slotIn emptyRecord emptyStyle updateRecord updateStyle isNamed mergeBy inherit inheritRecord inheritInBookOrder inheritBy fromRule fromAttribute crateDeclared colourAttributes styleAttributes bookDeclared declaredBy cascadeBy slotNumbers
 test-colour-attribute = (refl, refl)
 
 -- a later rule of equal specificity wins in both
 test-later-rule :
-    (numbersIn (crateCascade emptyStyle (byAuthor (rule mainRecord byType false red ∷ rule mainRecord byType false blue ∷ []) [])) mainRecord ≡ 1 ∷ 3 ∷ 0 ∷ 0 ∷ 0 ∷ 1 ∷ 0 ∷ blue ∷ 0 ∷ [])
-    × (numbersIn (bookCascade emptyStyle (byAuthor (rule mainRecord byType false red ∷ rule mainRecord byType false blue ∷ []) [])) mainRecord ≡ 1 ∷ 3 ∷ 0 ∷ 0 ∷ 0 ∷ 1 ∷ 0 ∷ blue ∷ 0 ∷ [])
-unfolding pick or and is flag specificityOf noSpecificity inlineSpecificity lessThen lessBySelector less held emptySlot heldByImportance heldByOrigin heldAgainst maybeUpdate rank heldInBook bookUpdate inheritedCandidate inheritedSlot recordIn slotOf slotIn emptyRecord emptyStyle updateRecord updateStyle isNamed mergeBy mergeComputedStyle mergeInBookOrder inherit inheritRecord inheritInBookOrder fromRule fromAttribute crateDeclared crateCascade colourAttributes styleAttributes bookDeclared bookCascade slotNumbers
+    (numbersIn (cascadeBy Crate emptyStyle (byAuthor (rule mainRecord byType false red ∷ rule mainRecord byType false blue ∷ []) [])) mainRecord ≡ 1 ∷ 3 ∷ 0 ∷ 0 ∷ 0 ∷ 1 ∷ 0 ∷ blue ∷ 0 ∷ [])
+    × (numbersIn (cascadeBy Book emptyStyle (byAuthor (rule mainRecord byType false red ∷ rule mainRecord byType false blue ∷ []) [])) mainRecord ≡ 1 ∷ 3 ∷ 0 ∷ 0 ∷ 0 ∷ 1 ∷ 0 ∷ blue ∷ 0 ∷ [])
+unfolding pick or and is flag valueNumbers specificityOf noSpecificity inlineSpecificity lessThen lessBySelector less heldByImportance heldByOrigin heldAgainst maybeUpdate rank rankOf weaker heldInBook bookUpdate updateBy inheritedWeight inheritedCandidate inheritedSlot recordIn slotOf slotIn emptyRecord emptyStyle updateRecord updateStyle isNamed mergeBy inherit inheritRecord inheritInBookOrder inheritBy fromRule fromAttribute crateDeclared colourAttributes styleAttributes bookDeclared declaredBy cascadeBy slotNumbers
 test-later-rule = (refl, refl)
 
 -- an author rule that is less specific than an agent's: the crate still compares the specificities, the book order does not
 test-specific-agent :
-    (numbersIn (crateCascade emptyStyle (record { agent = rule mainRecord byClass false red ∷ []; user = []; author = rule mainRecord byType false blue ∷ []; attributes = [] })) mainRecord ≡ 1 ∷ 1 ∷ 0 ∷ 0 ∷ 1 ∷ 0 ∷ 0 ∷ red ∷ 0 ∷ [])
-    × (numbersIn (bookCascade emptyStyle (record { agent = rule mainRecord byClass false red ∷ []; user = []; author = rule mainRecord byType false blue ∷ []; attributes = [] })) mainRecord ≡ 1 ∷ 3 ∷ 0 ∷ 0 ∷ 0 ∷ 1 ∷ 0 ∷ blue ∷ 0 ∷ [])
-unfolding pick or and is flag specificityOf noSpecificity inlineSpecificity lessThen lessBySelector less held emptySlot heldByImportance heldByOrigin heldAgainst maybeUpdate rank heldInBook bookUpdate inheritedCandidate inheritedSlot recordIn slotOf slotIn emptyRecord emptyStyle updateRecord updateStyle isNamed mergeBy mergeComputedStyle mergeInBookOrder inherit inheritRecord inheritInBookOrder fromRule fromAttribute crateDeclared crateCascade colourAttributes styleAttributes bookDeclared bookCascade slotNumbers
+    (numbersIn (cascadeBy Crate emptyStyle (record { agent = rule mainRecord byClass false red ∷ []; user = []; author = rule mainRecord byType false blue ∷ []; attributes = [] })) mainRecord ≡ 1 ∷ 1 ∷ 0 ∷ 0 ∷ 1 ∷ 0 ∷ 0 ∷ red ∷ 0 ∷ [])
+    × (numbersIn (cascadeBy Book emptyStyle (record { agent = rule mainRecord byClass false red ∷ []; user = []; author = rule mainRecord byType false blue ∷ []; attributes = [] })) mainRecord ≡ 1 ∷ 3 ∷ 0 ∷ 0 ∷ 0 ∷ 1 ∷ 0 ∷ blue ∷ 0 ∷ [])
+unfolding pick or and is flag valueNumbers specificityOf noSpecificity inlineSpecificity lessThen lessBySelector less heldByImportance heldByOrigin heldAgainst maybeUpdate rank rankOf weaker heldInBook bookUpdate updateBy inheritedWeight inheritedCandidate inheritedSlot recordIn slotOf slotIn emptyRecord emptyStyle updateRecord updateStyle isNamed mergeBy inherit inheritRecord inheritInBookOrder inheritBy fromRule fromAttribute crateDeclared colourAttributes styleAttributes bookDeclared declaredBy cascadeBy slotNumbers
 test-specific-agent = (refl, refl)
 
 -- an important rule that is less specific than a normal one: the same
 test-specific-normal :
-    (numbersIn (crateCascade emptyStyle (byAuthor (rule mainRecord byId false red ∷ rule mainRecord byType true blue ∷ []) [])) mainRecord ≡ 1 ∷ 3 ∷ 0 ∷ 1 ∷ 0 ∷ 0 ∷ 0 ∷ red ∷ 0 ∷ [])
-    × (numbersIn (bookCascade emptyStyle (byAuthor (rule mainRecord byId false red ∷ rule mainRecord byType true blue ∷ []) [])) mainRecord ≡ 1 ∷ 3 ∷ 0 ∷ 0 ∷ 0 ∷ 1 ∷ 1 ∷ blue ∷ 0 ∷ [])
-unfolding pick or and is flag specificityOf noSpecificity inlineSpecificity lessThen lessBySelector less held emptySlot heldByImportance heldByOrigin heldAgainst maybeUpdate rank heldInBook bookUpdate inheritedCandidate inheritedSlot recordIn slotOf slotIn emptyRecord emptyStyle updateRecord updateStyle isNamed mergeBy mergeComputedStyle mergeInBookOrder inherit inheritRecord inheritInBookOrder fromRule fromAttribute crateDeclared crateCascade colourAttributes styleAttributes bookDeclared bookCascade slotNumbers
+    (numbersIn (cascadeBy Crate emptyStyle (byAuthor (rule mainRecord byId false red ∷ rule mainRecord byType true blue ∷ []) [])) mainRecord ≡ 1 ∷ 3 ∷ 0 ∷ 1 ∷ 0 ∷ 0 ∷ 0 ∷ red ∷ 0 ∷ [])
+    × (numbersIn (cascadeBy Book emptyStyle (byAuthor (rule mainRecord byId false red ∷ rule mainRecord byType true blue ∷ []) [])) mainRecord ≡ 1 ∷ 3 ∷ 0 ∷ 0 ∷ 0 ∷ 1 ∷ 1 ∷ blue ∷ 0 ∷ [])
+unfolding pick or and is flag valueNumbers specificityOf noSpecificity inlineSpecificity lessThen lessBySelector less heldByImportance heldByOrigin heldAgainst maybeUpdate rank rankOf weaker heldInBook bookUpdate updateBy inheritedWeight inheritedCandidate inheritedSlot recordIn slotOf slotIn emptyRecord emptyStyle updateRecord updateStyle isNamed mergeBy inherit inheritRecord inheritInBookOrder inheritBy fromRule fromAttribute crateDeclared colourAttributes styleAttributes bookDeclared declaredBy cascadeBy slotNumbers
 test-specific-normal = (refl, refl)
 
 -- an important value is inherited as important by the crate, so the child's own rule does not count; in the book order it does
 test-inherited-important :
-    (numbersIn (crateCascade (crateCascade emptyStyle (byAuthor (rule mainRecord byType true red ∷ []) [])) (byAuthor (rule mainRecord byId false blue ∷ []) [])) mainRecord ≡ 1 ∷ 3 ∷ 0 ∷ 0 ∷ 0 ∷ 1 ∷ 1 ∷ red ∷ 0 ∷ [])
-    × (numbersIn (bookCascade (bookCascade emptyStyle (byAuthor (rule mainRecord byType true red ∷ []) [])) (byAuthor (rule mainRecord byId false blue ∷ []) [])) mainRecord ≡ 1 ∷ 3 ∷ 0 ∷ 1 ∷ 0 ∷ 0 ∷ 0 ∷ blue ∷ 0 ∷ [])
-unfolding pick or and is flag specificityOf noSpecificity inlineSpecificity lessThen lessBySelector less held emptySlot heldByImportance heldByOrigin heldAgainst maybeUpdate rank heldInBook bookUpdate inheritedCandidate inheritedSlot recordIn slotOf slotIn emptyRecord emptyStyle updateRecord updateStyle isNamed mergeBy mergeComputedStyle mergeInBookOrder inherit inheritRecord inheritInBookOrder fromRule fromAttribute crateDeclared crateCascade colourAttributes styleAttributes bookDeclared bookCascade slotNumbers
+    (numbersIn (cascadeBy Crate (cascadeBy Crate emptyStyle (byAuthor (rule mainRecord byType true red ∷ []) [])) (byAuthor (rule mainRecord byId false blue ∷ []) [])) mainRecord ≡ 1 ∷ 3 ∷ 0 ∷ 0 ∷ 0 ∷ 1 ∷ 1 ∷ red ∷ 0 ∷ [])
+    × (numbersIn (cascadeBy Book (cascadeBy Book emptyStyle (byAuthor (rule mainRecord byType true red ∷ []) [])) (byAuthor (rule mainRecord byId false blue ∷ []) [])) mainRecord ≡ 1 ∷ 3 ∷ 0 ∷ 1 ∷ 0 ∷ 0 ∷ 0 ∷ blue ∷ 0 ∷ [])
+unfolding pick or and is flag valueNumbers specificityOf noSpecificity inlineSpecificity lessThen lessBySelector less heldByImportance heldByOrigin heldAgainst maybeUpdate rank rankOf weaker heldInBook bookUpdate updateBy inheritedWeight inheritedCandidate inheritedSlot recordIn slotOf slotIn emptyRecord emptyStyle updateRecord updateStyle isNamed mergeBy inherit inheritRecord inheritInBookOrder inheritBy fromRule fromAttribute crateDeclared colourAttributes styleAttributes bookDeclared declaredBy cascadeBy slotNumbers
 test-inherited-important = (refl, refl)
 
 -- an inherited value against an agent's rule: as a normal author one it stands above it in the book order; in the crate it keeps the origin that it had
 test-inherited-agent :
-    (numbersIn (crateCascade (crateCascade emptyStyle (record { agent = rule mainRecord byType false red ∷ []; user = []; author = []; attributes = [] })) (record { agent = rule mainRecord byType false blue ∷ []; user = []; author = []; attributes = [] })) mainRecord ≡ 1 ∷ 1 ∷ 0 ∷ 0 ∷ 0 ∷ 1 ∷ 0 ∷ blue ∷ 0 ∷ [])
-    × (numbersIn (bookCascade (bookCascade emptyStyle (record { agent = rule mainRecord byType false red ∷ []; user = []; author = []; attributes = [] })) (record { agent = rule mainRecord byType false blue ∷ []; user = []; author = []; attributes = [] })) mainRecord ≡ 1 ∷ 3 ∷ 0 ∷ 0 ∷ 0 ∷ 0 ∷ 0 ∷ red ∷ 0 ∷ [])
-unfolding pick or and is flag specificityOf noSpecificity inlineSpecificity lessThen lessBySelector less held emptySlot heldByImportance heldByOrigin heldAgainst maybeUpdate rank heldInBook bookUpdate inheritedCandidate inheritedSlot recordIn slotOf slotIn emptyRecord emptyStyle updateRecord updateStyle isNamed mergeBy mergeComputedStyle mergeInBookOrder inherit inheritRecord inheritInBookOrder fromRule fromAttribute crateDeclared crateCascade colourAttributes styleAttributes bookDeclared bookCascade slotNumbers
+    (numbersIn (cascadeBy Crate (cascadeBy Crate emptyStyle (record { agent = rule mainRecord byType false red ∷ []; user = []; author = []; attributes = [] })) (record { agent = rule mainRecord byType false blue ∷ []; user = []; author = []; attributes = [] })) mainRecord ≡ 1 ∷ 1 ∷ 0 ∷ 0 ∷ 0 ∷ 1 ∷ 0 ∷ blue ∷ 0 ∷ [])
+    × (numbersIn (cascadeBy Book (cascadeBy Book emptyStyle (record { agent = rule mainRecord byType false red ∷ []; user = []; author = []; attributes = [] })) (record { agent = rule mainRecord byType false blue ∷ []; user = []; author = []; attributes = [] })) mainRecord ≡ 1 ∷ 3 ∷ 0 ∷ 0 ∷ 0 ∷ 0 ∷ 0 ∷ red ∷ 0 ∷ [])
+unfolding pick or and is flag valueNumbers specificityOf noSpecificity inlineSpecificity lessThen lessBySelector less heldByImportance heldByOrigin heldAgainst maybeUpdate rank rankOf weaker heldInBook bookUpdate updateBy inheritedWeight inheritedCandidate inheritedSlot recordIn slotOf slotIn emptyRecord emptyStyle updateRecord updateStyle isNamed mergeBy inherit inheritRecord inheritInBookOrder inheritBy fromRule fromAttribute crateDeclared colourAttributes styleAttributes bookDeclared declaredBy cascadeBy slotNumbers
 test-inherited-agent = (refl, refl)
 
 -- a pseudo record that only a rule of the parent made present is present in the child, in both; only the book order writes its values as inherited
 test-inherited-pseudo :
-    (recordIn (crateCascade (crateCascade emptyStyle (byAuthor (rule beforeRecord byId true red ∷ []) [])) (byAuthor [] [])) beforeRecord .present ≡ true)
-    × (recordIn (bookCascade (bookCascade emptyStyle (byAuthor (rule beforeRecord byId true red ∷ []) [])) (byAuthor [] [])) beforeRecord .present ≡ true)
-    × (numbersIn (crateCascade (crateCascade emptyStyle (byAuthor (rule beforeRecord byId true red ∷ []) [])) (byAuthor [] [])) beforeRecord ≡ 1 ∷ 3 ∷ 0 ∷ 1 ∷ 0 ∷ 0 ∷ 1 ∷ red ∷ 0 ∷ [])
-    × (numbersIn (bookCascade (bookCascade emptyStyle (byAuthor (rule beforeRecord byId true red ∷ []) [])) (byAuthor [] [])) beforeRecord ≡ 1 ∷ 3 ∷ 0 ∷ 0 ∷ 0 ∷ 0 ∷ 0 ∷ red ∷ 0 ∷ [])
-unfolding pick or and is flag specificityOf noSpecificity inlineSpecificity lessThen lessBySelector less held emptySlot heldByImportance heldByOrigin heldAgainst maybeUpdate rank heldInBook bookUpdate inheritedCandidate inheritedSlot recordIn slotOf slotIn emptyRecord emptyStyle updateRecord updateStyle isNamed mergeBy mergeComputedStyle mergeInBookOrder inherit inheritRecord inheritInBookOrder fromRule fromAttribute crateDeclared crateCascade colourAttributes styleAttributes bookDeclared bookCascade slotNumbers
+    (recordIn (cascadeBy Crate (cascadeBy Crate emptyStyle (byAuthor (rule beforeRecord byId true red ∷ []) [])) (byAuthor [] [])) beforeRecord .present ≡ true)
+    × (recordIn (cascadeBy Book (cascadeBy Book emptyStyle (byAuthor (rule beforeRecord byId true red ∷ []) [])) (byAuthor [] [])) beforeRecord .present ≡ true)
+    × (numbersIn (cascadeBy Crate (cascadeBy Crate emptyStyle (byAuthor (rule beforeRecord byId true red ∷ []) [])) (byAuthor [] [])) beforeRecord ≡ 1 ∷ 3 ∷ 0 ∷ 1 ∷ 0 ∷ 0 ∷ 1 ∷ red ∷ 0 ∷ [])
+    × (numbersIn (cascadeBy Book (cascadeBy Book emptyStyle (byAuthor (rule beforeRecord byId true red ∷ []) [])) (byAuthor [] [])) beforeRecord ≡ 1 ∷ 3 ∷ 0 ∷ 0 ∷ 0 ∷ 0 ∷ 0 ∷ red ∷ 0 ∷ [])
+unfolding pick or and is flag valueNumbers specificityOf noSpecificity inlineSpecificity lessThen lessBySelector less heldByImportance heldByOrigin heldAgainst maybeUpdate rank rankOf weaker heldInBook bookUpdate updateBy inheritedWeight inheritedCandidate inheritedSlot recordIn slotOf slotIn emptyRecord emptyStyle updateRecord updateStyle isNamed mergeBy inherit inheritRecord inheritInBookOrder inheritBy fromRule fromAttribute crateDeclared colourAttributes styleAttributes bookDeclared declaredBy cascadeBy slotNumbers
 test-inherited-pseudo = (refl, refl, refl, refl)

@@ -2,14 +2,16 @@
 use mathlib.Core.Path.{_≡_}
 use mathlib.Core.List.{List, [], _∷_, _++_, map}
 use Prim.Native.Nat.{ℕ, zero, suc, _+_, _*_, _≤_}
-use lib.ListN.{length, getD, set, take, drop}
+use lib.ListN.{length, getD, set, take, drop, replicate}
 use lib.Seq.{sets}
 use Rattle.combinators.specs.Choice.{pick}
 use Rattle.combinators.specs.Store.{wiped}
-use Rattle.syntax.specs.Layout.{flag, flagOf}
-use Rattle.cascade.specs.declared.slots.Slot.{Slot}
-use Rattle.cascade.specs.Slot.{Candidate, maybeUpdate, bookUpdate, inheritedSlot}
-use Rattle.cascade.specs.Record.{slotCount, recordCount, mainRecord, beforeRecord, afterRecord, Record, ComputedStyle, emptyStyle, Declared, isNamed, mergeComputedStyle, mergeInBookOrder, inherit, inheritInBookOrder}
+use Rattle.syntax.specs.Layout.{flag, flagOf, valueNumbers}
+use Rattle.syntax.specs.declared.styles.Value.{Value}
+use Rattle.cascade.specs.declared.slots.Cascade.{Cascade}
+use Rattle.cascade.specs.declared.slots.Cascade.the-variants.{Crate, Book}
+use Rattle.cascade.specs.Slot.{Candidate, Slot, empty, held, updateBy, inheritedSlot}
+use Rattle.cascade.specs.Record.{slotCount, recordCount, mainRecord, beforeRecord, afterRecord, Record, ComputedStyle, emptyStyle, Declared, isNamed, mergeBy, inheritBy}
 
 -- ---- the numbers of a slot
 abbrev pub slotFilled : ℕ
@@ -33,8 +35,12 @@ slotType = 5
 abbrev pub slotImportant : ℕ
 slotImportant = 6
 
-abbrev pub slotValue : ℕ
-slotValue = 7
+abbrev pub filledFlag : ℕ
+filledFlag = 1
+
+-- the numbers of its value begin here
+abbrev pub slotNumber : ℕ
+slotNumber = 7
 
 abbrev pub slotSecond : ℕ
 slotSecond = 8
@@ -62,28 +68,27 @@ recordPlace r = r * recordWidth
 abbrev pub slotPlace : ℕ → ℕ → ℕ
 slotPlace r k = recordPlace r + presenceWidth + k * slotWidth
 
--- ---- the writer
-unfoldable pub slotNumbers : Slot → List ℕ
-slotNumbers s =
-    flag (s .filled)
-    ∷ s .origin
-    ∷ flag (s .spec .inline)
-    ∷ s .spec .id
-    ∷ s .spec .class
-    ∷ s .spec .typ
-    ∷ flag (s .important)
-    ∷ s .value
-    ∷ s .second
-    ∷ []
+-- ---- the writer: "Slots unfilled .. are zeros"
+unfoldable pub slotNumbers : Slot Value → List ℕ
+slotNumbers empty = replicate slotWidth 0
+slotNumbers (held c) =
+    filledFlag
+    ∷ c .weight .origin
+    ∷ flag (c .weight .spec .inline)
+    ∷ c .weight .spec .id
+    ∷ c .weight .spec .class
+    ∷ c .weight .spec .typ
+    ∷ flag (c .weight .important)
+    ∷ valueNumbers (c .value)
 
-unfoldable pub slotsNumbers : List Slot → List ℕ
+unfoldable pub slotsNumbers : List (Slot Value) → List ℕ
 slotsNumbers [] = []
 slotsNumbers (s ∷ ss) = slotNumbers s ++ slotsNumbers ss
 
-unfoldable pub recordNumbers : Record → List ℕ
+unfoldable pub recordNumbers : Record Value → List ℕ
 recordNumbers p = flag (p .present) ∷ slotsNumbers (p .slots)
 
-unfoldable pub rowOf : ComputedStyle → List ℕ
+unfoldable pub rowOf : ComputedStyle Value → List ℕ
 rowOf s = recordNumbers (s .main) ++ (recordNumbers (s .before) ++ recordNumbers (s .after))
 
 -- ---- the view
@@ -92,18 +97,23 @@ abbrev pub reads : List ℕ → ℕ → ℕ → ℕ → List ℕ
 reads xs i j zero = []
 reads xs i j (suc n) = getD xs (i + j) 0 ∷ reads xs i (suc j) n
 
-unfoldable pub readSlot : List ℕ → Slot
-readSlot l =
+-- the value of a filled slot
+unfoldable pub readCandidate : List ℕ → Candidate Value
+readCandidate l =
     record {
-      filled = flagOf (getD l slotFilled 0);
-      origin = getD l slotOrigin 0;
-      spec = record { inline = flagOf (getD l slotInline 0); id = getD l slotId 0; class = getD l slotClass 0; typ = getD l slotType 0 };
-      important = flagOf (getD l slotImportant 0);
-      value = getD l slotValue 0;
-      second = getD l slotSecond 0;
+      weight =
+          record {
+            important = flagOf (getD l slotImportant 0);
+            origin = getD l slotOrigin 0;
+            spec = record { inline = flagOf (getD l slotInline 0); id = getD l slotId 0; class = getD l slotClass 0; typ = getD l slotType 0 };
+          };
+      value = record { number = getD l slotNumber 0; second = getD l slotSecond 0 };
     }
 
-unfoldable pub slotAt : List ℕ → ℕ → Slot
+unfoldable pub readSlot : List ℕ → Slot Value
+readSlot l = pick (flagOf (getD l slotFilled 0)) (held (readCandidate l)) empty
+
+unfoldable pub slotAt : List ℕ → ℕ → Slot Value
 slotAt xs i = readSlot (reads xs i 0 slotWidth)
 
 -- the numbers of n slots from i on, slot by slot
@@ -111,19 +121,19 @@ unfoldable pub windows : List ℕ → ℕ → ℕ → List (List ℕ)
 windows xs i zero = []
 windows xs i (suc n) = reads xs i 0 slotWidth ∷ windows xs (i + slotWidth) n
 
-unfoldable pub recordAt : List ℕ → ℕ → Record
+unfoldable pub recordAt : List ℕ → ℕ → Record Value
 recordAt xs b = record { present = flagOf (getD xs b 0); slots = map readSlot (windows xs (b + presenceWidth) slotCount) }
 
-unfoldable pub styleAt : List ℕ → ComputedStyle
+unfoldable pub styleAt : List ℕ → ComputedStyle Value
 styleAt xs = record { main = recordAt xs (recordPlace mainRecord); before = recordAt xs (recordPlace beforeRecord); after = recordAt xs (recordPlace afterRecord) }
 
--- ---- a row as the writer makes them: it is whole, and each flag is 0 or 1
-abbrev pub FlagsFine : List ℕ → Type 0
-FlagsFine l = (getD l slotFilled 0 ≤ 1) × (getD l slotInline 0 ≤ 1) × (getD l slotImportant 0 ≤ 1)
+-- ---- a row as the writer makes them: it is whole, and each slot read and written again is itself
+abbrev pub SlotFine : List ℕ → Type 0
+SlotFine l = slotNumbers (readSlot l) ≡ l
 
 abbrev pub AllFine : List (List ℕ) → Type 0
 AllFine [] = Unit
-AllFine (w ∷ ws) = FlagsFine w × AllFine ws
+AllFine (w ∷ ws) = SlotFine w × AllFine ws
 
 pub record RecordFine (xs : List ℕ) (b : ℕ) : Type 0 where
   pub presence : getD xs b 0 ≤ 1
@@ -149,69 +159,40 @@ pub record TwoRooms (xs : List ℕ) (from to : ℕ) : Type 0 where
   pub room : to + styleRowWidth ≤ length xs
 
 -- ---- one slot taken out, updated and put back; its record is then present
-unfoldable pub updateRow : ℕ → ℕ → (Slot → Slot) → List ℕ → List ℕ
+unfoldable pub updateRow : ℕ → ℕ → (Slot Value → Slot Value) → List ℕ → List ℕ
 updateRow r k u xs = set (sets xs (slotPlace r k) (slotNumbers (u (slotAt xs (slotPlace r k))))) (recordPlace r) presentFlag
 
--- one declaration by an order's update of slots
-unfoldable pub mergeRowBy : (Slot → Candidate → Slot) → List ℕ → Declared → List ℕ
+-- one declaration by an update of slots
+unfoldable pub mergeRowBy : (Slot Value → Candidate Value → Slot Value) → List ℕ → Declared Value → List ℕ
 mergeRowBy u xs d = pick (isNamed (d .pseudo) (d .slot)) (updateRow (d .pseudo) (d .slot) (λ x. u x (d .candidate)) xs) xs
 
-unfoldable pub mergeRow : List ℕ → Declared → List ℕ
-mergeRow = mergeRowBy maybeUpdate
-
-unfoldable pub mergeRowInBookOrder : List ℕ → Declared → List ℕ
-mergeRowInBookOrder = mergeRowBy bookUpdate
-
--- ---- rows that a child begins with
--- the parent's row over what the row held, and the main record present
-unfoldable pub inheritRow : List ℕ → List ℕ → List ℕ
-inheritRow parent xs = set (sets xs 0 (take styleRowWidth parent)) (recordPlace mainRecord) presentFlag
-
--- the same in place, where the parent's style is in the row already
-unfoldable pub inheritRowInPlace : List ℕ → List ℕ
-inheritRowInPlace xs = set xs (recordPlace mainRecord) presentFlag
-
--- and where the parent's row begins at a place before it in one store
-unfoldable pub inheritRowWithin : List ℕ → ℕ → ℕ → List ℕ
-inheritRowWithin xs from to = set (sets xs to (take styleRowWidth (drop from xs))) to presentFlag
+-- ---- rows that a child begins with, in place of its parent's
+-- the main record present
+unfoldable pub presentRow : List ℕ → List ℕ
+presentRow xs = set xs (recordPlace mainRecord) presentFlag
 
 -- n slots from i on, each rewritten
-unfoldable pub rewrites : (Slot → Slot) → ℕ → ℕ → List ℕ → List ℕ
+unfoldable pub rewrites : (Slot Value → Slot Value) → ℕ → ℕ → List ℕ → List ℕ
 rewrites u i zero xs = xs
 rewrites u i (suc n) xs = rewrites u (i + slotWidth) n (sets xs i (slotNumbers (u (slotAt xs i))))
 
 -- all slots of a record
-unfoldable pub rewriteRecord : (Slot → Slot) → ℕ → List ℕ → List ℕ
+unfoldable pub rewriteRecord : (Slot Value → Slot Value) → ℕ → List ℕ → List ℕ
 rewriteRecord u r xs = rewrites u (recordPlace r + presenceWidth) slotCount xs
 
-unfoldable pub inheritRowInBookOrder : List ℕ → List ℕ
-inheritRowInBookOrder xs =
-    set (rewriteRecord inheritedSlot afterRecord (rewriteRecord inheritedSlot beforeRecord (rewriteRecord inheritedSlot mainRecord xs))) (recordPlace mainRecord) presentFlag
+unfoldable pub inheritedRow : Cascade → List ℕ → List ℕ
+inheritedRow Crate xs = presentRow xs
+inheritedRow Book xs =
+    presentRow (rewriteRecord inheritedSlot afterRecord (rewriteRecord inheritedSlot beforeRecord (rewriteRecord inheritedSlot mainRecord xs)))
 
 -- ---- what the functions leave: every number, and the style that the row then holds
-pub record Merged (xs ys : List ℕ) (d : Declared) : Type 0 where
-  pub numbers : ys ≡ mergeRow xs d
-  pub meaning : styleAt ys ≡ mergeComputedStyle (styleAt xs) d
+pub record Merged (c : Cascade) (xs ys : List ℕ) (d : Declared Value) : Type 0 where
+  pub numbers : ys ≡ mergeRowBy (updateBy c) xs d
+  pub meaning : styleAt ys ≡ mergeBy (updateBy c) (styleAt xs) d
 
-pub record MergedInBookOrder (xs ys : List ℕ) (d : Declared) : Type 0 where
-  pub numbers : ys ≡ mergeRowInBookOrder xs d
-  pub meaning : styleAt ys ≡ mergeInBookOrder (styleAt xs) d
-
-pub record Inherited (parent xs ys : List ℕ) : Type 0 where
-  pub numbers : ys ≡ inheritRow parent xs
-  pub meaning : styleAt ys ≡ inherit (styleAt parent)
-
-pub record InheritedInPlace (xs ys : List ℕ) : Type 0 where
-  pub numbers : ys ≡ inheritRowInPlace xs
-  pub meaning : styleAt ys ≡ inherit (styleAt xs)
-
-pub record InheritedWithin (xs : List ℕ) (from to : ℕ) (ys : List ℕ) : Type 0 where
-  pub numbers : ys ≡ inheritRowWithin xs from to
-  pub meaning : styleAt (drop to ys) ≡ inherit (styleAt (drop from xs))
-
-pub record InheritedInBookOrder (xs ys : List ℕ) : Type 0 where
-  pub numbers : ys ≡ inheritRowInBookOrder xs
-  pub meaning : styleAt ys ≡ inheritInBookOrder (styleAt xs)
+pub record Inherited (c : Cascade) (xs ys : List ℕ) : Type 0 where
+  pub numbers : ys ≡ inheritedRow c xs
+  pub meaning : styleAt ys ≡ inheritBy c (styleAt xs)
 
 pub record Emptied (xs ys : List ℕ) : Type 0 where
   pub numbers : ys ≡ wiped 0 styleRowWidth xs

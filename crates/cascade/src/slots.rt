@@ -1,14 +1,11 @@
-// A slot of a style (`WithSpec` of html2text's src/lib.rs), by value, and what a new candidate makes of it in either order.
+// A slot of a style (`WithSpec` of html2text's src/lib.rs), by value, and what a new value makes of it in either cascade.
 use crate::specificity::Specificity;
+use syntax::rows::AGENT_ORIGIN;
+use syntax::rows::AUTHOR_ORIGIN;
+use syntax::rows::USER_ORIGIN;
+use syntax::styles::Value;
 ghost use mathlib.Core.Path.{_≡_};
-ghost use Rattle.cascade.specs.Slot.{held, heldByImportance, heldByOrigin, heldAgainst, maybeUpdate, rank, heldInBook, bookUpdate, inheritedSlot};
-
-// Origins, as in the compiled sheet; 0 is none.
-pub const AGENT: u32 = 1;
-
-pub const USER: u32 = 2;
-
-pub const AUTHOR: u32 = 3;
+ghost use Rattle.cascade.specs.Slot.{heldByImportance, heldByOrigin, heldAgainst, maybeUpdate, rank, heldInBook, bookUpdate, updateBy, inheritedWeight, inheritedSlot, slotBy, held};
 
 // Ranks of the book order, lowest first.
 const NORMAL_AGENT: u32 = 0;
@@ -23,14 +20,24 @@ const IMPORTANT_USER: u32 = 4;
 
 const IMPORTANT_AGENT: u32 = 5;
 
-// Whether it holds a value, where that value is from, and the value: two numbers.
-pub struct Slot {
-    pub filled: bool,
+// The crate's cascade, or that of CSS Cascading Level 3.
+pub enum Cascade {
+    Crate,
+    Book,
+}
+
+// How important a value is, from which origin, and how specific.
+pub struct Weight {
+    pub important: bool,
     pub origin: u32,
     pub spec: Specificity,
-    pub important: bool,
-    pub value: u32,
-    pub second: u32,
+}
+
+// Whether it holds a value, what weighs for that value, and the value.
+pub struct Slot {
+    pub filled: bool,
+    pub weight: Weight,
+    pub value: Value,
 }
 
 // The place of an origin and an importance in CSS Cascading Level 3.
@@ -38,132 +45,147 @@ fn rank_of(origin: u32, important: bool) -> u32
     ensures { λ r. ⌜ r ≡ rank origin important ⌝ }
 {
     if important {
-        if origin == AGENT {
+        if origin == AGENT_ORIGIN {
             return IMPORTANT_AGENT;
         }
-        if origin == USER {
+        if origin == USER_ORIGIN {
             return IMPORTANT_USER;
         }
         return IMPORTANT_AUTHOR;
     }
-    if origin == AGENT {
+    if origin == AGENT_ORIGIN {
         return NORMAL_AGENT;
     }
-    if origin == USER {
+    if origin == USER_ORIGIN {
         return NORMAL_USER;
     }
     NORMAL_AUTHOR
 }
 
-impl Slot {
-    // The slot that holds a value.
-    pub fn new(important: bool, origin: u32, spec: Specificity, value: u32, second: u32) -> Self
-        ensures { λ r. ⌜ r ≡ held (record { important = important; origin = origin; spec = spec; value = value; second = second }) ⌝ }
-    {
-        Self {
-            filled: true,
-            origin,
-            spec,
-            important,
-            value,
-            second,
-        }
-    }
+impl Weight {
+    // That of what a child inherits in the book order: a normal author value of specificity 0.
+    pub const INHERITED: Weight = Weight {
+        important: false,
+        origin: AUTHOR_ORIGIN,
+        spec: Specificity {
+            inline: false,
+            id: 0,
+            class: 0,
+            typ: 0,
+        },
+    };
 
     // An important value stays before one that is not.
-    fn held_by_importance(self, important: bool) -> bool
-        ensures { λ r. ⌜ r ≡ heldByImportance self important ⌝ }
+    fn held_by_importance(self, new: Self) -> bool
+        ensures { λ r. ⌜ r ≡ heldByImportance self new ⌝ }
     {
-        if important {
+        if new.important {
             return false;
         }
         self.important
     }
 
     // The origin decides against the new value.
-    fn held_by_origin(self, important: bool, origin: u32) -> bool
-        ensures { λ r. ⌜ r ≡ heldByOrigin self important origin ⌝ }
+    fn held_by_origin(self, new: Self) -> bool
+        ensures { λ r. ⌜ r ≡ heldByOrigin self new ⌝ }
     {
-        if important {
-            return self.origin < origin;
+        if new.important {
+            return self.origin < new.origin;
         }
-        origin < self.origin
+        new.origin < self.origin
     }
 
-    // A filled slot keeps its value.
-    fn held_against(self, important: bool, origin: u32, spec: Specificity) -> bool
-        ensures { λ r. ⌜ r ≡ heldAgainst self important origin spec ⌝ }
+    // A value of this weight stays against a new one in the crate's cascade.
+    fn held_against(self, new: Self) -> bool
+        ensures { λ r. ⌜ r ≡ heldAgainst self new ⌝ }
     {
-        if self.held_by_importance(important) {
+        if self.held_by_importance(new) {
             return true;
         }
-        if self.held_by_origin(important, origin) {
+        if self.held_by_origin(new) {
             return true;
         }
+        let spec = new.spec;
         spec.less(self.spec)
+    }
+
+    // The same in the book order: the new one is of a lower rank, or of the same rank and less specific.
+    fn held_in_book(self, new: Self) -> bool
+        ensures { λ r. ⌜ r ≡ heldInBook self new ⌝ }
+    {
+        let theirs = rank_of(new.origin, new.important);
+        let own = rank_of(self.origin, self.important);
+        if theirs < own {
+            return true;
+        }
+        if own < theirs {
+            return false;
+        }
+        let spec = new.spec;
+        spec.less(self.spec)
+    }
+}
+
+impl Slot {
+    // The slot that holds a value.
+    pub fn new(weight: Weight, value: Value) -> Self
+        ensures { λ r. ⌜ slotBy r ≡ held (record { weight = weight; value = value }) ⌝ }
+    {
+        Self {
+            filled: true,
+            weight,
+            value,
+        }
     }
 
     // As the crate updates it: the new value is taken unless importance, origin or specificity hold it back, in this order.
-    pub fn maybe_update(
-        self,
-        important: bool,
-        origin: u32,
-        spec: Specificity,
-        value: u32,
-        second: u32,
-    ) -> Self
-        ensures { λ r. ⌜ r ≡ maybeUpdate self (record { important = important; origin = origin; spec = spec; value = value; second = second }) ⌝ }
+    pub fn maybe_update(self, weight: Weight, value: Value) -> Self
+        ensures { λ r. ⌜ slotBy r ≡ maybeUpdate (slotBy self) (record { weight = weight; value = value }) ⌝ }
     {
         if self.filled {
-            if self.held_against(important, origin, spec) {
+            let own = self.weight;
+            if own.held_against(weight) {
                 return self;
             }
-            return Self::new(important, origin, spec, value, second);
+            return Self::new(weight, value);
         }
-        Self::new(important, origin, spec, value, second)
-    }
-
-    // A filled slot keeps its value in the book order: the new one is of a lower rank, or of the same rank and less specific.
-    fn held_in_book(self, important: bool, origin: u32, spec: Specificity) -> bool
-        ensures { λ r. ⌜ r ≡ heldInBook self important origin spec ⌝ }
-    {
-        let new = rank_of(origin, important);
-        let own = rank_of(self.origin, self.important);
-        if new < own {
-            return true;
-        }
-        if own < new {
-            return false;
-        }
-        spec.less(self.spec)
+        Self::new(weight, value)
     }
 
     // As CSS Cascading Level 3 orders the candidates: the later of two equals wins.
-    pub fn update_in_book_order(
-        self,
-        important: bool,
-        origin: u32,
-        spec: Specificity,
-        value: u32,
-        second: u32,
-    ) -> Self
-        ensures { λ r. ⌜ r ≡ bookUpdate self (record { important = important; origin = origin; spec = spec; value = value; second = second }) ⌝ }
+    pub fn update_in_book_order(self, weight: Weight, value: Value) -> Self
+        ensures { λ r. ⌜ slotBy r ≡ bookUpdate (slotBy self) (record { weight = weight; value = value }) ⌝ }
     {
         if self.filled {
-            if self.held_in_book(important, origin, spec) {
+            let own = self.weight;
+            if own.held_in_book(weight) {
                 return self;
             }
-            return Self::new(important, origin, spec, value, second);
+            return Self::new(weight, value);
         }
-        Self::new(important, origin, spec, value, second)
+        Self::new(weight, value)
     }
 
-    // What a child has of it in the book order: a normal author value of specificity 0.
+    // By either cascade.
+    pub fn update(self, cascade: Cascade, weight: Weight, value: Value) -> Self
+        ensures { λ r. ⌜ slotBy r ≡ updateBy cascade (slotBy self) (record { weight = weight; value = value }) ⌝ }
+    {
+        match cascade {
+            Cascade::Crate => {
+                return self.maybe_update(weight, value);
+            }
+            Cascade::Book => {
+                return self.update_in_book_order(weight, value);
+            }
+        }
+    }
+
+    // What a child has of it in the book order.
     pub fn inherited(self) -> Self
-        ensures { λ r. ⌜ r ≡ inheritedSlot self ⌝ }
+        ensures { λ r. ⌜ slotBy r ≡ inheritedSlot (slotBy self) ⌝ }
     {
         if self.filled {
-            return Self::new(false, AUTHOR, Specificity::NONE, self.value, self.second);
+            return Self::new(Weight::INHERITED, self.value);
         }
         self
     }

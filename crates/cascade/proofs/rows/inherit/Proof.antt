@@ -1,11 +1,12 @@
-use mathlib.Core.Path.{refl}
-use Rattle.cascade.proofs.Rewriting.{inherited}
+use mathlib.Core.Path.{refl, _∙_}
+use lib.ListN.{length-set}
+use Rattle.cascade.proofs.Rewriting.{inherited-by-crate, inherited-in-book-order}
 use borrow.Author.Needs.{needs}
 use Rattle.cascade.proofs.rows.inherit.Statement.{statement}
 use Rattle.cascade.proofs.rows.inherit.Tie as tie
 
-copy-row-requires : tie.Need-copy-row-requires
-copy-row-requires c κs = search needs
+enum-told : tie.Need-enum-told
+enum-told c = search needs
 
 mul-row : tie.Need-mul-row
 mul-row c = search needs
@@ -20,8 +21,51 @@ same-length : tie.Need-same-length
 same-length c = search needs
 
 returns : tie.Need-returns
-returns c = inherited _ _ _ _ (c .before .before .before .before .before .before .pre .0) (c .before .before .before .before .before .before .pre .1) (c .before .before .copy-row .ensures) refl
+returns c = search (needs, inherited-by-crate)
+
+enum-told-2 : tie.Need-enum-told-2
+enum-told-2 c = search needs
+
+inherit-record-requires : tie.Need-inherit-record-requires
+inherit-record-requires c κs = search needs
+
+inherit-record-requires-2 : tie.Need-inherit-record-requires-2
+inherit-record-requires-2 c κs = search needs
+
+inherit-record-requires-3 : tie.Need-inherit-record-requires-3
+inherit-record-requires-3 c κs = search needs
+
+mul-row-3 : tie.Need-mul-row-3
+mul-row-3 c = search needs
+
+mul-row-4 : tie.Need-mul-row-4
+mul-row-4 c = search needs
+
+slice-write-row-2 : tie.Need-slice-write-row-2
+slice-write-row-2 c = search needs
+
+same-length-2 : tie.Need-same-length-2
+same-length-2 c = simp length-set (c .before .before .inherit-record3 .kept .0 ∙ c .before .before .before .before .before .before .inherit-record2 .kept .0 ∙ c .before .before .before .before .before .before .before .before .before .before .inherit-record .kept .0)
+
+returns-2 : tie.Need-returns-2
+returns-2 c = search (needs, inherited-in-book-order)
 
 pub inherit-spec : {M : Type 1} → statement M
 inherit-spec =
-    tie.close (tie.spec copy-row-requires mul-row mul-row-2 slice-write-row same-length returns)
+    tie.close
+    (tie.spec
+    enum-told
+    mul-row
+    mul-row-2
+    slice-write-row
+    same-length
+    returns
+    enum-told-2
+    inherit-record-requires
+    inherit-record-requires-2
+    inherit-record-requires-3
+    mul-row-3
+    mul-row-4
+    slice-write-row-2
+    same-length-2
+    returns-2)

@@ -1,14 +1,17 @@
 use mathlib.Core.Path.{refl}
-use Rattle.cascade.proofs.Merging.{no-record, no-slot, crate-merged, crate-nothing}
+use Rattle.cascade.proofs.Merging.{no-record, no-slot, merged, merged-nothing}
 use borrow.Author.Needs.{needs}
 use Rattle.cascade.proofs.rows.merge_computed_style.Statement.{statement}
 use Rattle.cascade.proofs.rows.merge_computed_style.Tie as tie
 
+cast-slot : tie.Need-cast-slot
+cast-slot c = search needs
+
 returns : tie.Need-returns
-returns c = crate-nothing _ _ _ (c .before .before .pre) (no-record _ _ (c .if1 .taken)) refl
+returns c = merged-nothing _ _ _ _ (c .before .before .before .pre) (no-record _ _ (c .if1 .taken)) refl
 
 returns-2 : tie.Need-returns-2
-returns-2 c = crate-nothing _ _ _ (c .before .before .before .pre) (no-slot _ _ (c .if2 .taken)) refl
+returns-2 c = merged-nothing _ _ _ _ (c .before .before .before .before .pre) (no-slot _ _ (c .if2 .taken)) refl
 
 mul-at : tie.Need-mul-at
 mul-at c = search needs
@@ -25,8 +28,8 @@ add-at-2 c = search needs
 read-slot-requires : tie.Need-read-slot-requires
 read-slot-requires c κs = search needs
 
-maybe-update-requires : tie.Need-maybe-update-requires
-maybe-update-requires c κs = search needs
+update-requires : tie.Need-update-requires
+update-requires c κs = search needs
 
 put-back-requires : tie.Need-put-back-requires
 put-back-requires c κs = search needs
@@ -35,12 +38,13 @@ same-length : tie.Need-same-length
 same-length c = search needs
 
 returns-3 : tie.Need-returns-3
-returns-3 c = crate-merged _ _ _ (c .before .before .before .before .before .before .before .before .before .before .pre) _ _ (c .before .before .before .before .before .before .before .before .if1 .left) (c .before .before .before .before .before .before .before .if2 .left) (c .before .before .before .before .before .read-slot .ensures) (c .before .before .before .before .maybe-update .ensures) (c .before .before .put-back .ensures)
+returns-3 c = search (needs, merged)
 
 pub merge-computed-style-spec : {M : Type 1} → statement M
 merge-computed-style-spec =
     tie.close
     (tie.spec
+    cast-slot
     returns
     returns-2
     mul-at
@@ -48,7 +52,7 @@ merge-computed-style-spec =
     mul-at-2
     add-at-2
     read-slot-requires
-    maybe-update-requires
+    update-requires
     put-back-requires
     same-length
     returns-3)

@@ -1,125 +1,126 @@
-use Rattle.combinators.specs.Choice.{is}
-use Rattle.syntax.specs.Layout.{flagOf}
-use Rattle.cascade.specs.Row.{slotAt, readSlot}
 use mathlib.Core.Path.{refl}
+use Rattle.combinators.specs.Choice.{pick, is}
+use Rattle.syntax.specs.Layout.{flagOf}
+use Rattle.cascade.specs.Slot.{slotBy}
+use Rattle.cascade.specs.Row.{slotAt, readSlot, readCandidate}
 use borrow.Author.Needs.{needs}
 use Rattle.cascade.proofs.rows.read_slot.Statement.{statement}
 use Rattle.cascade.proofs.rows.read_slot.Tie as tie
 
-add-t4 : tie.Need-add-t4
-add-t4 c = search needs
+add-t6 : tie.Need-add-t6
+add-t6 c = search needs
 
-mul-t5 : tie.Need-mul-t5
-mul-t5 c = search needs
+mul-t7 : tie.Need-mul-t7
+mul-t7 c = search needs
 
-shared-slice-read-t7 : tie.Need-shared-slice-read-t7
-shared-slice-read-t7 c = search needs
+shared-slice-read-t9 : tie.Need-shared-slice-read-t9
+shared-slice-read-t9 c = search needs
 
-add-t9 : tie.Need-add-t9
-add-t9 c = search needs
+add-t11 : tie.Need-add-t11
+add-t11 c = search needs
 
-mul-t10 : tie.Need-mul-t10
-mul-t10 c = search needs
+mul-t12 : tie.Need-mul-t12
+mul-t12 c = search needs
 
-shared-slice-read-t12 : tie.Need-shared-slice-read-t12
-shared-slice-read-t12 c = search needs
+shared-slice-read-t14 : tie.Need-shared-slice-read-t14
+shared-slice-read-t14 c = search needs
 
-add-t13 : tie.Need-add-t13
-add-t13 c = search needs
+add-t15 : tie.Need-add-t15
+add-t15 c = search needs
 
-mul-t14 : tie.Need-mul-t14
-mul-t14 c = search needs
+mul-t16 : tie.Need-mul-t16
+mul-t16 c = search needs
 
-shared-slice-read-t16 : tie.Need-shared-slice-read-t16
-shared-slice-read-t16 c = search needs
+shared-slice-read-t18 : tie.Need-shared-slice-read-t18
+shared-slice-read-t18 c = search needs
 
-add-t17 : tie.Need-add-t17
-add-t17 c = search needs
+add-t19 : tie.Need-add-t19
+add-t19 c = search needs
 
-mul-t18 : tie.Need-mul-t18
-mul-t18 c = search needs
+mul-t20 : tie.Need-mul-t20
+mul-t20 c = search needs
 
-shared-slice-read-t20 : tie.Need-shared-slice-read-t20
-shared-slice-read-t20 c = search needs
+shared-slice-read-t22 : tie.Need-shared-slice-read-t22
+shared-slice-read-t22 c = search needs
 
-add-t4-2 : tie.Need-add-t4-2
-add-t4-2 c = search needs
+add-t6-2 : tie.Need-add-t6-2
+add-t6-2 c = search needs
 
-mul-t5-2 : tie.Need-mul-t5-2
-mul-t5-2 c = search needs
+mul-t7-2 : tie.Need-mul-t7-2
+mul-t7-2 c = search needs
 
-shared-slice-read-t20-2 : tie.Need-shared-slice-read-t20-2
-shared-slice-read-t20-2 c = search needs
+shared-slice-read-t22-2 : tie.Need-shared-slice-read-t22-2
+shared-slice-read-t22-2 c = search needs
 
-add-t17-2 : tie.Need-add-t17-2
-add-t17-2 c = search needs
+add-t19-2 : tie.Need-add-t19-2
+add-t19-2 c = search needs
 
-mul-t14-2 : tie.Need-mul-t14-2
-mul-t14-2 c = search needs
+mul-t16-2 : tie.Need-mul-t16-2
+mul-t16-2 c = search needs
 
-shared-slice-read-t7-2 : tie.Need-shared-slice-read-t7-2
-shared-slice-read-t7-2 c = search needs
+shared-slice-read-t9-2 : tie.Need-shared-slice-read-t9-2
+shared-slice-read-t9-2 c = search needs
 
-add-t13-2 : tie.Need-add-t13-2
-add-t13-2 c = search needs
+add-t15-2 : tie.Need-add-t15-2
+add-t15-2 c = search needs
 
-mul-t10-2 : tie.Need-mul-t10-2
-mul-t10-2 c = search needs
+mul-t20-2 : tie.Need-mul-t20-2
+mul-t20-2 c = search needs
 
-shared-slice-read-t12-2 : tie.Need-shared-slice-read-t12-2
-shared-slice-read-t12-2 c = search needs
+shared-slice-read-t9-3 : tie.Need-shared-slice-read-t9-3
+shared-slice-read-t9-3 c = search needs
 
-add-t9-2 : tie.Need-add-t9-2
-add-t9-2 c = search needs
+add-t19-3 : tie.Need-add-t19-3
+add-t19-3 c = search needs
 
-mul-t18-2 : tie.Need-mul-t18-2
-mul-t18-2 c = search needs
+mul-t16-3 : tie.Need-mul-t16-3
+mul-t16-3 c = search needs
 
-shared-slice-read-t16-2 : tie.Need-shared-slice-read-t16-2
-shared-slice-read-t16-2 c = search needs
+shared-slice-read-t22-3 : tie.Need-shared-slice-read-t22-3
+shared-slice-read-t22-3 c = search needs
 
-add-t26 : tie.Need-add-t26
-add-t26 c = search needs
+add-t7 : tie.Need-add-t7
+add-t7 c = search needs
 
-mul-t27 : tie.Need-mul-t27
-mul-t27 c = search needs
+mul-t11 : tie.Need-mul-t11
+mul-t11 c = search needs
 
-shared-slice-read-t29 : tie.Need-shared-slice-read-t29
-shared-slice-read-t29 c = search needs
+shared-slice-read-t22-4 : tie.Need-shared-slice-read-t22-4
+shared-slice-read-t22-4 c = search needs
 
 returns : tie.Need-returns
-unfolding slotAt readSlot flagOf is
+unfolding slotAt readSlot readCandidate slotBy flagOf is pick
 returns c = refl
 
 pub read-slot-spec : {M : Type 1} → statement M
 read-slot-spec =
     tie.close
     (tie.spec
-    add-t4
-    mul-t5
-    shared-slice-read-t7
-    add-t9
-    mul-t10
-    shared-slice-read-t12
-    add-t13
-    mul-t14
-    shared-slice-read-t16
-    add-t17
-    mul-t18
-    shared-slice-read-t20
-    add-t4-2
-    mul-t5-2
-    shared-slice-read-t20-2
-    add-t17-2
-    mul-t14-2
-    shared-slice-read-t7-2
-    add-t13-2
-    mul-t10-2
-    shared-slice-read-t12-2
-    add-t9-2
-    mul-t18-2
-    shared-slice-read-t16-2
-    add-t26
-    mul-t27
-    shared-slice-read-t29
+    add-t6
+    mul-t7
+    shared-slice-read-t9
+    add-t11
+    mul-t12
+    shared-slice-read-t14
+    add-t15
+    mul-t16
+    shared-slice-read-t18
+    add-t19
+    mul-t20
+    shared-slice-read-t22
+    add-t6-2
+    mul-t7-2
+    shared-slice-read-t22-2
+    add-t19-2
+    mul-t16-2
+    shared-slice-read-t9-2
+    add-t15-2
+    mul-t20-2
+    shared-slice-read-t9-3
+    add-t19-3
+    mul-t16-3
+    shared-slice-read-t22-3
+    add-t7
+    mul-t11
+    shared-slice-read-t22-4
     returns)

@@ -1,10 +1,11 @@
 use mathlib.Core.Path.{refl}
-use Rattle.cascade.specs.Slot.{held}
+use Rattle.combinators.specs.Choice.{pick}
+use Rattle.cascade.specs.Slot.{slotBy}
 use Rattle.cascade.proofs.slots.Slot.new.Statement.{statement}
 use Rattle.cascade.proofs.slots.Slot.new.Tie as tie
 
 returns : tie.Need-returns
-unfolding held
+unfolding slotBy pick
 returns c = refl
 
 pub new-spec : {M : Type 1} → statement M

@@ -1,7 +1,7 @@
 use Rattle.cascade.proofs.SlotLaws.{lower-rank, higher-rank, same-rank}
 use borrow.Author.Needs.{needs}
-use Rattle.cascade.proofs.slots.Slot.held_in_book.Statement.{statement}
-use Rattle.cascade.proofs.slots.Slot.held_in_book.Tie as tie
+use Rattle.cascade.proofs.slots.Weight.held_in_book.Statement.{statement}
+use Rattle.cascade.proofs.slots.Weight.held_in_book.Tie as tie
 
 rank-of-requires : tie.Need-rank-of-requires
 rank-of-requires c κs = search needs

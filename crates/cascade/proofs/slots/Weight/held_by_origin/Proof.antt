@@ -1,7 +1,7 @@
 use Rattle.cascade.specs.Slot.{heldByOrigin}
 use Rattle.combinators.proofs.Rules.{cases}
-use Rattle.cascade.proofs.slots.Slot.held_by_origin.Statement.{statement}
-use Rattle.cascade.proofs.slots.Slot.held_by_origin.Tie as tie
+use Rattle.cascade.proofs.slots.Weight.held_by_origin.Statement.{statement}
+use Rattle.cascade.proofs.slots.Weight.held_by_origin.Tie as tie
 
 returns : tie.Need-returns
 unfolding heldByOrigin

@@ -1,8 +1,8 @@
 use Rattle.cascade.specs.Slot.{heldAgainst}
 use Rattle.combinators.proofs.Rules.{cases}
 use borrow.Author.Needs.{needs}
-use Rattle.cascade.proofs.slots.Slot.held_against.Statement.{statement}
-use Rattle.cascade.proofs.slots.Slot.held_against.Tie as tie
+use Rattle.cascade.proofs.slots.Weight.held_against.Statement.{statement}
+use Rattle.cascade.proofs.slots.Weight.held_against.Tie as tie
 
 held-by-importance-requires : tie.Need-held-by-importance-requires
 held-by-importance-requires c κs = search needs
