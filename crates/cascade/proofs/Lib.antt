@@ -8,3 +8,4 @@ pub mod Merging
 pub mod RowBack
 pub mod Cascading
 pub mod Inheriting
+pub mod Relating

@@ -2,4 +2,5 @@ pub mod Specificity
 pub mod Slot
 pub mod Record
 pub mod Row
+pub mod Related
 pub mod Cases

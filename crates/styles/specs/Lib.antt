@@ -1,4 +1,4 @@
-pub mod Numbered
+pub mod Said
 pub mod Computed
 pub mod StyleCall
-pub mod Seen
+pub mod Says

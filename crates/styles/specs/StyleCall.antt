@@ -1,24 +1,25 @@
 -- The row of a style call: contents are starts and lengths in its text store, which holds "only content texts, a style call's sheets first, then
 -- `style` attributes down the path".
 use Prim.Native.Nat.{ℕ, _+_}
-use mathlib.Core.Bool.{Bool}
 use mathlib.Core.List.{List, [], _∷_, _++_}
-use lib.ListN.{length, set}
-use Rattle.combinators.specs.Choice.{pick}
-use Rattle.unicode.specs.Literal.{text}
-use Rattle.syntax.specs.Layout.{contentSlot, styleTexts}
+use lib.ListN.{length}
+use Rattle.syntax.specs.Layout.{styleText, styleTexts, numbersFrom}
 use Rattle.syntax.specs.Selector.{RuleSet}
-use Rattle.syntax.specs.Stream.{part, textsMany}
-use Rattle.declarations.specs.Attribute.{styleAttribute}
-use Rattle.cascade.specs.declared.slots.Slot.{Slot}
-use Rattle.cascade.specs.Record.{Record, ComputedStyle, AttributeStyle, Sources, slotOf}
+use Rattle.syntax.specs.Stream.{textsMany}
+use Rattle.syntax.specs.Style.{StyleDecl}
+use Rattle.syntax.specs.declared.styles.Value.{Value}
+use Rattle.syntax.specs.declared.styles.StyleNumbers.{StyleNumbers}
+use Rattle.cascade.specs.declared.slots.Cascade.{Cascade}
+use Rattle.cascade.specs.Record.{Styled, AttributeStyle, Sources}
 use Rattle.cascade.specs.Row.{rowOf}
 use Rattle.page.specs.Path.{Attribute, Element, Path}
-use Rattle.matching.specs.Matches.{isNamed}
-use Rattle.styles.specs.Numbered.{textNumber, placedAll, NumberedRule, ruleContents, placedRules, Rules}
-use Rattle.styles.specs.Computed.{attributeSays, sourcesFrom, cascaded, cascadedInBookOrder}
+use Rattle.styles.specs.declared.settings.Settings.{Settings}
+use Rattle.styles.specs.Said.{Rules, StyledRule, ruleStyles, attributeStyles, attributeSays, countedAttributes, sourcesFrom}
+use Rattle.styles.specs.Computed.{cascaded}
 
 -- ---- the texts, in the order of the store
+unfoldable pub ruleContents : RuleSet → List ℕ
+ruleContents r = styleTexts (ruleStyles r)
 
 unfoldable pub rulesContents : List RuleSet → List ℕ
 rulesContents rs = textsMany ruleContents rs
@@ -27,56 +28,54 @@ unfoldable pub sheetsContents : Rules RuleSet → List ℕ
 sheetsContents rules = rulesContents (rules .agent) ++ (rulesContents (rules .user) ++ rulesContents (rules .author))
 
 unfoldable pub attributeContents : Attribute → List ℕ
-attributeContents a = pick (isNamed (text "style") a) (styleTexts (styleAttribute (a .value))) []
+attributeContents a = styleTexts (attributeStyles a)
+
+unfoldable pub attributesContents : List Attribute → List ℕ
+attributesContents xs = textsMany attributeContents xs
 
 -- "With the switch off there are no inline texts"
-unfoldable pub inlineContents : Bool → Element → List ℕ
-inlineContents on e = pick on (textsMany attributeContents (e .attributes)) []
+unfoldable pub inlineContents : Settings → Element → List ℕ
+inlineContents settings e = attributesContents (countedAttributes settings e)
 
 -- those of a path, from the top
-unfoldable pub pathContents : Bool → Path → List ℕ
-pathContents on [] = []
-pathContents on (e ∷ up) = pathContents on up ++ inlineContents on e
+unfoldable pub pathContents : Settings → Path → List ℕ
+pathContents settings [] = []
+pathContents settings (e ∷ up) = pathContents settings up ++ inlineContents settings e
 
--- ---- what attributes say where their contents lie end to end from f on
-unfoldable pub attributesPlaced : ℕ → List Attribute → List AttributeStyle
-attributesPlaced f [] = []
-attributesPlaced f (a ∷ others) = attributeSays (placedAll f) a ++ attributesPlaced (f + length (attributeContents a)) others
+-- ---- styles in numbers, whose texts lie end to end from f on
+unfoldable pub inNumbers : StyleNumbers → Styled Value
+inNumbers x = record { slot = x .slot; important = x .important; value = x .value }
 
-unfoldable pub inlinePlaced : Bool → ℕ → Element → List AttributeStyle
-inlinePlaced on f e = pick on (attributesPlaced f (e .attributes)) []
+unfoldable pub placedStyles : ℕ → List StyleDecl → List (Styled Value)
+placedStyles f [] = []
+placedStyles f (d ∷ ds) = inNumbers (numbersFrom f d) ∷ placedStyles (f + length (styleText d)) ds
 
--- ---- the rules of three sheets where their contents lie end to end from 0 on
-unfoldable pub placedSheets : Rules RuleSet → Rules NumberedRule
+unfoldable pub placedRules : ℕ → List RuleSet → List (StyledRule Value)
+placedRules f [] = []
+placedRules f (r ∷ rs) =
+    record { selectors = r .selectors; styles = placedStyles f (ruleStyles r) } ∷ placedRules (f + length (ruleContents r)) rs
+
+-- the rules of three sheets, from 0 on
+unfoldable pub placedSheets : Rules RuleSet → Rules (StyledRule Value)
 placedSheets rules =
     let user = length (rulesContents (rules .agent)) in
     let author = user + length (rulesContents (rules .user)) in
     record { agent = placedRules 0 (rules .agent); user = placedRules user (rules .user); author = placedRules author (rules .author) }
 
+unfoldable pub placedAttributes : ℕ → List Attribute → List (AttributeStyle Value)
+placedAttributes f [] = []
+placedAttributes f (a ∷ others) = attributeSays (placedStyles f) a ++ placedAttributes (f + length (attributeContents a)) others
+
 -- ---- what is said of each element of a path, contents by their place
-unfoldable pub placedAlong : Rules RuleSet → Bool → Path → List Sources
-placedAlong rules on [] = []
-placedAlong rules on (e ∷ up) =
-    sourcesFrom (placedSheets rules) (inlinePlaced on (length (sheetsContents rules) + length (pathContents on up)) e) (e ∷ up) ∷ placedAlong rules on up
+unfoldable pub placedAlong : Rules RuleSet → Settings → Path → List (Sources Value)
+placedAlong rules settings [] = []
+placedAlong rules settings (e ∷ up) =
+    let from = length (sheetsContents rules) + length (pathContents settings up) in
+    sourcesFrom (placedSheets rules) (placedAttributes from (countedAttributes settings e)) (e ∷ up) ∷ placedAlong rules settings up
 
--- ---- the store and the row of a style call, in the crate's cascade and in the book order
-unfoldable pub callStore : Rules RuleSet → Bool → Path → List ℕ
-callStore rules on p = sheetsContents rules ++ pathContents on p
+-- ---- the store and the row of a style call
+unfoldable pub callStore : Rules RuleSet → Settings → Path → List ℕ
+callStore rules settings p = sheetsContents rules ++ pathContents settings p
 
-unfoldable pub callRow : Rules RuleSet → Bool → Path → List ℕ
-callRow rules on p = rowOf (cascaded (placedAlong rules on p))
-
-unfoldable pub callRowInBookOrder : Rules RuleSet → Bool → Path → List ℕ
-callRowInBookOrder rules on p = rowOf (cascadedInBookOrder (placedAlong rules on p))
-
--- ---- a style whose contents are starts and lengths in a text, as a style that holds the texts themselves: "Contents are compared by their text"
-unfoldable pub seenSlot : List ℕ → Slot → Slot
-seenSlot t s =
-    let x = part t (s .value) (s .second) in
-    record { filled = s .filled; origin = s .origin; spec = s .spec; important = s .important; value = textNumber x; second = length x }
-
-unfoldable pub seenRecord : List ℕ → Record → Record
-seenRecord t p = record { present = p .present; slots = set (p .slots) contentSlot (seenSlot t (slotOf p contentSlot)) }
-
-unfoldable pub seenStyle : List ℕ → ComputedStyle → ComputedStyle
-seenStyle t s = record { main = seenRecord t (s .main); before = seenRecord t (s .before); after = seenRecord t (s .after) }
+unfoldable pub callRow : Cascade → Rules RuleSet → Settings → Path → List ℕ
+callRow c rules settings p = rowOf (cascaded c (placedAlong rules settings p))
