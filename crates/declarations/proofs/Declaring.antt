@@ -9,7 +9,7 @@ use native.Mathlib.Omega.{arith}
 use lib.Dec.{leb}
 use lib.ListN.{length, take, drop, length-append, length-drop}
 use lib.Seq.{sets, length-sets}
-use Rattle.combinators.specs.Choice.{pick, is}
+use Rattle.combinators.specs.Choice.{pick, or, is}
 use Rattle.combinators.specs.Parsed.{Parsed, ok, err, onParsed}
 use Rattle.combinators.specs.Store.{wiped}
 use Rattle.combinators.proofs.Lists.{rest}
@@ -53,7 +53,7 @@ held-begin l f xs ys b h = record { more = b .more ++ h .more; held = h .held �
 -- ---- a declaration's row and text
 -- its row, from the code's numbers
 row-is : (i s f : ℕ) (d : Decl) → rowBy i s f (declAnswer d) ≡ declRow i s f d
-unfolding rowBy rowValue declAnswer declOfNumbers declRow pick
+unfolding rowBy rowValue declAnswer declOfNumbers declRow pick or is
 row-is i s f (color c) = refl
 row-is i s f (backgroundColor c) = refl
 row-is i s f (height z) = refl

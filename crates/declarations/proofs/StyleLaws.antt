@@ -1,5 +1,5 @@
 -- Style rows mean the styles of the declarations whose rows they come from; and they are the rows of those styles.
-use mathlib.Core.Path.{_≡_, refl, ap, sym}
+use mathlib.Core.Path.{_≡_, refl, ap, sym, _∙_}
 use mathlib.Core.Bool.{Bool, true, false}
 use mathlib.Core.List.{List, [], _∷_, _++_, append-assoc, append-nil}
 use Prim.Native.Nat.{ℕ, zero, suc, _+_, _*_, _≤_}
@@ -10,13 +10,19 @@ use Rattle.combinators.specs.Choice.{pick, or, and, is}
 use Rattle.combinators.proofs.Rules.{pick-holds, is-true}
 use Rattle.syntax.specs.Declaration.{Overflow, visible, hidden, scroll, auto, Decl, color, backgroundColor, height, maxHeight, overflow, overflowY, display, whiteSpace, content, unknown, Declaration}
 use Rattle.syntax.specs.Layout as layout
-use Rattle.syntax.specs.Layout.{colorKind, backgroundColorKind, heightKind, maxHeightKind, overflowKind, overflowYKind, displayKind, whiteSpaceKind, contentKind, flag, flagOf, overflowNumber, overflowOf, declarationWidth, declText, declarationText, declRow, declarationRow, declOf, readDeclaration, declarationRows, declarationTexts, declarationsAt, colourSlot, backgroundSlot, displaySlot, whiteSpaceSlot, contentSlot, styleWidth, styleTextOf, styleText, styleRowOf, styleRow, readStyle, styleRows, styleTexts, stylesAt}
+use Rattle.syntax.specs.Layout.{colorKind, backgroundColorKind, heightKind, maxHeightKind, overflowKind, overflowYKind, displayKind, whiteSpaceKind, contentKind, flag, flagOf, overflowNumber, overflowOf, declarationWidth, declText, declarationText, declRow, declarationRow, declOf, readDeclaration, declarationRows, declarationTexts, declarationsAt, displaySlot, styleWidth, styleTextOf, styleText, styleSlotOf, valueFrom, numbersFrom, rowOfNumbers, styleRow, styleIn, readStyle, styleRows, styleTexts, stylesAt}
 use Rattle.syntax.specs.Stream.{Read, readMany, textsMany, rowsMany}
 use Rattle.syntax.specs.Style as style
 use Rattle.syntax.specs.Style.{StyleDecl}
+use Rattle.syntax.specs.declared.styles.Value.{Value}
+use Rattle.syntax.specs.declared.styles.StyleNumbers.{StyleNumbers}
+use Rattle.syntax.proofs.Back.{flag-back, row-numbers-back, row-numbers-rest}
+use Rattle.syntax.proofs.RowSizes.{length-style}
 use Rattle.syntax.proofs.Streams.{All}
 use Rattle.declarations.specs.Styles.{one, styleOf, hides, hidesOverflow, zeroHeight, anyDecl, ownStyles, stylesOf}
-use Rattle.declarations.specs.StyleNumbers.{ownNumbers, ownRow, hasValue, zeroRow, hiddenRow, ownRows, anyRow, addedRow, styleNumbers, styleCount}
+use Rattle.declarations.specs.StyleNumbers.{noValue, addedStyle, styleFor, ownNumbers, declaredValue, ownNumbersAt, rowOfOwn, ownRow, hasValue, zeroRow, hiddenRow, ownRows, anyRow, styleNumbers, styleCount}
+use Rattle.declarations.specs.declared.styles.OwnStyle.{OwnStyle}
+use Rattle.declarations.specs.declared.styles.OwnStyle.the-variants.{Style, NoStyle}
 
 -- ---- cases
 
@@ -90,9 +96,9 @@ module _ (store : List ℕ) where
   reads-none = record { long = refl; reads = λ t. refl }
 
   -- one row
-  reads-one : (s i a b : ℕ) → Reads (s ∷ i ∷ a ∷ b ∷ []) (record { style = layout.styleOf store s a b; important = flagOf i } ∷ [])
+  reads-one : (x : StyleNumbers) → Reads (rowOfNumbers x) (styleIn store x ∷ [])
   unfolding readMany readStyle
-  reads-one s i a b = record { long = refl; reads = λ t. refl }
+  reads-one x = record { long = length-style x; reads = λ t. rw (row-numbers-back x t, row-numbers-rest x t) }
 
   -- one behind the other
   reads-both : (xs ys : List ℕ) (ds es : List StyleDecl) → Reads xs ds → Reads ys es → Reads (xs ++ ys) (ds ++ es)
@@ -103,34 +109,41 @@ module _ (store : List ℕ) where
         reads = λ t. rw (append-assoc xs ys t, e, read-behind (readStyle store) (length ds) (length es) (xs ++ (ys ++ t)), p .reads (ys ++ t), q .reads t);
       }
 
-  -- styles that are read from one row are one
-  pub reads-alone : (s i a b : ℕ) (ds : List StyleDecl) → Reads (s ∷ i ∷ a ∷ b ∷ []) ds → ds ≡ record { style = layout.styleOf store s a b; important = flagOf i } ∷ []
-  unfolding readMany readStyle
-  reads-alone s i a b [] h = absurd (omega (arith, h .long))
-  reads-alone s i a b (d ∷ []) h = sym (ap (λ (r : Read (List StyleDecl)). r .value) (h .reads []))
-  reads-alone s i a b (d ∷ e ∷ ds) h = absurd (omega (arith, h .long))
-
-  -- from no row, none
-  pub reads-nothing : (ds : List StyleDecl) → Reads [] ds → ds ≡ []
-  reads-nothing [] h = refl
-  reads-nothing (d ∷ ds) h = absurd (omega (arith, h .long))
-
   -- ---- one declaration
 
-  -- the style that a display asks for
-  reads-display : (i : ℕ) (z : Bool) → Reads (pick z (displaySlot ∷ i ∷ 0 ∷ 0 ∷ []) []) (styleOf (flagOf i) (display z))
-  unfolding pick styleOf one layout.styleOf is
-  reads-display i true = reads-one displaySlot i 0 0
-  reads-display i false = reads-none
+  -- the styles that the code's answer says
+  unfoldable pub saidBy : OwnStyle → List StyleDecl
+  saidBy (Style x) = styleIn store x ∷ []
+  saidBy NoStyle = []
 
-  -- the style that any numbers ask for
-  reads-own : (k i a b : ℕ) → Reads (ownNumbers k i a b) (styleOf (flagOf i) (declOf store k a b))
-  unfolding ownNumbers styleOf one declOf layout.styleOf pick is
-  reads-own k i a b =
-      by-kind (λ n. Reads (ownNumbers n i a b) (styleOf (flagOf i) (declOf store n a b)))
-      (reads-one colourSlot i a 0) (reads-one backgroundSlot i a 0) reads-none reads-none reads-none reads-none (reads-display i (flagOf a))
-      (reads-one whiteSpaceSlot i a 0) (reads-one contentSlot i a b) k
-      (λ o. rw (o .color, o .background, o .height, o .max-height, o .overflow, o .overflow-y, o .display, o .white-space, o .content) reads-none)
+  -- that a display asks for
+  display-said : (i z : Bool) → saidBy (pick z (styleFor displaySlot i noValue) NoStyle) ≡ styleOf i (display z)
+  unfolding saidBy styleIn layout.styleOf styleOf one pick is
+  display-said i true = refl
+  display-said i false = refl
+
+  -- that any numbers ask for
+  own-said : (k : ℕ) (i : Bool) (v : Value) → saidBy (ownNumbers k i v) ≡ styleOf i (declOf store k (v .number) (v .second))
+  unfolding saidBy ownNumbers styleIn styleOf one declOf layout.styleOf pick is
+  own-said k i v =
+      by-kind (λ n. saidBy (ownNumbers n i v) ≡ styleOf i (declOf store n (v .number) (v .second)))
+      refl refl refl refl refl refl (display-said i (flagOf (v .number))) refl refl k
+      (λ o. rw (o .color, o .background, o .height, o .max-height, o .overflow, o .overflow-y, o .display, o .white-space, o .content))
+
+  -- that the declaration at the start of a stream asks for
+  pub declared-said : (t : List ℕ) → saidBy (ownNumbersAt t) ≡ styleOf (readDeclaration store t .value .important) (readDeclaration store t .value .decl)
+  unfolding ownNumbersAt declaredValue readDeclaration
+  declared-said t = own-said _ _ _
+
+  -- its row reads so
+  reads-said : (o : OwnStyle) → Reads (rowOfOwn o) (saidBy o)
+  unfolding rowOfOwn saidBy
+  reads-said (Style x) = reads-one x
+  reads-said NoStyle = reads-none
+
+  reads-declared : (t : List ℕ) → Reads (ownRow t) (styleOf (readDeclaration store t .value .important) (readDeclaration store t .value .decl))
+  unfolding ownRow
+  reads-declared t = rw (← declared-said t) (reads-said (ownNumbersAt t))
 
   -- whether they set a height to zero
   zero-own : (k a b : ℕ) → and (or (is k heightKind) (is k maxHeightKind)) (is a (flag true)) ≡ zeroHeight (declOf store k a b)
@@ -146,18 +159,13 @@ module _ (store : List ℕ) where
       by-kind (λ n. and (or (is n overflowKind) (is n overflowYKind)) (is a (overflowNumber hidden)) ≡ hidesOverflow (declOf store n a b)) refl refl refl refl (hides-number a) (hides-number a) refl refl refl k
       (λ o. rw (o .color, o .background, o .height, o .max-height, o .overflow, o .overflow-y, o .display, o .white-space, o .content))
 
-  -- the style that the declaration at the start of a stream asks for
-  pub reads-declared : (t : List ℕ) → Reads (ownRow t) (styleOf (readDeclaration store t .value .important) (readDeclaration store t .value .decl))
-  unfolding ownRow readDeclaration
-  reads-declared t = reads-own _ _ _ _
-
   -- ---- the first n declarations of a stream
 
   -- the styles that they ask for by themselves
   pub reads-rows : (n : ℕ) (t : List ℕ) → Reads (ownRows n t) (ownStyles (declarationsAt t store n))
-  unfolding ownRows ownRow ownStyles declarationsAt readMany readDeclaration
+  unfolding ownRows ownStyles declarationsAt readMany readDeclaration
   reads-rows zero t = reads-none
-  reads-rows (suc n) t = reads-both _ _ _ _ (reads-own _ _ _ _) (reads-rows n (drop declarationWidth t))
+  reads-rows (suc n) t = reads-both _ _ _ _ (reads-declared t) (reads-rows n (drop declarationWidth t))
 
   -- a test of one of them
   module _ (p : List ℕ → Bool) (q : Decl → Bool) (h : (t : List ℕ) → p t ≡ q (readDeclaration store t .value .decl)) where
@@ -177,9 +185,9 @@ module _ (store : List ℕ) where
   any-hidden n t = any-row hiddenRow hidesOverflow (λ t. hidden-own _ _ _) n t
 
   -- the style that both add
-  reads-added : (z : Bool) → Reads (pick z addedRow []) (pick z (one false style.displayNone) [])
-  unfolding pick one flag flagOf layout.styleOf is
-  reads-added true = reads-one displaySlot 0 0 0
+  reads-added : (z : Bool) → Reads (pick z (rowOfNumbers addedStyle) []) (pick z (one false style.displayNone) [])
+  unfolding pick one styleIn layout.styleOf is
+  reads-added true = reads-one addedStyle
   reads-added false = reads-none
 
   -- all styles that they ask for
@@ -199,20 +207,15 @@ module _ (store : List ℕ) where
   styles-meant rows count t = rw (count-styles rows count) (ap (λ (r : Read (List StyleDecl)). r .value) (reads-styles rows count .reads t))
 
 -- a declaration asks for at most one style by itself
-own-long : (k i a b : ℕ) → length (ownNumbers k i a b) ≤ styleWidth
-unfolding ownNumbers
-own-long k i a b =
-    let P : List ℕ → Type 0 = λ l. length l ≤ styleWidth in
-    pick-holds P _ _ _ (λ _. omega arith) (λ _.
-    pick-holds P _ _ _ (λ _. omega arith) (λ _.
-    pick-holds P _ _ _ (λ _. pick-holds P _ _ _ (λ _. omega arith) (λ _. omega arith)) (λ _.
-    pick-holds P _ _ _ (λ _. omega arith) (λ _.
-    pick-holds P _ _ _ (λ _. omega arith) (λ _. omega arith)))))
+own-long : (o : OwnStyle) → length (rowOfOwn o) ≤ styleWidth
+unfolding rowOfOwn
+own-long (Style x) = omega (arith, length-style x)
+own-long NoStyle = omega arith
 
 -- the same of a row
 row-long : (t : List ℕ) → length (ownRow t) ≤ styleWidth
 unfolding ownRow
-row-long t = own-long _ _ _ _
+row-long t = own-long (ownNumbersAt t)
 
 -- n declarations for at most n
 rows-long : (n : ℕ) (t : List ℕ) → length (ownRows n t) ≤ styleWidth * n
@@ -225,8 +228,8 @@ pub numbers-long : (rows : List ℕ) (n : ℕ) → length (styleNumbers rows n) 
 unfolding styleNumbers
 numbers-long rows n =
     let z = and (anyRow zeroRow n rows) (anyRow hiddenRow n rows) in
-    let h : length (pick z addedRow []) ≤ styleWidth = pick-holds (λ (l : List ℕ). length l ≤ styleWidth) z addedRow [] (λ _. omega arith) (λ _. omega arith) in
-    omega (arith, length-append (ownRows n rows) (pick z addedRow []), rows-long n rows, h)
+    let h : length (pick z (rowOfNumbers addedStyle) []) ≤ styleWidth = pick-holds (λ (l : List ℕ). length l ≤ styleWidth) z (rowOfNumbers addedStyle) [] (λ _. omega (arith, length-style addedStyle)) (λ _. omega arith) in
+    omega (arith, length-append (ownRows n rows) (pick z (rowOfNumbers addedStyle) []), rows-long n rows, h)
 
 -- so there are at most n + 1 of them
 pub count-le : (rows : List ℕ) (n : ℕ) → styleCount rows n ≤ n + 1
@@ -335,19 +338,24 @@ row-behind i s f (whiteSpace w) t = refl
 row-behind i s f (content b) t = refl
 row-behind i s f (unknown b) t = refl
 
+-- the row of a style alone
+one-row : (x : StyleNumbers) (f : ℕ) (d : StyleDecl) → x ≡ numbersFrom f d → rowOfOwn (Style x) ≡ rowsMany styleRow styleText f (d ∷ [])
+unfolding rowOfOwn rowsMany styleRow
+one-row x f d e = ap rowOfNumbers e ∙ sym (append-nil _)
+
 -- the row of its style
 own-row : (i : Bool) (s f : ℕ) (d : Decl) (t : List ℕ) → ownRow (declRow (flag i) s f d ++ t) ≡ rowsMany styleRow styleText f (styleOf i d)
-unfolding ownRow ownNumbers declRow styleRow styleRowOf rowsMany styleOf one flag flagOf pick is
-own-row i s f (color c) t = refl
-own-row i s f (backgroundColor c) t = refl
+unfolding ownRow ownNumbersAt declaredValue ownNumbers declRow numbersFrom styleSlotOf valueFrom styleOf one flag flagOf rowOfOwn rowsMany pick is
+own-row i s f (color c) t = one-row _ f _ (rw (flag-back i))
+own-row i s f (backgroundColor c) t = one-row _ f _ (rw (flag-back i))
 own-row i s f (height z) t = refl
 own-row i s f (maxHeight z) t = refl
 own-row i s f (overflow o) t = refl
 own-row i s f (overflowY o) t = refl
-own-row i s f (display true) t = refl
+own-row i s f (display true) t = one-row _ f _ (rw (flag-back i))
 own-row i s f (display false) t = refl
-own-row i s f (whiteSpace w) t = refl
-own-row i s f (content b) t = refl
+own-row i s f (whiteSpace w) t = one-row _ f _ (rw (flag-back i))
+own-row i s f (content b) t = one-row _ f _ (rw (flag-back i))
 own-row i s f (unknown b) t = refl
 
 -- its text
@@ -442,9 +450,9 @@ own-texts-only (d ∷ ds) u =
     rw (texts-behind styleText (styleOf (d .important) (d .decl)) (ownStyles ds), own-text (d .important) (d .decl) (u .0), own-texts-only ds (u .1))
 
 -- the row of the style that is added
-added-row : (z : Bool) (f : ℕ) → rowsMany styleRow styleText f (pick z (one false style.displayNone) []) ≡ pick z addedRow []
-unfolding pick one rowsMany styleRow styleRowOf
-added-row true f = refl
+added-row : (z : Bool) (f : ℕ) → rowsMany styleRow styleText f (pick z (one false style.displayNone) []) ≡ pick z (rowOfNumbers addedStyle) []
+unfolding pick one rowsMany rowOfOwn numbersFrom styleSlotOf valueFrom
+added-row true f = sym (one-row addedStyle f _ refl)
 added-row false f = refl
 
 -- it has no text

@@ -11,28 +11,27 @@ use Rattle.combinators.specs.Choice.{or, and, is}
 use Rattle.combinators.specs.Store.{Store, emits}
 use Rattle.combinators.proofs.Rules.{pick-true, pick-false, is-yes, is-no, or-left, or-right, or-none, and-gives, and-gives-false, or-assoc, or-false}
 use Rattle.combinators.proofs.Emitted.{emits-none, onto, then, sets-emitted, emits-fill}
-use Rattle.syntax.specs.Layout.{flag, declarationWidth, declarationKind, declarationImportant, declarationValue, declarationSecond, declarationsAt, displaySlot, styleWidth, stylesAt}
+use Rattle.syntax.specs.Layout.{flag, flagOf, declarationWidth, declarationKind, declarationImportant, declarationValue, declarationSecond, declarationsAt, styleWidth, valueNumbers, rowOfNumbers, stylesAt}
+use Rattle.syntax.specs.declared.styles.StyleNumbers.{StyleNumbers}
 use Rattle.syntax.proofs.Streams.{sets-drop}
 use Rattle.declarations.specs.Styles.{stylesOf}
-use Rattle.declarations.specs.StyleNumbers.{ownNumbers, ownRow, hasValue, zeroRow, hiddenRow, numbersBy, ownRows, anyRow, styleNumbers, styleCount, StylesRoom}
+use Rattle.declarations.specs.StyleNumbers.{addedStyle, ownNumbers, declaredValue, ownNumbersAt, rowOfOwn, ownRow, hasValue, zeroRow, hiddenRow, ownRows, anyRow, styleNumbers, styleCount, StylesRoom}
 use Rattle.declarations.specs.declared.styles.OwnStyle.{OwnStyle}
 use Rattle.declarations.specs.declared.styles.OwnStyle.the-variants.{Style, NoStyle}
 use Rattle.declarations.proofs.StyleLaws.{styles-meant, numbers-long, count-le}
 
--- four numbers, one behind the other
-pub four : (o₀ o₁ o₂ o₃ o₄ : Store) (a b c d : ℕ) → o₁ ≡ emits o₀ (a ∷ []) → o₂ ≡ emits o₁ (b ∷ []) → o₃ ≡ emits o₂ (c ∷ []) → o₄ ≡ emits o₃ (d ∷ [])
-    → o₄ ≡ emits o₀ (a ∷ b ∷ c ∷ d ∷ [])
-four o₀ o₁ o₂ o₃ o₄ a b c d p q r s =
-    then o₀ o₃ o₄ (a ∷ b ∷ c ∷ []) (d ∷ [])
-    (then o₀ o₂ o₃ (a ∷ b ∷ []) (c ∷ [])
-    (then o₀ o₁ o₂ (a ∷ []) (b ∷ []) p q) r) s
+-- the row of a style, one number behind the other
+pub row-put : (x : StyleNumbers) (i : ℕ) → i ≡ flag (x .important) → (o₀ o₁ o₂ o₃ o₄ : Store) → o₁ ≡ emits o₀ (x .slot ∷ []) → o₂ ≡ emits o₁ (i ∷ [])
+    → o₃ ≡ emits o₂ (x .value .number ∷ []) → o₄ ≡ emits o₃ (x .value .second ∷ []) → o₄ ≡ emits o₀ (rowOfNumbers x)
+unfolding rowOfNumbers valueNumbers
+row-put x i e o₀ o₁ o₂ o₃ o₄ p q r s = then _ _ _ _ _ (then _ _ _ _ _ (then _ _ _ _ _ p (q ∙ ap (λ (n : ℕ). emits o₁ (n ∷ [])) e)) r) s
 
 -- ---- the row of a declaration at a place
 module _ (rows : List ℕ) (at k a : ℕ) (ek : k ≡ getD rows (at + declarationKind) 0) (ea : a ≡ getD rows (at + declarationValue) 0) where
   -- the style that it asks for
   pub own-at : (i b : ℕ) → i ≡ getD rows (at + declarationImportant) 0 → b ≡ getD rows (at + declarationSecond) 0 → (r : OwnStyle)
-      → numbersBy r ≡ ownNumbers k i a b → numbersBy r ≡ ownRow (drop at rows)
-  unfolding ownRow
+      → r ≡ ownNumbers k (eqb i 1) (record { number = a; second = b }) → r ≡ ownNumbersAt (drop at rows)
+  unfolding ownNumbersAt declaredValue flagOf is
   own-at i b ei eb r e =
       e ∙ rw (
         ek,
@@ -66,16 +65,16 @@ module _ (rows : List ℕ) (at k a : ℕ) (ek : k ≡ getD rows (at + declaratio
     value-none d e = value-at _ (and-gives-false _ _ (or-none _ _ (is-no k m d) (is-no k n e)))
 
 -- ---- what a declaration asks for by itself is written
-module _ (xs : List ℕ) (r : OwnStyle) (e : numbersBy r ≡ xs) (o₀ : Store) where
+module _ (t : List ℕ) (r : OwnStyle) (e : r ≡ ownNumbersAt t) (o₀ : Store) where
   -- a style
-  pub own-put : (s i a b : ℕ) → r ≡ Style s i a b → (o₁ : Store) → o₁ ≡ emits o₀ (s ∷ i ∷ a ∷ b ∷ []) → o₁ ≡ emits o₀ xs
-  unfolding numbersBy
-  own-put s i a b h o₁ p = p ∙ ap (emits o₀) (sym (ap numbersBy h) ∙ e)
+  pub own-put : (x : StyleNumbers) → r ≡ Style x → (o₁ : Store) → o₁ ≡ emits o₀ (rowOfNumbers x) → o₁ ≡ emits o₀ (ownRow t)
+  unfolding ownRow rowOfOwn
+  own-put x h o₁ p = p ∙ ap (λ (q : OwnStyle). emits o₀ (rowOfOwn q)) (sym h ∙ e)
 
   -- none
-  pub own-none : r ≡ NoStyle → o₀ ≡ emits o₀ xs
-  unfolding numbersBy
-  own-none h = sym (emits-none o₀) ∙ ap (emits o₀) (sym (ap numbersBy h) ∙ e)
+  pub own-none : r ≡ NoStyle → o₀ ≡ emits o₀ (ownRow t)
+  unfolding ownRow rowOfOwn
+  own-none h = sym (emits-none o₀) ∙ ap (λ (q : OwnStyle). emits o₀ (rowOfOwn q)) (sym h ∙ e)
 
 -- ---- tests that the code joins
 
@@ -196,13 +195,13 @@ module _ (rows : List ℕ) (count : ℕ) (styles₀ styles : List ℕ) (place : 
     both = and-is height-zero overflow-hidden ∙ rw (any-done zeroRow _ _ height-zero _ none-left (c .height), any-done hiddenRow _ _ overflow-hidden _ none-left (c .overflow))
 
     -- they add a style
-    pub styling-added : (height-zero && overflow-hidden) ≡ true → (styles₁ : List ℕ) (place₁ : ℕ)
-        → record { bytes = styles₁; fill = place₁ } ≡ emits (record { bytes = styles; fill = place }) (displaySlot ∷ 0 ∷ 0 ∷ 0 ∷ [])
+    pub styling-added : (height-zero && overflow-hidden) ≡ true → (x : StyleNumbers) → x ≡ addedStyle → (styles₁ : List ℕ) (place₁ : ℕ)
+        → record { bytes = styles₁; fill = place₁ } ≡ emits (record { bytes = styles; fill = place }) (rowOfNumbers x)
         → Styled rows count styles₀ styles₁ (place₁ / styleWidth)
-    unfolding styleNumbers flag
-    styling-added b styles₁ place₁ e =
+    unfolding styleNumbers
+    styling-added b x ex styles₁ place₁ e =
         styled rows count styles₀ styles₁ place₁ room
-        (then _ _ _ _ _ own-styled e ∙ ap (λ l. emits (record { bytes = styles₀; fill = 0 }) (ownRows count rows ++ l)) (pick-true _ _ _ _ (sym both ∙ b) refl))
+        (then _ _ _ _ _ own-styled (e ∙ ap (λ (y : StyleNumbers). emits (record { bytes = styles; fill = place }) (rowOfNumbers y)) ex) ∙ ap (λ l. emits (record { bytes = styles₀; fill = 0 }) (ownRows count rows ++ l)) (pick-true _ _ _ _ (sym both ∙ b) refl))
 
     -- they add none
     pub styling-done : (height-zero && overflow-hidden) ≡ false → Styled rows count styles₀ styles (place / styleWidth)

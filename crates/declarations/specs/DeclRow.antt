@@ -2,9 +2,8 @@
 use Prim.Native.Nat.{ℕ, _+_, _^_, _≤_, _<_}
 use mathlib.Core.Bool.{Bool}
 use mathlib.Core.List.{List, [], _∷_}
-use lib.Dec.{leb}
 use lib.ListN.{length}
-use Rattle.combinators.specs.Choice.{pick, is}
+use Rattle.combinators.specs.Choice.{pick, or, is}
 use Rattle.syntax.specs.Declaration.{Decl, color, backgroundColor, height, maxHeight, overflow, overflowY, display, whiteSpace, content, unknown}
 use Rattle.syntax.specs.Layout.{contentKind, unknownKind}
 use Rattle.syntax.specs.Stream.{part}
@@ -42,9 +41,9 @@ pub record Keeping (d : declared.Decl) (store : List ℕ) (f n t : ℕ) : Type 0
 
 -- ---- its row, where its text starts at f: important i, first byte s
 
--- where the text starts, or the declaration's number: kinds from that of contents on have a text
+-- where the text starts, or the declaration's number: a content and an unknown declaration have a text
 unfoldable pub rowValue : ℕ → declared.Decl → ℕ
-rowValue f d = pick (leb contentKind (d .kind)) f (d .value)
+rowValue f d = pick (or (is (d .kind) contentKind) (is (d .kind) unknownKind)) f (d .value)
 
 unfoldable pub rowBy : ℕ → ℕ → ℕ → declared.Decl → List ℕ
 rowBy i s f d = d .kind ∷ i ∷ s ∷ rowValue f d ∷ d .text ∷ []

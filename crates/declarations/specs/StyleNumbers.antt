@@ -6,24 +6,48 @@ use mathlib.Core.Path.{_≡_, refl}
 use lib.ListN.{length, getD, drop}
 use Rattle.combinators.specs.Choice.{pick, or, and, is}
 use Rattle.syntax.specs.Declaration.{hidden}
-use Rattle.syntax.specs.Layout.{colorKind, backgroundColorKind, heightKind, maxHeightKind, overflowKind, overflowYKind, displayKind, whiteSpaceKind, contentKind, flag, flagOf, overflowNumber, declarationWidth, declarationKind, declarationImportant, declarationValue, declarationSecond, colourSlot, backgroundSlot, displaySlot, whiteSpaceSlot, contentSlot, styleWidth}
+use Rattle.syntax.specs.Layout.{colorKind, backgroundColorKind, heightKind, maxHeightKind, overflowKind, overflowYKind, displayKind, whiteSpaceKind, contentKind, flag, flagOf, overflowNumber, declarationWidth, declarationKind, declarationImportant, declarationValue, declarationSecond, colourSlot, backgroundSlot, displaySlot, whiteSpaceSlot, contentSlot, styleWidth, valueNumbers, rowOfNumbers}
+use Rattle.syntax.specs.declared.styles.Value.{Value}
+use Rattle.syntax.specs.declared.styles.StyleNumbers.{StyleNumbers}
 use Rattle.declarations.specs.declared.styles.OwnStyle.{OwnStyle}
 use Rattle.declarations.specs.declared.styles.OwnStyle.the-variants.{Style, NoStyle}
 
 -- ---- one declaration
 
--- the row of the style that a declaration of kind k with the numbers a and b asks for by itself; i says whether it is important
-unfoldable pub ownNumbers : ℕ → ℕ → ℕ → ℕ → List ℕ
-ownNumbers k i a b =
-    pick (is k colorKind) (colourSlot ∷ i ∷ a ∷ 0 ∷ [])
-    (pick (is k backgroundColorKind) (backgroundSlot ∷ i ∷ a ∷ 0 ∷ [])
-    (pick (is k displayKind) (pick (flagOf a) (displaySlot ∷ i ∷ 0 ∷ 0 ∷ []) [])
-    (pick (is k whiteSpaceKind) (whiteSpaceSlot ∷ i ∷ a ∷ 0 ∷ [])
-    (pick (is k contentKind) (contentSlot ∷ i ∷ a ∷ b ∷ []) []))))
+-- what `display: none` gives its slot, and the one that zero height with hidden overflow adds
+abbrev pub noValue : Value
+noValue = record { number = 0; second = 0 }
 
--- the same of the row at the start of a stream
+abbrev pub addedStyle : StyleNumbers
+addedStyle = record { slot = displaySlot; important = false; value = noValue }
+
+-- a style, as the code answers it
+abbrev pub styleFor : ℕ → Bool → Value → OwnStyle
+styleFor slot important v = Style (record { slot = slot; important = important; value = v })
+
+-- the style that a declaration of kind k with the value v asks for by itself
+unfoldable pub ownNumbers : ℕ → Bool → Value → OwnStyle
+ownNumbers k important v =
+    pick (is k colorKind) (styleFor colourSlot important v)
+    (pick (is k backgroundColorKind) (styleFor backgroundSlot important v)
+    (pick (is k displayKind) (pick (flagOf (v .number)) (styleFor displaySlot important noValue) NoStyle)
+    (pick (is k whiteSpaceKind) (styleFor whiteSpaceSlot important v)
+    (pick (is k contentKind) (styleFor contentSlot important v) NoStyle))))
+
+-- the value of the row at the start of a stream, and the style that it asks for
+unfoldable pub declaredValue : List ℕ → Value
+declaredValue t = record { number = getD t declarationValue 0; second = getD t declarationSecond 0 }
+
+unfoldable pub ownNumbersAt : List ℕ → OwnStyle
+ownNumbersAt t = ownNumbers (getD t declarationKind 0) (flagOf (getD t declarationImportant 0)) (declaredValue t)
+
+-- the row of a style that is asked for
+unfoldable pub rowOfOwn : OwnStyle → List ℕ
+rowOfOwn (Style x) = rowOfNumbers x
+rowOfOwn NoStyle = []
+
 unfoldable pub ownRow : List ℕ → List ℕ
-ownRow t = ownNumbers (getD t declarationKind 0) (getD t declarationImportant 0) (getD t declarationValue 0) (getD t declarationSecond 0)
+ownRow t = rowOfOwn (ownNumbersAt t)
 
 -- whether that row is of the kind k or j, with the value v
 unfoldable pub hasValue : ℕ → ℕ → ℕ → List ℕ → Bool
@@ -35,11 +59,6 @@ zeroRow t = hasValue heightKind maxHeightKind (flag true) t
 
 unfoldable pub hiddenRow : List ℕ → Bool
 hiddenRow t = hasValue overflowKind overflowYKind (overflowNumber hidden) t
-
--- the row that the code's answer says
-unfoldable pub numbersBy : OwnStyle → List ℕ
-numbersBy (Style slot important value second) = slot ∷ important ∷ value ∷ second ∷ []
-numbersBy NoStyle = []
 
 -- ---- the first n declarations of a stream
 
@@ -53,13 +72,9 @@ unfoldable pub anyRow : (List ℕ → Bool) → ℕ → List ℕ → Bool
 anyRow p zero t = false
 anyRow p (suc n) t = or (p t) (anyRow p n (drop declarationWidth t))
 
--- the row of the `display: none` that zero height with hidden overflow adds
-abbrev pub addedRow : List ℕ
-addedRow = displaySlot ∷ flag false ∷ 0 ∷ 0 ∷ []
-
 -- the rows of all styles that they ask for
 unfoldable pub styleNumbers : List ℕ → ℕ → List ℕ
-styleNumbers rows n = ownRows n rows ++ pick (and (anyRow zeroRow n rows) (anyRow hiddenRow n rows)) addedRow []
+styleNumbers rows n = ownRows n rows ++ pick (and (anyRow zeroRow n rows) (anyRow hiddenRow n rows)) (rowOfNumbers addedStyle) []
 
 -- how many styles these are
 unfoldable pub styleCount : List ℕ → ℕ → ℕ
@@ -75,12 +90,12 @@ declared =
 
 -- all four
 case-all : styleNumbers declared 4 ≡ colourSlot ∷ 1 ∷ 0xff0000 ∷ 0 ∷ contentSlot ∷ 0 ∷ 7 ∷ 3 ∷ displaySlot ∷ 0 ∷ 0 ∷ 0 ∷ []
-unfolding declared styleNumbers ownRows anyRow ownRow ownNumbers zeroRow hiddenRow hasValue overflowNumber flag flagOf pick or and is
+unfolding declared styleNumbers ownRows anyRow ownRow rowOfOwn ownNumbersAt declaredValue ownNumbers rowOfNumbers valueNumbers zeroRow hiddenRow hasValue overflowNumber flag flagOf pick or and is
 case-all = refl
 
 -- the first three, which hide no overflow
 case-three : styleNumbers declared 3 ≡ colourSlot ∷ 1 ∷ 0xff0000 ∷ 0 ∷ contentSlot ∷ 0 ∷ 7 ∷ 3 ∷ []
-unfolding declared styleNumbers ownRows anyRow ownRow ownNumbers zeroRow hiddenRow hasValue overflowNumber flag flagOf pick or and is
+unfolding declared styleNumbers ownRows anyRow ownRow rowOfOwn ownNumbersAt declaredValue ownNumbers rowOfNumbers valueNumbers zeroRow hiddenRow hasValue overflowNumber flag flagOf pick or and is
 case-three = refl
 
 -- what `styles_from_properties` asks for: the rows that it reads, and a row for each declaration and one more

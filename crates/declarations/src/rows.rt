@@ -57,7 +57,10 @@ fn value_of(decl: Decl, fill: usize) -> u32
     requires { ⌜ fill < 2 ^ 32 ⌝ }
     ensures { λ r. ⌜ r ≡ rowValue fill decl ⌝ }
 {
-    if CONTENT <= decl.kind {
+    if decl.kind == CONTENT {
+        return fill as u32;
+    }
+    if decl.kind == UNKNOWN {
         return fill as u32;
     }
     decl.value

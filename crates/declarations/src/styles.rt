@@ -14,7 +14,6 @@ use syntax::rows::DECLARATION_VALUE;
 use syntax::rows::DECLARATION_WIDTH;
 use syntax::rows::DISPLAY;
 use syntax::rows::DISPLAY_SLOT;
-use syntax::rows::FLAG_FALSE;
 use syntax::rows::FLAG_TRUE;
 use syntax::rows::HEIGHT;
 use syntax::rows::MAX_HEIGHT;
@@ -24,75 +23,98 @@ use syntax::rows::OVERFLOW_Y;
 use syntax::rows::STYLE_WIDTH;
 use syntax::rows::WHITE_SPACE;
 use syntax::rows::WHITE_SPACE_SLOT;
+use syntax::rows::flag_of;
+use syntax::styles::StyleNumbers;
+use syntax::styles::Value;
 ghost use mathlib.Core.Path.{_≡_};
-ghost use mathlib.Core.List.{List, [], _∷_};
+ghost use mathlib.Core.List.{List};
 ghost use Prim.Native.Nat.{ℕ, _+_, _≤_};
 ghost use lib.ListN.{drop};
 ghost use lib.Seq.{sets};
 ghost use Rattle.combinators.specs.Store.{emits};
-ghost use Rattle.syntax.specs.Layout.{declarationsAt, stylesAt};
+ghost use Rattle.syntax.specs.Layout.{declarationsAt, rowOfNumbers, stylesAt};
 ghost use Rattle.declarations.specs.Styles.{stylesOf};
-ghost use Rattle.declarations.specs.StyleNumbers.{ownNumbers, ownRow, hasValue, zeroRow, hiddenRow, numbersBy, styleNumbers, styleCount, StylesRoom};
+ghost use Rattle.declarations.specs.StyleNumbers.{styleFor, ownNumbers, ownNumbersAt, ownRow, hasValue, zeroRow, hiddenRow, styleNumbers, styleCount, StylesRoom};
 
-// The row of the style that a declaration asks for by itself: its slot, whether it is important, and two numbers; or that it asks for none.
+// The style that a declaration asks for by itself; or that it asks for none.
 pub enum OwnStyle {
-    Style(u32, u32, u32, u32),
+    Style(StyleNumbers),
     NoStyle,
 }
 
-// The style that a declaration's kind and numbers ask for.
-fn own_style(kind: u32, important: u32, value: u32, second: u32) -> OwnStyle
-    ensures { λ r. ⌜ numbersBy r ≡ ownNumbers kind important value second ⌝ }
+// What `display: none` gives its slot.
+const NO_VALUE: Value = Value {
+    number: 0,
+    second: 0,
+};
+
+// The `display: none` that zero height with hidden overflow adds. It is never important.
+pub const ADDED_STYLE: StyleNumbers = StyleNumbers {
+    slot: DISPLAY_SLOT,
+    important: false,
+    value: NO_VALUE,
+};
+
+// The style of a slot and what it gives the slot.
+fn style_for(slot: u32, important: bool, value: Value) -> OwnStyle
+    ensures { λ r. ⌜ r ≡ styleFor slot important value ⌝ }
+{
+    OwnStyle::Style(StyleNumbers {
+        slot,
+        important,
+        value,
+    })
+}
+
+// The style that a declaration's kind and value ask for.
+fn own_style(kind: u32, important: bool, value: Value) -> OwnStyle
+    ensures { λ r. ⌜ r ≡ ownNumbers kind important value ⌝ }
 {
     if kind == COLOR {
-        return OwnStyle::Style(COLOUR_SLOT, important, value, 0);
+        return style_for(COLOUR_SLOT, important, value);
     }
     if kind == BACKGROUND_COLOR {
-        return OwnStyle::Style(BACKGROUND_SLOT, important, value, 0);
+        return style_for(BACKGROUND_SLOT, important, value);
     }
     if kind == DISPLAY {
-        if value == FLAG_TRUE {
-            return OwnStyle::Style(DISPLAY_SLOT, important, 0, 0);
+        if value.number == FLAG_TRUE {
+            return style_for(DISPLAY_SLOT, important, NO_VALUE);
         }
         return OwnStyle::NoStyle;
     }
     if kind == WHITE_SPACE {
-        return OwnStyle::Style(WHITE_SPACE_SLOT, important, value, 0);
+        return style_for(WHITE_SPACE_SLOT, important, value);
     }
     if kind == CONTENT {
-        return OwnStyle::Style(CONTENT_SLOT, important, value, second);
+        return style_for(CONTENT_SLOT, important, value);
     }
     OwnStyle::NoStyle
 }
 
 // The style that the declaration asks for whose row starts at `at`.
 pub fn own_style_at(rows: &[u32], at: usize) -> OwnStyle
-    ensures { λ r. ⌜ numbersBy r ≡ ownRow (drop at (now (rows .entry))) ⌝ }
+    ensures { λ r. ⌜ r ≡ ownNumbersAt (drop at (now (rows .entry))) ⌝ }
 {
+    let value = Value {
+        number: number_at(rows, at, DECLARATION_VALUE),
+        second: number_at(rows, at, DECLARATION_SECOND),
+    };
     own_style(
         number_at(rows, at, DECLARATION_KIND),
-        number_at(rows, at, DECLARATION_IMPORTANT),
-        number_at(rows, at, DECLARATION_VALUE),
-        number_at(rows, at, DECLARATION_SECOND),
+        number_at(rows, at, DECLARATION_IMPORTANT) == FLAG_TRUE,
+        value,
     )
 }
 
 // Writes the row of a style from `place` on; the place behind it.
-fn put_style(
-    slot: u32,
-    important: u32,
-    value: u32,
-    second: u32,
-    styles: &mut [u32],
-    place: usize,
-) -> usize
+fn put_style(style: StyleNumbers, styles: &mut [u32], place: usize) -> usize
     ensures { λ r. ⌜ record { bytes = now (styles .exit); fill = r }
-        ≡ emits (record { bytes = now (styles .entry); fill = place }) (slot ∷ important ∷ value ∷ second ∷ []) ⌝ }
+        ≡ emits (record { bytes = now (styles .entry); fill = place }) (rowOfNumbers style) ⌝ }
 {
-    let after_slot = emit_number(slot, styles, place);
-    let after_important = emit_number(important, styles, after_slot);
-    let after_value = emit_number(value, styles, after_important);
-    emit_number(second, styles, after_value)
+    let after_slot = emit_number(style.slot, styles, place);
+    let after_important = emit_number(flag_of(style.important), styles, after_slot);
+    let after_number = emit_number(style.value.number, styles, after_important);
+    emit_number(style.value.second, styles, after_number)
 }
 
 // Writes the row of the style that the declaration asks for whose row starts at `at`, if it asks for one; the place behind it.
@@ -101,8 +123,8 @@ fn put_own_style(rows: &[u32], at: usize, styles: &mut [u32], place: usize) -> u
         ≡ emits (record { bytes = now (styles .entry); fill = place }) (ownRow (drop at (now (rows .entry)))) ⌝ }
 {
     match own_style_at(rows, at) {
-        OwnStyle::Style(slot, important, value, second) => {
-            return put_style(slot, important, value, second, styles, place);
+        OwnStyle::Style(style) => {
+            return put_style(style, styles, place);
         }
         OwnStyle::NoStyle => {
             return place;
@@ -161,7 +183,7 @@ pub fn styles_from_properties(rows: &[u32], count: usize, styles: &mut [u32]) ->
         i += 1;
     }
     if height_zero & overflow_hidden {
-        return put_style(DISPLAY_SLOT, FLAG_FALSE, 0, 0, styles, place) / STYLE_WIDTH;
+        return put_style(ADDED_STYLE, styles, place) / STYLE_WIDTH;
     }
     place / STYLE_WIDTH
 }

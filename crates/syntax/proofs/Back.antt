@@ -16,7 +16,7 @@ use Rattle.syntax.specs.Style.{Style, StyleDecl}
 use Rattle.syntax.proofs.Streams.{Held, held-part, All, many-back, sets-drop, sets-held}
 
 -- ---- flags and words
-flag-back : (b : Bool) → flagOf (flag b) ≡ b
+pub flag-back : (b : Bool) → flagOf (flag b) ≡ b
 unfolding flag flagOf is
 flag-back true = refl
 flag-back false = refl

@@ -56,7 +56,7 @@ unfolding declarationRows
 length-declarations f ds = length-wide declarationRow declarationText declarationWidth length-declaration ds f
 
 -- ---- styles
-length-style : (x : StyleNumbers) → length (rowOfNumbers x) ≡ styleWidth
+pub length-style : (x : StyleNumbers) → length (rowOfNumbers x) ≡ styleWidth
 unfolding rowOfNumbers valueNumbers
 length-style x = refl
 

@@ -179,6 +179,9 @@ whiteSpaceSlot = 3
 abbrev pub contentSlot : ℕ
 contentSlot = 4
 
+abbrev pub lastSlot : ℕ
+lastSlot = contentSlot
+
 abbrev pub styleWidth : ℕ
 styleWidth = 4
 

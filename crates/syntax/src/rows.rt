@@ -85,6 +85,8 @@ pub const WHITE_SPACE_SLOT: u32 = 3;
 
 pub const CONTENT_SLOT: u32 = 4;
 
+pub const LAST_SLOT: u32 = CONTENT_SLOT;
+
 // Where a sheet is from, by the numbers of the compiled sheet.
 pub const AGENT_ORIGIN: u32 = 1;
 

@@ -20,8 +20,9 @@ own-style-requires c κs = search needs
 
 returns : tie.Need-returns
 returns c =
-    let g = c .before .before .before .before .before .before .args in laws.own-at (g .rows .now) (g .at) _ _ (c .before .before .before .before .number-at .ensures) (c .before .before .number-at3 .ensures) _ _ (c .before .before .before .number-at2 .ensures) (c .before .number-at4 .ensures) _
-    (c .own-style .ensures)
+    let n = c .before .before .before in
+    let g = n .before .before .before .args in
+    laws.own-at (g .rows .now) (g .at) _ _ (c .before .before .number-at3 .ensures) (n .before .number-at .ensures) _ _ (c .before .number-at4 .ensures) (n .number-at2 .ensures) _ (c .own-style .ensures)
 
 pub own-style-at-spec : {M : Type 1} → statement M
 own-style-at-spec =

@@ -6,8 +6,8 @@ use Rattle.declarations.proofs.styles.put_own_style.Tie as tie
 own-style-at-requires : tie.Need-own-style-at-requires
 own-style-at-requires c κs = search needs
 
-enum-known-slot : tie.Need-enum-known-slot
-enum-known-slot c = search needs
+enum-known-style : tie.Need-enum-known-style
+enum-known-style c = search needs
 
 put-style-requires : tie.Need-put-style-requires
 put-style-requires c κs = search needs
@@ -16,7 +16,7 @@ same-length : tie.Need-same-length
 same-length c = search needs
 
 returns : tie.Need-returns
-returns c = laws.own-put _ _ (c .before .before .before .before .before .before .before .own-style-at .ensures) _ _ _ _ _ (c .before .before .before .before .before .slot .given .1) _ (c .before .before .put-style .ensures)
+returns c = laws.own-put _ _ (c .before .before .before .before .before .before .before .own-style-at .ensures) _ _ (c .before .before .before .before .before .style .given .1) _ (c .before .before .put-style .ensures)
 
 enum-told : tie.Need-enum-told
 enum-told c = search needs
@@ -29,7 +29,7 @@ put-own-style-spec =
     tie.close
     (tie.spec
     own-style-at-requires
-    enum-known-slot
+    enum-known-style
     put-style-requires
     same-length
     returns

@@ -1,4 +1,4 @@
-use mathlib.Core.Path.{_∙_}
+use mathlib.Core.Path.{refl, _∙_}
 use Prim.Native.Nat.{_-_}
 use Rattle.declarations.proofs.Styling as laws
 use borrow.Author.Needs.{needs}
@@ -44,14 +44,14 @@ put-style-requires : tie.Need-put-style-requires Inv-loop μ-loop
 put-style-requires c κs = search needs
 
 same-length : tie.Need-same-length Inv-loop μ-loop
-same-length c = let b = c .before .before in b .put-style .kept .1 .1 .1 .1 .0 ∙ b .before .before .before .before .loop .inv .long
+same-length c = let b = c .before .before in b .put-style .kept .1 .0 ∙ b .before .before .before .before .loop .inv .long
 
 returns : tie.Need-returns Inv-loop μ-loop
 returns c =
     let b = c .before .before in
     let t = b .before .before in
     let l = t .before in
-    laws.styling-added _ _ _ _ _ _ _ _ _ (l .before .loop .inv) (l .loop-test .left) (l .before .before .before .before .pre) (t .if1 .taken) _ _ (b .put-style .ensures)
+    laws.styling-added _ _ _ _ _ _ _ _ _ (l .before .loop .inv) (l .loop-test .left) (l .before .before .before .before .pre) (t .if1 .taken) _ refl _ _ (b .put-style .ensures)
 
 same-length-2 : tie.Need-same-length-2 Inv-loop μ-loop
 same-length-2 c = c .before .before .loop .inv .long
