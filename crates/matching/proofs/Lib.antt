@@ -9,3 +9,5 @@ pub mod PassLaws
 pub mod MatchLaws
 pub mod Roots
 pub mod TestLaws
+pub mod RecursionLaws
+pub mod CallLaws

@@ -28,6 +28,7 @@ ghost use Rattle.syntax.specs.Signed.{signedOf};
 ghost use Rattle.matching.specs.Matches.{matches};
 ghost use Rattle.matching.specs.Nth.{nthMatches};
 ghost use Rattle.matching.specs.Rows.{componentNumber, componentAt, componentsAt, SimpleAt, Rooted, elementPasses};
+ghost use Rattle.matching.specs.Recursion.{matchRecursively};
 ghost use Rattle.matching.specs.Tests.{TestsPassed};
 
 // Whether an nth-child holds of a row's place among its siblings.
@@ -133,8 +134,54 @@ fn pass_tests(
     Tested::Left(0)
 }
 
-// Whether the first `left` components match a row, the last of them first. The row is the document or an element, and parents lead from it to the
-// document; on an accepted page they do from every element (law `accepted-element`).
+// What comes of matching a selector: it matches the row; it fails locally, which says nothing of the rows above; it fails completely, on the row and on
+// each of its ancestors (law `result-holds`).
+pub enum SelectorMatch {
+    Matches,
+    FailsLocally,
+    FailsCompletely,
+}
+
+// Matches the first `left` components on a row, the last of them first. Where what is left behind a combinator fails completely, no other row is
+// tried: the calls are at most (components + 1) * (ancestors + 1) (law `few-calls`).
+pub fn match_recursively(
+    components: &[u32],
+    store: &[u8],
+    left: usize,
+    nodes: &[u32],
+    attributes: &[u32],
+    text: &[u8],
+    row: usize,
+) -> SelectorMatch
+    requires { ⌜ Rooted (now nodes) row ⌝ }
+    ensures { λ r. ⌜ r ≡ matchRecursively (componentsAt (now (store .entry)) (now (components .entry)) left) (pathOf (now (nodes .entry)) (now (attributes .entry)) (now (text .entry)) row) ⌝ }
+{
+    let Tested::Left(n) = pass_tests(components, store, left, nodes, attributes, text, row) else {
+        return SelectorMatch::FailsLocally;
+    };
+    if n == 0 {
+        return SelectorMatch::Matches;
+    }
+    if row == 0 {
+        return SelectorMatch::FailsCompletely;
+    }
+    let next = n - 1;
+    let parent = parent_of(nodes, row);
+    let result = match_recursively(components, store, next, nodes, attributes, text, parent);
+    match result {
+        SelectorMatch::Matches => SelectorMatch::Matches,
+        SelectorMatch::FailsCompletely => SelectorMatch::FailsCompletely,
+        SelectorMatch::FailsLocally => {
+            if kind_at(components, next) == CHILD {
+                return SelectorMatch::FailsLocally;
+            }
+            match_recursively(components, store, n, nodes, attributes, text, parent)
+        }
+    }
+}
+
+// Whether the first `left` components match a row. The row is the document or an element, and parents lead from it to the document; on an accepted
+// page they do from every element (law `accepted-element`).
 pub fn do_matches(
     components: &[u32],
     store: &[u8],
@@ -147,22 +194,10 @@ pub fn do_matches(
     requires { ⌜ Rooted (now nodes) row ⌝ }
     ensures { λ r. ⌜ r ≡ matches (componentsAt (now (store .entry)) (now (components .entry)) left) (pathOf (now (nodes .entry)) (now (attributes .entry)) (now (text .entry)) row) ⌝ }
 {
-    let Tested::Left(n) = pass_tests(components, store, left, nodes, attributes, text, row) else {
-        return false;
-    };
-    if n == 0 {
-        return true;
+    let result = match_recursively(components, store, left, nodes, attributes, text, row);
+    match result {
+        SelectorMatch::Matches => true,
+        SelectorMatch::FailsLocally => false,
+        SelectorMatch::FailsCompletely => false,
     }
-    if row == 0 {
-        return false;
-    }
-    let next = n - 1;
-    let parent = parent_of(nodes, row);
-    if do_matches(components, store, next, nodes, attributes, text, parent) {
-        return true;
-    }
-    if kind_at(components, next) == CHILD {
-        return false;
-    }
-    do_matches(components, store, n, nodes, attributes, text, parent)
 }
