@@ -8,11 +8,14 @@ use crate::elements::attributes_pass;
 use crate::nth::nth;
 use crate::nth::signed_of;
 use crate::texts::same_text;
+use page::ancestors::element_children;
 use page::ancestors::place_among;
+use page::rows::NODE_WIDTH;
 use page::rows::attribute_count;
 use page::rows::first_attribute;
 use page::rows::kind_of;
 use page::rows::name_of;
+use page::rows::node_count;
 use page::rows::parent_of;
 use syntax::rows::CHILD;
 use syntax::rows::DESCENDANT;
@@ -31,13 +34,29 @@ ghost use Rattle.matching.specs.Rows.{componentNumber, componentAt, comp
 ghost use Rattle.matching.specs.Recursion.{matchRecursively};
 ghost use Rattle.matching.specs.Tests.{TestsPassed};
 
+// The place of a row among the element children of its parent, counted from the parent on, behind which they stand.
+fn place_of(nodes: &[u32], row: usize) -> usize
+    requires { ⌜ Rooted (now nodes) row ⌝ }
+    ensures { λ r. ⌜ r ≡ placeOf (now (nodes .entry)) row ⌝ }
+{
+    let parent = parent_of(nodes, row);
+    if row < node_count(nodes) {
+        if parent < row {
+            let behind = (parent + 1) * NODE_WIDTH;
+            return element_children(&nodes[behind..], parent, row - parent);
+        }
+    }
+    place_among(nodes, row)
+}
+
 // Whether an nth-child holds of a row's place among its siblings.
 fn is_nth(components: &[u32], i: usize, nodes: &[u32], row: usize) -> bool
+    requires { ⌜ Rooted (now nodes) row ⌝ }
     ensures { λ r. ⌜ r ≡ nthMatches (signedOf (componentNumber (now (components .entry)) i componentFirstAt)) (signedOf (componentNumber (now (components .entry)) i componentSecondAt)) (placeOf (now (nodes .entry)) row) ⌝ }
 {
     let a = signed_of(first_number(components, i));
     let b = signed_of(second_number(components, i));
-    nth(a, b, place_among(nodes, row))
+    nth(a, b, place_of(nodes, row))
 }
 
 // Whether an element passes a component that is neither star nor combinator.
@@ -50,6 +69,7 @@ fn element_passes(
     text: &[u8],
     row: usize,
 ) -> bool
+    requires { ⌜ Rooted (now nodes) row ⌝ }
     ensures { λ r. ⌜ r ≡ elementPasses (now (store .entry)) (now (components .entry)) i (elementAt (now (nodes .entry)) (now (attributes .entry)) (now (text .entry)) row) ⌝ }
 {
     let kind = kind_at(components, i);
