@@ -1,11 +1,15 @@
 pub mod Multiples
 pub mod Selectors
 pub mod Signed
+pub mod AsciiLaws
 pub mod Words
 pub mod ComponentLaws
 pub mod AttributeLaws
 pub mod PathLaws
+pub mod PlaceLaws
 pub mod PassLaws
 pub mod MatchLaws
 pub mod Roots
 pub mod TestLaws
+pub mod RecursionLaws
+pub mod CallLaws

@@ -1,17 +1,20 @@
--- The returns of `passes` and `do_matches`: each step of the code is one of the definition, on the path of the row.
+-- The returns of `passes` and `match_recursively`: each step of the code is one of the definition, on the path of the row.
 use Prim.Native.Nat.{ℕ, suc, _-_}
 use mathlib.Core.Bool.{Bool, true, false}
 use mathlib.Core.List.{List, [], _∷_}
-use mathlib.Core.Path.{_≡_, sym, ap, ap₂, _∙_}
+use mathlib.Core.Path.{_≡_, refl, sym, ap, ap₂, _∙_}
 use native.Mathlib.Omega.{arith}
-use Rattle.combinators.specs.Choice.{or, and, is}
-use Rattle.combinators.proofs.Rules.{or-left, or-gives, and-left, and-gives}
+use Rattle.combinators.specs.Choice.{pick}
+use Rattle.combinators.proofs.Rules.{pick-true, pick-false}
 use Rattle.syntax.specs.RuleLayout.{starKind, childKind, descendantKind, componentKindAt}
 use Rattle.syntax.specs.Selector.{Component, child, descendant}
 use Rattle.page.specs.PathOf.{elementAt, pathOf}
 use Rattle.page.specs.Rows.{elementKind, nodeAt}
-use Rattle.matching.specs.Matches.{onParent, onAncestors, step, matches}
+use Rattle.matching.specs.Matches.{matches}
 use Rattle.matching.specs.Rows.{componentNumber, componentAt, componentsAt, firstText, secondText, SimpleAt, Rooted, elementPasses}
+use Rattle.matching.specs.Recursion.{resultOnParent, resultOnAncestors, orElse, byCombinator, resultStep, matchRecursively}
+use Rattle.matching.specs.declared.matcher.SelectorMatch.{SelectorMatch}
+use Rattle.matching.specs.declared.matcher.SelectorMatch.the-variants.{Matches, FailsLocally, FailsCompletely}
 use Rattle.matching.proofs.ComponentLaws.{components-none, components-more}
 use Rattle.matching.proofs.PassLaws.{from-child, from-descendant, from-star, document-fails, simple-beside, asked-of-element}
 use Rattle.matching.proofs.PathLaws.{top-path, no-element-path, some-element-path, other-path}
@@ -38,23 +41,24 @@ module _ (store components nodes attributes text : List ℕ) (i row k : ℕ) (ek
     document-passes d =
         rw (no-element-path nodes attributes text row rooted (λ z. d (er ∙ z))) (document-fails store _ _ _ _ (λ z. no-star (ek ∙ z)))
 
--- ---- `do_matches`
+-- ---- `match_recursively`
 module _ (store components nodes attributes text : List ℕ) (left row : ℕ) where
-  abbrev Matched : ℕ → ℕ → Bool
-  Matched l r = matches (componentsAt store components l) (pathOf nodes attributes text r)
+  -- the result of the first l components on the path of a row
+  abbrev Result : ℕ → ℕ → SelectorMatch
+  Result l r = matchRecursively (componentsAt store components l) (pathOf nodes attributes text r)
 
   -- no component is left
-  pub match-end : left ≡ 0 → true ≡ Matched left row
-  unfolding matches
-  match-end e = sym (ap (λ (l : ℕ). Matched l row) e ∙ ap (λ (cs : List Component). matches cs (pathOf nodes attributes text row)) (components-none store components))
+  pub match-end : left ≡ 0 → Matches ≡ Result left row
+  unfolding matchRecursively
+  match-end e = sym (ap (λ (l : ℕ). Result l row) e ∙ ap (λ (cs : List Component). matchRecursively cs (pathOf nodes attributes text row)) (components-none store components))
 
   module _ (some : ¬ (left ≡ 0)) (rooted : Rooted nodes row) where
     -- the last component decides, with those before it
-    opened : Matched left row ≡ step (componentAt store components (left - 1)) (matches (componentsAt store components (left - 1))) (pathOf nodes attributes text row)
-    unfolding matches
-    opened =
+    opened : (q : ℕ) → Result left q ≡ resultStep (componentAt store components (left - 1)) (matchRecursively (componentsAt store components (left - 1))) (pathOf nodes attributes text q)
+    unfolding matchRecursively
+    opened q =
         let e : left ≡ suc (left - 1) = omega arith in
-        ap (λ (l : ℕ). Matched l row) e ∙ ap (λ (cs : List Component). matches cs (pathOf nodes attributes text row)) (components-more store components (left - 1))
+        ap (λ (l : ℕ). Result l q) e ∙ ap (λ (cs : List Component). matchRecursively cs (pathOf nodes attributes text q)) (components-more store components (left - 1))
 
     module _ (k : ℕ) (ek : k ≡ componentNumber components (left - 1) componentKindAt) where
       -- child
@@ -63,19 +67,21 @@ module _ (store components nodes attributes text : List ℕ) (left row : ℕ) wh
         unfolding componentAt
         is-child = from-child store _ _ _ _ (sym ek ∙ e)
 
-        child-opened : Matched left row ≡ onParent (matches (componentsAt store components (left - 1))) (pathOf nodes attributes text row)
-        unfolding step
-        child-opened = opened ∙ ap (λ (c : Component). step c (matches (componentsAt store components (left - 1))) (pathOf nodes attributes text row)) is-child
+        child-opened : Result left row ≡ resultOnParent (matchRecursively (componentsAt store components (left - 1))) (pathOf nodes attributes text row)
+        unfolding resultStep byCombinator
+        child-opened = opened row ∙ ap (λ (c : Component). resultStep c (matchRecursively (componentsAt store components (left - 1))) (pathOf nodes attributes text row)) is-child
 
-        pub child-of-document : row ≡ 0 → false ≡ Matched left row
-        unfolding onParent
-        child-of-document z = sym (child-opened ∙ ap (onParent (matches (componentsAt store components (left - 1)))) (top-path nodes attributes text row rooted z))
+        -- the document has no parent
+        pub child-of-document : row ≡ 0 → FailsCompletely ≡ Result left row
+        unfolding resultOnParent
+        child-of-document z = sym (child-opened ∙ ap (resultOnParent (matchRecursively (componentsAt store components (left - 1)))) (top-path nodes attributes text row rooted z))
 
-        pub child-of-parent : ¬ (row ≡ 0) → (p : ℕ) → p ≡ nodeAt nodes row .parent → (r : Bool) → r ≡ Matched (left - 1) p → r ≡ Matched left row
-        unfolding onParent
+        -- the result is the parent's
+        pub child-of-parent : ¬ (row ≡ 0) → (p : ℕ) → p ≡ nodeAt nodes row .parent → (r : SelectorMatch) → r ≡ Result (left - 1) p → r ≡ Result left row
+        unfolding resultOnParent
         child-of-parent z p ep r er =
-            er ∙ ap (Matched (left - 1)) ep
-            ∙ sym (child-opened ∙ ap (onParent (matches (componentsAt store components (left - 1)))) (other-path nodes attributes text row rooted z))
+            er ∙ ap (Result (left - 1)) ep
+            ∙ sym (child-opened ∙ ap (resultOnParent (matchRecursively (componentsAt store components (left - 1)))) (other-path nodes attributes text row rooted z))
 
       -- descendant
       module _ (e : k ≡ descendantKind) where
@@ -83,34 +89,40 @@ module _ (store components nodes attributes text : List ℕ) (left row : ℕ) wh
         unfolding componentAt
         is-descendant = from-descendant store _ _ _ _ (sym ek ∙ e)
 
-        descendant-opened : (q : ℕ) → Matched left q ≡ onAncestors (matches (componentsAt store components (left - 1))) (pathOf nodes attributes text q)
-        unfolding step matches
-        descendant-opened q =
-            let s : left ≡ suc (left - 1) = omega arith in
-            ap (λ (l : ℕ). Matched l q) s
-            ∙ ap (λ (cs : List Component). matches cs (pathOf nodes attributes text q)) (components-more store components (left - 1))
-            ∙ ap (λ (c : Component). step c (matches (componentsAt store components (left - 1))) (pathOf nodes attributes text q)) is-descendant
+        descendant-opened : (q : ℕ) → Result left q ≡ resultOnAncestors (matchRecursively (componentsAt store components (left - 1))) (pathOf nodes attributes text q)
+        unfolding resultStep byCombinator
+        descendant-opened q = opened q ∙ ap (λ (c : Component). resultStep c (matchRecursively (componentsAt store components (left - 1))) (pathOf nodes attributes text q)) is-descendant
 
-        pub descendant-of-document : row ≡ 0 → false ≡ Matched left row
-        unfolding onAncestors
+        -- the document has no ancestor
+        pub descendant-of-document : row ≡ 0 → FailsCompletely ≡ Result left row
+        unfolding resultOnAncestors
         descendant-of-document z =
-            sym (descendant-opened row ∙ ap (onAncestors (matches (componentsAt store components (left - 1)))) (top-path nodes attributes text row rooted z))
+            sym (descendant-opened row ∙ ap (resultOnAncestors (matchRecursively (componentsAt store components (left - 1)))) (top-path nodes attributes text row rooted z))
 
-        module _ (z : ¬ (row ≡ 0)) (p : ℕ) (ep : p ≡ nodeAt nodes row .parent) (r : Bool) (er : r ≡ Matched (left - 1) p) where
-          -- the parent matches what is left, or its own ancestors do
-          tried : Matched left row ≡ or r (Matched left p)
-          unfolding onAncestors
+        module _ (z : ¬ (row ≡ 0)) (p : ℕ) (ep : p ≡ nodeAt nodes row .parent) (r : SelectorMatch) (er : r ≡ Result (left - 1) p) where
+          -- the parent's result for what is left decides, or else that of its own ancestors
+          tried : Result left row ≡ orElse r (Result left p)
+          unfolding resultOnAncestors
           tried =
               descendant-opened row
-              ∙ ap (onAncestors (matches (componentsAt store components (left - 1)))) (other-path nodes attributes text row rooted z)
-              ∙ ap (λ (q : ℕ). or (Matched (left - 1) q) (onAncestors (matches (componentsAt store components (left - 1))) (pathOf nodes attributes text q))) (sym ep)
-              ∙ ap₂ or (sym er) (sym (descendant-opened p))
+              ∙ ap (resultOnAncestors (matchRecursively (componentsAt store components (left - 1)))) (other-path nodes attributes text row rooted z)
+              ∙ ap (λ (q : ℕ). orElse (Result (left - 1) q) (resultOnAncestors (matchRecursively (componentsAt store components (left - 1))) (pathOf nodes attributes text q))) (sym ep)
+              ∙ ap₂ orElse (sym er) (sym (descendant-opened p))
 
-          pub descendant-of-parent : r ≡ true → true ≡ Matched left row
-          descendant-of-parent h = sym (tried ∙ or-left _ _ h)
+          -- the parent matches
+          pub descendant-matches : r ≡ Matches → Matches ≡ Result left row
+          unfolding orElse
+          descendant-matches h = sym (tried ∙ ap (λ (x : SelectorMatch). orElse x (Result left p)) h)
 
-          pub descendant-of-ancestor : r ≡ false → (s : Bool) → s ≡ Matched left p → s ≡ Matched left row
-          descendant-of-ancestor h s es = or-gives _ _ _ h es ∙ sym tried
+          -- the parent and all rows above fail
+          pub descendant-fails : r ≡ FailsCompletely → FailsCompletely ≡ Result left row
+          unfolding orElse
+          descendant-fails h = sym (tried ∙ ap (λ (x : SelectorMatch). orElse x (Result left p)) h)
+
+          -- the parent fails locally, and its own ancestors are asked
+          pub descendant-of-ancestor : r ≡ FailsLocally → (s : SelectorMatch) → s ≡ Result left p → s ≡ Result left row
+          unfolding orElse
+          descendant-of-ancestor h s es = es ∙ sym (tried ∙ ap (λ (x : SelectorMatch). orElse x (Result left p)) h)
 
       -- any other component, asked of the row itself
       module _ (no-child : ¬ (k ≡ childKind)) (no-descendant : ¬ (k ≡ descendantKind)) where
@@ -118,15 +130,17 @@ module _ (store components nodes attributes text : List ℕ) (left row : ℕ) wh
         match-simple = record { no-child = λ z. no-child (ek ∙ z); no-descendant = λ z. no-descendant (ek ∙ z) }
 
         module _ (b : Bool) (eb : b ≡ matches (componentAt store components (left - 1) ∷ []) (pathOf nodes attributes text row)) where
-          asked : Matched left row ≡ and b (Matched (left - 1) row)
-          unfolding matches componentAt
+          asked : Result left row ≡ pick b (Result (left - 1) row) FailsLocally
+          unfolding componentAt
           asked =
-              opened
-              ∙ simple-beside store _ _ _ _ (match-simple .no-child) (match-simple .no-descendant) (componentsAt store components (left - 1)) (pathOf nodes attributes text row)
-              ∙ ap (λ (t : Bool). and t (Matched (left - 1) row)) (sym eb)
+              opened row
+              ∙ simple-beside store _ _ _ _ (match-simple .no-child) (match-simple .no-descendant) (matchRecursively (componentsAt store components (left - 1))) (pathOf nodes attributes text row)
+              ∙ ap (λ (t : Bool). pick t (Result (left - 1) row) FailsLocally) (sym eb)
 
-          pub match-passes : b ≡ true → (r : Bool) → r ≡ Matched (left - 1) row → r ≡ Matched left row
-          match-passes h r er = and-gives _ _ _ h er ∙ sym asked
+          -- the row passes it, and what is left decides
+          pub match-passes : b ≡ true → Result left row ≡ Result (left - 1) row
+          match-passes h = asked ∙ sym (pick-true _ _ _ b h refl)
 
-          pub match-fails : b ≡ false → false ≡ Matched left row
-          match-fails h = sym (asked ∙ and-left _ _ h)
+          -- the row does not pass it
+          pub match-fails : b ≡ false → Result left row ≡ FailsLocally
+          match-fails h = asked ∙ sym (pick-false _ _ _ b h refl)

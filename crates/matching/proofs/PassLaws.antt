@@ -16,15 +16,15 @@ use Rattle.page.specs.Rows.{nodeAt, nameOf}
 use Rattle.matching.specs.Matches.{hasClass, hasId, hasAttribute, attributeIs, nameIs, here, onParent, onAncestors, step, matches}
 use Rattle.matching.specs.Nth.{nthMatches}
 use Rattle.matching.specs.Rows.{componentNumber, firstText, secondText, attributesPass, elementPasses}
+use Rattle.matching.specs.Recursion.{byCombinator, resultStep}
 use Rattle.matching.specs.Texts.{sameText}
+use Rattle.matching.specs.declared.matcher.SelectorMatch.{SelectorMatch}
+use Rattle.matching.specs.declared.matcher.SelectorMatch.the-variants.{FailsLocally}
 
-and-yes : (x : Bool) → and x true ≡ x
+pub and-yes : (x : Bool) → and x true ≡ x
 unfolding and
 and-yes true = refl
 and-yes false = refl
-
-beside : (x y : Bool) → and x y ≡ and (and x true) y
-beside x y = ap (λ (z : Bool). and z y) (sym (and-yes x))
 
 -- ---- the returns of `element_passes`
 module _ (store components nodes attributes text : List ℕ) (i row k : ℕ) (ek : k ≡ componentNumber components i componentKindAt) where
@@ -87,23 +87,21 @@ module _ (store : List ℕ) (k f a b : ℕ) where
       (λ e6. pick-holds FailsThere (is k attributeKind) _ _ (λ e. refl) (λ e7. refl))))))))
 
   module _ (no-child : ¬ (k ≡ childKind)) (no-descendant : ¬ (k ≡ descendantKind)) where
-    -- a simple component, beside what is left
+    -- a simple component is asked before what is left
     abbrev Simple : Component → Type 0
-    Simple c = (cs : List Component) (p : Path) → matches (c ∷ cs) p ≡ and (matches (c ∷ []) p) (matches cs p)
+    Simple c = (rest : Path → SelectorMatch) (p : Path) → resultStep c rest p ≡ pick (matches (c ∷ []) p) (rest p) FailsLocally
 
     pub simple-beside : Simple (componentFrom store k f a b)
-    unfolding componentFrom matches step and
+    unfolding componentFrom resultStep byCombinator
     simple-beside =
-        pick-holds Simple (is k starKind) _ _ (λ e cs p. refl)
-        (λ e0. pick-holds Simple (is k classKind) _ _ (λ e cs p. beside (here (hasClass (part store f a)) p) (matches cs p))
-        (λ e1. pick-holds Simple (is k elementKind) _ _ (λ e cs p. beside (here (nameIs (part store f a)) p) (matches cs p))
-        (λ e2. pick-holds Simple (is k hashKind) _ _ (λ e cs p. beside (here (hasId (part store f a)) p) (matches cs p))
+        pick-holds Simple (is k starKind) _ _ (λ e rest p. refl)
+        (λ e0. pick-holds Simple (is k classKind) _ _ (λ e rest p. refl)
+        (λ e1. pick-holds Simple (is k elementKind) _ _ (λ e rest p. refl)
+        (λ e2. pick-holds Simple (is k hashKind) _ _ (λ e rest p. refl)
         (λ e3. pick-holds Simple (is k childKind) _ _ (λ e. absurd (no-child (is-true k childKind e)))
         (λ e4. pick-holds Simple (is k descendantKind) _ _ (λ e. absurd (no-descendant (is-true k descendantKind e)))
-        (λ e5. pick-holds Simple (is k nthKind) _ _
-        (λ e cs p. beside (here (λ (x : Element). nthMatches (signedOf a) (signedOf b) (x .place)) p) (matches cs p))
-        (λ e6. pick-holds Simple (is k attributeKind) _ _ (λ e cs p. beside (here (hasAttribute (part store f a)) p) (matches cs p))
-        (λ e7 cs p. beside (here (attributeIs (part store f a) (part store (f + a) b)) p) (matches cs p)))))))))
+        (λ e5. pick-holds Simple (is k nthKind) _ _ (λ e rest p. refl)
+        (λ e6. pick-holds Simple (is k attributeKind) _ _ (λ e rest p. refl) (λ e7 rest p. refl))))))))
 
     -- of an element its own tests are asked
     module _ (no-star : ¬ (k ≡ starKind)) (x : Element) (up : Path) where

@@ -34,33 +34,33 @@ module _ (nodes attributes text : List ℕ) where
   -- by row: row 0 is the document
   pub top-path : (row : ℕ) → Rooted nodes row → row ≡ 0 → pathOf nodes attributes text row ≡ []
   top-path row (document d) e = document-path d
-  top-path row (below k l r) e = absurd (omega arith)
+  top-path row (below k l n r) e = absurd (omega arith)
 
   -- and any other row is an element
   pub other-path : (row : ℕ) → Rooted nodes row → ¬ (row ≡ 0)
       → pathOf nodes attributes text row ≡ elementAt nodes attributes text row ∷ pathOf nodes attributes text (nodeAt nodes row .parent)
   other-path row (document d) e = absurd (e refl)
-  other-path row (below k l r) e = element-path row k l
+  other-path row (below k l n r) e = element-path row k l
 
   -- by kind: a row that is no element is the document
   pub no-element-path : (row : ℕ) → Rooted nodes row → ¬ (nodeAt nodes row .kind ≡ elementKind) → pathOf nodes attributes text row ≡ []
   no-element-path row (document d) e = document-path d
-  no-element-path row (below k l r) e = absurd (e k)
+  no-element-path row (below k l n r) e = absurd (e k)
 
   -- and an element is not
   pub some-element-path : (row : ℕ) → Rooted nodes row → nodeAt nodes row .kind ≡ elementKind
       → pathOf nodes attributes text row ≡ elementAt nodes attributes text row ∷ pathOf nodes attributes text (nodeAt nodes row .parent)
   some-element-path row (document d) e = absurd (d e)
-  some-element-path row (below k l r) e = element-path row k l
+  some-element-path row (below k l n r) e = element-path row k l
 
 -- its parent is such a row, before it
 pub parent-rooted : (nodes : List ℕ) (row : ℕ) → Rooted nodes row → ¬ (row ≡ 0) → (p : ℕ) → p ≡ nodeAt nodes row .parent → Rooted nodes p
 parent-rooted nodes row (document d) z p e = absurd (z refl)
-parent-rooted nodes row (below k l r) z p e = rw e r
+parent-rooted nodes row (below k l n r) z p e = rw e r
 
 pub parent-before : (nodes : List ℕ) (row : ℕ) → Rooted nodes row → ¬ (row ≡ 0) → (p : ℕ) → p ≡ nodeAt nodes row .parent → p < row
 parent-before nodes row (document d) z p e = absurd (z refl)
-parent-before nodes row (below k l r) z p e = rw e l
+parent-before nodes row (below k l n r) z p e = rw e l
 
 -- ---- the place of a row is at most the length of the page's rows
 one-most : (t : Bool) → pick t 1 0 ≤ 1

@@ -9,9 +9,10 @@ use lib.Dec.{ltb}
 use Rattle.combinators.specs.Choice.{is}
 use Rattle.combinators.proofs.Rules.{never, pick-holds, either, and-true, is-true, is-yes}
 use Rattle.page.specs.Accepted.{isDocument, isParent, parentRight, rowRight, noRefusal, pageRefusal}
-use Rattle.page.specs.Ancestors.{ancestorsFrom, ancestorsOf, lineOf, member}
+use Rattle.page.specs.Ancestors.{ancestorsFrom, ancestorsOf, lineOf, member, elementChildren}
 use Rattle.page.specs.Rows.{elementKind, nodeAt, nodeCount}
 use Rattle.page.proofs.AcceptedPages.{accepted}
+use Rattle.page.proofs.Paths.{none-yet}
 use Rattle.matching.specs.Rows.{Rooted}
 use Rattle.matching.specs.Rows.Rooted.{document, below}
 use Rattle.matching.proofs.Selectors.{or-yes}
@@ -37,7 +38,8 @@ module _ (nodes : List ℕ) (x : ℕ) where
       (λ y. let z : x < row = above-before row row y in omega arith)
 
 -- ---- rows that keep the rules
-module _ (nodes attributes : List ℕ) (n : ℕ) (right : (k : ℕ) → k < n → rowRight nodes attributes k ≡ true) where
+module _ (nodes attributes : List ℕ) (n : ℕ) (right : (k : ℕ) → k < n → rowRight nodes attributes k ≡ true)
+    (none : (p : ℕ) → p < n → elementChildren nodes p (suc p) ≡ 0) where
   document-kind : 0 < n → ¬ (nodeAt nodes 0 .kind ≡ elementKind)
   unfolding rowRight isDocument
   document-kind h e =
@@ -72,7 +74,7 @@ module _ (nodes attributes : List ℕ) (n : ℕ) (right : (k : ℕ) → k < n �
   rooted-up-to (suc f) (suc b) l h e =
       let p = nodeAt nodes (suc b) .parent in
       let m : p ≤ b = parent-le b h in
-      below (parent-kind b e) (omega arith) (rooted-up-to f p (omega arith) (omega arith) (parent-parent b h))
+      below (parent-kind b e) (omega arith) (none p (omega arith)) (rooted-up-to f p (omega arith) (omega arith) (parent-parent b h))
 
   pub rooted : (row : ℕ) → row < n → isParent nodes row ≡ true → Rooted nodes row
   rooted row h e = rooted-up-to row row (omega arith) h e
@@ -81,7 +83,9 @@ module _ (nodes attributes : List ℕ) (n : ℕ) (right : (k : ℕ) → k < n �
 module _ (nodes attributes text : List ℕ) (e : pageRefusal nodes attributes text ≡ noRefusal) where
   -- the law
   pub accepted-rooted : (row : ℕ) → row < nodeCount nodes → isParent nodes row ≡ true → Rooted nodes row
-  accepted-rooted = rooted nodes attributes (nodeCount nodes) (accepted nodes attributes text e .rules)
+  accepted-rooted =
+      let ok = accepted nodes attributes text e in
+      rooted nodes attributes (nodeCount nodes) (ok .rules) (λ (p : ℕ) (l : p < nodeCount nodes). none-yet nodes attributes text ok p (suc p) l (omega arith))
 
   -- of an element
   pub accepted-element : (row : ℕ) → row < nodeCount nodes → nodeAt nodes row .kind ≡ elementKind → Rooted nodes row

@@ -80,7 +80,7 @@ module _ (f : Path → Bool) where
   unfolding onAncestors
   by-higher p q (above {up = up}) m = or-yes (f up) (onAncestors f up) m
 
-  ancestor-seen : (p q : Path) → Ancestor p q → f q ≡ true → onAncestors f p ≡ true
+  pub ancestor-seen : (p q : Path) → Ancestor p q → f q ≡ true → onAncestors f p ≡ true
   ancestor-seen p q (parent a) m = by-parent p q a m
   ancestor-seen p q (higher {q = r} a w) m = by-higher p r a (ancestor-seen r q w m)
 

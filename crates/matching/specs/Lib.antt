@@ -4,4 +4,5 @@ pub mod Matches
 pub mod Specificity
 pub mod Selectors
 pub mod Rows
+pub mod Recursion
 pub mod Tests

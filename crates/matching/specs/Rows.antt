@@ -1,6 +1,6 @@
 -- What matching reads off rows: the components of a selector, and the attributes of an element. The views are total: a number that is not there reads
 -- as 0.
-use Prim.Native.Nat.{ℕ, _+_, _*_, _<_, _^_}
+use Prim.Native.Nat.{ℕ, suc, _+_, _*_, _<_, _^_}
 use mathlib.Core.Bool.{Bool}
 use mathlib.Core.List.{List, [], _∷_, reverse}
 use mathlib.Core.Path.{_≡_, refl}
@@ -10,6 +10,7 @@ use Rattle.syntax.specs.RuleLayout.{componentWidth, componentKindAt, componentT
 use Rattle.syntax.specs.Selector.{Component, class, child, element}
 use Rattle.syntax.specs.Signed.{signedOf}
 use Rattle.syntax.specs.Stream.{readMany, part}
+use Rattle.page.specs.Ancestors.{elementChildren}
 use Rattle.page.specs.Path.{Attribute, Element}
 use Rattle.page.specs.Rows as page
 use Rattle.page.specs.Rows.{nodeAt, attributeName, attributeValue}
@@ -75,7 +76,9 @@ elementPasses store components i e =
 
 -- ---- nodes
 
--- a row from which parents lead to the document: row 0, which is no element, or an element below such a row. On an accepted page every element is.
+-- a row from which parents lead to the document: row 0, which is no element, or an element behind such a row, to which no row up to it belongs as an
+-- element child. On an accepted page every element is.
 pub data Rooted (nodes : List ℕ) : ℕ → Type 0 where
   document : ¬ (nodeAt nodes 0 .kind ≡ page.elementKind) → Rooted nodes 0
-  below : {row : ℕ} → nodeAt nodes row .kind ≡ page.elementKind → nodeAt nodes row .parent < row → Rooted nodes (nodeAt nodes row .parent) → Rooted nodes row
+  below : {row : ℕ} → nodeAt nodes row .kind ≡ page.elementKind → nodeAt nodes row .parent < row
+      → elementChildren nodes (nodeAt nodes row .parent) (suc (nodeAt nodes row .parent)) ≡ 0 → Rooted nodes (nodeAt nodes row .parent) → Rooted nodes row

@@ -8,11 +8,14 @@ use crate::elements::attributes_pass;
 use crate::nth::nth;
 use crate::nth::signed_of;
 use crate::texts::same_text;
+use page::ancestors::element_children;
 use page::ancestors::place_among;
+use page::rows::NODE_WIDTH;
 use page::rows::attribute_count;
 use page::rows::first_attribute;
 use page::rows::kind_of;
 use page::rows::name_of;
+use page::rows::node_count;
 use page::rows::parent_of;
 use syntax::rows::CHILD;
 use syntax::rows::DESCENDANT;
@@ -28,15 +31,32 @@ ghost use Rattle.syntax.specs.Signed.{signedOf};
 ghost use Rattle.matching.specs.Matches.{matches};
 ghost use Rattle.matching.specs.Nth.{nthMatches};
 ghost use Rattle.matching.specs.Rows.{componentNumber, componentAt, componentsAt, SimpleAt, Rooted, elementPasses};
+ghost use Rattle.matching.specs.Recursion.{matchRecursively};
 ghost use Rattle.matching.specs.Tests.{TestsPassed};
+
+// The place of a row among the element children of its parent, counted from the parent on, behind which they stand.
+fn place_of(nodes: &[u32], row: usize) -> usize
+    requires { ⌜ Rooted (now nodes) row ⌝ }
+    ensures { λ r. ⌜ r ≡ placeOf (now (nodes .entry)) row ⌝ }
+{
+    let parent = parent_of(nodes, row);
+    if row < node_count(nodes) {
+        if parent < row {
+            let behind = (parent + 1) * NODE_WIDTH;
+            return element_children(&nodes[behind..], parent, row - parent);
+        }
+    }
+    place_among(nodes, row)
+}
 
 // Whether an nth-child holds of a row's place among its siblings.
 fn is_nth(components: &[u32], i: usize, nodes: &[u32], row: usize) -> bool
+    requires { ⌜ Rooted (now nodes) row ⌝ }
     ensures { λ r. ⌜ r ≡ nthMatches (signedOf (componentNumber (now (components .entry)) i componentFirstAt)) (signedOf (componentNumber (now (components .entry)) i componentSecondAt)) (placeOf (now (nodes .entry)) row) ⌝ }
 {
     let a = signed_of(first_number(components, i));
     let b = signed_of(second_number(components, i));
-    nth(a, b, place_among(nodes, row))
+    nth(a, b, place_of(nodes, row))
 }
 
 // Whether an element passes a component that is neither star nor combinator.
@@ -49,6 +69,7 @@ fn element_passes(
     text: &[u8],
     row: usize,
 ) -> bool
+    requires { ⌜ Rooted (now nodes) row ⌝ }
     ensures { λ r. ⌜ r ≡ elementPasses (now (store .entry)) (now (components .entry)) i (elementAt (now (nodes .entry)) (now (attributes .entry)) (now (text .entry)) row) ⌝ }
 {
     let kind = kind_at(components, i);
@@ -133,8 +154,54 @@ fn pass_tests(
     Tested::Left(0)
 }
 
-// Whether the first `left` components match a row, the last of them first. The row is the document or an element, and parents lead from it to the
-// document; on an accepted page they do from every element (law `accepted-element`).
+// What comes of matching a selector: it matches the row; it fails locally, which says nothing of the rows above; it fails completely, on the row and on
+// each of its ancestors (law `result-holds`).
+pub enum SelectorMatch {
+    Matches,
+    FailsLocally,
+    FailsCompletely,
+}
+
+// Matches the first `left` components on a row, the last of them first. Where what is left behind a combinator fails completely, no other row is
+// tried: the calls are at most (components + 1) * (ancestors + 1) (law `few-calls`).
+pub fn match_recursively(
+    components: &[u32],
+    store: &[u8],
+    left: usize,
+    nodes: &[u32],
+    attributes: &[u32],
+    text: &[u8],
+    row: usize,
+) -> SelectorMatch
+    requires { ⌜ Rooted (now nodes) row ⌝ }
+    ensures { λ r. ⌜ r ≡ matchRecursively (componentsAt (now (store .entry)) (now (components .entry)) left) (pathOf (now (nodes .entry)) (now (attributes .entry)) (now (text .entry)) row) ⌝ }
+{
+    let Tested::Left(n) = pass_tests(components, store, left, nodes, attributes, text, row) else {
+        return SelectorMatch::FailsLocally;
+    };
+    if n == 0 {
+        return SelectorMatch::Matches;
+    }
+    if row == 0 {
+        return SelectorMatch::FailsCompletely;
+    }
+    let next = n - 1;
+    let parent = parent_of(nodes, row);
+    let result = match_recursively(components, store, next, nodes, attributes, text, parent);
+    match result {
+        SelectorMatch::Matches => SelectorMatch::Matches,
+        SelectorMatch::FailsCompletely => SelectorMatch::FailsCompletely,
+        SelectorMatch::FailsLocally => {
+            if kind_at(components, next) == CHILD {
+                return SelectorMatch::FailsLocally;
+            }
+            match_recursively(components, store, n, nodes, attributes, text, parent)
+        }
+    }
+}
+
+// Whether the first `left` components match a row. The row is the document or an element, and parents lead from it to the document; on an accepted
+// page they do from every element (law `accepted-element`).
 pub fn do_matches(
     components: &[u32],
     store: &[u8],
@@ -147,22 +214,10 @@ pub fn do_matches(
     requires { ⌜ Rooted (now nodes) row ⌝ }
     ensures { λ r. ⌜ r ≡ matches (componentsAt (now (store .entry)) (now (components .entry)) left) (pathOf (now (nodes .entry)) (now (attributes .entry)) (now (text .entry)) row) ⌝ }
 {
-    let Tested::Left(n) = pass_tests(components, store, left, nodes, attributes, text, row) else {
-        return false;
-    };
-    if n == 0 {
-        return true;
+    let result = match_recursively(components, store, left, nodes, attributes, text, row);
+    match result {
+        SelectorMatch::Matches => true,
+        SelectorMatch::FailsLocally => false,
+        SelectorMatch::FailsCompletely => false,
     }
-    if row == 0 {
-        return false;
-    }
-    let next = n - 1;
-    let parent = parent_of(nodes, row);
-    if do_matches(components, store, next, nodes, attributes, text, parent) {
-        return true;
-    }
-    if kind_at(components, next) == CHILD {
-        return false;
-    }
-    do_matches(components, store, n, nodes, attributes, text, parent)
 }

@@ -16,19 +16,19 @@ second-number-requires c κs = search needs
 signed-of-requires-2 : tie.Need-signed-of-requires-2
 signed-of-requires-2 c κs = search needs
 
-place-among-requires : tie.Need-place-among-requires
-place-among-requires c κs = search needs
+place-of-requires : tie.Need-place-of-requires
+place-of-requires c κs = search needs
 
 nth-requires : tie.Need-nth-requires
 nth-requires c κs = let a = c .before .before .before .signed-of in
     let b = c .before .signed-of2 in
-    both-small (a .result) (b .result) (a .ensures .1) (b .ensures .1) _ (place-small _ _ _ (c .place-among .ensures) (search needs))
+    both-small (a .result) (b .result) (a .ensures .1) (b .ensures .1) _ (place-small _ _ _ (c .place-of .ensures) (search needs))
 
 returns : tie.Need-returns
 returns c = let p = c .before in
     let b = p .before in
     let a = b .before .before in
-    nth-of-both _ _ (a .signed-of .ensures .1) (b .signed-of2 .ensures .1) _ _ (c .nth .ensures) _ _ (a .signed-of .ensures .0) (b .signed-of2 .ensures .0) _ _ _ (a .before .first-number .ensures) (b .before .second-number .ensures) (p .place-among .ensures)
+    nth-of-both _ _ (a .signed-of .ensures .1) (b .signed-of2 .ensures .1) _ _ (c .nth .ensures) _ _ (a .signed-of .ensures .0) (b .signed-of2 .ensures .0) _ _ _ (a .before .first-number .ensures) (b .before .second-number .ensures) (p .place-of .ensures)
 
 pub is-nth-spec : {M : Type 1} → statement M
 is-nth-spec =
@@ -38,6 +38,6 @@ is-nth-spec =
     signed-of-requires
     second-number-requires
     signed-of-requires-2
-    place-among-requires
+    place-of-requires
     nth-requires
     returns)

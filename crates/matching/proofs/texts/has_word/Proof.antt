@@ -14,32 +14,32 @@ abbrev μ-loop : tie.MeasureT-loop
 loop-holds : tie.Need-loop-holds Inv-loop μ-loop
 loop-holds c = split-begin _ _
 
-sub-trim-start : tie.Need-sub-trim-start Inv-loop μ-loop
-sub-trim-start c = search needs
+sub-white-space-length : tie.Need-sub-white-space-length Inv-loop μ-loop
+sub-white-space-length c = search needs
 
-part-trim-start-start : tie.Need-part-trim-start-start Inv-loop μ-loop
-part-trim-start-start c = search needs
+part-white-space-length-start : tie.Need-part-white-space-length-start Inv-loop μ-loop
+part-white-space-length-start c = search needs
 
-part-trim-start-end : tie.Need-part-trim-start-end Inv-loop μ-loop
-part-trim-start-end c = search needs
+part-white-space-length-end : tie.Need-part-white-space-length-end Inv-loop μ-loop
+part-white-space-length-end c = search needs
 
-trim-start-requires : tie.Need-trim-start-requires Inv-loop μ-loop
-trim-start-requires c κs = search needs
+white-space-length-requires : tie.Need-white-space-length-requires Inv-loop μ-loop
+white-space-length-requires c κs = search needs
 
 add-start : tie.Need-add-start Inv-loop μ-loop
 add-start c = search needs
 
-sub-word-end : tie.Need-sub-word-end Inv-loop μ-loop
-sub-word-end c = search needs
+sub-word-length : tie.Need-sub-word-length Inv-loop μ-loop
+sub-word-length c = search needs
 
-part-word-end-start : tie.Need-part-word-end-start Inv-loop μ-loop
-part-word-end-start c = search needs
+part-word-length-start : tie.Need-part-word-length-start Inv-loop μ-loop
+part-word-length-start c = search needs
 
-part-word-end-end : tie.Need-part-word-end-end Inv-loop μ-loop
-part-word-end-end c = search needs
+part-word-length-end : tie.Need-part-word-length-end Inv-loop μ-loop
+part-word-length-end c = search needs
 
-word-end-requires : tie.Need-word-end-requires Inv-loop μ-loop
-word-end-requires c κs = search needs
+word-length-requires : tie.Need-word-length-requires Inv-loop μ-loop
+word-length-requires c κs = search needs
 
 returns : tie.Need-returns Inv-loop μ-loop
 returns c = search (needs, split-none)
@@ -72,7 +72,7 @@ loop-again : tie.Need-loop-again Inv-loop μ-loop
 loop-again c = let word = c .before .before .before .before in
     let trim = word .before .before in
     let turn = trim .before .before in
-    split-more _ _ _ (turn .before .loop .inv) (turn .loop-test .taken) _ (trim .trim-start .ensures .0) _ (word .word-end .ensures .0) (c .before .before .before .if1 .left) _ (c .before .same-text .ensures) (c .if2 .left) (search needs)
+    split-more _ _ _ (turn .before .loop .inv) (turn .loop-test .taken) _ (trim .white-space-length .ensures .0) _ (word .word-length .ensures .0) (c .before .before .before .if1 .left) _ (c .before .same-text .ensures) (c .if2 .left) (search needs)
 
 returns-3 : tie.Need-returns-3 Inv-loop μ-loop
 returns-3 c = search (needs, split-end)
@@ -84,15 +84,15 @@ has-word-spec =
     Inv-loop
     μ-loop
     loop-holds
-    sub-trim-start
-    part-trim-start-start
-    part-trim-start-end
-    trim-start-requires
+    sub-white-space-length
+    part-white-space-length-start
+    part-white-space-length-end
+    white-space-length-requires
     add-start
-    sub-word-end
-    part-word-end-start
-    part-word-end-end
-    word-end-requires
+    sub-word-length
+    part-word-length-start
+    part-word-length-end
+    word-length-requires
     returns
     add-same-text
     sub-same-text
