@@ -18,11 +18,12 @@ use Rattle.sheets.proofs.SheetLaws.{stored}
 use Rattle.sheets.proofs.ZeroLaws.{zeros-all}
 use Rattle.compiled.specs.Sheet.{encode}
 use Rattle.compiler.specs.Selectors.{selectorsOf}
-use Rattle.compiler.specs.Reading.{Sheets, rules, panicked, sheetsOf, sheetsRows, sheetsTexts, sheetsAnswer, SheetsRoom}
+use Rattle.compiler.specs.Reading.{Sheets, rules, panicked, sheetsOf, sheetsRows, sheetsTexts, sheetsRules, sheetsAnswer, SheetsRoom}
 use Rattle.compiler.specs.CompileAnswer.{roomOf, CompileLeft, zeroed, answered, answeredWithin, compiledLeft, Lent}
 use Rattle.compiler.specs.Written.{selectorsFrom, Lying, fillOf, writtenIn}
 use Rattle.compiler.specs.declared.compile.CompileAnswer.{CompileAnswer}
 use Rattle.compiler.specs.declared.compile.CompileAnswer.the-variants.{Compiled, Panic, NoRoom}
+use Rattle.compiler.specs.declared.reading.SheetsRules.{SheetsRules}
 use Rattle.compiler.specs.declared.reading.SheetsRead.{SheetsRead}
 use Rattle.compiler.specs.declared.reading.SheetsRead.the-variants as all
 use Rattle.compiler.proofs.SheetsKnown.{Came, came, panic-known, rowsHeld, textsHeld, texts-length, texts-lie, selectors-are, lying}
@@ -125,27 +126,27 @@ module _ {agent user author texts₀ rules₀ tokens₀ brackets₀ : List ℕ} 
         left-by refl (ck ∙ zeros-of compiled₀ compiled₀ refl) (et′ ∙ ct ∙ zeros-of texts₀ texts₀ refl) (ey′ ∙ cy ∙ zeros-of rules₀ rules₀ refl) tokens-zero brackets-zero
         ∙ ap (compiledLeft compiled₀ texts₀ rules₀ tokens₀ brackets₀) (sym q)
 
-    module _ {c d n t e p f x : ℕ} (g : r ≡ all.Rules c d n t e p f x) where
-      m : Came meant c d n t e p f x
-      m = came meant c d n t e p f x (sym g ∙ er)
+    module _ {s : SheetsRules} (g : r ≡ all.Rules s) where
+      m : Came meant s
+      m = came meant s (sym g ∙ er)
 
       rows₂ : y₂ ≡ sets (cleared 0 rules₀) 0 (rowsHeld o m)
       unfolding sheetsRows
-      rows₂ = ey ∙ ap (λ (s : Sheets). sets y₁ 0 (sheetsRows s)) (m .is) ∙ ap (λ (l : List ℕ). sets l 0 (rowsHeld o m)) cy
+      rows₂ = ey ∙ ap (λ (v : Sheets). sets y₁ 0 (sheetsRows v)) (m .is) ∙ ap (λ (l : List ℕ). sets l 0 (rowsHeld o m)) cy
 
       texts₂ : t₂ ≡ sets (cleared 0 texts₀) 0 (textsHeld o m)
       unfolding sheetsTexts
-      texts₂ = et ∙ ap (λ (s : Sheets). sets t₁ 0 (sheetsTexts s)) (m .is) ∙ ap (λ (l : List ℕ). sets l 0 (textsHeld o m)) ct
+      texts₂ = et ∙ ap (λ (v : Sheets). sets t₁ 0 (sheetsTexts v)) (m .is) ∙ ap (λ (l : List ℕ). sets l 0 (textsHeld o m)) ct
 
       -- what lies there can be written
-      pub lies : Lying y₂ t₂ c d n t e p f
+      pub lies : Lying y₂ t₂ s
       lies = lying o m rows₂ texts₂
 
       bytes : List ℕ
       bytes = encode (selectorsOf (m .agent) (m .user) (m .author))
 
-      module _ {w : ℕ} {k₃ y₃ : List ℕ} (ew : w ≡ fillOf (roomOf (length k₁)) (encode (selectorsFrom y₂ t₂ c d n t e p f)))
-          (ek : k₃ ≡ writtenIn (roomOf (length k₁)) (encode (selectorsFrom y₂ t₂ c d n t e p f)) k₁) (ec : y₃ ≡ cleared 0 y₂) where
+      module _ {w : ℕ} {k₃ y₃ : List ℕ} (ew : w ≡ fillOf (roomOf (length k₁)) (encode (selectorsFrom y₂ t₂ s)))
+          (ek : k₃ ≡ writtenIn (roomOf (length k₁)) (encode (selectorsFrom y₂ t₂ s)) k₁) (ec : y₃ ≡ cleared 0 y₂) where
         w-is : w ≡ fillOf (roomOf (length k₁)) bytes
         unfolding bytes
         w-is = ew ∙ ap (λ ss. fillOf (roomOf (length k₁)) (encode ss)) (selectors-are o m rows₂ texts₂)
@@ -169,11 +170,11 @@ module _ {agent user author texts₀ rules₀ tokens₀ brackets₀ : List ℕ} 
           q-is = eq ∙ ap roomOf k-long
 
           -- the bytes fit
-          pub fits : w ≤ q → Left (Compiled w x) k₃ t₂ y₃ x₂ b₂
-          unfolding compiledLeft answeredWithin answered sheetsTexts bytes
+          pub fits : w ≤ q → Left (Compiled w (s .end)) k₃ t₂ y₃ x₂ b₂
+          unfolding compiledLeft answeredWithin answered sheetsTexts sheetsRules bytes
           fits h =
               let z = fill-fits (roomOf (length k₁)) w bytes w-is (omega (arith, h, q-is)) in
-              let ex′ : x ≡ length (textsHeld o m) = m .end ∙ sym (texts-length o m) in
+              let ex′ : s .end ≡ length (textsHeld o m) = ap (λ (v : SheetsRules). v .end) (m .lie) ∙ sym (texts-length o m) in
               left-by (ap₂ Compiled (z .1) ex′)
               (k-is ∙ written-whole (roomOf (length k₁)) bytes k₁ (room-within (length k₁)) (z .0) ∙ ap (λ (l : List ℕ). sets l 0 bytes) ck
               ∙ stored bytes compiled₀ (omega (arith, z .0, same-room, room-within (length compiled₀))))

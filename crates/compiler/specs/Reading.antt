@@ -13,6 +13,8 @@ use Rattle.sheets.specs.SheetAnswer.{sheetLimit, textLeast, bracketLeast, numbe
 use Rattle.sheets.specs.Stores.{Zeros}
 use Rattle.compiler.specs.declared.reading.RulesRead.{RulesRead}
 use Rattle.compiler.specs.declared.reading.RulesRead.the-variants as one
+use Rattle.compiler.specs.declared.reading.SheetRules.{SheetRules}
+use Rattle.compiler.specs.declared.reading.SheetsRules.{SheetsRules}
 use Rattle.compiler.specs.declared.reading.SheetsRead as sheets
 use Rattle.compiler.specs.declared.reading.SheetsRead.the-variants as all
 
@@ -81,12 +83,18 @@ unfoldable pub sheetsTexts : Sheets → List ℕ
 sheetsTexts (rules a u w) = ruleTexts a ++ (ruleTexts u ++ ruleTexts w)
 sheetsTexts (panicked which p) = []
 
--- how many rules each sheet has, where those of the second and third start in numbers and texts, and where the texts end
+-- where the rules of each sheet lie, and where the texts end
+unfoldable pub sheetsRules : List RuleSet → List RuleSet → List RuleSet → SheetsRules
+sheetsRules a u w =
+    record {
+      agent = record { count = length a; place = 0; from = 0 };
+      user = record { count = length u; place = length (ruleRows 0 a); from = length (ruleTexts a) };
+      author = record { count = length w; place = length (ruleRows 0 a) + length (ruleRows 0 u); from = length (ruleTexts a) + length (ruleTexts u) };
+      end = length (ruleTexts a) + length (ruleTexts u) + length (ruleTexts w);
+    }
+
 unfoldable pub sheetsAnswer : Sheets → sheets.SheetsRead
-sheetsAnswer (rules a u w) =
-    all.Rules (length a) (length u) (length (ruleRows 0 a)) (length (ruleTexts a)) (length w)
-    (length (ruleRows 0 a) + length (ruleRows 0 u)) (length (ruleTexts a) + length (ruleTexts u))
-    (length (ruleTexts a) + length (ruleTexts u) + length (ruleTexts w))
+sheetsAnswer (rules a u w) = all.Rules (sheetsRules a u w)
 sheetsAnswer (panicked which p) = all.Panic which p
 
 -- stores that are zero throughout, of the least lengths for all texts together

@@ -89,22 +89,11 @@ fn compile_texts(
         SheetsRead::Panic(text, byte) => {
             return CompileAnswer::Panic(text, byte);
         }
-        SheetsRead::Rules(agents, users, place, from, authors, last_place, last_from, end) => {
-            let bytes = write_within(
-                rules,
-                texts,
-                agents,
-                users,
-                place,
-                from,
-                authors,
-                last_place,
-                last_from,
-                compiled,
-            );
+        SheetsRead::Rules(sheets) => {
+            let bytes = write_within(rules, texts, sheets, compiled);
             clear_numbers(rules, 0);
             if bytes <= room_of(compiled.len()) {
-                return CompileAnswer::Compiled(bytes, end);
+                return CompileAnswer::Compiled(bytes, sheets.end);
             }
             clear_bytes(compiled, 0);
             clear_bytes(texts, 0);
