@@ -8,36 +8,26 @@ use borrow.Author.Tests.{le-leb, lt-leb}
 use lib.ListN.{length, take, drop, set, replicate, length-append, length-set, length-drop, take-append-drop}
 use lib.Seq.{sets, length-sets, length-take-le, set-append-left}
 use Rattle.combinators.specs.Store.{cleared}
-use Rattle.combinators.proofs.Cleared.{cleared-is, length-cleared}
+use Rattle.combinators.proofs.Cleared.{length-cleared}
 use Rattle.combinators.proofs.Rules.{pick-true, pick-false, lt-or-ge}
 use Rattle.syntax.specs.RuleLayout.{ruleRows, ruleTexts}
 use Rattle.syntax.specs.Selector.{RuleSet}
 use Rattle.sheets.specs.SheetAnswer.{padded}
-use Rattle.sheets.specs.Stores.{Zeros}
 use Rattle.sheets.proofs.SheetLaws.{stored}
-use Rattle.sheets.proofs.ZeroLaws.{zeros-all}
+use Rattle.origins.specs.Checks.{Lent}
+use Rattle.origins.specs.Reading.{Sheets, rules, panicked, sheetsOf, sheetsRows, sheetsTexts, sheetsRules, sheetsAnswer, SheetsRoom}
+use Rattle.origins.specs.declared.reading.SheetsRules.{SheetsRules}
+use Rattle.origins.specs.declared.reading.SheetsRead.{SheetsRead}
+use Rattle.origins.specs.declared.reading.SheetsRead.the-variants as all
+use Rattle.origins.proofs.SheetsKnown.{zeros-of, room-cleared, Came, came, panic-known, rowsHeld, textsHeld, texts-length, texts-lie}
 use Rattle.compiled.specs.Sheet.{encode}
 use Rattle.compiler.specs.Selectors.{selectorsOf}
-use Rattle.compiler.specs.Reading.{Sheets, rules, panicked, sheetsOf, sheetsRows, sheetsTexts, sheetsRules, sheetsAnswer, SheetsRoom}
-use Rattle.compiler.specs.CompileAnswer.{roomOf, CompileLeft, zeroed, answered, answeredWithin, compiledLeft, Lent}
+use Rattle.compiler.specs.CompileAnswer.{roomOf, CompileLeft, zeroed, answered, answeredWithin, compiledLeft}
 use Rattle.compiler.specs.Written.{selectorsFrom, Lying, fillOf, writtenIn}
 use Rattle.compiler.specs.declared.compile.CompileAnswer.{CompileAnswer}
 use Rattle.compiler.specs.declared.compile.CompileAnswer.the-variants.{Compiled, Panic, NoRoom}
-use Rattle.compiler.specs.declared.reading.SheetsRules.{SheetsRules}
-use Rattle.compiler.specs.declared.reading.SheetsRead.{SheetsRead}
-use Rattle.compiler.specs.declared.reading.SheetsRead.the-variants as all
-use Rattle.compiler.proofs.SheetsKnown.{Came, came, panic-known, rowsHeld, textsHeld, texts-length, texts-lie, selectors-are, lying}
+use Rattle.compiler.proofs.SheetsLying.{selectors-are, lying}
 use Rattle.compiler.proofs.WritingLaws.{room-within}
-
--- ---- zeros
--- a buffer cleared throughout, whatever it is that long
-zeros-of : (l m : List ℕ) → length l ≡ length m → cleared 0 l ≡ replicate (length m) 0
-zeros-of l m e =
-    let z : length l - 0 ≡ length m = omega (arith, e) in
-    cleared-is 0 l ∙ ap (λ (n : ℕ). replicate n 0) z
-
-clear-zeros : (l : List ℕ) → Zeros (cleared 0 l) 0
-clear-zeros l = rw (zeros-of l l refl) (zeros-all (length l) 0)
 
 -- ---- bytes within the room
 -- the fill tells that they fit
@@ -79,27 +69,12 @@ left-by : {a a′ : CompileAnswer} {k k′ t t′ y y′ x x′ b b′ : List �
     → _≡_ {A = CompileLeft} (record { answer = a; compiled = k; texts = t; rules = y; tokens = x; brackets = b }) (record { answer = a′; compiled = k′; texts = t′; rules = y′; tokens = x′; brackets = b′ })
 left-by p q r s t u = rw (p, q, r, s, t, u) refl
 
-module _ {agent user author texts₀ rules₀ tokens₀ brackets₀ : List ℕ} (o : Lent agent user author texts₀ rules₀ tokens₀ brackets₀) (compiled₀ : List ℕ)
+module _ {agent user author rules₀ tokens₀ brackets₀ texts₀ : List ℕ} (o : Lent agent user author rules₀ tokens₀ brackets₀ texts₀) (compiled₀ : List ℕ)
     {k₁ t₁ y₁ x₁ b₁ : List ℕ} (ck : k₁ ≡ cleared 0 compiled₀) (ct : t₁ ≡ cleared 0 texts₀) (cy : y₁ ≡ cleared 0 rules₀) (cx : x₁ ≡ cleared 0 tokens₀)
     (cb : b₁ ≡ cleared 0 brackets₀) where
   -- room for the three sheets
   pub room : length rules₀ < 2 ^ 64 → SheetsRoom agent user author y₁ x₁ b₁ t₁
-  room h =
-      rw (ct, cy, cx, cb)
-      (record {
-        agent-within = o .agent-within;
-        user-within = o .user-within;
-        author-within = o .author-within;
-        rules-zeros = clear-zeros rules₀;
-        tokens-zeros = clear-zeros tokens₀;
-        brackets-zeros = clear-zeros brackets₀;
-        texts-zeros = clear-zeros texts₀;
-        row-bits = omega (arith, h, length-cleared 0 rules₀);
-        for-rules = omega (arith, o .for-rules, length-cleared 0 rules₀);
-        for-tokens = omega (arith, o .for-tokens, length-cleared 0 tokens₀);
-        for-brackets = omega (arith, o .for-brackets, length-cleared 0 brackets₀);
-        for-texts = omega (arith, o .for-texts, length-cleared 0 texts₀);
-      })
+  room h = rw (ct, cy, cx, cb) (room-cleared o h)
 
   abbrev meant : Sheets
   meant = sheetsOf agent user author

@@ -15,14 +15,15 @@ use Rattle.combinators.proofs.Rules.{pick-true, pick-false, lt-or-ge}
 use Rattle.syntax.specs.RuleLayout.{readRule, rulesAt}
 use Rattle.syntax.specs.Stream.{readMany, textsMany}
 use Rattle.syntax.specs.Style.{agentOrigin, userOrigin, authorOrigin}
+use Rattle.origins.specs.Reading.{rulesFrom}
+use Rattle.origins.specs.declared.reading.SheetRules.{SheetRules}
+use Rattle.origins.specs.declared.reading.SheetsRules.{SheetsRules}
 use Rattle.compiled.specs.Number.{numberLimit, numberBytes}
 use Rattle.compiled.specs.Sheet.{CompiledSelector, selectorBytes, encode}
 use Rattle.compiler.specs.Selectors.{sheetSelectors, selectorsOf}
 use Rattle.compiler.specs.CompileAnswer.{compiledLimit, roomOf}
 use Rattle.compiler.specs.Writing.{SelectorsFew}
-use Rattle.compiler.specs.declared.reading.SheetRules.{SheetRules}
-use Rattle.compiler.specs.declared.reading.SheetsRules.{SheetsRules}
-use Rattle.compiler.specs.Written.{rulesFrom, selectorsFrom, Lying, fillOf, writtenIn}
+use Rattle.compiler.specs.Written.{selectorsFrom, Lying, fillOf, writtenIn}
 
 -- ---- the room of a buffer
 pub room-limit : (n : ℕ) → compiledLimit < n → compiledLimit ≡ roomOf n

@@ -5,17 +5,11 @@ use lib.Dec.{leb}
 use lib.ListN.{length, take, drop}
 use lib.Seq.{sets}
 use Rattle.combinators.specs.Choice.{pick}
-use Rattle.syntax.specs.RuleLayout.{rulesAt}
-use Rattle.syntax.specs.Selector.{RuleSet}
+use Rattle.origins.specs.Reading.{rulesFrom}
+use Rattle.origins.specs.declared.reading.SheetsRules.{SheetsRules}
 use Rattle.compiled.specs.Number.{numberLimit}
 use Rattle.compiled.specs.Sheet.{CompiledSelector, encode}
 use Rattle.compiler.specs.Selectors.{selectorsOf}
-use Rattle.compiler.specs.declared.reading.SheetRules.{SheetRules}
-use Rattle.compiler.specs.declared.reading.SheetsRules.{SheetsRules}
-
--- the rules of a sheet that lie there
-unfoldable pub rulesFrom : List ℕ → List ℕ → SheetRules → List RuleSet
-rulesFrom rows texts s = rulesAt (drop (s .place) rows) (drop (s .from) texts) (s .count)
 
 -- the selectors of three sheets that lie there
 unfoldable pub selectorsFrom : List ℕ → List ℕ → SheetsRules → List CompiledSelector

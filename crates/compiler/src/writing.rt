@@ -1,9 +1,9 @@
 // The bytes of a compiled sheet from the rows of three sheets, one behind the other.
-use crate::reading::SheetRules;
-use crate::reading::SheetsRules;
 use crate::rules::count_selectors;
 use crate::rules::emit_rules;
 use compiled::numbers::emit_number;
+use origins::reading::SheetRules;
+use origins::reading::SheetsRules;
 use syntax::rows::AGENT_ORIGIN;
 use syntax::rows::AUTHOR_ORIGIN;
 use syntax::rows::USER_ORIGIN;
@@ -12,10 +12,11 @@ ghost use Prim.Native.Nat.{_≤_};
 ghost use lib.ListN.{length};
 ghost use Rattle.combinators.specs.Store.{emits};
 ghost use Rattle.syntax.specs.Stream.{textsMany};
+ghost use Rattle.origins.specs.Reading.{rulesFrom};
 ghost use Rattle.compiled.specs.Sheet.{selectorBytes, encode};
 ghost use Rattle.compiler.specs.Selectors.{sheetSelectors};
 ghost use Rattle.compiler.specs.CompileAnswer.{roomOf};
-ghost use Rattle.compiler.specs.Written.{rulesFrom, selectorsFrom, Lying, fillOf, writtenIn};
+ghost use Rattle.compiler.specs.Written.{selectorsFrom, Lying, fillOf, writtenIn};
 
 // The bytes that a compiled sheet may have.
 pub const COMPILED_LIMIT: usize = 65536;

@@ -1,8 +1,8 @@
 use mathlib.Core.Path.{_∙_}
-use Rattle.compiler.proofs.SheetsLaws as laws
+use Rattle.origins.proofs.SheetsLaws as laws
 use borrow.Author.Needs.{needs}
-use Rattle.compiler.proofs.reading.read_sheets.Statement.{statement}
-use Rattle.compiler.proofs.reading.read_sheets.Tie as tie
+use Rattle.origins.proofs.reading.read_sheets.Statement.{statement}
+use Rattle.origins.proofs.reading.read_sheets.Tie as tie
 
 read-behind-requires : tie.Need-read-behind-requires
 read-behind-requires c κs = laws.first-room (c .before .before .before .before .before .before .before .before .before .before .before .pre)

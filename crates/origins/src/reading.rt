@@ -11,7 +11,7 @@ ghost use Rattle.combinators.specs.Store.{wiped};
 ghost use Rattle.syntax.specs.RuleLayout.{ruleRows, ruleTexts};
 ghost use Rattle.sheets.specs.Reading.{written};
 ghost use Rattle.sheets.specs.Sheet.{sheetOf};
-ghost use Rattle.compiler.specs.Reading.{rulesAnswer, ReadRoom, RulesBounds, sheetsOf, sheetsRows, sheetsTexts, sheetsAnswer, SheetsRoom};
+ghost use Rattle.origins.specs.Reading.{rulesAnswer, ReadRoom, RulesBounds, sheetsOf, sheetsRows, sheetsTexts, sheetsAnswer, SheetsRoom};
 
 // The sheets by their numbers in a refusal.
 pub const AGENT_TEXT: usize = 0;

@@ -19,12 +19,12 @@ use Rattle.sheets.specs.Sheet.{sheetOf}
 use Rattle.sheets.specs.SheetAnswer.{sheetLimit}
 use Rattle.sheets.specs.Stores.{Zeros}
 use Rattle.sheets.proofs.ZeroLaws.{zeros-after, zeros-back}
-use Rattle.compiler.specs.Reading.{agentText, userText, authorText, rulesAnswer, RulesSize, RulesBounds, ReadRoom, Sheets, rules, panicked, andThen, sheetsOf, sheetsRows, sheetsTexts, sheetsRules, sheetsAnswer, SheetsRoom}
-use Rattle.compiler.specs.declared.reading.RulesRead.{RulesRead}
-use Rattle.compiler.specs.declared.reading.RulesRead.the-variants as one
-use Rattle.compiler.specs.declared.reading.SheetsRules.{SheetsRules}
-use Rattle.compiler.specs.declared.reading.SheetsRead.{SheetsRead}
-use Rattle.compiler.specs.declared.reading.SheetsRead.the-variants as all
+use Rattle.origins.specs.Reading.{agentText, userText, authorText, rulesAnswer, RulesSize, RulesBounds, ReadRoom, Sheets, rules, panicked, andThen, sheetsOf, sheetsRows, sheetsTexts, sheetsRules, sheetsAnswer, SheetsRoom}
+use Rattle.origins.specs.declared.reading.RulesRead.{RulesRead}
+use Rattle.origins.specs.declared.reading.RulesRead.the-variants as one
+use Rattle.origins.specs.declared.reading.SheetsRules.{SheetsRules}
+use Rattle.origins.specs.declared.reading.SheetsRead.{SheetsRead}
+use Rattle.origins.specs.declared.reading.SheetsRead.the-variants as all
 
 -- ---- what the answer of one sheet tells of what it means
 

@@ -1,11 +1,12 @@
 -- What the answer of `read_sheets` tells of the three sheets: that each was read, and that the rules which lie in the stores are those that it means.
 use mathlib.Core.Path.{_≡_, refl, ap, sym, _∙_}
 use mathlib.Core.List.{List, [], _++_, append-assoc}
-use Prim.Native.Nat.{ℕ, _+_, _-_, _≤_}
+use Prim.Native.Nat.{ℕ, _+_, _-_, _^_, _≤_, _<_}
 use native.Mathlib.Omega.{arith}
 use lib.ListN.{length, drop, replicate, length-append}
 use lib.Seq.{sets, drop-at}
 use Rattle.combinators.specs.Store.{cleared}
+use Rattle.combinators.proofs.Cleared.{cleared-is, length-cleared}
 use Rattle.syntax.specs.RuleLayout.{ruleRows, ruleTexts, rulesAt}
 use Rattle.syntax.specs.Selector.{RuleSet}
 use Rattle.syntax.proofs.RuleRows.{RulesFit, rules-back}
@@ -14,18 +15,16 @@ use Rattle.sheets.specs.Outcome.{Outcome, reads, fails, panics, onOutcome}
 use Rattle.sheets.specs.Rules.{ruleWidth}
 use Rattle.sheets.specs.Sheet.{sheetOf}
 use Rattle.sheets.specs.SheetAnswer.{padded}
+use Rattle.sheets.specs.Stores.{Zeros}
 use Rattle.sheets.proofs.SheetBounds.{SheetKeeps, sheet-keeps}
 use Rattle.sheets.proofs.SheetLaws.{sheet-never-fails, stored}
-use Rattle.compiled.specs.Number.{numberLimit}
-use Rattle.compiler.specs.Selectors.{selectorsOf}
-use Rattle.compiler.specs.Reading.{Sheets, rules, panicked, andThen, sheetsOf, sheetsRows, sheetsTexts, sheetsRules, sheetsAnswer}
-use Rattle.compiler.specs.CompileAnswer.{Lent}
-use Rattle.compiler.specs.Written.{rulesFrom, selectorsFrom, Lying}
-use Rattle.compiler.specs.declared.reading.SheetRules.{SheetRules}
-use Rattle.compiler.specs.declared.reading.SheetsRules.{SheetsRules}
-use Rattle.compiler.specs.declared.reading.SheetsRead.{SheetsRead}
-use Rattle.compiler.specs.declared.reading.SheetsRead.the-variants as all
-use Rattle.compiler.proofs.Range.{selectors-bits}
+use Rattle.sheets.proofs.ZeroLaws.{zeros-all}
+use Rattle.origins.specs.Reading.{Sheets, rules, panicked, andThen, sheetsOf, sheetsRows, sheetsTexts, sheetsRules, sheetsAnswer, rulesFrom, SheetsRoom}
+use Rattle.origins.specs.Checks.{Lent}
+use Rattle.origins.specs.declared.reading.SheetRules.{SheetRules}
+use Rattle.origins.specs.declared.reading.SheetsRules.{SheetsRules}
+use Rattle.origins.specs.declared.reading.SheetsRead.{SheetsRead}
+use Rattle.origins.specs.declared.reading.SheetsRead.the-variants as all
 
 -- ---- a sheet that others follow was read
 record Followed (o : Outcome (List RuleSet)) (next : List RuleSet → Sheets) (s : Sheets) : Type 0 where
@@ -114,8 +113,37 @@ unfolding rulesFrom
 back rs rows texts t more s fit en er et =
     rw (en, er) (rules-back (drop (s .from) texts) rs 0 t fit (record { more = more; held = et }))
 
+-- ---- stores that were cleared
+-- a buffer cleared throughout, whatever it is that long
+pub zeros-of : (l m : List ℕ) → length l ≡ length m → cleared 0 l ≡ replicate (length m) 0
+zeros-of l m e =
+    let z : length l - 0 ≡ length m = omega (arith, e) in
+    cleared-is 0 l ∙ ap (λ (n : ℕ). replicate n 0) z
+
+clear-zeros : (l : List ℕ) → Zeros (cleared 0 l) 0
+clear-zeros l = rw (zeros-of l l refl) (zeros-all (length l) 0)
+
+-- room for the three sheets in stores of the least lengths
+pub room-cleared : {agent user author rules₀ tokens brackets texts : List ℕ} → Lent agent user author rules₀ tokens brackets texts → length rules₀ < 2 ^ 64
+    → SheetsRoom agent user author (cleared 0 rules₀) (cleared 0 tokens) (cleared 0 brackets) (cleared 0 texts)
+room-cleared {agent} {user} {author} {rules₀} {tokens} {brackets} {texts} o h =
+    record {
+      agent-within = o .agent-within;
+      user-within = o .user-within;
+      author-within = o .author-within;
+      rules-zeros = clear-zeros rules₀;
+      tokens-zeros = clear-zeros tokens;
+      brackets-zeros = clear-zeros brackets;
+      texts-zeros = clear-zeros texts;
+      row-bits = omega (arith, h, length-cleared 0 rules₀);
+      for-rules = omega (arith, o .for-rules, length-cleared 0 rules₀);
+      for-tokens = omega (arith, o .for-tokens, length-cleared 0 tokens);
+      for-brackets = omega (arith, o .for-brackets, length-cleared 0 brackets);
+      for-texts = omega (arith, o .for-texts, length-cleared 0 texts);
+    }
+
 -- ---- what lies in the stores is what the sheets mean
-module _ {agent user author texts₀ rules₀ tokens brackets : List ℕ} (o : Lent agent user author texts₀ rules₀ tokens brackets)
+module _ {agent user author rules₀ tokens brackets texts₀ : List ℕ} (o : Lent agent user author rules₀ tokens brackets texts₀)
     {s : SheetsRules} (m : Came (sheetsOf agent user author) s) where
   pub known : Known agent user author (m .agent) (m .user) (m .author)
   known = sheets-known agent user author (m .agent) (m .user) (m .author) (m .is)
@@ -185,14 +213,14 @@ module _ {agent user author texts₀ rules₀ tokens brackets : List ℕ} (o : L
     unfolding sheetsRules
     place₃ = ap (λ (v : SheetsRules). v .author) (m .lie)
 
-    agent-back : rulesFrom rows texts (s .agent) ≡ m .agent
+    pub agent-back : rulesFrom rows texts (s .agent) ≡ m .agent
     agent-back =
         rw place₁
         (back (m .agent) rows texts _ _ _ (agent-keeps .fit) refl
         (ap (drop 0) rows-are ∙ from-first (ruleRows 0 (m .agent)) (ruleRows 0 (m .user)) (ruleRows 0 (m .author)) zr)
         (ap (drop 0) texts-are ∙ from-first (ruleTexts (m .agent)) (ruleTexts (m .user)) (ruleTexts (m .author)) zt))
 
-    user-back : rulesFrom rows texts (s .user) ≡ m .user
+    pub user-back : rulesFrom rows texts (s .user) ≡ m .user
     user-back =
         let n = length (ruleRows 0 (m .agent)) in
         let f = length (ruleTexts (m .agent)) in
@@ -201,7 +229,7 @@ module _ {agent user author texts₀ rules₀ tokens brackets : List ℕ} (o : L
         (ap (drop n) rows-are ∙ from-second (ruleRows 0 (m .agent)) (ruleRows 0 (m .user)) (ruleRows 0 (m .author)) zr n refl)
         (ap (drop f) texts-are ∙ from-second (ruleTexts (m .agent)) (ruleTexts (m .user)) (ruleTexts (m .author)) zt f refl))
 
-    author-back : rulesFrom rows texts (s .author) ≡ m .author
+    pub author-back : rulesFrom rows texts (s .author) ≡ m .author
     author-back =
         let n = length (ruleRows 0 (m .agent)) + length (ruleRows 0 (m .user)) in
         let f = length (ruleTexts (m .agent)) + length (ruleTexts (m .user)) in
@@ -210,18 +238,11 @@ module _ {agent user author texts₀ rules₀ tokens brackets : List ℕ} (o : L
         (ap (drop n) rows-are ∙ from-third (ruleRows 0 (m .agent)) (ruleRows 0 (m .user)) (ruleRows 0 (m .author)) zr n refl)
         (ap (drop f) texts-are ∙ from-third (ruleTexts (m .agent)) (ruleTexts (m .user)) (ruleTexts (m .author)) zt f refl))
 
-    -- the selectors that lie there are those of the sheets
-    pub selectors-are : selectorsFrom rows texts s ≡ selectorsOf (m .agent) (m .user) (m .author)
-    unfolding selectorsFrom
-    selectors-are = rw (agent-back, user-back, author-back) refl
-
-    -- so they can be written
-    pub lying : Lying rows texts s
-    lying =
-        let l : length texts ≡ length textsHeld + length zt = ap length texts-are ∙ length-append textsHeld zt in
-        record {
-          agent-texts = omega (arith, ap (λ (v : SheetRules). v .from) place₁);
-          user-texts = omega (arith, l, texts-length, ap (λ (v : SheetRules). v .from) place₂);
-          author-texts = omega (arith, l, texts-length, ap (λ (v : SheetRules). v .from) place₃);
-          few = rw selectors-are (selectors-bits agent user author (known .agent-read) (known .user-read) (known .author-read) (o .agent-within) (o .user-within) (o .author-within));
-        }
+    -- the texts of each sheet lie in the store
+    pub texts-within : (s .agent .from ≤ length texts) × (s .user .from ≤ length texts) × (s .author .from ≤ length texts)
+    texts-within =
+        let l : length texts ≡ length textsHeld + length zt = ap length texts-are ∙ length-append textsHeld zt in (
+          omega (arith, ap (λ (v : SheetRules). v .from) place₁),
+          omega (arith, l, texts-length, ap (λ (v : SheetRules). v .from) place₂),
+          omega (arith, l, texts-length, ap (λ (v : SheetRules). v .from) place₃),
+        )
