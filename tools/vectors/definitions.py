@@ -14,7 +14,7 @@ import sys
 
 HERE = pathlib.Path(__file__).resolve().parent
 ROOT = HERE.parent.parent
-LIBRARIES = "combinators unicode lexer decimal syntax values declarations sheets cascade page matching compiled compiler styles runner".split()
+LIBRARIES = "combinators unicode lexer decimal syntax values declarations sheets origins cascade page matching compiled compiler styles runner".split()
 COMPUTED = 6
 SHEETS = 3
 NODE_WIDTH = 6

@@ -8,35 +8,26 @@ use borrow.Author.Tests.{le-leb, lt-leb}
 use lib.ListN.{length, take, drop, set, replicate, length-append, length-set, length-drop, take-append-drop}
 use lib.Seq.{sets, length-sets, length-take-le, set-append-left}
 use Rattle.combinators.specs.Store.{cleared}
-use Rattle.combinators.proofs.Cleared.{cleared-is, length-cleared}
+use Rattle.combinators.proofs.Cleared.{length-cleared}
 use Rattle.combinators.proofs.Rules.{pick-true, pick-false, lt-or-ge}
 use Rattle.syntax.specs.RuleLayout.{ruleRows, ruleTexts}
 use Rattle.syntax.specs.Selector.{RuleSet}
 use Rattle.sheets.specs.SheetAnswer.{padded}
-use Rattle.sheets.specs.Stores.{Zeros}
 use Rattle.sheets.proofs.SheetLaws.{stored}
-use Rattle.sheets.proofs.ZeroLaws.{zeros-all}
+use Rattle.origins.specs.Checks.{Lent}
+use Rattle.origins.specs.Reading.{Sheets, rules, panicked, sheetsOf, sheetsRows, sheetsTexts, sheetsRules, sheetsAnswer, SheetsRoom}
+use Rattle.origins.specs.declared.reading.SheetsRules.{SheetsRules}
+use Rattle.origins.specs.declared.reading.SheetsRead.{SheetsRead}
+use Rattle.origins.specs.declared.reading.SheetsRead.the-variants as all
+use Rattle.origins.proofs.SheetsKnown.{zeros-of, room-cleared, Came, came, panic-known, rowsHeld, textsHeld, texts-length, texts-lie}
 use Rattle.compiled.specs.Sheet.{encode}
 use Rattle.compiler.specs.Selectors.{selectorsOf}
-use Rattle.compiler.specs.Reading.{Sheets, rules, panicked, sheetsOf, sheetsRows, sheetsTexts, sheetsAnswer, SheetsRoom}
-use Rattle.compiler.specs.CompileAnswer.{roomOf, CompileLeft, zeroed, answered, answeredWithin, compiledLeft, Lent}
+use Rattle.compiler.specs.CompileAnswer.{roomOf, CompileLeft, zeroed, answered, answeredWithin, compiledLeft}
 use Rattle.compiler.specs.Written.{selectorsFrom, Lying, fillOf, writtenIn}
 use Rattle.compiler.specs.declared.compile.CompileAnswer.{CompileAnswer}
 use Rattle.compiler.specs.declared.compile.CompileAnswer.the-variants.{Compiled, Panic, NoRoom}
-use Rattle.compiler.specs.declared.reading.SheetsRead.{SheetsRead}
-use Rattle.compiler.specs.declared.reading.SheetsRead.the-variants as all
-use Rattle.compiler.proofs.SheetsKnown.{Came, came, panic-known, rowsHeld, textsHeld, texts-length, texts-lie, selectors-are, lying}
+use Rattle.compiler.proofs.SheetsLying.{selectors-are, lying}
 use Rattle.compiler.proofs.WritingLaws.{room-within}
-
--- ---- zeros
--- a buffer cleared throughout, whatever it is that long
-zeros-of : (l m : List ℕ) → length l ≡ length m → cleared 0 l ≡ replicate (length m) 0
-zeros-of l m e =
-    let z : length l - 0 ≡ length m = omega (arith, e) in
-    cleared-is 0 l ∙ ap (λ (n : ℕ). replicate n 0) z
-
-clear-zeros : (l : List ℕ) → Zeros (cleared 0 l) 0
-clear-zeros l = rw (zeros-of l l refl) (zeros-all (length l) 0)
 
 -- ---- bytes within the room
 -- the fill tells that they fit
@@ -78,27 +69,12 @@ left-by : {a a′ : CompileAnswer} {k k′ t t′ y y′ x x′ b b′ : List �
     → _≡_ {A = CompileLeft} (record { answer = a; compiled = k; texts = t; rules = y; tokens = x; brackets = b }) (record { answer = a′; compiled = k′; texts = t′; rules = y′; tokens = x′; brackets = b′ })
 left-by p q r s t u = rw (p, q, r, s, t, u) refl
 
-module _ {agent user author texts₀ rules₀ tokens₀ brackets₀ : List ℕ} (o : Lent agent user author texts₀ rules₀ tokens₀ brackets₀) (compiled₀ : List ℕ)
+module _ {agent user author rules₀ tokens₀ brackets₀ texts₀ : List ℕ} (o : Lent agent user author rules₀ tokens₀ brackets₀ texts₀) (compiled₀ : List ℕ)
     {k₁ t₁ y₁ x₁ b₁ : List ℕ} (ck : k₁ ≡ cleared 0 compiled₀) (ct : t₁ ≡ cleared 0 texts₀) (cy : y₁ ≡ cleared 0 rules₀) (cx : x₁ ≡ cleared 0 tokens₀)
     (cb : b₁ ≡ cleared 0 brackets₀) where
   -- room for the three sheets
   pub room : length rules₀ < 2 ^ 64 → SheetsRoom agent user author y₁ x₁ b₁ t₁
-  room h =
-      rw (ct, cy, cx, cb)
-      (record {
-        agent-within = o .agent-within;
-        user-within = o .user-within;
-        author-within = o .author-within;
-        rules-zeros = clear-zeros rules₀;
-        tokens-zeros = clear-zeros tokens₀;
-        brackets-zeros = clear-zeros brackets₀;
-        texts-zeros = clear-zeros texts₀;
-        row-bits = omega (arith, h, length-cleared 0 rules₀);
-        for-rules = omega (arith, o .for-rules, length-cleared 0 rules₀);
-        for-tokens = omega (arith, o .for-tokens, length-cleared 0 tokens₀);
-        for-brackets = omega (arith, o .for-brackets, length-cleared 0 brackets₀);
-        for-texts = omega (arith, o .for-texts, length-cleared 0 texts₀);
-      })
+  room h = rw (ct, cy, cx, cb) (room-cleared o h)
 
   abbrev meant : Sheets
   meant = sheetsOf agent user author
@@ -125,27 +101,27 @@ module _ {agent user author texts₀ rules₀ tokens₀ brackets₀ : List ℕ} 
         left-by refl (ck ∙ zeros-of compiled₀ compiled₀ refl) (et′ ∙ ct ∙ zeros-of texts₀ texts₀ refl) (ey′ ∙ cy ∙ zeros-of rules₀ rules₀ refl) tokens-zero brackets-zero
         ∙ ap (compiledLeft compiled₀ texts₀ rules₀ tokens₀ brackets₀) (sym q)
 
-    module _ {c d n t e p f x : ℕ} (g : r ≡ all.Rules c d n t e p f x) where
-      m : Came meant c d n t e p f x
-      m = came meant c d n t e p f x (sym g ∙ er)
+    module _ {s : SheetsRules} (g : r ≡ all.Rules s) where
+      m : Came meant s
+      m = came meant s (sym g ∙ er)
 
       rows₂ : y₂ ≡ sets (cleared 0 rules₀) 0 (rowsHeld o m)
       unfolding sheetsRows
-      rows₂ = ey ∙ ap (λ (s : Sheets). sets y₁ 0 (sheetsRows s)) (m .is) ∙ ap (λ (l : List ℕ). sets l 0 (rowsHeld o m)) cy
+      rows₂ = ey ∙ ap (λ (v : Sheets). sets y₁ 0 (sheetsRows v)) (m .is) ∙ ap (λ (l : List ℕ). sets l 0 (rowsHeld o m)) cy
 
       texts₂ : t₂ ≡ sets (cleared 0 texts₀) 0 (textsHeld o m)
       unfolding sheetsTexts
-      texts₂ = et ∙ ap (λ (s : Sheets). sets t₁ 0 (sheetsTexts s)) (m .is) ∙ ap (λ (l : List ℕ). sets l 0 (textsHeld o m)) ct
+      texts₂ = et ∙ ap (λ (v : Sheets). sets t₁ 0 (sheetsTexts v)) (m .is) ∙ ap (λ (l : List ℕ). sets l 0 (textsHeld o m)) ct
 
       -- what lies there can be written
-      pub lies : Lying y₂ t₂ c d n t e p f
+      pub lies : Lying y₂ t₂ s
       lies = lying o m rows₂ texts₂
 
       bytes : List ℕ
       bytes = encode (selectorsOf (m .agent) (m .user) (m .author))
 
-      module _ {w : ℕ} {k₃ y₃ : List ℕ} (ew : w ≡ fillOf (roomOf (length k₁)) (encode (selectorsFrom y₂ t₂ c d n t e p f)))
-          (ek : k₃ ≡ writtenIn (roomOf (length k₁)) (encode (selectorsFrom y₂ t₂ c d n t e p f)) k₁) (ec : y₃ ≡ cleared 0 y₂) where
+      module _ {w : ℕ} {k₃ y₃ : List ℕ} (ew : w ≡ fillOf (roomOf (length k₁)) (encode (selectorsFrom y₂ t₂ s)))
+          (ek : k₃ ≡ writtenIn (roomOf (length k₁)) (encode (selectorsFrom y₂ t₂ s)) k₁) (ec : y₃ ≡ cleared 0 y₂) where
         w-is : w ≡ fillOf (roomOf (length k₁)) bytes
         unfolding bytes
         w-is = ew ∙ ap (λ ss. fillOf (roomOf (length k₁)) (encode ss)) (selectors-are o m rows₂ texts₂)
@@ -169,11 +145,11 @@ module _ {agent user author texts₀ rules₀ tokens₀ brackets₀ : List ℕ} 
           q-is = eq ∙ ap roomOf k-long
 
           -- the bytes fit
-          pub fits : w ≤ q → Left (Compiled w x) k₃ t₂ y₃ x₂ b₂
-          unfolding compiledLeft answeredWithin answered sheetsTexts bytes
+          pub fits : w ≤ q → Left (Compiled w (s .end)) k₃ t₂ y₃ x₂ b₂
+          unfolding compiledLeft answeredWithin answered sheetsTexts sheetsRules bytes
           fits h =
               let z = fill-fits (roomOf (length k₁)) w bytes w-is (omega (arith, h, q-is)) in
-              let ex′ : x ≡ length (textsHeld o m) = m .end ∙ sym (texts-length o m) in
+              let ex′ : s .end ≡ length (textsHeld o m) = ap (λ (v : SheetsRules). v .end) (m .lie) ∙ sym (texts-length o m) in
               left-by (ap₂ Compiled (z .1) ex′)
               (k-is ∙ written-whole (roomOf (length k₁)) bytes k₁ (room-within (length k₁)) (z .0) ∙ ap (λ (l : List ℕ). sets l 0 bytes) ck
               ∙ stored bytes compiled₀ (omega (arith, z .0, same-room, room-within (length compiled₀))))

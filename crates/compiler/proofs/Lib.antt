@@ -4,10 +4,7 @@ pub mod EmittingLaws
 pub mod StyleWriting
 pub mod SelectorWriting
 pub mod RuleWriting
-pub mod Parts
-pub mod ReadingLaws
-pub mod SheetsLaws
 pub mod WritingLaws
-pub mod SheetsKnown
+pub mod SheetsLying
 pub mod CompileTurns
 pub mod CompileLaws

@@ -15,12 +15,15 @@ use Rattle.combinators.proofs.Rules.{pick-true, pick-false, lt-or-ge}
 use Rattle.syntax.specs.RuleLayout.{readRule, rulesAt}
 use Rattle.syntax.specs.Stream.{readMany, textsMany}
 use Rattle.syntax.specs.Style.{agentOrigin, userOrigin, authorOrigin}
+use Rattle.origins.specs.Reading.{rulesFrom}
+use Rattle.origins.specs.declared.reading.SheetRules.{SheetRules}
+use Rattle.origins.specs.declared.reading.SheetsRules.{SheetsRules}
 use Rattle.compiled.specs.Number.{numberLimit, numberBytes}
 use Rattle.compiled.specs.Sheet.{CompiledSelector, selectorBytes, encode}
 use Rattle.compiler.specs.Selectors.{sheetSelectors, selectorsOf}
 use Rattle.compiler.specs.CompileAnswer.{compiledLimit, roomOf}
 use Rattle.compiler.specs.Writing.{SelectorsFew}
-use Rattle.compiler.specs.Written.{rulesFrom, selectorsFrom, Lying, fillOf, writtenIn}
+use Rattle.compiler.specs.Written.{selectorsFrom, Lying, fillOf, writtenIn}
 
 -- ---- the room of a buffer
 pub room-limit : (n : ℕ) → compiledLimit < n → compiledLimit ≡ roomOf n
@@ -43,19 +46,27 @@ texts-both [] ys = refl
 texts-both (x ∷ xs) ys =
     ap (λ (r : List ℕ). selectorBytes x ++ r) (texts-both xs ys) ∙ sym (append-assoc (selectorBytes x) (textsMany selectorBytes xs) (textsMany selectorBytes ys))
 
+-- ---- a sheet
+pub sheet-written : (rows texts : List ℕ) (s : SheetRules) (origin : ℕ) (o₀ o₁ : Store)
+    → o₁ ≡ emits o₀ (textsMany selectorBytes (sheetSelectors origin (readMany (readRule (take (length texts - s .from) (drop (s .from) texts))) (s .count) (drop (s .place) rows) .value)))
+    → o₁ ≡ emits o₀ (textsMany selectorBytes (sheetSelectors origin (rulesFrom rows texts s)))
+unfolding rulesFrom rulesAt
+sheet-written rows texts s origin o₀ o₁ e =
+    e ∙ ap (λ (t : List ℕ). emits o₀ (textsMany selectorBytes (sheetSelectors origin (readMany (readRule t) (s .count) (drop (s .place) rows) .value)))) (rest texts (s .from))
+
 -- ---- three sheets
-module _ (rows texts : List ℕ) (agents users place from authors lastPlace lastFrom : ℕ) where
+module _ (rows texts : List ℕ) (s : SheetsRules) where
   a : List CompiledSelector
-  a = sheetSelectors agentOrigin (rulesFrom rows texts agents 0 0)
+  a = sheetSelectors agentOrigin (rulesFrom rows texts (s .agent))
 
   u : List CompiledSelector
-  u = sheetSelectors userOrigin (rulesFrom rows texts users place from)
+  u = sheetSelectors userOrigin (rulesFrom rows texts (s .user))
 
   w : List CompiledSelector
-  w = sheetSelectors authorOrigin (rulesFrom rows texts authors lastPlace lastFrom)
+  w = sheetSelectors authorOrigin (rulesFrom rows texts (s .author))
 
   abbrev all : List CompiledSelector
-  all = selectorsFrom rows texts agents users place from authors lastPlace lastFrom
+  all = selectorsFrom rows texts s
 
   -- how many they are
   total : length all ≡ length a + length u + length w
@@ -75,44 +86,39 @@ module _ (rows texts : List ℕ) (agents users place from authors lastPlace last
 
   -- the count and the three sheets, one behind the other
   pub all-written : (o₀ o₁ o₂ o₃ o₄ : Store) (count : ℕ) → count ≡ length all → o₁ ≡ emits o₀ (numberBytes count)
-      → o₂ ≡ emits o₁ (textsMany selectorBytes (sheetSelectors agentOrigin (readMany (readRule texts) agents (drop 0 rows) .value)))
-      → o₃ ≡ emits o₂ (textsMany selectorBytes (sheetSelectors userOrigin (readMany (readRule (take (length texts - from) (drop from texts))) users (drop place rows) .value)))
-      → o₄ ≡ emits o₃ (textsMany selectorBytes (sheetSelectors authorOrigin (readMany (readRule (take (length texts - lastFrom) (drop lastFrom texts))) authors (drop lastPlace rows) .value)))
-      → o₄ ≡ emits o₀ (encode all)
-  unfolding a u w rulesFrom rulesAt
+      → o₂ ≡ emits o₁ (textsMany selectorBytes (sheetSelectors agentOrigin (rulesFrom rows texts (s .agent))))
+      → o₃ ≡ emits o₂ (textsMany selectorBytes (sheetSelectors userOrigin (rulesFrom rows texts (s .user))))
+      → o₄ ≡ emits o₃ (textsMany selectorBytes (sheetSelectors authorOrigin (rulesFrom rows texts (s .author)))) → o₄ ≡ emits o₀ (encode all)
+  unfolding a u w
   all-written o₀ o₁ o₂ o₃ o₄ count ec e₁ e₂ e₃ e₄ =
       let n : List ℕ = numberBytes (length all) in
       let x : List ℕ = textsMany selectorBytes a in
       let y : List ℕ = textsMany selectorBytes u in
       let z : List ℕ = textsMany selectorBytes w in
       let f₁ : o₁ ≡ emits o₀ n = e₁ ∙ ap (λ (k : ℕ). emits o₀ (numberBytes k)) ec in
-      let f₃ : o₃ ≡ emits o₂ y =
-      e₃ ∙ ap (λ (t : List ℕ). emits o₂ (textsMany selectorBytes (sheetSelectors userOrigin (readMany (readRule t) users (drop place rows) .value)))) (rest texts from) in
-      let f₄ : o₄ ≡ emits o₃ z =
-      e₄ ∙ ap (λ (t : List ℕ). emits o₃ (textsMany selectorBytes (sheetSelectors authorOrigin (readMany (readRule t) authors (drop lastPlace rows) .value)))) (rest texts lastFrom) in
-      then o₀ o₃ o₄ ((n ++ x) ++ y) z (then o₀ o₂ o₃ (n ++ x) y (then o₀ o₁ o₂ n x f₁ e₂) f₃) f₄ ∙ ap (emits o₀) bytes-are
+      then o₀ o₃ o₄ ((n ++ x) ++ y) z (then o₀ o₂ o₃ (n ++ x) y (then o₀ o₁ o₂ n x f₁ e₂) e₃) e₄ ∙ ap (emits o₀) bytes-are
 
-  module _ (l : Lying rows texts agents users place from authors lastPlace lastFrom) where
+  module _ (l : Lying rows texts s) where
     -- a number can tell how many each has
-    pub agent-few : SelectorsFew (drop 0 rows) agents
+    pub agent-few : SelectorsFew (drop (s .agent .place) rows) (s .agent .count)
     unfolding a rulesFrom rulesAt
-    agent-few = record { texts = drop 0 texts; origin = agentOrigin; few = omega (arith, l .few, total) }
+    agent-few = record { texts = drop (s .agent .from) texts; origin = agentOrigin; few = omega (arith, l .few, total) }
 
-    pub user-few : SelectorsFew (drop place rows) users
+    pub user-few : SelectorsFew (drop (s .user .place) rows) (s .user .count)
     unfolding u rulesFrom rulesAt
-    user-few = record { texts = drop from texts; origin = userOrigin; few = omega (arith, l .few, total) }
+    user-few = record { texts = drop (s .user .from) texts; origin = userOrigin; few = omega (arith, l .few, total) }
 
-    pub author-few : SelectorsFew (drop lastPlace rows) authors
+    pub author-few : SelectorsFew (drop (s .author .place) rows) (s .author .count)
     unfolding w rulesFrom rulesAt
-    author-few = record { texts = drop lastFrom texts; origin = authorOrigin; few = omega (arith, l .few, total) }
+    author-few = record { texts = drop (s .author .from) texts; origin = authorOrigin; few = omega (arith, l .few, total) }
 
     -- their sums fit, and are what there is
-    module _ {i j k : ℕ} (ei : (origin : ℕ) (t : List ℕ) → i ≡ length (sheetSelectors origin (readMany (readRule t) agents (drop 0 rows) .value)))
-        (ej : (origin : ℕ) (t : List ℕ) → j ≡ length (sheetSelectors origin (readMany (readRule t) users (drop place rows) .value)))
-        (ek : (origin : ℕ) (t : List ℕ) → k ≡ length (sheetSelectors origin (readMany (readRule t) authors (drop lastPlace rows) .value))) where
+    module _ {i j k : ℕ} (ei : (origin : ℕ) (t : List ℕ) → i ≡ length (sheetSelectors origin (readMany (readRule t) (s .agent .count) (drop (s .agent .place) rows) .value)))
+        (ej : (origin : ℕ) (t : List ℕ) → j ≡ length (sheetSelectors origin (readMany (readRule t) (s .user .count) (drop (s .user .place) rows) .value)))
+        (ek : (origin : ℕ) (t : List ℕ) → k ≡ length (sheetSelectors origin (readMany (readRule t) (s .author .count) (drop (s .author .place) rows) .value))) where
       pub counts : i + j + k ≡ length all
       unfolding a u w rulesFrom rulesAt
-      counts = omega (arith, total, ei agentOrigin (drop 0 texts), ej userOrigin (drop from texts), ek authorOrigin (drop lastFrom texts))
+      counts = omega (arith, total, ei agentOrigin (drop (s .agent .from) texts), ej userOrigin (drop (s .user .from) texts), ek authorOrigin (drop (s .author .from) texts))
 
       pub counts-fit : i + j + k < 2 ^ 64
       counts-fit = omega (arith, counts, l .few)

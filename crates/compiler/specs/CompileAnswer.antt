@@ -1,16 +1,15 @@
 -- What `compile` answers and leaves: the refusals of document 01 in the order of their numbers, or the compiled sheet.
-use Prim.Native.Nat.{ℕ, _+_, _≤_}
-use mathlib.Core.Bool.{Bool}
+use Prim.Native.Nat.{ℕ, _+_}
 use mathlib.Core.List.{List, [], _++_}
 use lib.Dec.{leb, ltb}
 use lib.ListN.{length, replicate}
-use Rattle.combinators.specs.Choice.{pick, or, and}
-use Rattle.unicode.specs.Utf8.{valid}
+use Rattle.combinators.specs.Choice.{pick}
 use Rattle.syntax.specs.Selector.{RuleSet}
-use Rattle.sheets.specs.SheetAnswer.{sheetLimit, textLeast, bracketLeast, numberLeast, storesSuffice, Refusal, limitRefusal, storeRefusal, utf8Refusal, panicRefusal, padded}
+use Rattle.sheets.specs.SheetAnswer.{storesSuffice, Refusal, limitRefusal, storeRefusal, utf8Refusal, panicRefusal, padded}
+use Rattle.origins.specs.Checks.{anyTooLong, allValid}
+use Rattle.origins.specs.Reading.{Sheets, rules, panicked, sheetsOf, sheetsTexts}
 use Rattle.compiled.specs.Sheet.{encode}
 use Rattle.compiler.specs.Selectors.{selectorsOf}
-use Rattle.compiler.specs.Reading.{Sheets, rules, panicked, sheetsOf, sheetsTexts}
 use Rattle.compiler.specs.declared.compile.CompileAnswer.{CompileAnswer}
 use Rattle.compiler.specs.declared.compile.CompileAnswer.the-variants.{Compiled, TooLong, ShortStore, NotUtf8, Panic, NoRoom}
 
@@ -80,23 +79,6 @@ module _ (compiled texts rules₀ tokens brackets : List ℕ) where
   unfoldable pub compiledLeft : Sheets → CompileLeft
   compiledLeft (rules a u w) = answeredWithin (encode (selectorsOf a u w)) (sheetsTexts (rules a u w))
   compiledLeft (panicked which p) = zeroed (Panic which p)
-
--- ---- what reading and writing the sheets asks for
-pub record Lent (agent user author texts rules₀ tokens brackets : List ℕ) : Type 0 where
-  pub agent-within : length agent ≤ sheetLimit
-  pub user-within : length user ≤ sheetLimit
-  pub author-within : length author ≤ sheetLimit
-  pub for-texts : textLeast (length agent + length user + length author) ≤ length texts
-  pub for-brackets : bracketLeast (length agent + length user + length author) ≤ length brackets
-  pub for-rules : numberLeast (length agent + length user + length author) ≤ length rules₀
-  pub for-tokens : numberLeast (length agent + length user + length author) ≤ length tokens
-
--- ---- a sheet too long, and all of them UTF-8
-unfoldable pub anyTooLong : ℕ → ℕ → ℕ → Bool
-anyTooLong agent user author = or (ltb sheetLimit agent) (or (ltb sheetLimit user) (ltb sheetLimit author))
-
-unfoldable pub allValid : List ℕ → List ℕ → List ℕ → Bool
-allValid agent user author = and (valid agent) (and (valid user) (valid author))
 
 -- "The lowest number that applies is returned, 4 counting as above 9 and below 10"
 unfoldable pub compileOf : List ℕ → List ℕ → List ℕ → List ℕ → List ℕ → List ℕ → List ℕ → List ℕ → CompileLeft

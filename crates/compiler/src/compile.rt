@@ -1,19 +1,20 @@
 // `compile`: three sheets into the bytes of a compiled sheet. Refusals are looked for in the order of their numbers; nothing is written before all
 // texts are known to be UTF-8, and all sheets are read before the room for the bytes is judged.
-use crate::reading::SheetsRead;
-use crate::reading::read_sheets;
 use crate::writing::room_of;
 use crate::writing::write_within;
 use combinators::stores::clear_bytes;
 use combinators::stores::clear_numbers;
-use sheets::sheet::SHEET_LIMIT;
+use origins::checks::all_valid;
+use origins::checks::any_too_long;
+use origins::reading::SheetsRead;
+use origins::reading::read_sheets;
 use sheets::sheet::clear_stores;
 use sheets::sheet::stores_suffice;
-use unicode::utf8::is_valid;
 ghost use mathlib.Core.Path.{_≡_};
 ghost use Rattle.combinators.specs.Store.{cleared};
-ghost use Rattle.compiler.specs.Reading.{sheetsOf};
-ghost use Rattle.compiler.specs.CompileAnswer.{compiledLeft, Lent, anyTooLong, allValid, compileOf};
+ghost use Rattle.origins.specs.Checks.{Lent};
+ghost use Rattle.origins.specs.Reading.{sheetsOf};
+ghost use Rattle.compiler.specs.CompileAnswer.{compiledLeft, compileOf};
 
 // How many bytes the compiled sheet has, and the texts that its rules name; or the refusal, with the sheet and the byte where the crate panics.
 pub enum CompileAnswer {
@@ -23,32 +24,6 @@ pub enum CompileAnswer {
     NotUtf8,
     Panic(usize, usize),
     NoRoom,
-}
-
-// Whether a sheet has more bytes than a sheet may have.
-fn any_too_long(agent: usize, user: usize, author: usize) -> bool
-    ensures { λ r. ⌜ r ≡ anyTooLong agent user author ⌝ }
-{
-    if agent > SHEET_LIMIT {
-        return true;
-    }
-    if user > SHEET_LIMIT {
-        return true;
-    }
-    author > SHEET_LIMIT
-}
-
-// Whether all sheets are UTF-8.
-fn all_valid(agent: &[u8], user: &[u8], author: &[u8]) -> bool
-    ensures { λ r. ⌜ r ≡ allValid (now (agent .entry)) (now (user .entry)) (now (author .entry)) ⌝ }
-{
-    if is_valid(agent) {
-        if is_valid(user) {
-            return is_valid(author);
-        }
-        return false;
-    }
-    false
 }
 
 // Zeros throughout all buffers.
@@ -80,7 +55,7 @@ fn compile_texts(
     tokens: &mut [u32],
     brackets: &mut [u8],
 ) -> CompileAnswer
-    requires { ⌜ Lent (now agent) (now user) (now author) (now texts) (now rules) (now tokens) (now brackets) ⌝ }
+    requires { ⌜ Lent (now agent) (now user) (now author) (now rules) (now tokens) (now brackets) (now texts) ⌝ }
     ensures { λ r. ⌜ record { answer = r; compiled = now (compiled .exit); texts = now (texts .exit); rules = now (rules .exit); tokens = now (tokens .exit); brackets = now (brackets .exit) }
         ≡ compiledLeft (now (compiled .entry)) (now (texts .entry)) (now (rules .entry)) (now (tokens .entry)) (now (brackets .entry)) (sheetsOf (now (agent .entry)) (now (user .entry)) (now (author .entry))) ⌝ }
 {
@@ -89,22 +64,11 @@ fn compile_texts(
         SheetsRead::Panic(text, byte) => {
             return CompileAnswer::Panic(text, byte);
         }
-        SheetsRead::Rules(agents, users, place, from, authors, last_place, last_from, end) => {
-            let bytes = write_within(
-                rules,
-                texts,
-                agents,
-                users,
-                place,
-                from,
-                authors,
-                last_place,
-                last_from,
-                compiled,
-            );
+        SheetsRead::Rules(sheets) => {
+            let bytes = write_within(rules, texts, sheets, compiled);
             clear_numbers(rules, 0);
             if bytes <= room_of(compiled.len()) {
-                return CompileAnswer::Compiled(bytes, end);
+                return CompileAnswer::Compiled(bytes, sheets.end);
             }
             clear_bytes(compiled, 0);
             clear_bytes(texts, 0);

@@ -1,5 +1,4 @@
 // The compiler: the selectors of three sheets (specs/) as the bytes of a compiled sheet.
-pub mod reading; // reading.rt: the three sheets into one set of stores
 pub mod walk; // walk.rt: places in rule rows
 pub mod styles; // styles.rt: the styles of a rule, counted and written
 pub mod selectors; // selectors.rt: one selector, written

@@ -2,13 +2,19 @@
 use crate::rules::count_selectors;
 use crate::rules::emit_rules;
 use compiled::numbers::emit_number;
+use origins::reading::SheetRules;
+use origins::reading::SheetsRules;
 use syntax::rows::AGENT_ORIGIN;
 use syntax::rows::AUTHOR_ORIGIN;
 use syntax::rows::USER_ORIGIN;
 ghost use mathlib.Core.Path.{_≡_};
+ghost use Prim.Native.Nat.{_≤_};
 ghost use lib.ListN.{length};
 ghost use Rattle.combinators.specs.Store.{emits};
-ghost use Rattle.compiled.specs.Sheet.{encode};
+ghost use Rattle.syntax.specs.Stream.{textsMany};
+ghost use Rattle.origins.specs.Reading.{rulesFrom};
+ghost use Rattle.compiled.specs.Sheet.{selectorBytes, encode};
+ghost use Rattle.compiler.specs.Selectors.{sheetSelectors};
 ghost use Rattle.compiler.specs.CompileAnswer.{roomOf};
 ghost use Rattle.compiler.specs.Written.{selectorsFrom, Lying, fillOf, writtenIn};
 
@@ -25,105 +31,64 @@ pub fn room_of(n: usize) -> usize
     n
 }
 
-// How many selectors the three sheets have; the user's rules lie from `place` on, the author's from `last_place` on.
-fn count_all(
-    rows: &[u32],
-    texts: &[u8],
-    agents: usize,
-    users: usize,
-    place: usize,
-    from: usize,
-    authors: usize,
-    last_place: usize,
-    last_from: usize,
-) -> usize
-    requires { ⌜ Lying (now rows) (now texts) agents users place from authors «last_place» «last_from» ⌝ }
-    ensures { λ r. ⌜ r ≡ length (selectorsFrom (now (rows .entry)) (now (texts .entry)) agents users place from authors «last_place» «last_from») ⌝ }
+// How many selectors the three sheets have.
+fn count_all(rows: &[u32], texts: &[u8], sheets: SheetsRules) -> usize
+    requires { ⌜ Lying (now rows) (now texts) sheets ⌝ }
+    ensures { λ r. ⌜ r ≡ length (selectorsFrom (now (rows .entry)) (now (texts .entry)) sheets) ⌝ }
 {
-    let agent = count_selectors(rows, 0, agents);
-    let user = count_selectors(rows, place, users);
-    let author = count_selectors(rows, last_place, authors);
-    agent + user + author
+    let agent = sheets.agent;
+    let user = sheets.user;
+    let author = sheets.author;
+    let agents = count_selectors(rows, agent.place, agent.count);
+    let users = count_selectors(rows, user.place, user.count);
+    let authors = count_selectors(rows, author.place, author.count);
+    agents + users + authors
 }
 
-// Writes the compiled sheet from the first byte on; the fill behind it. The texts of the user's rules count from `from` on, those of the author's
-// from `last_from` on.
-fn write_sheets(
+// Writes the selectors of a sheet, whose texts count from a place of the text store on; the fill behind them.
+fn write_sheet(
     rows: &[u32],
     texts: &[u8],
-    agents: usize,
-    users: usize,
-    place: usize,
-    from: usize,
-    authors: usize,
-    last_place: usize,
-    last_from: usize,
+    sheet: SheetRules,
+    origin: u32,
     compiled: &mut [u8],
+    fill: usize,
 ) -> usize
-    requires { ⌜ Lying (now rows) (now texts) agents users place from authors «last_place» «last_from» ⌝ }
-    ensures { λ r. ⌜ record { bytes = now (compiled .exit); fill = r } ≡ emits (record { bytes = now (compiled .entry); fill = 0 }) (encode (selectorsFrom (now (rows .entry)) (now (texts .entry)) agents users place from authors «last_place» «last_from»)) ⌝ }
+    requires { ⌜ sheet .from ≤ length (now texts) ⌝ }
+    ensures { λ r. ⌜ record { bytes = now (compiled .exit); fill = r }
+        ≡ emits (record { bytes = now (compiled .entry); fill = fill })
+        (textsMany selectorBytes (sheetSelectors origin (rulesFrom (now (rows .entry)) (now (texts .entry)) sheet))) ⌝ }
 {
-    let count = count_all(
-        rows,
-        texts,
-        agents,
-        users,
-        place,
-        from,
-        authors,
-        last_place,
-        last_from,
-    );
-    let first = emit_number(count as u32, compiled, 0);
-    let second = emit_rules(rows, 0, agents, AGENT_ORIGIN, texts, compiled, first);
-    let third = emit_rules(
-        rows,
-        place,
-        users,
-        USER_ORIGIN,
-        &texts[from..],
-        compiled,
-        second,
-    );
+    let from = sheet.from;
     emit_rules(
         rows,
-        last_place,
-        authors,
-        AUTHOR_ORIGIN,
-        &texts[last_from..],
+        sheet.place,
+        sheet.count,
+        origin,
+        &texts[from..],
         compiled,
-        third,
+        fill,
     )
+}
+
+// Writes the compiled sheet from the first byte on; the fill behind it.
+fn write_sheets(rows: &[u32], texts: &[u8], sheets: SheetsRules, compiled: &mut [u8]) -> usize
+    requires { ⌜ Lying (now rows) (now texts) sheets ⌝ }
+    ensures { λ r. ⌜ record { bytes = now (compiled .exit); fill = r } ≡ emits (record { bytes = now (compiled .entry); fill = 0 }) (encode (selectorsFrom (now (rows .entry)) (now (texts .entry)) sheets)) ⌝ }
+{
+    let count = count_all(rows, texts, sheets);
+    let first = emit_number(count as u32, compiled, 0);
+    let second = write_sheet(rows, texts, sheets.agent, AGENT_ORIGIN, compiled, first);
+    let third = write_sheet(rows, texts, sheets.user, USER_ORIGIN, compiled, second);
+    write_sheet(rows, texts, sheets.author, AUTHOR_ORIGIN, compiled, third)
 }
 
 // The same within the room that a compiled sheet has in the buffer.
-pub fn write_within(
-    rows: &[u32],
-    texts: &[u8],
-    agents: usize,
-    users: usize,
-    place: usize,
-    from: usize,
-    authors: usize,
-    last_place: usize,
-    last_from: usize,
-    compiled: &mut [u8],
-) -> usize
-    requires { ⌜ Lying (now rows) (now texts) agents users place from authors «last_place» «last_from» ⌝ }
-    ensures { λ r. ⌜ r ≡ fillOf (roomOf (length (now (compiled .entry)))) (encode (selectorsFrom (now (rows .entry)) (now (texts .entry)) agents users place from authors «last_place» «last_from»)) ⌝ }
-    ensures { λ _. ⌜ now (compiled .exit) ≡ writtenIn (roomOf (length (now (compiled .entry)))) (encode (selectorsFrom (now (rows .entry)) (now (texts .entry)) agents users place from authors «last_place» «last_from»)) (now (compiled .entry)) ⌝ }
+pub fn write_within(rows: &[u32], texts: &[u8], sheets: SheetsRules, compiled: &mut [u8]) -> usize
+    requires { ⌜ Lying (now rows) (now texts) sheets ⌝ }
+    ensures { λ r. ⌜ r ≡ fillOf (roomOf (length (now (compiled .entry)))) (encode (selectorsFrom (now (rows .entry)) (now (texts .entry)) sheets)) ⌝ }
+    ensures { λ _. ⌜ now (compiled .exit) ≡ writtenIn (roomOf (length (now (compiled .entry)))) (encode (selectorsFrom (now (rows .entry)) (now (texts .entry)) sheets)) (now (compiled .entry)) ⌝ }
 {
     let room = room_of(compiled.len());
-    write_sheets(
-        rows,
-        texts,
-        agents,
-        users,
-        place,
-        from,
-        authors,
-        last_place,
-        last_from,
-        &mut compiled[..room],
-    )
+    write_sheets(rows, texts, sheets, &mut compiled[..room])
 }

@@ -17,11 +17,11 @@ use Rattle.page.specs.Path.{Path}
 use Rattle.page.specs.PathOf.{pathOf}
 use Rattle.page.specs.Rows.{nodeCount, nodeAt, elementKind}
 use Rattle.page.proofs.AcceptedPages.{accepted}
+use Rattle.origins.specs.Reading.{rules, sheetsOf}
+use Rattle.origins.proofs.SheetsKnown.{sheets-known}
 use Rattle.compiled.specs.Sheet.{encode}
-use Rattle.compiler.specs.Reading.{rules, sheetsOf}
 use Rattle.compiler.specs.Selectors.{selectorsOf}
 use Rattle.compiler.proofs.Range.{sheets-fit}
-use Rattle.compiler.proofs.SheetsKnown.{sheets-known}
 use Rattle.styles.specs.Numbered.{Rules}
 use Rattle.styles.specs.Computed.{sourcesAlong, computedStyle}
 use Rattle.styles.specs.StyleCall.{seenSlot, seenRecord, seenStyle, callStore, callRow}

@@ -16,7 +16,7 @@ write-sheets-requires : tie.Need-write-sheets-requires
 write-sheets-requires c κs = c .before .before .before .before .before .pre
 
 same-length : tie.Need-same-length
-same-length c = laws.same-length (c .before .before .before .before .before .before .before .before .args .compiled .now) (c .before .before .before .before .room-of .ensures) (c .before .before .write-sheets .last .1 .1 .1 .1 .1 .1 .1 .1 .1 .0) (c .before .before .write-sheets .kept .1 .1 .1 .1 .1 .1 .1 .1 .1 .0)
+same-length c = laws.same-length (c .before .before .before .before .before .before .before .before .args .compiled .now) (c .before .before .before .before .room-of .ensures) (c .before .before .write-sheets .last .1 .1 .1 .0) (c .before .before .write-sheets .kept .1 .1 .1 .0)
 
 returns : tie.Need-returns
 returns c = laws.within _ (c .before .before .before .before .room-of .ensures) _ _ _ (c .before .before .write-sheets .ensures)

@@ -1,7 +1,7 @@
-use Rattle.compiler.proofs.CompileLaws as laws
+use Rattle.origins.proofs.ChecksLaws as laws
 use borrow.Author.Needs.{needs}
-use Rattle.compiler.proofs.compile.all_valid.Statement.{statement}
-use Rattle.compiler.proofs.compile.all_valid.Tie as tie
+use Rattle.origins.proofs.checks.all_valid.Statement.{statement}
+use Rattle.origins.proofs.checks.all_valid.Tie as tie
 
 is-valid-requires : tie.Need-is-valid-requires
 is-valid-requires c κs = search needs

@@ -1,8 +1,8 @@
 use mathlib.Core.Path.{_∙_}
-use Rattle.compiler.proofs.SheetsLaws as laws
+use Rattle.origins.proofs.SheetsLaws as laws
 use borrow.Author.Needs.{needs}
-use Rattle.compiler.proofs.reading.read_sheets.Statement.{statement}
-use Rattle.compiler.proofs.reading.read_sheets.Tie as tie
+use Rattle.origins.proofs.reading.read_sheets.Statement.{statement}
+use Rattle.origins.proofs.reading.read_sheets.Tie as tie
 
 read-behind-requires : tie.Need-read-behind-requires
 read-behind-requires c κs = laws.first-room (c .before .before .before .before .before .before .before .before .before .before .before .pre)
@@ -88,8 +88,8 @@ returns-3 c = let q = c .before .before .before .before .before .before .before 
 enum-known-authors : tie.Need-enum-known-authors
 enum-known-authors c = search needs
 
-add-t58 : tie.Need-add-t58
-add-t58 c = let q = c .before .before .before .before .before .before .before .before .before .before .before .before .before .before .before .before .before .before .before .before .before .before .before .before .before .before .before .before .before .before .before .before .before .before .before .before .before .before .before .before .before .before .before in let u = c .before .before .before .before .before .before .before .before .before .before .before .before .before .before .before .before .before .before .before .before .before .before .before .before .before .before .before .before .before .before .before .before .before in let v = c .before .before .before .before .before .before .before .before .before .before .before .before .before .before .before .before .before .before .before .before .before .before .before .before .before .before .before in let w = c .before .before .before .before .before .before .before .before .before .before .before .before .before .before .before .before .before in let x = c .before .before .before .before .before .before .before .before .before .before .before in record { fits = laws.texts-fit (q .before .before .before .before .before .before .before .before .before .before .before .before .pre) (q .read-behind .ensures .0) (q .read-behind .ensures .1 .0) (q .read-behind .ensures .1 .1 .0) (q .read-behind .ensures .1 .1 .1 .0) (q .read-behind .ensures .1 .1 .1 .1 .0) (q .read-behind .ensures .1 .1 .1 .1 .1) (u .agents .given .1) (v .read-behind2 .ensures .0) (v .read-behind2 .ensures .1 .0) (v .read-behind2 .ensures .1 .1 .0) (v .read-behind2 .ensures .1 .1 .1 .0) (v .read-behind2 .ensures .1 .1 .1 .1 .0) (v .read-behind2 .ensures .1 .1 .1 .1 .1) (w .users .given .1) (x .read-behind3 .ensures .0) (x .read-behind3 .ensures .1 .0) (x .read-behind3 .ensures .1 .1 .0) (x .read-behind3 .ensures .1 .1 .1 .0) (x .read-behind3 .ensures .1 .1 .1 .1 .0) (x .read-behind3 .ensures .1 .1 .1 .1 .1) (c .before .authors .given .1) }
+add-end : tie.Need-add-end
+add-end c = let q = c .before .before .before .before .before .before .before .before .before .before .before .before .before .before .before .before .before .before .before .before .before .before .before .before .before .before .before .before .before .before .before .before .before .before .before .before .before .before .before .before .before .before .before in let u = c .before .before .before .before .before .before .before .before .before .before .before .before .before .before .before .before .before .before .before .before .before .before .before .before .before .before .before .before .before .before .before .before .before in let v = c .before .before .before .before .before .before .before .before .before .before .before .before .before .before .before .before .before .before .before .before .before .before .before .before .before .before .before in let w = c .before .before .before .before .before .before .before .before .before .before .before .before .before .before .before .before .before in let x = c .before .before .before .before .before .before .before .before .before .before .before in record { fits = laws.texts-fit (q .before .before .before .before .before .before .before .before .before .before .before .before .pre) (q .read-behind .ensures .0) (q .read-behind .ensures .1 .0) (q .read-behind .ensures .1 .1 .0) (q .read-behind .ensures .1 .1 .1 .0) (q .read-behind .ensures .1 .1 .1 .1 .0) (q .read-behind .ensures .1 .1 .1 .1 .1) (u .agents .given .1) (v .read-behind2 .ensures .0) (v .read-behind2 .ensures .1 .0) (v .read-behind2 .ensures .1 .1 .0) (v .read-behind2 .ensures .1 .1 .1 .0) (v .read-behind2 .ensures .1 .1 .1 .1 .0) (v .read-behind2 .ensures .1 .1 .1 .1 .1) (w .users .given .1) (x .read-behind3 .ensures .0) (x .read-behind3 .ensures .1 .0) (x .read-behind3 .ensures .1 .1 .0) (x .read-behind3 .ensures .1 .1 .1 .0) (x .read-behind3 .ensures .1 .1 .1 .1 .0) (x .read-behind3 .ensures .1 .1 .1 .1 .1) (c .before .authors .given .1) }
 
 same-length-13 : tie.Need-same-length-13
 same-length-13 c = c .before .before .before .before .before .before .before .before .before .before .before .read-behind3 .kept .1 .0 ∙ c .before .before .before .before .before .before .before .before .before .before .before .before .before .before .before .before .before .before .before .before .before .before .before .before .before .before .before .read-behind2 .kept .1 .0 ∙ c .before .before .before .before .before .before .before .before .before .before .before .before .before .before .before .before .before .before .before .before .before .before .before .before .before .before .before .before .before .before .before .before .before .before .before .before .before .before .before .before .before .before .before .read-behind .kept .1 .0
@@ -138,7 +138,7 @@ read-sheets-spec =
     same-length-12
     returns-3
     enum-known-authors
-    add-t58
+    add-end
     same-length-13
     same-length-14
     same-length-15

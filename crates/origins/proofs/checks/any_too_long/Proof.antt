@@ -1,7 +1,7 @@
-use Rattle.compiler.proofs.CompileLaws as laws
+use Rattle.origins.proofs.ChecksLaws as laws
 use borrow.Author.Needs.{needs}
-use Rattle.compiler.proofs.compile.any_too_long.Statement.{statement}
-use Rattle.compiler.proofs.compile.any_too_long.Tie as tie
+use Rattle.origins.proofs.checks.any_too_long.Statement.{statement}
+use Rattle.origins.proofs.checks.any_too_long.Tie as tie
 
 returns : tie.Need-returns
 returns c = laws.agent-long _ _ _ (c .if1 .taken)

@@ -11,7 +11,7 @@ ghost use Rattle.combinators.specs.Store.{wiped};
 ghost use Rattle.syntax.specs.RuleLayout.{ruleRows, ruleTexts};
 ghost use Rattle.sheets.specs.Reading.{written};
 ghost use Rattle.sheets.specs.Sheet.{sheetOf};
-ghost use Rattle.compiler.specs.Reading.{rulesAnswer, ReadRoom, RulesBounds, sheetsOf, sheetsRows, sheetsTexts, sheetsAnswer, SheetsRoom};
+ghost use Rattle.origins.specs.Reading.{rulesAnswer, ReadRoom, RulesBounds, sheetsOf, sheetsRows, sheetsTexts, sheetsAnswer, SheetsRoom};
 
 // The sheets by their numbers in a refusal.
 pub const AGENT_TEXT: usize = 0;
@@ -26,10 +26,24 @@ pub enum RulesRead {
     Panic(usize),
 }
 
-// Of three sheets: how many rules the agent's has; of the user's and then of the author's sheet how many rules, where their numbers start and where
-// their texts do; and where the texts end. Or the sheet and the byte where the crate panics.
+// Of a sheet in stores that hold several: how many rules, and where their numbers and their texts start.
+pub struct SheetRules {
+    pub count: usize,
+    pub place: usize,
+    pub from: usize,
+}
+
+// Those of three sheets, and where the texts end.
+pub struct SheetsRules {
+    pub agent: SheetRules,
+    pub user: SheetRules,
+    pub author: SheetRules,
+    pub end: usize,
+}
+
+// Of three sheets: where their rules lie; or the sheet and the byte where the crate panics.
 pub enum SheetsRead {
-    Rules(usize, usize, usize, usize, usize, usize, usize, usize),
+    Rules(SheetsRules),
     Panic(usize, usize),
 }
 
@@ -109,16 +123,28 @@ pub fn read_sheets(
                             return SheetsRead::Panic(AUTHOR_TEXT, p);
                         }
                         RulesRead::Rules(authors, _, last) => {
-                            return SheetsRead::Rules(
-                                agents,
-                                users,
-                                numbers,
-                                bytes,
-                                authors,
+                            let end = fill + last;
+                            let agent_rules = SheetRules {
+                                count: agents,
+                                place: 0,
+                                from: 0,
+                            };
+                            let user_rules = SheetRules {
+                                count: users,
+                                place: numbers,
+                                from: bytes,
+                            };
+                            let author_rules = SheetRules {
+                                count: authors,
                                 place,
-                                fill,
-                                fill + last,
-                            );
+                                from: fill,
+                            };
+                            return SheetsRead::Rules(SheetsRules {
+                                agent: agent_rules,
+                                user: user_rules,
+                                author: author_rules,
+                                end,
+                            });
                         }
                     }
                 }

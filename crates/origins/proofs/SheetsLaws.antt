@@ -19,11 +19,12 @@ use Rattle.sheets.specs.Sheet.{sheetOf}
 use Rattle.sheets.specs.SheetAnswer.{sheetLimit}
 use Rattle.sheets.specs.Stores.{Zeros}
 use Rattle.sheets.proofs.ZeroLaws.{zeros-after, zeros-back}
-use Rattle.compiler.specs.Reading.{agentText, userText, authorText, rulesAnswer, RulesSize, RulesBounds, ReadRoom, Sheets, rules, panicked, andThen, sheetsOf, sheetsRows, sheetsTexts, sheetsAnswer, SheetsRoom}
-use Rattle.compiler.specs.declared.reading.RulesRead.{RulesRead}
-use Rattle.compiler.specs.declared.reading.RulesRead.the-variants as one
-use Rattle.compiler.specs.declared.reading.SheetsRead.{SheetsRead}
-use Rattle.compiler.specs.declared.reading.SheetsRead.the-variants as all
+use Rattle.origins.specs.Reading.{agentText, userText, authorText, rulesAnswer, RulesSize, RulesBounds, ReadRoom, Sheets, rules, panicked, andThen, sheetsOf, sheetsRows, sheetsTexts, sheetsRules, sheetsAnswer, SheetsRoom}
+use Rattle.origins.specs.declared.reading.RulesRead.{RulesRead}
+use Rattle.origins.specs.declared.reading.RulesRead.the-variants as one
+use Rattle.origins.specs.declared.reading.SheetsRules.{SheetsRules}
+use Rattle.origins.specs.declared.reading.SheetsRead.{SheetsRead}
+use Rattle.origins.specs.declared.reading.SheetsRead.the-variants as all
 
 -- ---- what the answer of one sheet tells of what it means
 
@@ -81,10 +82,17 @@ little : (n t : ℕ) → t ≤ n + 2 → (n ≡ 0 → t ≡ 0) → t ≤ 2 * n +
 little zero t h z = omega (arith, z refl)
 little (suc n) t h z = omega arith
 
--- answers, by their parts
-same-answer : {c c′ d d′ n n′ t t′ e e′ p p′ f f′ x x′ : ℕ} → c ≡ c′ → d ≡ d′ → n ≡ n′ → t ≡ t′ → e ≡ e′ → p ≡ p′ → f ≡ f′ → x ≡ x′
-    → all.Rules c d n t e p f x ≡ all.Rules c′ d′ n′ t′ e′ p′ f′ x′
-same-answer a b c d e f g h = rw (a, b, c, d, e, f, g, h) refl
+-- where the rules lie, by the answers of the three sheets
+same-rules : (a u w : List RuleSet) {c d e n p t f x : ℕ} → c ≡ length a → d ≡ length u → e ≡ length w → n ≡ length (ruleRows 0 a) → t ≡ length (ruleTexts a)
+    → p ≡ length (ruleRows 0 a) + length (ruleRows 0 u) → f ≡ length (ruleTexts a) + length (ruleTexts u) → x ≡ length (ruleTexts a) + length (ruleTexts u) + length (ruleTexts w)
+    → record {
+      agent = record { count = c; place = 0; from = 0 };
+      user = record { count = d; place = n; from = t };
+      author = record { count = e; place = p; from = f };
+      end = x;
+    } ≡ sheetsRules a u w
+unfolding sheetsRules
+same-rules a u w ea eu ew en et ep ef ex = rw (ea, eu, ew, en, et, ep, ef, ex) refl
 
 -- what was stored at the start of a store that was zero is taken back
 taken-back : (l y z xs : List ℕ) (n : ℕ) → Zeros l 0 → y ≡ sets l 0 xs → n ≡ length xs → z ≡ wiped 0 n y → z ≡ l
@@ -237,7 +245,17 @@ module _ {a u w y₀ x₀ b₀ z₀ : List ℕ} (o : SheetsRoom a u w y₀ x₀ 
                   let h : RulesSize w c₃ n₃ t₃ = subst (RulesBounds w) g₃ k₃ in
                   omega (arith, first-size .short, second-size .short, h .short, o .agent-within, o .user-within, o .author-within)
 
-              pub all-read : Left (all.Rules c₁ c₂ n₁ t₁ c₃ (n₁ + n₂) (t₁ + t₂) (t₁ + t₂ + t₃)) y₃ x₃ b₃ z₃
+              -- where the rules lie
+              abbrev lying : SheetsRules
+              lying =
+                  record {
+                    agent = record { count = c₁; place = 0; from = 0 };
+                    user = record { count = c₂; place = n₁; from = t₁ };
+                    author = record { count = c₃; place = n₁ + n₂; from = t₁ + t₂ };
+                    end = t₁ + t₂ + t₃;
+                  }
+
+              pub all-read : Left (all.Rules lying) y₃ x₃ b₃ z₃
               unfolding sheetsOf sheetsAnswer sheetsRows sheetsTexts xs ts
               all-read =
                   let third : Came (sheetOf w) c₃ n₃ t₃ = came (sheetOf w) c₃ n₃ t₃ (sym g₃ ∙ e₃) in
@@ -246,7 +264,9 @@ module _ {a u w y₀ x₀ b₀ z₀ : List ℕ} (o : SheetsRoom a u w y₀ x₀ 
                   let ys : List ℕ = ruleRows 0 (third .read) in
                   let vs : List ℕ = ruleTexts (third .read) in
                   rw e (
-                    same-answer (first .counted) (second .counted) (first .numbers) (first .bytes) (third .counted) (omega (arith, first .numbers, second .numbers)) (omega (arith, first .bytes, second .bytes)) (omega (arith, first .bytes, second .bytes, third .bytes)),
+                    ap all.Rules
+                        (same-rules (first .read) (second .read) (third .read) (first .counted) (second .counted) (third .counted) (first .numbers) (first .bytes) (omega (arith, first .numbers, second .numbers))
+                        (omega (arith, first .bytes, second .bytes)) (omega (arith, first .bytes, second .bytes, third .bytes))),
                     (
                       ey₃ ∙ ap (λ (v : List ℕ). sets y₂ (n₁ + n₂) v) (third .rows) ∙ ap (λ (v : List ℕ). sets v (n₁ + n₂) ys) rows₂
                           ∙ ap (λ (i : ℕ). sets (sets y₀ 0 xs) i ys) (place-is ∙ sym (zero-add (length xs))) ∙ sym (sets-append y₀ 0 xs ys)

@@ -1,7 +1,7 @@
-use Rattle.compiler.proofs.ReadingLaws as laws
+use Rattle.origins.proofs.ReadingLaws as laws
 use borrow.Author.Needs.{needs}
-use Rattle.compiler.proofs.reading.read_behind.Statement.{statement}
-use Rattle.compiler.proofs.reading.read_behind.Tie as tie
+use Rattle.origins.proofs.reading.read_behind.Statement.{statement}
+use Rattle.origins.proofs.reading.read_behind.Tie as tie
 
 mul-parse-stylesheet : tie.Need-mul-parse-stylesheet
 mul-parse-stylesheet c = search needs

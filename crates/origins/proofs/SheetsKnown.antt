@@ -1,11 +1,12 @@
 -- What the answer of `read_sheets` tells of the three sheets: that each was read, and that the rules which lie in the stores are those that it means.
 use mathlib.Core.Path.{_≡_, refl, ap, sym, _∙_}
 use mathlib.Core.List.{List, [], _++_, append-assoc}
-use Prim.Native.Nat.{ℕ, _+_, _-_, _≤_}
+use Prim.Native.Nat.{ℕ, _+_, _-_, _^_, _≤_, _<_}
 use native.Mathlib.Omega.{arith}
 use lib.ListN.{length, drop, replicate, length-append}
 use lib.Seq.{sets, drop-at}
 use Rattle.combinators.specs.Store.{cleared}
+use Rattle.combinators.proofs.Cleared.{cleared-is, length-cleared}
 use Rattle.syntax.specs.RuleLayout.{ruleRows, ruleTexts, rulesAt}
 use Rattle.syntax.specs.Selector.{RuleSet}
 use Rattle.syntax.proofs.RuleRows.{RulesFit, rules-back}
@@ -14,16 +15,16 @@ use Rattle.sheets.specs.Outcome.{Outcome, reads, fails, panics, onOutcome}
 use Rattle.sheets.specs.Rules.{ruleWidth}
 use Rattle.sheets.specs.Sheet.{sheetOf}
 use Rattle.sheets.specs.SheetAnswer.{padded}
+use Rattle.sheets.specs.Stores.{Zeros}
 use Rattle.sheets.proofs.SheetBounds.{SheetKeeps, sheet-keeps}
 use Rattle.sheets.proofs.SheetLaws.{sheet-never-fails, stored}
-use Rattle.compiled.specs.Number.{numberLimit}
-use Rattle.compiler.specs.Selectors.{selectorsOf}
-use Rattle.compiler.specs.Reading.{Sheets, rules, panicked, andThen, sheetsOf, sheetsRows, sheetsTexts, sheetsAnswer}
-use Rattle.compiler.specs.CompileAnswer.{Lent}
-use Rattle.compiler.specs.Written.{rulesFrom, selectorsFrom, Lying}
-use Rattle.compiler.specs.declared.reading.SheetsRead.{SheetsRead}
-use Rattle.compiler.specs.declared.reading.SheetsRead.the-variants as all
-use Rattle.compiler.proofs.Range.{selectors-bits}
+use Rattle.sheets.proofs.ZeroLaws.{zeros-all}
+use Rattle.origins.specs.Reading.{Sheets, rules, panicked, andThen, sheetsOf, sheetsRows, sheetsTexts, sheetsRules, sheetsAnswer, rulesFrom, SheetsRoom}
+use Rattle.origins.specs.Checks.{Lent}
+use Rattle.origins.specs.declared.reading.SheetRules.{SheetRules}
+use Rattle.origins.specs.declared.reading.SheetsRules.{SheetsRules}
+use Rattle.origins.specs.declared.reading.SheetsRead.{SheetsRead}
+use Rattle.origins.specs.declared.reading.SheetsRead.the-variants as all
 
 -- ---- a sheet that others follow was read
 record Followed (o : Outcome (List RuleSet)) (next : List RuleSet → Sheets) (s : Sheets) : Type 0 where
@@ -72,38 +73,17 @@ sheets-known agent user author a u w e =
     known-by (p .stop) (q .stop) (r .stop) (p .was) (q .was) (r .was) (r .then)
 
 -- ---- by the answer
-pub record Came (s : Sheets) (c d n t e p f x : ℕ) : Type 0 where
+pub record Came (m : Sheets) (s : SheetsRules) : Type 0 where
   pub agent : List RuleSet
   pub user : List RuleSet
   pub author : List RuleSet
-  pub is : s ≡ rules agent user author
-  pub agents : c ≡ length agent
-  pub users : d ≡ length user
-  pub authors : e ≡ length author
-  pub place : n ≡ length (ruleRows 0 agent)
-  pub from : t ≡ length (ruleTexts agent)
-  pub last-place : p ≡ length (ruleRows 0 agent) + length (ruleRows 0 user)
-  pub last-from : f ≡ length (ruleTexts agent) + length (ruleTexts user)
-  pub end : x ≡ length (ruleTexts agent) + length (ruleTexts user) + length (ruleTexts author)
+  pub is : m ≡ rules agent user author
+  pub lie : s ≡ sheetsRules agent user author
 
-pub came : (s : Sheets) (c d n t e p f x : ℕ) → all.Rules c d n t e p f x ≡ sheetsAnswer s → Came s c d n t e p f x
+pub came : (m : Sheets) (s : SheetsRules) → all.Rules s ≡ sheetsAnswer m → Came m s
 unfolding sheetsAnswer
-came (rules a u w) c d n t e p f x h =
-    record {
-      agent = a;
-      user = u;
-      author = w;
-      is = refl;
-      agents = cc;
-      users = cc;
-      authors = cc;
-      place = cc;
-      from = cc;
-      last-place = cc;
-      last-from = cc;
-      end = cc;
-    }
-came (panicked which q) c d n t e p f x h = absurd (let z : _≡_ {A = ℕ} 0 1 = cc in omega arith)
+came (rules a u w) s h = record { agent = a; user = u; author = w; is = refl; lie = cc }
+came (panicked which q) s h = absurd (let z : _≡_ {A = ℕ} 0 1 = cc in omega arith)
 
 pub panic-known : (s : Sheets) (which p : ℕ) → all.Panic which p ≡ sheetsAnswer s → s ≡ panicked which p
 unfolding sheetsAnswer
@@ -127,15 +107,44 @@ module _ (xs ys zs more : List ℕ) where
       ∙ drop-at (xs ++ ys) (zs ++ more) n (length-append xs ys ∙ sym e)
 
 -- rules whose rows and texts lie from a place on are read back
-back : (rs : List RuleSet) (rows texts t more : List ℕ) (n place from : ℕ) → RulesFit rs → n ≡ length rs → drop place rows ≡ ruleRows 0 rs ++ t
-    → drop from texts ≡ ruleTexts rs ++ more → rulesFrom rows texts n place from ≡ rs
+back : (rs : List RuleSet) (rows texts t more : List ℕ) (s : SheetRules) → RulesFit rs → s .count ≡ length rs → drop (s .place) rows ≡ ruleRows 0 rs ++ t
+    → drop (s .from) texts ≡ ruleTexts rs ++ more → rulesFrom rows texts s ≡ rs
 unfolding rulesFrom
-back rs rows texts t more n place from fit en er et =
-    rw (en, er) (rules-back (drop from texts) rs 0 t fit (record { more = more; held = et }))
+back rs rows texts t more s fit en er et =
+    rw (en, er) (rules-back (drop (s .from) texts) rs 0 t fit (record { more = more; held = et }))
+
+-- ---- stores that were cleared
+-- a buffer cleared throughout, whatever it is that long
+pub zeros-of : (l m : List ℕ) → length l ≡ length m → cleared 0 l ≡ replicate (length m) 0
+zeros-of l m e =
+    let z : length l - 0 ≡ length m = omega (arith, e) in
+    cleared-is 0 l ∙ ap (λ (n : ℕ). replicate n 0) z
+
+clear-zeros : (l : List ℕ) → Zeros (cleared 0 l) 0
+clear-zeros l = rw (zeros-of l l refl) (zeros-all (length l) 0)
+
+-- room for the three sheets in stores of the least lengths
+pub room-cleared : {agent user author rules₀ tokens brackets texts : List ℕ} → Lent agent user author rules₀ tokens brackets texts → length rules₀ < 2 ^ 64
+    → SheetsRoom agent user author (cleared 0 rules₀) (cleared 0 tokens) (cleared 0 brackets) (cleared 0 texts)
+room-cleared {agent} {user} {author} {rules₀} {tokens} {brackets} {texts} o h =
+    record {
+      agent-within = o .agent-within;
+      user-within = o .user-within;
+      author-within = o .author-within;
+      rules-zeros = clear-zeros rules₀;
+      tokens-zeros = clear-zeros tokens;
+      brackets-zeros = clear-zeros brackets;
+      texts-zeros = clear-zeros texts;
+      row-bits = omega (arith, h, length-cleared 0 rules₀);
+      for-rules = omega (arith, o .for-rules, length-cleared 0 rules₀);
+      for-tokens = omega (arith, o .for-tokens, length-cleared 0 tokens);
+      for-brackets = omega (arith, o .for-brackets, length-cleared 0 brackets);
+      for-texts = omega (arith, o .for-texts, length-cleared 0 texts);
+    }
 
 -- ---- what lies in the stores is what the sheets mean
-module _ {agent user author texts₀ rules₀ tokens brackets : List ℕ} (o : Lent agent user author texts₀ rules₀ tokens brackets)
-    {c d n t e p f x : ℕ} (m : Came (sheetsOf agent user author) c d n t e p f x) where
+module _ {agent user author rules₀ tokens brackets texts₀ : List ℕ} (o : Lent agent user author rules₀ tokens brackets texts₀)
+    {s : SheetsRules} (m : Came (sheetsOf agent user author) s) where
   pub known : Known agent user author (m .agent) (m .user) (m .author)
   known = sheets-known agent user author (m .agent) (m .user) (m .author) (m .is)
 
@@ -190,35 +199,50 @@ module _ {agent user author texts₀ rules₀ tokens brackets : List ℕ} (o : L
     unfolding padded zt
     texts-are = et ∙ texts-lie
 
-    agent-back : rulesFrom rows texts c 0 0 ≡ m .agent
+    -- where the rules of each sheet lie
+    place₁ : s .agent ≡ record { count = length (m .agent); place = 0; from = 0 }
+    unfolding sheetsRules
+    place₁ = ap (λ (v : SheetsRules). v .agent) (m .lie)
+
+    place₂ : s .user ≡ record { count = length (m .user); place = length (ruleRows 0 (m .agent)); from = length (ruleTexts (m .agent)) }
+    unfolding sheetsRules
+    place₂ = ap (λ (v : SheetsRules). v .user) (m .lie)
+
+    place₃ : s .author
+        ≡ record { count = length (m .author); place = length (ruleRows 0 (m .agent)) + length (ruleRows 0 (m .user)); from = length (ruleTexts (m .agent)) + length (ruleTexts (m .user)) }
+    unfolding sheetsRules
+    place₃ = ap (λ (v : SheetsRules). v .author) (m .lie)
+
+    pub agent-back : rulesFrom rows texts (s .agent) ≡ m .agent
     agent-back =
-        back (m .agent) rows texts _ _ c 0 0 (agent-keeps .fit) (m .agents)
+        rw place₁
+        (back (m .agent) rows texts _ _ _ (agent-keeps .fit) refl
         (ap (drop 0) rows-are ∙ from-first (ruleRows 0 (m .agent)) (ruleRows 0 (m .user)) (ruleRows 0 (m .author)) zr)
-        (ap (drop 0) texts-are ∙ from-first (ruleTexts (m .agent)) (ruleTexts (m .user)) (ruleTexts (m .author)) zt)
+        (ap (drop 0) texts-are ∙ from-first (ruleTexts (m .agent)) (ruleTexts (m .user)) (ruleTexts (m .author)) zt))
 
-    user-back : rulesFrom rows texts d n t ≡ m .user
+    pub user-back : rulesFrom rows texts (s .user) ≡ m .user
     user-back =
-        back (m .user) rows texts _ _ d n t (user-keeps .fit) (m .users)
-        (ap (drop n) rows-are ∙ from-second (ruleRows 0 (m .agent)) (ruleRows 0 (m .user)) (ruleRows 0 (m .author)) zr n (m .place))
-        (ap (drop t) texts-are ∙ from-second (ruleTexts (m .agent)) (ruleTexts (m .user)) (ruleTexts (m .author)) zt t (m .from))
+        let n = length (ruleRows 0 (m .agent)) in
+        let f = length (ruleTexts (m .agent)) in
+        rw place₂
+        (back (m .user) rows texts _ _ _ (user-keeps .fit) refl
+        (ap (drop n) rows-are ∙ from-second (ruleRows 0 (m .agent)) (ruleRows 0 (m .user)) (ruleRows 0 (m .author)) zr n refl)
+        (ap (drop f) texts-are ∙ from-second (ruleTexts (m .agent)) (ruleTexts (m .user)) (ruleTexts (m .author)) zt f refl))
 
-    author-back : rulesFrom rows texts e p f ≡ m .author
+    pub author-back : rulesFrom rows texts (s .author) ≡ m .author
     author-back =
-        back (m .author) rows texts _ _ e p f (author-keeps .fit) (m .authors)
-        (ap (drop p) rows-are ∙ from-third (ruleRows 0 (m .agent)) (ruleRows 0 (m .user)) (ruleRows 0 (m .author)) zr p (m .last-place))
-        (ap (drop f) texts-are ∙ from-third (ruleTexts (m .agent)) (ruleTexts (m .user)) (ruleTexts (m .author)) zt f (m .last-from))
+        let n = length (ruleRows 0 (m .agent)) + length (ruleRows 0 (m .user)) in
+        let f = length (ruleTexts (m .agent)) + length (ruleTexts (m .user)) in
+        rw place₃
+        (back (m .author) rows texts _ _ _ (author-keeps .fit) refl
+        (ap (drop n) rows-are ∙ from-third (ruleRows 0 (m .agent)) (ruleRows 0 (m .user)) (ruleRows 0 (m .author)) zr n refl)
+        (ap (drop f) texts-are ∙ from-third (ruleTexts (m .agent)) (ruleTexts (m .user)) (ruleTexts (m .author)) zt f refl))
 
-    -- the selectors that lie there are those of the sheets
-    pub selectors-are : selectorsFrom rows texts c d n t e p f ≡ selectorsOf (m .agent) (m .user) (m .author)
-    unfolding selectorsFrom
-    selectors-are = rw (agent-back, user-back, author-back) refl
-
-    -- so they can be written
-    pub lying : Lying rows texts c d n t e p f
-    lying =
-        let l : length texts ≡ length textsHeld + length zt = ap length texts-are ∙ length-append textsHeld zt in
-        record {
-          user-texts = omega (arith, l, texts-length, m .from);
-          author-texts = omega (arith, l, texts-length, m .last-from);
-          few = rw selectors-are (selectors-bits agent user author (known .agent-read) (known .user-read) (known .author-read) (o .agent-within) (o .user-within) (o .author-within));
-        }
+    -- the texts of each sheet lie in the store
+    pub texts-within : (s .agent .from ≤ length texts) × (s .user .from ≤ length texts) × (s .author .from ≤ length texts)
+    texts-within =
+        let l : length texts ≡ length textsHeld + length zt = ap length texts-are ∙ length-append textsHeld zt in (
+          omega (arith, ap (λ (v : SheetRules). v .from) place₁),
+          omega (arith, l, texts-length, ap (λ (v : SheetRules). v .from) place₂),
+          omega (arith, l, texts-length, ap (λ (v : SheetRules). v .from) place₃),
+        )

@@ -16,10 +16,10 @@ use Rattle.sheets.specs.Rules.{ruleWidth, SheetRoom}
 use Rattle.sheets.specs.Sheet.{sheetFrom, sheetOf}
 use Rattle.sheets.specs.declared.readings.Reading.{Reading}
 use Rattle.sheets.specs.declared.readings.Reading.the-variants.{Reads, Fails, Panics}
-use Rattle.compiler.specs.Reading.{rulesAnswer, RulesSize, RulesBounds, ReadRoom}
-use Rattle.compiler.specs.declared.reading.RulesRead.{RulesRead}
-use Rattle.compiler.specs.declared.reading.RulesRead.the-variants.{Rules, Panic}
-use Rattle.compiler.proofs.Parts.{lentPart, part-length, part-zeros, part-stored}
+use Rattle.origins.specs.Reading.{rulesAnswer, RulesSize, RulesBounds, ReadRoom}
+use Rattle.origins.specs.declared.reading.RulesRead.{RulesRead}
+use Rattle.origins.specs.declared.reading.RulesRead.the-variants.{Rules, Panic}
+use Rattle.origins.proofs.Parts.{lentPart, part-length, part-zeros, part-stored}
 
 -- ---- answers, by the reader's
 answer-reads : (o : Outcome (List RuleSet)) (n c m x : ℕ) → Reads n c m x ≡ reading length (ruleRows 0) ruleTexts o → Rules c m x ≡ rulesAnswer o

@@ -2,19 +2,21 @@
 use Prim.Native.Nat.{ℕ, _+_, _*_, _^_, _≤_, _<_}
 use mathlib.Core.Path.{_≡_}
 use mathlib.Core.List.{List, [], _++_}
-use lib.ListN.{length}
+use lib.ListN.{length, drop}
 use Rattle.lexer.specs.TokenRow.{tokenWidth}
-use Rattle.syntax.specs.RuleLayout.{ruleRows, ruleTexts}
+use Rattle.syntax.specs.RuleLayout.{ruleRows, ruleTexts, rulesAt}
 use Rattle.syntax.specs.Selector.{RuleSet}
 use Rattle.sheets.specs.Outcome.{Outcome, onOutcome}
 use Rattle.sheets.specs.Rules.{ruleWidth}
 use Rattle.sheets.specs.Sheet.{sheetOf}
 use Rattle.sheets.specs.SheetAnswer.{sheetLimit, textLeast, bracketLeast, numberLeast}
 use Rattle.sheets.specs.Stores.{Zeros}
-use Rattle.compiler.specs.declared.reading.RulesRead.{RulesRead}
-use Rattle.compiler.specs.declared.reading.RulesRead.the-variants as one
-use Rattle.compiler.specs.declared.reading.SheetsRead as sheets
-use Rattle.compiler.specs.declared.reading.SheetsRead.the-variants as all
+use Rattle.origins.specs.declared.reading.RulesRead.{RulesRead}
+use Rattle.origins.specs.declared.reading.RulesRead.the-variants as one
+use Rattle.origins.specs.declared.reading.SheetRules.{SheetRules}
+use Rattle.origins.specs.declared.reading.SheetsRules.{SheetsRules}
+use Rattle.origins.specs.declared.reading.SheetsRead as sheets
+use Rattle.origins.specs.declared.reading.SheetsRead.the-variants as all
 
 -- "the text (0 agent, 1 user, 2 author ..)"
 abbrev pub agentText : ℕ
@@ -81,13 +83,23 @@ unfoldable pub sheetsTexts : Sheets → List ℕ
 sheetsTexts (rules a u w) = ruleTexts a ++ (ruleTexts u ++ ruleTexts w)
 sheetsTexts (panicked which p) = []
 
--- how many rules each sheet has, where those of the second and third start in numbers and texts, and where the texts end
+-- where the rules of each sheet lie, and where the texts end
+unfoldable pub sheetsRules : List RuleSet → List RuleSet → List RuleSet → SheetsRules
+sheetsRules a u w =
+    record {
+      agent = record { count = length a; place = 0; from = 0 };
+      user = record { count = length u; place = length (ruleRows 0 a); from = length (ruleTexts a) };
+      author = record { count = length w; place = length (ruleRows 0 a) + length (ruleRows 0 u); from = length (ruleTexts a) + length (ruleTexts u) };
+      end = length (ruleTexts a) + length (ruleTexts u) + length (ruleTexts w);
+    }
+
 unfoldable pub sheetsAnswer : Sheets → sheets.SheetsRead
-sheetsAnswer (rules a u w) =
-    all.Rules (length a) (length u) (length (ruleRows 0 a)) (length (ruleTexts a)) (length w)
-    (length (ruleRows 0 a) + length (ruleRows 0 u)) (length (ruleTexts a) + length (ruleTexts u))
-    (length (ruleTexts a) + length (ruleTexts u) + length (ruleTexts w))
+sheetsAnswer (rules a u w) = all.Rules (sheetsRules a u w)
 sheetsAnswer (panicked which p) = all.Panic which p
+
+-- the rules of a sheet that lie there
+unfoldable pub rulesFrom : List ℕ → List ℕ → SheetRules → List RuleSet
+rulesFrom rows texts s = rulesAt (drop (s .place) rows) (drop (s .from) texts) (s .count)
 
 -- stores that are zero throughout, of the least lengths for all texts together
 pub record SheetsRoom (agent user author rules tokens brackets texts : List ℕ) : Type 0 where

@@ -1,0 +1,35 @@
+use Rattle.compiler.proofs.WritingLaws as laws
+use borrow.Author.Needs.{needs}
+use Rattle.compiler.proofs.writing.write_sheet.Statement.{statement}
+use Rattle.compiler.proofs.writing.write_sheet.Tie as tie
+
+sub-emit-rules : tie.Need-sub-emit-rules
+sub-emit-rules c = search needs
+
+part-emit-rules-start : tie.Need-part-emit-rules-start
+part-emit-rules-start c = search needs
+
+part-emit-rules-end : tie.Need-part-emit-rules-end
+part-emit-rules-end c = search needs
+
+emit-rules-requires : tie.Need-emit-rules-requires
+emit-rules-requires c κs = search needs
+
+same-length : tie.Need-same-length
+same-length c = search needs
+
+returns : tie.Need-returns
+returns c =
+    let S = c .before .before .before .before .before .before .before .before in
+    laws.sheet-written (S .args .rows .now) (S .args .texts .now) (S .args .sheet) _ _ _ (c .before .before .emit-rules .ensures)
+
+pub write-sheet-spec : {M : Type 1} → statement M
+write-sheet-spec =
+    tie.close
+    (tie.spec
+    sub-emit-rules
+    part-emit-rules-start
+    part-emit-rules-end
+    emit-rules-requires
+    same-length
+    returns)
