@@ -173,7 +173,8 @@ fn ask_faults(all: Tally) -> Tally {
         six groups|80 80 80 80 80 00|0\n\
         six groups in a component count|01 03 00 80 80 80 80 80 00 00|3\n\
         a fifth group above 15|01 03 00 01 06 80 80 80 80 10 00 00|5\n\
-        a number that does not end|01 83|2\n\
+        a number that does not end|01 83|1\n\
+        a number without a byte|01|1\n\
         origin 0|01 00 00 00 00|1\n\
         origin 4|01 04 00 00 00|1\n\
         an origin that goes back|02 03 00 00 00 02 00 00 00|5\n\

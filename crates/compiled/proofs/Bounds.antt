@@ -82,15 +82,11 @@ module _ (t : List ℕ) where
   unfolding limited
   limited-reaches i n v h l = pick-holds (Reaches 1 (length t) i) (ltb v numberLimit) (read n v) (fault i) (λ _. reaches-read (length t) i 1 n v (omega arith) l) (λ _. reaches-fault ℕ (length t) i 1)
 
-  at-end : (i : ℕ) → Reaches {A = ℕ} 1 (length t) i (fault (length t))
-  unfolding Reaches
-  at-end i = λ _. omega arith
-
   groups-reaches : (k i v scale n : ℕ) → i ≤ n → Reaches 1 (length t) i (groupsAt k t i v scale n)
   unfolding groupsAt
   groups-reaches zero i v scale n h = reaches-fault ℕ (length t) i 1
   groups-reaches (suc k) i v scale n h =
-      pick-holds (Reaches 1 (length t) i) (leb (length t) n) _ _ (λ _. at-end i)
+      pick-holds (Reaches 1 (length t) i) (leb (length t) n) _ _ (λ _. reaches-fault ℕ (length t) i 1)
       (λ e. let l = leb-false (length t) n e in
       pick-holds (Reaches 1 (length t) i) (ltb (getD t n 0) groupValues) _ _ (λ _. limited-reaches i (n + 1) _ (omega arith) (omega arith))
       (λ _. groups-reaches k i (v + (getD t n 0 - groupValues) * scale) (scale * groupValues) (n + 1) (omega arith)))

@@ -66,12 +66,12 @@ scaled-more (suc k) scale h e = let q : suc k - 1 ≡ k = omega arith in rw q (o
 
 module _ (s : List ℕ) (at value scale i left : ℕ) (c : Reading s at value scale i left) (more : 0 < left) where
   -- the bytes are at their end
-  pub reading-short : (r : NumberAnswer) → length s ≤ i → r ≡ number.Fault (length s) → (r ≡ numberAnswer (numberAt s at)) × numberWithin (length s) r
+  pub reading-short : (r : NumberAnswer) → length s ≤ i → r ≡ number.Fault at → (r ≡ numberAnswer (numberAt s at)) × numberWithin (length s) r
   unfolding groupsAt numberAnswer
   reading-short r l e =
       number-within (numberAt s at) r (e ∙ ap numberAnswer (short left more ∙ c .work)) (length s) at (number-reaches s at)
     where
-      short : (k : ℕ) → 0 < k → fault (length s) ≡ groupsAt k s at value scale i
+      short : (k : ℕ) → 0 < k → fault at ≡ groupsAt k s at value scale i
       short zero h = absurd (omega arith)
       short (suc k) h = pick-true _ _ _ _ (le-leb (length s) i l) refl
 

@@ -35,12 +35,13 @@ numberBytes v = groupBytes 4 v
 unfoldable pub limited : ℕ → ℕ → ℕ → Decoded ℕ
 limited i n v = pick (ltb v numberLimit) (read n v) (fault i)
 
--- at most k groups more of the number that starts at i: those before n are worth v, and the next is worth `scale` for each. A number of too many
--- groups or from 2^32 on is a fault where it starts; missing bytes are one at the end of the bytes.
+-- at most k groups more of the number that starts at i: those before n are worth v, and the next is worth `scale` for each. "the byte where the
+-- failing number .. starts" is the fault of too many groups, of a number from 2^32 on and of one that the bytes break off in, be it before its first
+-- byte.
 unfoldable pub groupsAt : ℕ → List ℕ → ℕ → ℕ → ℕ → ℕ → Decoded ℕ
 groupsAt zero t i v scale n = fault i
 groupsAt (suc k) t i v scale n =
-    pick (leb (length t) n) (fault (length t))
+    pick (leb (length t) n) (fault i)
     (pick (ltb (getD t n 0) groupValues) (limited i (n + 1) (v + getD t n 0 * scale))
     (groupsAt k t i (v + (getD t n 0 - groupValues) * scale) (scale * groupValues) (n + 1)))
 
@@ -72,7 +73,7 @@ pub case-greatest : numberAt (0xff ∷ 0xff ∷ 0xff ∷ 0xff ∷ 0x0f ∷ []) 0
 unfolding numberAt groupsAt limited pick
 case-greatest = refl
 
--- six groups, a fifth group above 15, missing bytes
+-- six groups, a fifth group above 15
 pub case-six-groups : numberAt (0 ∷ 0x80 ∷ 0x80 ∷ 0x80 ∷ 0x80 ∷ 0x80 ∷ 0x00 ∷ []) 1 ≡ fault 1
 unfolding numberAt groupsAt limited pick
 case-six-groups = refl
@@ -81,6 +82,11 @@ pub case-fifth-group : numberAt (0 ∷ 0x80 ∷ 0x80 ∷ 0x80 ∷ 0x80 ∷ 0x10 
 unfolding numberAt groupsAt limited pick
 case-fifth-group = refl
 
-pub case-missing : numberAt (0 ∷ 0x80 ∷ 0x80 ∷ []) 1 ≡ fault 3
+-- the bytes break off in a number, and before one
+pub case-missing : numberAt (0x01 ∷ 0x83 ∷ []) 1 ≡ fault 1
 unfolding numberAt groupsAt limited pick
 case-missing = refl
+
+pub case-no-byte : numberAt (0x01 ∷ []) 1 ≡ fault 1
+unfolding numberAt groupsAt limited pick
+case-no-byte = refl

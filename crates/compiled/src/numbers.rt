@@ -39,29 +39,29 @@ fn limited(at: usize, next: usize, value: u64) -> NumberAnswer
     NumberAnswer::Fault(at)
 }
 
-// The number at `at`.
-pub fn read_number(s: &[u8], at: usize) -> NumberAnswer
-    ensures { λ r. ⌜ r ≡ numberAnswer (numberAt (now (s .entry)) at) ⌝ }
+// The number that starts at `start`.
+pub fn read_number(s: &[u8], start: usize) -> NumberAnswer
+    ensures { λ r. ⌜ r ≡ numberAnswer (numberAt (now (s .entry)) start) ⌝ }
     ensures { λ r. ⌜ numberWithin (length (now (s .entry))) r ⌝ }
 {
     let mut value: u64 = 0;
     let mut scale: u64 = 1;
-    let mut i = at;
+    let mut i = start;
     let mut left = MOST_GROUPS;
     while left > 0 {
         if s.len() <= i {
-            return NumberAnswer::Fault(s.len());
+            return NumberAnswer::Fault(start);
         }
         let b = wide(s[i]);
         i += 1;
         if b < GROUP_VALUES {
-            return limited(at, i, value + b * scale);
+            return limited(start, i, value + b * scale);
         }
         value += (b - GROUP_VALUES) * scale;
         scale *= GROUP_VALUES;
         left -= 1;
     }
-    NumberAnswer::Fault(at)
+    NumberAnswer::Fault(start)
 }
 
 // The number at `at`, where it is from `lo` to `hi`.
