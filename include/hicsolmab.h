@@ -74,54 +74,6 @@ hicsolmab_page_result hicsolmab_check_page(const uint32_t *nodes, size_t nodes_l
                                            const uint32_t *attributes, size_t attributes_length,
                                            const uint8_t *text, size_t text_length);
 
-/* Styles that were read: `count` rows of four numbers in `tokens`, and `bytes` bytes of their texts in `texts`. */
-typedef struct {
-    uint32_t refusal;
-    size_t count;
-    size_t bytes;
-} hicsolmab_styles_result;
-
-/* Reads the value of a `style` attribute, of at most 65,536 bytes (all that a page's texts may have). How styles lie in rows:
- * crates/syntax/specs/Layout.antt. What else the call used of the slices is zero, all else in them is unchanged. Refuses 1, 2. */
-hicsolmab_styles_result hicsolmab_style_attribute(const uint8_t *value, size_t value_length,
-                                                  uint32_t *rules, size_t rules_length,
-                                                  uint32_t *tokens, size_t tokens_length,
-                                                  uint8_t *brackets, size_t brackets_length,
-                                                  uint8_t *texts, size_t texts_length);
-
-/* `found` is 1 where there is a colour, which is red * 65536 + green * 256 + blue. */
-typedef struct {
-    uint32_t refusal;
-    uint32_t found;
-    uint32_t colour;
-} hicsolmab_colour_result;
-
-/* Reads the value of a `color` or `bgcolor` attribute, of at most 65,536 bytes. What the call used of the slices is zero, all else in them is
- * unchanged. Refuses 1, 2. */
-hicsolmab_colour_result hicsolmab_color_attribute(const uint8_t *value, size_t value_length,
-                                                  uint32_t *tokens, size_t tokens_length,
-                                                  uint8_t *brackets, size_t brackets_length,
-                                                  uint8_t *texts, size_t texts_length);
-
-/* `matches` is 1 where the selector matches; `ids`, `classes` and `types` are its specificity. `place` is that of refusals 6 and 7. */
-typedef struct {
-    uint32_t refusal;
-    size_t place;
-    uint32_t matches;
-    uint32_t ids;
-    uint32_t classes;
-    uint32_t types;
-} hicsolmab_match_result;
-
-/* Whether a selector matches a row of a page: its first `count` components, at most 32,768, as they lie in a rule (four numbers each, in reading
- * order, their texts in `texts`). The matcher calls itself only to go up a row. Nothing is written. Refuses 1, 2 (fewer than 4 * count numbers), 5, 6, 7, 8. */
-hicsolmab_match_result hicsolmab_matches(const uint32_t *components, size_t components_length, size_t count,
-                                         const uint8_t *texts, size_t texts_length,
-                                         const uint32_t *nodes, size_t nodes_length,
-                                         const uint32_t *attributes, size_t attributes_length,
-                                         const uint8_t *text, size_t text_length,
-                                         size_t row);
-
 #ifdef __cplusplus
 }
 #endif

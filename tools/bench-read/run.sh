@@ -3,6 +3,7 @@
 #
 #     bash tools/crate/build.sh FOLDER       once: the crate
 #     rt staticlib engine                    once: this engine (another archive: ENGINE=PATH)
+#     rt staticlib comparison                once, since tools/compare, whose stores it uses, links it
 #     bash tools/bench-read/run.sh
 set -euo pipefail
 cd "$(dirname "$0")/../../target/crate"

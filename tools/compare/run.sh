@@ -2,10 +2,10 @@
 # Builds and runs the comparison with html2text 0.17.4, first with overflow checks, then as released.
 #
 #     bash tools/crate/build.sh FOLDER                    once: the crate
-#     rt staticlib engine                                 once: this engine
+#     rt staticlib engine; rt staticlib comparison        once: this engine, and what only the comparison asks
 #     bash tools/compare/run.sh SEED COUNT [QUESTION]     COUNT inputs for each question
 #
-# Another archive than target/staticlib/libengine.a: ENGINE=PATH.
+# Other archives than target/staticlib/libengine.a and libcomparison.a: ENGINE=PATH, COMPARISON=PATH.
 set -euo pipefail
 cd "$(dirname "$0")/../../target/crate"
 export CARGO_TERM_QUIET=true

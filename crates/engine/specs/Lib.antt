@@ -1,5 +1,3 @@
 pub mod Sheet
 pub mod Compile
 pub mod Page
-pub mod Attributes
-pub mod Matches

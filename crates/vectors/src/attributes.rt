@@ -4,14 +4,14 @@ use crate::lists::first;
 use crate::lists::read_list;
 use crate::lists::same_numbers;
 use crate::outcome::Outcome;
+use comparison::attributes::ColourResult;
+use comparison::attributes::StylesResult;
+use comparison::attributes::comparison_color_attribute;
+use comparison::attributes::comparison_style_attribute;
 use compiled::numbers::NumberAnswer;
 use compiled::numbers::read_number;
 use compiled::texts::TextAnswer;
 use compiled::texts::read_text;
-use engine::attributes::ColourResult;
-use engine::attributes::StylesResult;
-use engine::attributes::hicsolmab_color_attribute;
-use engine::attributes::hicsolmab_style_attribute;
 use matching::texts::same_text;
 use syntax::rows::STYLE_WIDTH;
 use syntax::texts::part_of;
@@ -52,7 +52,7 @@ pub fn replay_styles(s: &[u8], at: usize) -> Outcome {
     let mut tokens = [0u32; NUMBERS];
     let mut brackets = [0u8; LONGEST];
     let mut texts = [0u8; TEXTS];
-    let came = hicsolmab_style_attribute(
+    let came = comparison_style_attribute(
         part_of(s, start, size),
         &mut rules,
         &mut tokens,
@@ -82,7 +82,7 @@ pub fn replay_colour(s: &[u8], at: usize) -> Outcome {
     let mut tokens = [0u32; NUMBERS];
     let mut brackets = [0u8; LONGEST];
     let mut texts = [0u8; TEXTS];
-    let came = hicsolmab_color_attribute(
+    let came = comparison_color_attribute(
         part_of(s, start, size),
         &mut tokens,
         &mut brackets,

@@ -1,4 +1,4 @@
-//! The functions that the engine exports (crates/engine), and the lent stores that they work in.
+//! The functions that crates/engine and crates/comparison export, and the lent stores that they work in.
 use judge::answers::Page;
 
 #[repr(C)]
@@ -74,7 +74,7 @@ unsafe extern "C" {
         text: *const u8, text_length: usize,
     ) -> PageResult;
 
-    fn hicsolmab_style_attribute(
+    fn comparison_style_attribute(
         value: *const u8, value_length: usize,
         rules: *mut u32, rules_length: usize,
         tokens: *mut u32, tokens_length: usize,
@@ -82,14 +82,14 @@ unsafe extern "C" {
         texts: *mut u8, texts_length: usize,
     ) -> StylesResult;
 
-    fn hicsolmab_color_attribute(
+    fn comparison_color_attribute(
         value: *const u8, value_length: usize,
         tokens: *mut u32, tokens_length: usize,
         brackets: *mut u8, brackets_length: usize,
         texts: *mut u8, texts_length: usize,
     ) -> ColourResult;
 
-    fn hicsolmab_matches(
+    fn comparison_matches(
         components: *const u32, components_length: usize,
         count: usize,
         texts: *const u8, texts_length: usize,
@@ -149,7 +149,7 @@ impl Stores {
     #[rustfmt::skip]
     pub fn style_attribute(&mut self, value: &[u8]) -> StylesResult {
         unsafe {
-            hicsolmab_style_attribute(
+            comparison_style_attribute(
                 value.as_ptr(), value.len(),
                 self.rules.as_mut_ptr(), self.rules.len(),
                 self.tokens.as_mut_ptr(), self.tokens.len(),
@@ -162,7 +162,7 @@ impl Stores {
     #[rustfmt::skip]
     pub fn color_attribute(&mut self, value: &[u8]) -> ColourResult {
         unsafe {
-            hicsolmab_color_attribute(
+            comparison_color_attribute(
                 value.as_ptr(), value.len(),
                 self.tokens.as_mut_ptr(), self.tokens.len(),
                 self.brackets.as_mut_ptr(), self.brackets.len(),
@@ -205,7 +205,7 @@ pub fn check_page(page: &Page) -> PageResult {
 #[rustfmt::skip]
 pub fn matches(components: &[u32], count: usize, texts: &[u8], page: &Page, row: usize) -> MatchResult {
     unsafe {
-        hicsolmab_matches(
+        comparison_matches(
             components.as_ptr(), components.len(),
             count,
             texts.as_ptr(), texts.len(),

@@ -1,8 +1,8 @@
-use Rattle.engine.specs.Attributes.{colourResult}
-use Rattle.engine.proofs.AttributeResults as results
+use Rattle.comparison.specs.Attributes.{colourResult}
+use Rattle.comparison.proofs.AttributeResults as results
 use borrow.Author.Needs.{needs}
-use Rattle.engine.proofs.attributes.hicsolmab_color_attribute.Statement.{statement}
-use Rattle.engine.proofs.attributes.hicsolmab_color_attribute.Tie as tie
+use Rattle.comparison.proofs.attributes.comparison_color_attribute.Statement.{statement}
+use Rattle.comparison.proofs.attributes.comparison_color_attribute.Tie as tie
 
 returns : tie.Need-returns
 returns c = let S = c .before .before .before .before .before in
@@ -62,8 +62,8 @@ returns-4 c = let w = c .before in
     let S = w .before .before .before .before .before .before in
     results.colour-short (S .args .value .now) (S .args .tokens .now) (S .args .brackets .now) (S .args .texts .now) (w .before .if1 .left) (w .stores-suffice .ensures) (c .if2 .left)
 
-pub hicsolmab-color-attribute-spec : {M : Type 1} → statement M
-hicsolmab-color-attribute-spec =
+pub comparison-color-attribute-spec : {M : Type 1} → statement M
+comparison-color-attribute-spec =
     tie.close
     (tie.spec
     returns

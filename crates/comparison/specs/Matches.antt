@@ -1,4 +1,4 @@
--- What `hicsolmab_matches` returns: whether a selector matches the path of an element, and its specificity.
+-- What `comparison_matches` returns: whether a selector matches the path of an element, and its specificity.
 use Prim.Native.Nat.{ℕ, _*_}
 use mathlib.Core.Bool.{Bool}
 use mathlib.Core.List.{List}
@@ -17,7 +17,7 @@ use Rattle.page.specs.Rows.{nodeCount, nodeAt, elementKind}
 use Rattle.matching.specs.Matches.{matches}
 use Rattle.matching.specs.Rows.{componentsAt}
 use Rattle.matching.specs.Specificity.{specificity}
-use Rattle.engine.specs.declared.matches.MatchResult.{MatchResult}
+use Rattle.comparison.specs.declared.matches.MatchResult.{MatchResult}
 
 -- the most components that a selector may have here: as many as a sheet may have bytes, for each takes one
 abbrev pub componentLimit : ℕ

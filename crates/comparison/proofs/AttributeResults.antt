@@ -1,4 +1,4 @@
--- Returns of `hicsolmab_style_attribute` and `hicsolmab_color_attribute`: the refusals in their order, and what is read in stores of the least lengths.
+-- Returns of `comparison_style_attribute` and `comparison_color_attribute`: the refusals in their order, and what is read in stores of the least lengths.
 use Prim.Native.Nat.{ℕ, _≤_, _<_}
 use mathlib.Core.Bool.{Bool, true, false}
 use mathlib.Core.List.{List}
@@ -14,9 +14,9 @@ use Rattle.declarations.specs.declared.attributes.StylesRead.{StylesRead}
 use Rattle.declarations.proofs.LeastLengths.{least-room, least-style-room}
 use Rattle.sheets.specs.SheetAnswer.{textLeast, bracketLeast, numberLeast, storesSuffice, limitRefusal, storeRefusal}
 use Rattle.page.specs.Accepted.{textLimit}
-use Rattle.engine.specs.Attributes.{refusedOr, refusedStyles, stylesResult, StyleCalled, styleRead, styleCalled, refusedColour, colourResult, ColourCalled, colourRead, colourCalled}
-use Rattle.engine.specs.declared.attributes.StylesResult.{StylesResult}
-use Rattle.engine.specs.declared.attributes.ColourResult.{ColourResult}
+use Rattle.comparison.specs.Attributes.{refusedOr, refusedStyles, stylesResult, StyleCalled, styleRead, styleCalled, refusedColour, colourResult, ColourCalled, colourRead, colourCalled}
+use Rattle.comparison.specs.declared.attributes.StylesResult.{StylesResult}
+use Rattle.comparison.specs.declared.attributes.ColourResult.{ColourResult}
 
 -- ---- refusals, in their order
 module _ {A : Type 0} (s : List ℕ) (rules tokens brackets texts : ℕ) (refused : ℕ → A) (answer : A) where

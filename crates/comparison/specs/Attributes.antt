@@ -1,4 +1,4 @@
--- What `hicsolmab_style_attribute` and `hicsolmab_color_attribute` return and leave: what `parse_style_attribute` and `parse_color_attribute` do in
+-- What `comparison_style_attribute` and `comparison_color_attribute` return and leave: what `parse_style_attribute` and `parse_color_attribute` do in
 -- stores of the least lengths, filled from 0 on.
 use Prim.Native.Nat.{ℕ}
 use mathlib.Core.List.{List}
@@ -11,8 +11,8 @@ use Rattle.declarations.specs.Leaving.{Leaves, ColourLeft, colourLeft, styleLef
 use Rattle.declarations.specs.declared.attributes.StylesRead.{StylesRead}
 use Rattle.sheets.specs.SheetAnswer.{storesSuffice, limitRefusal, storeRefusal}
 use Rattle.page.specs.Accepted.{textLimit}
-use Rattle.engine.specs.declared.attributes.StylesResult.{StylesResult}
-use Rattle.engine.specs.declared.attributes.ColourResult.{ColourResult}
+use Rattle.comparison.specs.declared.attributes.StylesResult.{StylesResult}
+use Rattle.comparison.specs.declared.attributes.ColourResult.{ColourResult}
 
 -- ---- a call with the text s: a text over `textLimit` is refused first, then stores shorter than the least lengths
 unfoldable pub refusedOr : {A : Type 0} → List ℕ → ℕ → ℕ → ℕ → ℕ → (ℕ → A) → A → A

@@ -1,14 +1,10 @@
-// `hicsolmab_matches`: whether a selector, in component rows, matches an element of a page, and how specific it is.
-use crate::refusals::BAD_ROW;
-use crate::refusals::BAD_TEXT;
-use crate::refusals::NO_ELEMENT;
-use crate::refusals::PAGE_LIMIT;
-use crate::refusals::SHORT_STORE;
-use crate::refusals::TOO_LONG;
+// `comparison_matches`: whether a selector, in component rows, matches an element of a page, and how specific it is.
+use engine::pages::hicsolmab_check_page;
+use engine::refusals::NO_ELEMENT;
+use engine::refusals::SHORT_STORE;
+use engine::refusals::TOO_LONG;
 use matching::components::specificity;
 use matching::matcher::do_matches;
-use page::check::PageAnswer;
-use page::check::check_page;
 use page::rows::ELEMENT;
 use page::rows::kind_of;
 use page::rows::node_count;
@@ -17,7 +13,7 @@ use syntax::rows::flag_of;
 ghost use mathlib.Core.Path.{_≡_};
 ghost use Prim.Native.Nat.{_≤_};
 ghost use Rattle.page.specs.Accepted.{noRefusal, pageRefusal};
-ghost use Rattle.engine.specs.Matches.{componentLimit, refusedMatch, rowMatch, pageMatch, matchCalled};
+ghost use Rattle.comparison.specs.Matches.{componentLimit, refusedMatch, rowMatch, pageMatch, matchCalled};
 
 // The refusal's number and place; 1 where the selector matches; how many ids, classes (with attributes and nth-child) and types it names.
 #[repr(C)]
@@ -80,9 +76,9 @@ fn match_row(
 }
 
 // Whether the first `count` components, with their texts in `texts`, match a row of the page: `do_matches` and `specificity` of a selector whose
-// components lie in reading order. Every component must be there.
+// components lie in reading order. Every component must be there; one whose kind is none of document 01's, above 8, is read as an attribute selector.
 #[no_mangle]
-pub extern "C" fn hicsolmab_matches(
+pub extern "C" fn comparison_matches(
     components: &[u32],
     count: usize,
     texts: &[u8],
@@ -99,18 +95,9 @@ pub extern "C" fn hicsolmab_matches(
     if components.len() < COMPONENT_WIDTH * count {
         return refused(SHORT_STORE, 0);
     }
-    match check_page(nodes, attributes, text) {
-        PageAnswer::Page => {
-            return match_row(components, count, texts, nodes, attributes, text, row);
-        }
-        PageAnswer::TooLarge => {
-            return refused(PAGE_LIMIT, 0);
-        }
-        PageAnswer::BadRow(place) => {
-            return refused(BAD_ROW, place);
-        }
-        PageAnswer::BadText(place) => {
-            return refused(BAD_TEXT, place);
-        }
+    let page = hicsolmab_check_page(nodes, attributes, text);
+    if page.refusal == 0 {
+        return match_row(components, count, texts, nodes, attributes, text, row);
     }
+    refused(page.refusal, page.place)
 }

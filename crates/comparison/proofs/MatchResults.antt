@@ -1,5 +1,5 @@
--- Returns of `hicsolmab_matches` and what it calls, in the order of the refusals.
-use Prim.Native.Nat.{ℕ, _*_, _≤_, _<_}
+-- Returns of `comparison_matches` and what it calls, in the order of the refusals.
+use Prim.Native.Nat.{ℕ, suc, _*_, _≤_, _<_}
 use mathlib.Core.Bool.{Bool}
 use mathlib.Core.List.{List}
 use mathlib.Core.Path.{_≡_, refl, ap, sym, subst, _∙_}
@@ -7,23 +7,37 @@ use native.Mathlib.Omega.{arith}
 use borrow.Author.Tests.{lt-ltb, le-ltb, le-leb, lt-leb}
 use lib.ListN.{length}
 use Rattle.combinators.specs.Choice.{pick, is}
-use Rattle.combinators.proofs.Rules.{pick-true, pick-false, and-both, and-left, and-right, is-yes-of, is-no-of}
+use Rattle.combinators.proofs.Rules.{pick-true, pick-false, and-both, and-left, and-right, is-yes, is-yes-of, is-no-of, pick-holds}
 use Rattle.syntax.specs.Layout.{flag}
 use Rattle.syntax.specs.RuleLayout.{componentWidth}
 use Rattle.cascade.specs.declared.specificity.Specificity.{Specificity}
 use Rattle.sheets.specs.SheetAnswer.{limitRefusal, storeRefusal}
-use Rattle.page.specs.Accepted as page
-use Rattle.page.specs.Accepted.{noRefusal, pageRefusal, refusalOf}
+use Rattle.page.specs.Accepted.{Refusal, noRefusal, rowsRefusal, pageRefusal}
 use Rattle.page.specs.PathOf.{pathOf}
 use Rattle.page.specs.Rows.{nodeCount, nodeAt, elementKind}
-use Rattle.page.specs.declared.check.PageAnswer.{PageAnswer}
-use Rattle.page.specs.declared.check.PageAnswer.the-variants.{Page, TooLarge, BadRow, BadText}
 use Rattle.matching.specs.Matches.{matches}
 use Rattle.matching.specs.Rows.{componentsAt, Rooted}
 use Rattle.matching.specs.Specificity.{specificity}
 use Rattle.matching.proofs.Roots.{accepted-element}
-use Rattle.engine.specs.Matches.{componentLimit, askedRefusal, isElement, refusedMatch, answeredMatch, selectorMatch, rowMatch, pageMatch, matchCalled}
-use Rattle.engine.specs.declared.matches.MatchResult.{MatchResult}
+use Rattle.engine.specs.Page.{pageResult}
+use Rattle.engine.specs.declared.pages.PageResult.{PageResult}
+use Rattle.comparison.specs.Matches.{componentLimit, askedRefusal, isElement, refusedMatch, answeredMatch, selectorMatch, rowMatch, pageMatch, matchCalled}
+use Rattle.comparison.specs.declared.matches.MatchResult.{MatchResult}
+
+-- a refusal whose number is 0 is none
+unfoldable Quiet : Refusal → Type 0
+Quiet r = r .number ≡ 0 → r ≡ noRefusal
+
+loud : (n place : ℕ) → Quiet (record { number = suc n; place = place })
+unfolding Quiet
+loud n place e = absurd (omega (arith, e))
+
+quiet : (nodes attributes text : List ℕ) → Quiet (pageRefusal nodes attributes text)
+unfolding pageRefusal rowsRefusal Quiet
+quiet nodes attributes text =
+    pick-holds Quiet _ _ _
+    (λ _. pick-holds Quiet _ _ _ (λ _. loud _ _) (λ _. pick-holds Quiet _ _ _ (λ _. loud _ _) (λ _. pick-holds Quiet _ _ _ (λ _. loud _ _) (λ _ e. refl))))
+    (λ _. loud _ _)
 
 module _ (components : List ℕ) (count : ℕ) (texts nodes attributes text : List ℕ) (row : ℕ) where
   -- ---- a row of an accepted page
@@ -65,30 +79,18 @@ module _ (components : List ℕ) (count : ℕ) (texts nodes attributes text : Li
       unfolding matchCalled
       of-page e = pick-false _ _ _ _ (le-ltb componentLimit count h) (pick-true _ _ _ _ (le-leb (componentWidth * count) (length components) g) e)
 
-      module _ {a : PageAnswer} (ea : refusalOf a ≡ pageRefusal nodes attributes text) where
-        -- what the page's answer stands for
-        of-answer : {r : MatchResult} {v : PageAnswer} → a ≡ v → r ≡ pageMatch (refusalOf v) (rowMatch components count texts nodes attributes text row)
+      module _ {a : PageResult} (ea : a ≡ pageResult (pageRefusal nodes attributes text)) where
+        pub accepts : a .refusal ≡ 0 → pageRefusal nodes attributes text ≡ noRefusal
+        unfolding pageResult Quiet
+        accepts e = quiet nodes attributes text (ap (λ (r : PageResult). r .refusal) (sym ea) ∙ e)
+
+        pub on-page : {r : MatchResult} → a .refusal ≡ 0 → r ≡ rowMatch components count texts nodes attributes text row
             → r ≡ matchCalled components count texts nodes attributes text row
-        of-answer {r} {v} e p =
-            of-page (subst (λ (q : page.Refusal). r ≡ pageMatch q (rowMatch components count texts nodes attributes text row)) (ap refusalOf (sym e) ∙ ea) p)
+        unfolding pageMatch pageResult
+        on-page e p = of-page (pick-true _ _ _ _ (is-yes _ 0 (ap (λ (r : PageResult). r .refusal) (sym ea) ∙ e)) p)
 
-        pub accepts : a ≡ Page → pageRefusal nodes attributes text ≡ noRefusal
-        unfolding refusalOf
-        accepts e = sym ea ∙ ap refusalOf e
-
-        pub on-page : {r : MatchResult} → a ≡ Page → r ≡ rowMatch components count texts nodes attributes text row
-            → r ≡ matchCalled components count texts nodes attributes text row
-        unfolding pageMatch refusalOf pick is
-        on-page e p = of-answer e p
-
-        pub too-large : a ≡ TooLarge → refusedMatch page.limitRefusal 0 ≡ matchCalled components count texts nodes attributes text row
-        unfolding pageMatch refusalOf pick is
-        too-large e = of-answer e refl
-
-        pub bad-row : {place : ℕ} → a ≡ BadRow place → refusedMatch page.rowRefusal place ≡ matchCalled components count texts nodes attributes text row
-        unfolding pageMatch refusalOf pick is
-        bad-row e = of-answer e refl
-
-        pub bad-text : {place : ℕ} → a ≡ BadText place → refusedMatch page.textRefusal place ≡ matchCalled components count texts nodes attributes text row
-        unfolding pageMatch refusalOf pick is
-        bad-text e = of-answer e refl
+        pub no-page : (a .refusal ≡ 0 → ⊥) → refusedMatch (a .refusal) (a .place) ≡ matchCalled components count texts nodes attributes text row
+        unfolding pageMatch pageResult
+        no-page f =
+            of-page (pick-false _ _ _ _ (is-no-of (a .refusal) _ 0 (ap (λ (r : PageResult). r .refusal) ea) f)
+            (ap (λ (r : PageResult). refusedMatch (r .refusal) (r .place)) ea))

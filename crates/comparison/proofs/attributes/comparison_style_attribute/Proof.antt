@@ -1,7 +1,7 @@
-use Rattle.engine.proofs.AttributeResults as results
+use Rattle.comparison.proofs.AttributeResults as results
 use borrow.Author.Needs.{needs}
-use Rattle.engine.proofs.attributes.hicsolmab_style_attribute.Statement.{statement}
-use Rattle.engine.proofs.attributes.hicsolmab_style_attribute.Tie as tie
+use Rattle.comparison.proofs.attributes.comparison_style_attribute.Statement.{statement}
+use Rattle.comparison.proofs.attributes.comparison_style_attribute.Tie as tie
 
 returns : tie.Need-returns
 returns c = let S = c .before .before .before .before .before .before in
@@ -40,8 +40,8 @@ returns-3 c = let w = c .before in
     let S = w .before .before .before .before .before .before .before in
     results.style-short (S .args .value .now) (S .args .rules .now) (S .args .tokens .now) (S .args .brackets .now) (S .args .texts .now) (w .before .if1 .left) (w .stores-suffice .ensures) (c .if2 .left)
 
-pub hicsolmab-style-attribute-spec : {M : Type 1} → statement M
-hicsolmab-style-attribute-spec =
+pub comparison-style-attribute-spec : {M : Type 1} → statement M
+comparison-style-attribute-spec =
     tie.close
     (tie.spec
     returns

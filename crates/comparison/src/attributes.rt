@@ -1,13 +1,13 @@
-// `hicsolmab_style_attribute` and `hicsolmab_color_attribute`: what a `style` attribute says, and the colour of a `color` or `bgcolor` attribute.
-use crate::refusals::SHORT_STORE;
-use crate::refusals::TOO_LONG;
+// `comparison_style_attribute` and `comparison_color_attribute`: what a `style` attribute says, and the colour of a `color` or `bgcolor` attribute.
 use declarations::attributes::parse_color_attribute;
 use declarations::attributes::parse_style_attribute;
+use engine::refusals::SHORT_STORE;
+use engine::refusals::TOO_LONG;
 use page::check::TEXT_LIMIT;
 use sheets::sheet::stores_suffice;
 use values::colours::ColourAnswer;
 ghost use mathlib.Core.Path.{_≡_};
-ghost use Rattle.engine.specs.Attributes.{styleCalled, colourCalled};
+ghost use Rattle.comparison.specs.Attributes.{styleCalled, colourCalled};
 
 // The refusal's number; how many styles were read, and the bytes of their texts.
 #[repr(C)]
@@ -28,7 +28,7 @@ pub struct ColourResult {
 // Reads a `style` attribute: the rows of its styles to `tokens`, their texts to `texts`, each from 0 on. A value that a page cannot have, being
 // longer than all of a page's texts, is refused.
 #[no_mangle]
-pub extern "C" fn hicsolmab_style_attribute(
+pub extern "C" fn comparison_style_attribute(
     value: &[u8],
     rules: &mut [u32],
     tokens: &mut [u32],
@@ -62,7 +62,7 @@ pub extern "C" fn hicsolmab_style_attribute(
 
 // Reads a `color` or `bgcolor` attribute; all stores are work stores. There are no rules, so `tokens` is tested in their place too.
 #[no_mangle]
-pub extern "C" fn hicsolmab_color_attribute(
+pub extern "C" fn comparison_color_attribute(
     value: &[u8],
     tokens: &mut [u32],
     brackets: &mut [u8],

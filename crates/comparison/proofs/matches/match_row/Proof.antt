@@ -1,8 +1,8 @@
 use mathlib.Core.Path.{_∙_}
-use Rattle.engine.proofs.MatchResults as results
+use Rattle.comparison.proofs.MatchResults as results
 use borrow.Author.Needs.{needs}
-use Rattle.engine.proofs.matches.match_row.Statement.{statement}
-use Rattle.engine.proofs.matches.match_row.Tie as tie
+use Rattle.comparison.proofs.matches.match_row.Statement.{statement}
+use Rattle.comparison.proofs.matches.match_row.Tie as tie
 
 node-count-requires : tie.Need-node-count-requires
 node-count-requires c κs = search needs

@@ -1,0 +1,3 @@
+pub mod AttributeResults
+pub mod MatchResults
+pub mod BytesResults

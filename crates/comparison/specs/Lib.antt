@@ -1,0 +1,3 @@
+pub mod Attributes
+pub mod Matches
+pub mod Bytes
