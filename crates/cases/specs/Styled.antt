@@ -39,7 +39,7 @@ use Rattle.matching.specs.Matches as matching
 use Rattle.matching.specs.Nth as nth
 use Rattle.matching.specs.Texts as texts
 use Rattle.matching.specs.Specificity as counts
-use Rattle.styles.specs.Numbered as numbered
+use Rattle.styles.specs.Said as said
 use Rattle.styles.specs.Computed as computed
 use Rattle.styles.specs.StyleCall as call
 use Rattle.syntax.specs.Layout.{colourSlot, contentSlot}
@@ -49,7 +49,14 @@ use Rattle.cascade.specs.Cases.{red, blue, byType, byId}
 use Rattle.cascade.specs.Record.{mainRecord, beforeRecord}
 use Rattle.cascade.specs.Row.{slotPlace}
 use Rattle.page.specs.Path.{Element}
-use Rattle.styles.specs.Numbered.{Rules}
+use Rattle.styles.specs.Said.{Rules}
+use Rattle.styles.specs.declared.settings.Settings.{Settings}
+use Rattle.cascade.specs.declared.slots.Cascade.the-variants.{Crate, Book}
+use Rattle.cascade.specs.Slot.{Candidate}
+use Rattle.cascade.specs.declared.specificity.Specificity.{Specificity}
+use Rattle.syntax.specs.Style as styleOf
+use Rattle.syntax.specs.Style.{Style}
+use Rattle.syntax.specs.declared.styles.Value.{Value}
 
 -- ---- how the cases are written
 -- the rules of a sheet's text
@@ -67,52 +74,65 @@ elementOf name = record { name = name; attributes = []; place = 1 }
 unfoldable pub having : List ℕ → List ℕ → List ℕ → Element
 having name attribute value = record { name = name; attributes = record { name = attribute; value = value } ∷ []; place = 1 }
 
+-- a normal author value of a specificity
+abbrev pub byAuthor : {A : Type 0} → Specificity → A → Candidate A
+byAuthor p v = record { weight = record { important = false; origin = authorOrigin; spec = p }; value = v }
+
+abbrev pub numbers : ℕ → ℕ → Value
+numbers n m = record { number = n; second = m }
+
+abbrev pub stylesOn : Settings
+stylesOn = record { «document_styles» = true }
+
+abbrev pub stylesOff : Settings
+stylesOff = record { «document_styles» = false }
+
 -- ---- the cases
 -- a rule's content lies before that of a `style` attribute, which is the element's own; each is read where the row says, and is the computed style's
 abbrev case-contents : Type 0
 case-contents =
     let rules = sheetsOf [] (literal.text "p::before{content:'ab'}") in
     let path = having (literal.text "p") (literal.text "style") (literal.text "content:'c'") ∷ [] in
-    (call.callStore rules true path ≡ literal.text "abc")
-    × (styleRow.slotAt (call.callRow rules true path) (slotPlace beforeRecord contentSlot) ≡ slot.held (record { important = false; origin = authorOrigin; spec = byType; value = 0; second = 2 }))
-    × (styleRow.slotAt (call.callRow rules true path) (slotPlace mainRecord contentSlot)
-    ≡ slot.held (record { important = false; origin = authorOrigin; spec = specificity.inlineSpecificity; value = 2; second = 1 }))
-    × (style.slotIn (computed.computedStyle rules true path) beforeRecord contentSlot
-    ≡ slot.held (record { important = false; origin = authorOrigin; spec = byType; value = numbered.textNumber (literal.text "ab"); second = 2 }))
+    (call.callStore rules stylesOn path ≡ literal.text "abc")
+    × (styleRow.slotAt (call.callRow Crate rules stylesOn path) (slotPlace beforeRecord contentSlot) ≡ slot.held (byAuthor byType (numbers 0 2)))
+    × (styleRow.slotAt (call.callRow Crate rules stylesOn path) (slotPlace mainRecord contentSlot)
+    ≡ slot.held (byAuthor specificity.inlineSpecificity (numbers 2 1)))
+    × (style.slotIn (computed.computedStyle Crate rules stylesOn path) beforeRecord contentSlot
+    ≡ slot.held (byAuthor byType (styleOf.content (literal.text "ab"))))
 
 -- contents are kept of rules that do not match too, and once for a rule of two selectors; with the switch off there are none of attributes, and these say nothing
 abbrev case-kept : Type 0
 case-kept =
     let rules = sheetsOf (literal.text "q{content:'x'}") (literal.text "p,b{content:'y'}") in
     let path = having (literal.text "p") (literal.text "style") (literal.text "content:'z'") ∷ [] in
-    (call.callStore rules false path ≡ literal.text "xy")
-    × (styleRow.slotAt (call.callRow rules false path) (slotPlace mainRecord contentSlot) ≡ slot.held (record { important = false; origin = authorOrigin; spec = byType; value = 1; second = 1 }))
+    (call.callStore rules stylesOff path ≡ literal.text "xy")
+    × (styleRow.slotAt (call.callRow Crate rules stylesOff path) (slotPlace mainRecord contentSlot) ≡ slot.held (byAuthor byType (numbers 1 1)))
 
 -- a child has the pseudo record of its parent, with the same numbers; the contents of its own attributes lie behind its parent's
 abbrev case-inherited : Type 0
 case-inherited =
     let rules = sheetsOf [] (literal.text "p::before{content:'ab'}") in
     let path = having (literal.text "i") (literal.text "style") (literal.text "content:''") ∷ having (literal.text "p") (literal.text "style") (literal.text "content:'c'") ∷ [] in
-    (style.recordIn (computed.computedStyle rules true path) beforeRecord .present ≡ true)
-    × (styleRow.slotAt (call.callRow rules true path) (slotPlace beforeRecord contentSlot) ≡ slot.held (record { important = false; origin = authorOrigin; spec = byType; value = 0; second = 2 }))
-    × (styleRow.slotAt (call.callRow rules true path) (slotPlace mainRecord contentSlot)
-    ≡ slot.held (record { important = false; origin = authorOrigin; spec = specificity.inlineSpecificity; value = 3; second = 0 }))
+    (style.recordIn (computed.computedStyle Crate rules stylesOn path) beforeRecord .present ≡ true)
+    × (styleRow.slotAt (call.callRow Crate rules stylesOn path) (slotPlace beforeRecord contentSlot) ≡ slot.held (byAuthor byType (numbers 0 2)))
+    × (styleRow.slotAt (call.callRow Crate rules stylesOn path) (slotPlace mainRecord contentSlot)
+    ≡ slot.held (byAuthor specificity.inlineSpecificity (numbers 3 0)))
 
 -- `color` stands above an author rule in the crate's cascade, since it is inline there; in the book order, of specificity 0, below it
 abbrev case-colour : Type 0
 case-colour =
     let rules = sheetsOf [] (literal.text "#i{color:blue}") in
     let e : Element = record { name = literal.text "p"; attributes = record { name = literal.text "id"; value = literal.text "i" } ∷ record { name = literal.text "color"; value = literal.text "red" } ∷ []; place = 1 } in
-    (style.slotIn (computed.computedStyle rules true (e ∷ [])) mainRecord colourSlot
-    ≡ slot.held (record { important = false; origin = authorOrigin; spec = specificity.inlineSpecificity; value = red; second = 0 }))
-    × (style.slotIn (computed.bookStyle rules true (e ∷ [])) mainRecord colourSlot ≡ slot.held (record { important = false; origin = authorOrigin; spec = byId; value = blue; second = 0 }))
+    (style.slotIn (computed.computedStyle Crate rules stylesOn (e ∷ [])) mainRecord colourSlot
+    ≡ slot.held (byAuthor specificity.inlineSpecificity (numbers red 0)))
+    × (style.slotIn (computed.computedStyle Book rules stylesOn (e ∷ [])) mainRecord colourSlot ≡ slot.held (byAuthor byId (numbers blue 0)))
 
 -- `!important` of a `style` attribute counts in the book order alone
 abbrev case-important : Type 0
 case-important =
     let path = having (literal.text "p") (literal.text "style") (literal.text "color:red!important") ∷ [] in
-    (style.slotIn (computed.computedStyle (sheetsOf [] []) true path) mainRecord colourSlot .important ≡ false)
-    × (style.slotIn (computed.bookStyle (sheetsOf [] []) true path) mainRecord colourSlot .important ≡ true)
+    (style.slotIn (computed.computedStyle Crate (sheetsOf [] []) stylesOn path) mainRecord colourSlot .important ≡ false)
+    × (style.slotIn (computed.computedStyle Book (sheetsOf [] []) stylesOn path) mainRecord colourSlot .important ≡ true)
 
 -- ---- all of them are computed; the line below names what is computed with
 test-styles : case-contents × case-kept × case-inherited × case-colour × case-important

@@ -1,6 +1,4 @@
-pub mod Merges
-pub mod Cascades
+pub mod Lying
 pub mod Placed
-pub mod Told
 pub mod Called
 pub mod Room

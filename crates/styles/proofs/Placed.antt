@@ -1,0 +1,135 @@
+-- Where the texts lie in t as a style call or a run has put them, what is said by numbers says, with t, what is said by the styles themselves.
+use mathlib.Core.Path.{_≡_, refl, sym, ap, _∙_}
+use mathlib.Core.Bool.{Bool}
+use mathlib.Core.List.{List, [], _∷_, _++_, map}
+use Prim.Native.Nat.{ℕ, _+_}
+use native.Mathlib.Nat.{zero-add}
+use lib.ListN.{length}
+use Rattle.combinators.specs.Choice.{pick}
+use Rattle.unicode.specs.Literal.{text}
+use Rattle.syntax.specs.Layout.{styleSlotOf, styleText, styleTextOf, styleTexts, valueFrom, numbersFrom}
+use Rattle.syntax.specs.RuleLayout.{pseudoNumber}
+use Rattle.syntax.specs.Selector.{Selector, RuleSet}
+use Rattle.syntax.specs.Stream.{textsMany}
+use Rattle.syntax.specs.Style as style
+use Rattle.syntax.specs.Style.{Style, StyleDecl}
+use Rattle.syntax.specs.declared.styles.Value.{Value}
+use Rattle.syntax.proofs.Streams.{held-part}
+use Rattle.cascade.specs.declared.specificity.Specificity.{Specificity}
+use Rattle.cascade.specs.Record.{Styled, RuleStyle, AttributeStyle, Sources}
+use Rattle.cascade.specs.Related.{Each, none, next}
+use Rattle.cascade.proofs.Relating.{pick-same, each-append, each-map, SameStyled, SameRule, SameAttribute, SameSources}
+use Rattle.page.specs.Path.{Attribute, Path}
+use Rattle.matching.specs.Matches.{isNamed, matches}
+use Rattle.matching.specs.Specificity.{specificity}
+use Rattle.styles.specs.Said.{Rules, StyledRule, ruleStyles, ruleStyle, selectorSays, selectorsSay, rulesSay, attributeStyles, attributeStyle, attributeSays, sourcesFrom, meant, meantRule, meantRules, attributesSay}
+use Rattle.styles.specs.StyleCall.{ruleContents, rulesContents, sheetsContents, attributeContents, attributesContents, inNumbers, placedStyles, placedRules, placedSheets, placedAttributes}
+use Rattle.styles.specs.Says.{Names, Says}
+use Rattle.styles.proofs.Lying.{Lies, lies-left, lies-right, lies-at}
+
+-- ---- what rules say, from rules whose styles are the same
+module _ {A B : Type 0} (R : A → B → Type 0) where
+  -- a rule with the same selectors, and styles that are the same
+  pub record SameStyledRule (x : StyledRule A) (y : StyledRule B) : Type 0 where
+    pub selectors-same : x .selectors ≡ y .selectors
+    pub styles-same : Each (SameStyled R) (x .styles) (y .styles)
+
+  pub record SameRules (x : Rules (StyledRule A)) (y : Rules (StyledRule B)) : Type 0 where
+    pub agents : Each SameStyledRule (x .agent) (y .agent)
+    pub users : Each SameStyledRule (x .user) (y .user)
+    pub authors : Each SameStyledRule (x .author) (y .author)
+
+  -- a style of a selector
+  pub rule-style-same : (n : ℕ) (c : Specificity) (x : Styled A) (y : Styled B) → SameStyled R x y → SameRule R (ruleStyle n c x) (ruleStyle n c y)
+  unfolding ruleStyle
+  rule-style-same n c x y h = record { pseudos = refl; specs = refl; styles = h }
+
+  module _ (p : Path) where
+    selector-same : (xs : List (Styled A)) (ys : List (Styled B)) (s : Selector) → Each (SameStyled R) xs ys → Each (SameRule R) (selectorSays p xs s) (selectorSays p ys s)
+    unfolding selectorSays
+    selector-same xs ys s h =
+        let say = rule-style-same (pseudoNumber (s .pseudo)) (specificity (s .components)) in
+        pick-same (Each (SameRule R)) (matches (s .components) p) (matches (s .components) p) _ [] _ [] refl (each-map (SameStyled R) (SameRule R) _ _ say h) none
+
+    selectors-same : (xs : List (Styled A)) (ys : List (Styled B)) (ss : List Selector) → Each (SameStyled R) xs ys → Each (SameRule R) (selectorsSay p xs ss) (selectorsSay p ys ss)
+    unfolding selectorsSay
+    selectors-same xs ys [] h = none
+    selectors-same xs ys (s ∷ ss) h = each-append (SameRule R) (selector-same xs ys s h) (selectors-same xs ys ss h)
+
+    -- all rules of a sheet
+    pub rules-same : {xs : List (StyledRule A)} {ys : List (StyledRule B)} → Each SameStyledRule xs ys → Each (SameRule R) (rulesSay p xs) (rulesSay p ys)
+    unfolding rulesSay
+    rules-same none = none
+    rules-same (next {a = x} {b = y} h hs) =
+        each-append (SameRule R) (by-selectors (x .selectors) (y .selectors) (h .selectors-same) (selectors-same (x .styles) (y .styles) (y .selectors) (h .styles-same))) (rules-same hs)
+      where
+        by-selectors : (l m : List Selector) → l ≡ m → Each (SameRule R) (selectorsSay p (x .styles) m) (selectorsSay p (y .styles) m) → Each (SameRule R) (selectorsSay p (x .styles) l) (selectorsSay p (y .styles) m)
+        by-selectors l m e r = rw e r
+
+    -- all that is said of an element
+    pub sources-same : (x : Rules (StyledRule A)) (y : Rules (StyledRule B)) (us : List (AttributeStyle A)) (vs : List (AttributeStyle B)) → SameRules x y → Each (SameAttribute R) us vs
+        → SameSources R (sourcesFrom x us p) (sourcesFrom y vs p)
+    unfolding sourcesFrom
+    sources-same x y us vs h k = record { agents = rules-same (h .agents); users = rules-same (h .users); authors = rules-same (h .authors); attributes = k }
+
+module _ (t : List ℕ) where
+  -- ---- a style in numbers, whose text lies at f
+  pub value-says : (f : ℕ) (s : Style) → Lies t f (styleTextOf s) → Says t (valueFrom f s) s
+  unfolding Says valueFrom styleTextOf
+  value-says f (style.colour c) h = refl
+  value-says f (style.background c) h = refl
+  value-says f style.displayNone h = refl
+  value-says f (style.whiteSpace w) h = refl
+  value-says f (style.content x) h = record { long = refl; within = h .within; named = held-part t f x (h .there) }
+
+  pub style-placed : (f : ℕ) (d : StyleDecl) → Lies t f (styleText d) → SameStyled (Says t) (inNumbers (numbersFrom f d)) (meant d)
+  unfolding inNumbers numbersFrom meant styleText
+  style-placed f d h = record { slots = refl; importances = refl; values = value-says f (d .style) h }
+
+  -- many, whose texts lie end to end
+  pub styles-placed : (ds : List StyleDecl) (f : ℕ) → Lies t f (styleTexts ds) → Each (SameStyled (Says t)) (placedStyles f ds) (map meant ds)
+  unfolding placedStyles styleTexts textsMany
+  styles-placed [] f h = none
+  styles-placed (d ∷ ds) f h =
+      next (style-placed f d (lies-left t f (styleText d) (styleTexts ds) h)) (styles-placed ds (f + length (styleText d)) (lies-right t f (styleText d) (styleTexts ds) h))
+
+  -- ---- the rules of a sheet
+  pub rules-placed : (rs : List RuleSet) (f : ℕ) → Lies t f (rulesContents rs) → Each (SameStyledRule (Says t)) (placedRules f rs) (map meantRule rs)
+  unfolding placedRules meantRule ruleContents rulesContents textsMany
+  rules-placed [] f h = none
+  rules-placed (r ∷ rs) f h =
+      next (record { selectors-same = refl; styles-same = styles-placed (ruleStyles r) f (lies-left t f (ruleContents r) (rulesContents rs) h) })
+      (rules-placed rs (f + length (ruleContents r)) (lies-right t f (ruleContents r) (rulesContents rs) h))
+
+  -- of three
+  pub sheets-placed : (rules : Rules RuleSet) → Lies t 0 (sheetsContents rules) → SameRules (Says t) (placedSheets rules) (meantRules rules)
+  unfolding placedSheets meantRules sheetsContents
+  sheets-placed rules h =
+      let a = rulesContents (rules .agent) in
+      let u = rulesContents (rules .user) in
+      let b = rulesContents (rules .author) in
+      let behind = lies-at t (0 + length a) (length a) (u ++ b) (zero-add (length a)) (lies-right t 0 a (u ++ b) h) in
+      record {
+        agents = rules-placed (rules .agent) 0 (lies-left t 0 a (u ++ b) h);
+        users = rules-placed (rules .user) (length a) (lies-left t (length a) u b behind);
+        authors = rules-placed (rules .author) (length a + length u) (lies-right t (length a) u b behind);
+      }
+
+  -- ---- what attributes say
+  attribute-same : (i : Bool) (x : Styled Value) (y : Styled Style) → SameStyled (Says t) x y → SameAttribute (Says t) (attributeStyle i x) (attributeStyle i y)
+  unfolding attributeStyle
+  attribute-same i x y h = record { kinds = refl; styles = h }
+
+  pub attribute-placed : (a : Attribute) (f : ℕ) → Lies t f (attributeContents a) → Each (SameAttribute (Says t)) (attributeSays (placedStyles f) a) (attributeSays (map meant) a)
+  unfolding attributeSays attributeContents
+  attribute-placed a f h =
+      let i = isNamed (text "style") a in
+      each-map (SameStyled (Says t)) (SameAttribute (Says t)) (attributeStyle i) (attributeStyle i) (attribute-same i) (styles-placed (attributeStyles a) f h)
+
+  -- many, whose contents lie end to end
+  pub attributes-placed : (xs : List Attribute) (f : ℕ) → Lies t f (attributesContents xs) → Each (SameAttribute (Says t)) (placedAttributes f xs) (attributesSay xs)
+  unfolding placedAttributes attributesSay attributesContents textsMany
+  attributes-placed [] f h = none
+  attributes-placed (a ∷ xs) f h =
+      each-append (SameAttribute (Says t)) (attribute-placed a f (lies-left t f (attributeContents a) (attributesContents xs) h))
+      (attributes-placed xs (f + length (attributeContents a)) (lies-right t f (attributeContents a) (attributesContents xs) h))
