@@ -2,14 +2,17 @@
 use mathlib.Core.Path.{_≡_, refl, sym, _∙_}
 use Prim.Native.Nat.{ℕ, _+_, _≤_}
 use native.Mathlib.Omega.{arith}
+use Rattle.syntax.specs.declared.styles.Value.{Value}
 use Rattle.compiled.specs.Decoded.{Decoded, read, fault, mapped}
 use Rattle.compiled.specs.Text.{Span}
-use Rattle.compiled.specs.Answer.{numberAnswer, numberWithin, textAnswer, textWithin, placeAnswer, headAnswer, selectorAnswer}
+use Rattle.compiled.specs.Answer.{numberAnswer, numberWithin, textAnswer, textWithin, placeAnswer, valueAnswer, headAnswer, selectorAnswer}
 use Rattle.compiled.specs.Sheet.{CompiledSelector, Head}
 use Rattle.compiled.specs.declared.numbers.NumberAnswer.{NumberAnswer}
 use Rattle.compiled.specs.declared.numbers.NumberAnswer.the-variants as number
 use Rattle.compiled.specs.declared.texts.TextAnswer.{TextAnswer}
 use Rattle.compiled.specs.declared.texts.TextAnswer.the-variants as text
+use Rattle.compiled.specs.declared.styles.ValueAnswer.{ValueAnswer}
+use Rattle.compiled.specs.declared.styles.ValueAnswer.the-variants as value
 use Rattle.compiled.specs.declared.places.PlaceAnswer.{PlaceAnswer}
 use Rattle.compiled.specs.declared.places.PlaceAnswer.the-variants as place
 use Rattle.compiled.specs.declared.sheets.HeadAnswer.{HeadAnswer}
@@ -84,6 +87,26 @@ module _ (d : Decoded Span) (r : TextAnswer) (e : r ≡ textAnswer d) where
       go : (d : Decoded Span) → Reaches 1 len i d → Holds (λ n x. x .start + x .size ≡ n) d → textWithin len (textAnswer d)
       go (read n v) h k = (h .1, k)
       go (fault p) h k = tt
+
+-- ---- values of slots
+module _ (d : Decoded Value) (r : ValueAnswer) (e : r ≡ valueAnswer d) where
+  -- a value was read
+  pub value-read : (n : ℕ) (v : Value) → r ≡ value.Value n v → d ≡ read n v
+  unfolding valueAnswer
+  value-read n v p = go d (sym p ∙ e)
+    where
+      go : (d : Decoded Value) → value.Value n v ≡ valueAnswer d → d ≡ read n v
+      go (read m w) q = cc
+      go (fault q) q′ = absurd (let z : _≡_ {A = ℕ} 0 1 = cc in omega arith)
+
+  -- there is a fault
+  pub value-fault : (p : ℕ) → r ≡ value.Fault p → d ≡ fault p
+  unfolding valueAnswer
+  value-fault p q = go d (sym q ∙ e)
+    where
+      go : (d : Decoded Value) → value.Fault p ≡ valueAnswer d → d ≡ fault p
+      go (read m w) q = absurd (let z : _≡_ {A = ℕ} 0 1 = cc in omega arith)
+      go (fault p′) q = cc
 
 -- ---- places
 -- what was read does not matter

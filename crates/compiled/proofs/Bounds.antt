@@ -9,7 +9,7 @@ use lib.Dec.{leb, ltb}
 use lib.ListN.{length, getD}
 use Rattle.combinators.specs.Choice.{pick, is, within}
 use Rattle.combinators.proofs.Rules.{pick-holds, within-true}
-use Rattle.syntax.specs.Layout.{colourSlot, displaySlot, whiteSpaceSlot, contentSlot}
+use Rattle.syntax.specs.Layout.{colourSlot, displaySlot, whiteSpaceSlot, contentSlot, lastSlot, styleIn}
 use Rattle.syntax.specs.RuleLayout.{starKind, nthKind, attributeEqualKind, pseudoNumber}
 use Rattle.syntax.specs.Selector.{none, after}
 use Rattle.syntax.specs.Style.{agentOrigin, authorOrigin}
@@ -17,7 +17,7 @@ use Rattle.compiled.specs.Decoded.{Decoded, read, fault, andThen, mapped
 use Rattle.compiled.specs.Number.{groupValues, mostGroups, numberLimit, limited, groupsAt, numberAt, rangedAt}
 use Rattle.compiled.specs.Text.{Span, spanAt}
 use Rattle.compiled.specs.Component.{isMark, nameAt, secondNumberAt, numbersAt, secondNameAt, namesAt, bodyAt, writtenAt, componentAt, componentIn}
-use Rattle.compiled.specs.Style.{greatestColour, greatestWhiteSpace, contentAt, numberUpTo, valueAt, slotAt, styleNumbersAt, styleIn, styleAt}
+use Rattle.compiled.specs.Style.{greatestColour, greatestWhiteSpace, contentAt, numberUpTo, valueAt, valuedAt, slotAt, styleNumbersAt, styleAt}
 use Rattle.compiled.specs.Sheet.{CompiledSelector, countAt, pseudoAt, headAt, stylesAt, partsAt, selectorOf, selectorAt, selectorsAt, ending, wholeAt, decode}
 
 -- what was read from i on takes at least `least` bytes and ends within the `len` bytes that there are; a fault lies within them or at their end
@@ -145,9 +145,9 @@ module _ (t : List ℕ) where
   component-reaches i = reaches-mapped (length t) (componentIn t) (writtenAt t i) 1 i (written-reaches i)
 
   -- ---- styles
-  value-reaches : (important slot n : ℕ) → n ≤ length t → Reaches 0 (length t) n (valueAt t important slot n)
+  value-reaches : (slot n : ℕ) → n ≤ length t → Reaches 0 (length t) n (valueAt t slot n)
   unfolding valueAt contentAt numberUpTo
-  value-reaches important slot n l =
+  value-reaches slot n l =
       pick-holds (Reaches 0 (length t) n) (is slot displaySlot) _ _ (λ _. reaches-read (length t) n 0 n _ (omega arith) l)
       (λ _. pick-holds (Reaches 0 (length t) n) (is slot contentSlot) _ _
       (λ _. weaker 1 n _ (reaches-mapped (length t) _ (spanAt t n) 1 n (span-reaches n)))
@@ -157,11 +157,11 @@ module _ (t : List ℕ) where
 
   -- what the bytes of a style say
   pub style-numbers-reach : (i : ℕ) → Reaches 1 (length t) i (styleNumbersAt t i)
-  unfolding styleNumbersAt slotAt
+  unfolding styleNumbersAt slotAt valuedAt
   style-numbers-reach i =
       reaches-then (length t) (rangedAt t i 0 1) _ 1 0 i (ranged-reaches i 0 1)
-      (λ n important _. weaker 1 n _ (reaches-then (length t) (rangedAt t n colourSlot contentSlot) (λ m slot. valueAt t important slot m) 1 0 n (ranged-reaches n colourSlot contentSlot)
-      (λ m slot l. value-reaches important slot m l)))
+      (λ n important _. weaker 1 n _ (reaches-then (length t) (rangedAt t n colourSlot lastSlot) _ 1 0 n (ranged-reaches n colourSlot lastSlot)
+      (λ m slot l. reaches-mapped (length t) _ (valueAt t slot m) 0 m (value-reaches slot m l))))
 
   -- a style
   pub style-reaches : (i : ℕ) → Reaches 1 (length t) i (styleAt t i)
@@ -253,14 +253,6 @@ module _ {A B : Type 0} (P : ℕ → B → Type 0) where
   holds-mapped f (fault p) h = tt
 
 module _ (t : List ℕ) (i : ℕ) where
-  -- a number in its range is in it
-  pub ranged-holds : (lo hi : ℕ) → Holds (λ n v. v ≤ hi) (rangedAt t i lo hi)
-  unfolding rangedAt
-  ranged-holds lo hi =
-      holds-then (λ n v. v ≤ hi) (numberAt t i) _
-      (λ n v _. pick-holds (Holds (λ m w. w ≤ hi)) (within v lo hi) (read n v) (fault i)
-      (λ e. holds-value (λ m w. w ≤ hi) n v (within-true v lo hi e .1)) (λ _. holds-fault (λ m w. w ≤ hi) i))
-
   -- what is read of a text ends with it
   pub span-holds : Holds (λ n x. x .start + x .size ≡ n) (spanAt t i)
   unfolding spanAt

@@ -1,33 +1,31 @@
 -- Styles: what is written is read back wherever it lies.
 use mathlib.Core.Path.{_≡_, refl, sym, ap, _∙_}
 use mathlib.Core.Bool.{Bool, true, false}
-use mathlib.Core.List.{List, [], _∷_, _++_, append-nil}
+use mathlib.Core.List.{List, [], _++_}
 use Prim.Native.Nat.{ℕ, _+_, _*_, _≤_, _<_}
 use native.Mathlib.Nat.{add-zero}
 use native.Mathlib.Omega.{arith}
-use lib.ListN.{length, getD, drop, length-append}
+use lib.ListN.{length, drop, length-append}
 use Rattle.combinators.specs.Choice.{pick, is}
 use Rattle.syntax.specs.Declaration.{Colour, WhiteSpace, normal, pre, preWrap}
-use Rattle.syntax.specs.Layout as layout
-use Rattle.syntax.specs.Layout.{flag, colourNumber, whiteSpaceNumber, colourSlot, contentSlot, styleValue, styleSecond, styleTextOf, styleText, styleRowOf, styleRow, readStyle, styleRows, styleTexts}
-use Rattle.syntax.specs.Stream.{readMany, rowsMany, textsMany}
+use Rattle.syntax.specs.Layout.{flag, flagOf, colourNumber, whiteSpaceNumber, colourSlot, lastSlot, styleTextOf, styleText, styleSlotOf, valueFrom, numbersFrom, styleIn}
 use Rattle.syntax.specs.Style as style
 use Rattle.syntax.specs.Style.{Style, StyleDecl}
 use Rattle.syntax.proofs.Back as back
 use Rattle.syntax.proofs.Back.{OfBytes}
 use Rattle.syntax.proofs.Streams.{Held, held-left, held-right}
-use Rattle.compiled.specs.Decoded.{read, andThen}
+use Rattle.compiled.specs.Decoded.{read}
 use Rattle.compiled.specs.Number.{numberBytes, rangedAt}
 use Rattle.compiled.specs.Text.{spanAt}
-use Rattle.compiled.specs.Style.{greatestColour, greatestWhiteSpace, styleSlotOf, styleBody, styleBytes, StyleNumbers, styleNumbers, contentAt, numberUpTo, valueAt, slotAt, styleNumbersAt, styleIn, styleAt}
+use Rattle.compiled.specs.Style.{greatestColour, greatestWhiteSpace, styleBody, styleBytes, contentAt, numberUpTo, valueAt, valuedAt, slotAt, styleNumbersAt, styleAt}
 use Rattle.compiled.proofs.Fits.{TextFits, StyleFits}
 use Rattle.compiled.proofs.Following.{then-read, mapped-read, ends-at}
 use Rattle.compiled.proofs.NumberBack.{number-some, ranged-back}
 use Rattle.compiled.proofs.TextBack.{span, span-back, text-held}
 
 -- ---- numbers in their ranges
--- a slot is one of five
-slot-le : (s : Style) → styleSlotOf s ≤ contentSlot
+-- a slot is none behind the last
+slot-le : (s : Style) → styleSlotOf s ≤ lastSlot
 unfolding styleSlotOf
 slot-le (style.colour c) = omega arith
 slot-le (style.background c) = omega arith
@@ -60,10 +58,6 @@ style-some d =
     omega (arith, length-append (numberBytes (flag (d .important))) (numberBytes (styleSlotOf (d .style)) ++ styleBody (d .style)), number-some (flag (d .important)))
 
 -- ---- read back
--- the first of some styles
-abbrev firstOf : List StyleDecl → StyleDecl
-firstOf ds = getD ds 0 (record { style = style.displayNone; important = false })
-
 -- where the text of a style lies whose body starts at n: behind its length
 abbrev pub textPlace : ℕ → Style → ℕ
 textPlace n s = n + length (numberBytes (length (styleTextOf s)))
@@ -73,51 +67,28 @@ module _ (t : List ℕ) where
   held-none : (f : ℕ) → Held t f []
   held-none f = record { more = drop f t; held = refl }
 
-  -- the text of one style
-  held-one : (d : StyleDecl) (f : ℕ) → Held t f (styleText d) → Held t f (styleTexts (d ∷ []))
-  unfolding styleTexts textsMany
-  held-one d f h = rw append-nil h
+  -- ---- the value of a style, and where its text lies
+  -- what stands at n, behind the slot, is read as the value
+  body-value : (s : Style) (n : ℕ) → back.StyleFits s → TextFits (styleTextOf s) → Held t n (styleBody s)
+      → valueAt t (styleSlotOf s) n ≡ read (n + length (styleBody s)) (valueFrom (textPlace n s) s)
+  unfolding valueAt contentAt numberUpTo styleSlotOf styleBody styleTextOf valueFrom back.StyleFits pick is
+  body-value (style.colour c) n u f h =
+      mapped-read _ (rangedAt t n 0 greatestColour) _ _ (ranged-back t n 0 greatestColour (colourNumber c) (omega (arith, colour-le c u)) (omega arith) (colour-le c u) h)
+  body-value (style.background c) n u f h =
+      mapped-read _ (rangedAt t n 0 greatestColour) _ _ (ranged-back t n 0 greatestColour (colourNumber c) (omega (arith, colour-le c u)) (omega arith) (colour-le c u) h)
+  body-value style.displayNone n u f h = ends-at _ _ _ (sym (add-zero n))
+  body-value (style.whiteSpace w) n u f h =
+      mapped-read _ (rangedAt t n 0 greatestWhiteSpace) _ _ (ranged-back t n 0 greatestWhiteSpace (whiteSpaceNumber w) (omega (arith, white-space-le w)) (omega arith) (white-space-le w) h)
+  body-value (style.content x) n u f h = mapped-read _ (spanAt t n) _ (span t n x h) (span-back t n x h (f .short))
 
-  -- the numbers of a style's row say the style
-  row-back : (d : StyleDecl) (f : ℕ) → back.StyleFits (d .style) → Held t f (styleText d) → layout.stylesAt (styleRows f (d ∷ []) ++ []) t 1 ≡ d ∷ []
-  row-back d f u h = back.styles-back t (d ∷ []) f [] (u, tt) (held-one d f h)
-
-  in-back : (i : Bool) (f : ℕ) (s : Style) → back.StyleFits s → Held t f (styleTextOf s)
-      → styleIn t (styleNumbers (flag i) (styleSlotOf s) (getD (styleRowOf (flag i) f s) styleValue 0) (getD (styleRowOf (flag i) f s) styleSecond 0)) ≡ record { style = s; important = i }
-  unfolding styleIn styleNumbers styleSlotOf styleRowOf layout.stylesAt styleRows rowsMany readMany readStyle styleRow styleText
-  in-back i f (style.colour c) u h = ap firstOf (row-back (record { style = (style.colour c); important = i }) f u h)
-  in-back i f (style.background c) u h = ap firstOf (row-back (record { style = (style.background c); important = i }) f u h)
-  in-back i f style.displayNone u h = ap firstOf (row-back (record { style = style.displayNone; important = i }) f u h)
-  in-back i f (style.whiteSpace w) u h = ap firstOf (row-back (record { style = (style.whiteSpace w); important = i }) f u h)
-  in-back i f (style.content x) u h = ap firstOf (row-back (record { style = (style.content x); important = i }) f u h)
-
-  -- ---- the numbers of a style, and where its text lies
-  module _ (i : Bool) where
-    -- those of a style whose text starts at f, as a style row has them
-    abbrev numbersAt : ℕ → Style → StyleNumbers
-    numbersAt f s = styleNumbers (flag i) (styleSlotOf s) (getD (styleRowOf (flag i) f s) styleValue 0) (getD (styleRowOf (flag i) f s) styleSecond 0)
-
-    -- what stands at n, behind the slot, is read as these numbers
-    body-numbers : (s : Style) (n : ℕ) → back.StyleFits s → TextFits (styleTextOf s) → Held t n (styleBody s)
-        → valueAt t (flag i) (styleSlotOf s) n ≡ read (n + length (styleBody s)) (numbersAt (textPlace n s) s)
-    unfolding valueAt contentAt numberUpTo styleSlotOf styleBody styleTextOf styleRowOf back.StyleFits pick is
-    body-numbers (style.colour c) n u f h =
-        mapped-read _ (rangedAt t n 0 greatestColour) _ _ (ranged-back t n 0 greatestColour (colourNumber c) (omega (arith, colour-le c u)) (omega arith) (colour-le c u) h)
-    body-numbers (style.background c) n u f h =
-        mapped-read _ (rangedAt t n 0 greatestColour) _ _ (ranged-back t n 0 greatestColour (colourNumber c) (omega (arith, colour-le c u)) (omega arith) (colour-le c u) h)
-    body-numbers style.displayNone n u f h = ends-at _ _ _ (sym (add-zero n))
-    body-numbers (style.whiteSpace w) n u f h =
-        mapped-read _ (rangedAt t n 0 greatestWhiteSpace) _ _ (ranged-back t n 0 greatestWhiteSpace (whiteSpaceNumber w) (omega (arith, white-space-le w)) (omega arith) (white-space-le w) h)
-    body-numbers (style.content x) n u f h = mapped-read _ (spanAt t n) _ (span t n x h) (span-back t n x h (f .short))
-
-    -- its text lies behind its length
-    body-text : (s : Style) (n : ℕ) → Held t n (styleBody s) → Held t (textPlace n s) (styleTextOf s)
-    unfolding styleBody styleTextOf
-    body-text (style.colour c) n h = held-none (textPlace n (style.colour c))
-    body-text (style.background c) n h = held-none (textPlace n (style.background c))
-    body-text style.displayNone n h = held-none (textPlace n style.displayNone)
-    body-text (style.whiteSpace w) n h = held-none (textPlace n (style.whiteSpace w))
-    body-text (style.content x) n h = text-held t n x h
+  -- its text lies behind its length
+  body-text : (s : Style) (n : ℕ) → Held t n (styleBody s) → Held t (textPlace n s) (styleTextOf s)
+  unfolding styleBody styleTextOf
+  body-text (style.colour c) n h = held-none (textPlace n (style.colour c))
+  body-text (style.background c) n h = held-none (textPlace n (style.background c))
+  body-text style.displayNone n h = held-none (textPlace n style.displayNone)
+  body-text (style.whiteSpace w) n h = held-none (textPlace n (style.whiteSpace w))
+  body-text (style.content x) n h = text-held t n x h
 
   module _ (d : StyleDecl) (i : ℕ) (h : Held t i (styleBytes d)) where
     -- its flag, its slot and its body
@@ -142,23 +113,25 @@ module _ (t : List ℕ) where
     -- the text lies there
     pub text-there : Held t place (styleText d)
     unfolding styleText
-    text-there = body-text (d .important) (d .style) (i + length a + length b) (held-right t (i + length a) b c behind-flag)
+    text-there = body-text (d .style) (i + length a + length b) (held-right t (i + length a) b c behind-flag)
 
-    -- a style is read as the numbers of its row
-    pub numbers-back : StyleFits d → styleNumbersAt t i ≡ read (i + length (styleBytes d)) (numbersAt (d .important) place (d .style))
-    unfolding styleNumbersAt slotAt styleBytes styleText
+    -- a style is read as its numbers
+    pub numbers-back : StyleFits d → styleNumbersAt t i ≡ read (i + length (styleBytes d)) (numbersFrom place d)
+    unfolding styleNumbersAt slotAt valuedAt styleBytes styleText numbersFrom
     numbers-back f =
         let e : i + length a + length b + length c ≡ i + length (a ++ (b ++ c)) = omega (arith, length-append a (b ++ c), length-append b c) in
-        then-read (rangedAt t i 0 1) (λ n important. andThen (rangedAt t n colourSlot contentSlot) (λ m slot. valueAt t important slot m)) _ (flag (d .important))
+        then-read (rangedAt t i 0 1) (λ n important. slotAt t (flagOf important) n) _ (flag (d .important))
         (ranged-back t i 0 1 (flag (d .important)) (omega (arith, flag-le (d .important))) (omega arith) (flag-le (d .important)) (held-left t i a (b ++ c) h))
-        ∙ then-read (rangedAt t (i + length a) colourSlot contentSlot) (λ m slot. valueAt t (flag (d .important)) slot m) _ (styleSlotOf (d .style))
-        (ranged-back t (i + length a) colourSlot contentSlot (styleSlotOf (d .style)) (omega (arith, slot-le (d .style))) (omega arith) (slot-le (d .style)) (held-left t (i + length a) b c behind-flag))
-        ∙ body-numbers (d .important) (d .style) (i + length a + length b) (f .colour) (f .text) (held-right t (i + length a) b c behind-flag)
+        ∙ ap (λ (f : Bool). slotAt t f (i + length a)) (back.flag-back (d .important))
+        ∙ then-read (rangedAt t (i + length a) colourSlot lastSlot) (λ m slot. valuedAt t (d .important) slot m) _ (styleSlotOf (d .style))
+        (ranged-back t (i + length a) colourSlot lastSlot (styleSlotOf (d .style)) (omega (arith, slot-le (d .style))) (omega arith) (slot-le (d .style)) (held-left t (i + length a) b c behind-flag))
+        ∙ mapped-read _ (valueAt t (styleSlotOf (d .style)) (i + length a + length b)) _ _
+        (body-value (d .style) (i + length a + length b) (f .colour) (f .text) (held-right t (i + length a) b c behind-flag))
         ∙ ends-at _ _ _ e
 
   -- a style is read back
   pub style-back : (d : StyleDecl) (i : ℕ) → StyleFits d → Held t i (styleBytes d) → styleAt t i ≡ read (i + length (styleBytes d)) d
-  unfolding styleAt styleText
+  unfolding styleAt
   style-back d i f h =
       mapped-read (styleIn t) (styleNumbersAt t i) _ _ (numbers-back d i h f)
-      ∙ rw (in-back (d .important) (place d i h) (d .style) (f .colour) (text-there d i h))
+      ∙ rw (back.numbers-say t (place d i h) d (f .colour) (text-there d i h))

@@ -1,158 +1,163 @@
 -- The returns of the readers of styles.
 use mathlib.Core.Path.{_≡_, refl, sym, ap, _∙_}
+use mathlib.Core.Bool.{Bool}
 use mathlib.Core.List.{List}
-use Prim.Native.Nat.{ℕ, _+_, _≤_}
+use Prim.Native.Nat.{ℕ, _+_, _≤_, _<_}
 use native.Mathlib.Omega.{arith}
+use lib.Dec.{eqb}
 use lib.ListN.{length}
 use Rattle.combinators.specs.Choice.{is}
-use Rattle.combinators.proofs.Rules.{pick-true, pick-false, pick-holds, is-yes, is-no}
-use Rattle.syntax.specs.Layout.{colourSlot, displaySlot, whiteSpaceSlot, contentSlot}
+use Rattle.combinators.proofs.Rules.{pick-true, pick-false, is-yes, is-no}
+use Rattle.syntax.specs.Layout.{flagOf, colourSlot, displaySlot, whiteSpaceSlot, contentSlot, lastSlot, styleIn}
+use Rattle.syntax.specs.declared.styles.Value.{Value}
+use Rattle.syntax.specs.declared.styles.StyleNumbers.{StyleNumbers}
 use Rattle.compiled.specs.Decoded.{Decoded, read, fault, counted}
-use Rattle.compiled.specs.Number.{numberAt, rangedAt}
-use Rattle.compiled.specs.Text.{spanAt}
-use Rattle.compiled.specs.Style.{greatestColour, greatestWhiteSpace, StyleNumbers, styleNumbers, contentAt, numberUpTo, valueAt, slotAt, styleNumbersAt, styleIn, styleAt}
+use Rattle.compiled.specs.Number.{numberLimit, numberAt, rangedAt}
+use Rattle.compiled.specs.Text.{Span, spanAt}
+use Rattle.compiled.specs.Style.{greatestColour, greatestWhiteSpace, contentAt, numberUpTo, valueAt, valuedAt, slotAt, styleNumbersAt, styleAt}
 use Rattle.compiled.specs.Sheet.{stylesAt}
-use Rattle.compiled.specs.Answer.{numberAnswer, textAnswer, placeAnswer, styleAnswer, styleWithin}
+use Rattle.compiled.specs.Answer.{numberAnswer, textAnswer, textWithin, placeAnswer, valueAnswer, styleAnswer, styleWithin}
 use Rattle.compiled.specs.declared.numbers.NumberAnswer.{NumberAnswer}
 use Rattle.compiled.specs.declared.numbers.NumberAnswer.the-variants as number
 use Rattle.compiled.specs.declared.texts.TextAnswer.{TextAnswer}
 use Rattle.compiled.specs.declared.texts.TextAnswer.the-variants as text
 use Rattle.compiled.specs.declared.places.PlaceAnswer.{PlaceAnswer}
 use Rattle.compiled.specs.declared.places.PlaceAnswer.the-variants as place
+use Rattle.compiled.specs.declared.styles.ValueAnswer.{ValueAnswer}
+use Rattle.compiled.specs.declared.styles.ValueAnswer.the-variants as value
 use Rattle.compiled.specs.declared.styles.StyleAnswer.{StyleAnswer}
 use Rattle.compiled.specs.declared.styles.StyleAnswer.the-variants as style
-use Rattle.compiled.proofs.Answers.{number-read, number-fault, text-read, text-fault, place-mapped}
-use Rattle.compiled.proofs.Bounds.{Reaches, style-numbers-reach, Holds, holds-read, holds-value, holds-then, holds-mapped, ranged-holds, span-inside}
+use Rattle.compiled.proofs.Answers.{number-read, number-fault, text-read, text-fault, value-read, value-fault, place-mapped}
+use Rattle.compiled.proofs.Bounds.{Reaches, style-numbers-reach}
 use Rattle.compiled.proofs.Following.{then-read, then-fault, mapped-read, mapped-fault}
 
--- what was read
-answered : (d : Decoded StyleNumbers) (n important slot value second : ℕ) → d ≡ read n (styleNumbers important slot value second)
-    → style.Style n slot important value second ≡ styleAnswer d
-unfolding styleAnswer styleNumbers
-answered d n important slot value second e = ap styleAnswer (sym e)
+-- what was read of a value
+valued : (d : Decoded Value) (n : ℕ) (v : Value) → d ≡ read n v → value.Value n v ≡ valueAnswer d
+unfolding valueAnswer
+valued d n v e = ap valueAnswer (sym e)
+
+-- a fault
+valued-fault : (d : Decoded Value) (p : ℕ) → d ≡ fault p → value.Fault p ≡ valueAnswer d
+unfolding valueAnswer
+valued-fault d p e = ap valueAnswer (sym e)
+
+-- what was read of a style
+answered : (d : Decoded StyleNumbers) (n : ℕ) (x : StyleNumbers) → d ≡ read n x → style.Style n x ≡ styleAnswer d
+unfolding styleAnswer
+answered d n x e = ap styleAnswer (sym e)
 
 -- a fault
 answered-fault : (d : Decoded StyleNumbers) (p : ℕ) → d ≡ fault p → style.Fault p ≡ styleAnswer d
 unfolding styleAnswer
 answered-fault d p e = ap styleAnswer (sym e)
 
-module _ (s : List ℕ) (at important slot : ℕ) where
+-- where a text lies in fewer than 2^32 bytes, its numbers have 32 bits
+pub text-numbers : (len : ℕ) (r : TextAnswer) → textWithin len r → len < numberLimit → (n start size : ℕ) → r ≡ text.Text n start size → (start < numberLimit) × (size < numberLimit)
+unfolding textWithin
+text-numbers len r w l n start size e = let h : (n ≤ len) × (start + size ≡ n) = rw e at w in (omega (arith, h .0, h .1), omega (arith, h .0, h .1))
+
+module _ (s : List ℕ) (at : ℕ) where
   -- ---- behind the slot
   module _ (r : TextAnswer) (e : r ≡ textAnswer (spanAt s at)) where
     -- a text
-    pub content-read : (n start size : ℕ) → r ≡ text.Text n start size → style.Style n slot important start size ≡ styleAnswer (contentAt s important slot at)
+    pub content-read : (n start size : ℕ) → r ≡ text.Text n start size → value.Value n (record { number = start; second = size }) ≡ valueAnswer (contentAt s at)
     unfolding contentAt
-    content-read n start size p = answered _ n important slot start size (mapped-read _ (spanAt s at) n _ (text-read (spanAt s at) r e n start size p))
+    content-read n start size p = valued _ n _ (mapped-read _ (spanAt s at) n _ (text-read (spanAt s at) r e n start size p))
 
-    pub content-fault : (p : ℕ) → r ≡ text.Fault p → style.Fault p ≡ styleAnswer (contentAt s important slot at)
+    pub content-fault : (p : ℕ) → r ≡ text.Fault p → value.Fault p ≡ valueAnswer (contentAt s at)
     unfolding contentAt
     content-fault p q =
-        answered-fault _ p (mapped-fault (λ x. styleNumbers important slot (x .start) (x .size)) (spanAt s at) p (text-fault (spanAt s at) r e p q))
+        valued-fault _ p (mapped-fault (λ (x : Span). record { number = x .start; second = x .size }) (spanAt s at) p (text-fault (spanAt s at) r e p q))
 
   module _ (greatest : ℕ) (r : NumberAnswer) (e : r ≡ numberAnswer (rangedAt s at 0 greatest)) where
     -- a number
-    pub number-up-to : (n v : ℕ) → r ≡ number.Number n v → style.Style n slot important v 0 ≡ styleAnswer (numberUpTo greatest s important slot at)
+    pub number-up-to : (n v : ℕ) → r ≡ number.Number n v → value.Value n (record { number = v; second = 0 }) ≡ valueAnswer (numberUpTo greatest s at)
     unfolding numberUpTo
-    number-up-to n v p = answered _ n important slot v 0 (mapped-read _ (rangedAt s at 0 greatest) n v (number-read (rangedAt s at 0 greatest) r e n v p))
+    number-up-to n v p = valued _ n _ (mapped-read _ (rangedAt s at 0 greatest) n v (number-read (rangedAt s at 0 greatest) r e n v p))
 
-    pub number-up-to-fault : (p : ℕ) → r ≡ number.Fault p → style.Fault p ≡ styleAnswer (numberUpTo greatest s important slot at)
+    pub number-up-to-fault : (p : ℕ) → r ≡ number.Fault p → value.Fault p ≡ valueAnswer (numberUpTo greatest s at)
     unfolding numberUpTo
     number-up-to-fault p q =
-        answered-fault _ p (mapped-fault (λ v. styleNumbers important slot v 0) (rangedAt s at 0 greatest) p (number-fault (rangedAt s at 0 greatest) r e p q))
+        valued-fault _ p (mapped-fault (λ (v : ℕ). record { number = v; second = 0 }) (rangedAt s at 0 greatest) p (number-fault (rangedAt s at 0 greatest) r e p q))
 
-  -- ---- by the slot
-  -- nothing
-  pub value-display : slot ≡ displaySlot → style.Style at slot important 0 0 ≡ styleAnswer (valueAt s important slot at)
-  unfolding valueAt
-  value-display h = answered _ at important slot 0 0 (sym (pick-true _ _ _ _ (is-yes _ _ h) refl))
-
-  module _ (h : ¬ (slot ≡ displaySlot)) (r : StyleAnswer) where
-    -- a text
-    pub value-content : slot ≡ contentSlot → r ≡ styleAnswer (contentAt s important slot at) → r ≡ styleAnswer (valueAt s important slot at)
+  module _ (slot : ℕ) where
+    -- ---- by the slot
+    -- nothing
+    pub value-display : slot ≡ displaySlot → value.Value at (record { number = 0; second = 0 }) ≡ valueAnswer (valueAt s slot at)
     unfolding valueAt
-    value-content k e = e ∙ ap styleAnswer (pick-false _ _ _ _ (is-no _ _ h) (pick-true _ _ _ _ (is-yes _ _ k) refl))
+    value-display h = valued _ at _ (sym (pick-true _ _ _ _ (is-yes _ _ h) refl))
 
-    module _ (k : ¬ (slot ≡ contentSlot)) where
-      -- a word's number
-      pub value-white-space : slot ≡ whiteSpaceSlot → r ≡ styleAnswer (numberUpTo greatestWhiteSpace s important slot at)
-          → r ≡ styleAnswer (valueAt s important slot at)
+    module _ (h : ¬ (slot ≡ displaySlot)) (r : ValueAnswer) where
+      -- a text
+      pub value-content : slot ≡ contentSlot → r ≡ valueAnswer (contentAt s at) → r ≡ valueAnswer (valueAt s slot at)
       unfolding valueAt
-      value-white-space l e =
-          e ∙ ap styleAnswer (pick-false _ _ _ _ (is-no _ _ h) (pick-false _ _ _ _ (is-no _ _ k) (pick-true _ _ _ _ (is-yes _ _ l) refl)))
+      value-content k e = e ∙ ap valueAnswer (pick-false _ _ _ _ (is-no _ _ h) (pick-true _ _ _ _ (is-yes _ _ k) refl))
 
-      -- a colour
-      pub value-colour : ¬ (slot ≡ whiteSpaceSlot) → r ≡ styleAnswer (numberUpTo greatestColour s important slot at)
-          → r ≡ styleAnswer (valueAt s important slot at)
-      unfolding valueAt
-      value-colour l e =
-          e ∙ ap styleAnswer (pick-false _ _ _ _ (is-no _ _ h) (pick-false _ _ _ _ (is-no _ _ k) (pick-false _ _ _ _ (is-no _ _ l) refl)))
+      module _ (k : ¬ (slot ≡ contentSlot)) where
+        -- a word's number
+        pub value-white-space : slot ≡ whiteSpaceSlot → r ≡ valueAnswer (numberUpTo greatestWhiteSpace s at) → r ≡ valueAnswer (valueAt s slot at)
+        unfolding valueAt
+        value-white-space l e =
+            e ∙ ap valueAnswer (pick-false _ _ _ _ (is-no _ _ h) (pick-false _ _ _ _ (is-no _ _ k) (pick-true _ _ _ _ (is-yes _ _ l) refl)))
 
-module _ (s : List ℕ) (at important : ℕ) (r : NumberAnswer) (e : r ≡ numberAnswer (rangedAt s at colourSlot contentSlot)) where
+        -- a colour
+        pub value-colour : ¬ (slot ≡ whiteSpaceSlot) → r ≡ valueAnswer (numberUpTo greatestColour s at) → r ≡ valueAnswer (valueAt s slot at)
+        unfolding valueAt
+        value-colour l e =
+            e ∙ ap valueAnswer (pick-false _ _ _ _ (is-no _ _ h) (pick-false _ _ _ _ (is-no _ _ k) (pick-false _ _ _ _ (is-no _ _ l) refl)))
+
+    -- ---- the style of the slot
+    module _ (important : Bool) (r : ValueAnswer) (e : r ≡ valueAnswer (valueAt s slot at)) where
+      pub valued-read : (n : ℕ) (v : Value) → r ≡ value.Value n v
+          → style.Style n (record { slot = slot; important = important; value = v }) ≡ styleAnswer (valuedAt s important slot at)
+      unfolding valuedAt
+      valued-read n v p = answered _ n _ (mapped-read _ (valueAt s slot at) n v (value-read (valueAt s slot at) r e n v p))
+
+      -- there is no value
+      pub valued-none : (p : ℕ) → r ≡ value.Fault p → style.Fault p ≡ styleAnswer (valuedAt s important slot at)
+      unfolding valuedAt
+      valued-none p q =
+          answered-fault _ p (mapped-fault (λ (v : Value). record { slot = slot; important = important; value = v }) (valueAt s slot at) p (value-fault (valueAt s slot at) r e p q))
+
+module _ (s : List ℕ) (at : ℕ) (important : Bool) (r : NumberAnswer) (e : r ≡ numberAnswer (rangedAt s at colourSlot lastSlot)) where
   -- behind the slot
-  pub slot-read : (n slot : ℕ) → r ≡ number.Number n slot → (q : StyleAnswer) → q ≡ styleAnswer (valueAt s important slot n) → q ≡ styleAnswer (slotAt s important at)
+  pub slot-read : (n slot : ℕ) → r ≡ number.Number n slot → (q : StyleAnswer) → q ≡ styleAnswer (valuedAt s important slot n) → q ≡ styleAnswer (slotAt s important at)
   unfolding slotAt
   slot-read n slot p q h =
-      h ∙ ap styleAnswer (sym (then-read (rangedAt s at colourSlot contentSlot) (λ m k. valueAt s important k m) n slot (number-read _ r e n slot p)))
+      h ∙ ap styleAnswer (sym (then-read (rangedAt s at colourSlot lastSlot) (λ m k. valuedAt s important k m) n slot (number-read _ r e n slot p)))
 
   -- there is none
   pub slot-fault : (p : ℕ) → r ≡ number.Fault p → style.Fault p ≡ styleAnswer (slotAt s important at)
   unfolding slotAt
-  slot-fault p q = answered-fault _ p (then-fault (rangedAt s at colourSlot contentSlot) (λ m k. valueAt s important k m) p (number-fault _ r e p q))
-
--- ---- how great the numbers of a style are
-abbrev Valued : ℕ → ℕ → StyleNumbers → Type 0
-Valued len n x = (x .value ≤ greatestColour + len) × (x .second ≤ len)
-
-module _ (s : List ℕ) where
-  up-to-valued : (greatest important slot n : ℕ) → greatest ≤ greatestColour → Holds (Valued (length s)) (numberUpTo greatest s important slot n)
-  unfolding numberUpTo styleNumbers
-  up-to-valued greatest important slot n h =
-      holds-mapped (Valued (length s)) _ (rangedAt s n 0 greatest)
-      (λ m v e. let l = holds-read (λ k w. w ≤ greatest) (rangedAt s n 0 greatest) m v (ranged-holds s n 0 greatest) e in (omega arith, omega arith))
-
-  value-valued : (important slot n : ℕ) → Holds (Valued (length s)) (valueAt s important slot n)
-  unfolding valueAt contentAt styleNumbers
-  value-valued important slot n =
-      pick-holds (Holds (Valued (length s))) (is slot displaySlot) _ _ (λ _. holds-value (Valued (length s)) n _ (omega arith, omega arith))
-      (λ _. pick-holds (Holds (Valued (length s))) (is slot contentSlot) _ _
-      (λ _. holds-mapped (Valued (length s)) _ (spanAt s n) (λ m x e. let l = span-inside s n m x e in (omega arith, omega arith)))
-      (λ _. pick-holds (Holds (Valued (length s))) (is slot whiteSpaceSlot) _ _
-      (λ _. up-to-valued greatestWhiteSpace important slot n (omega arith))
-      (λ _. up-to-valued greatestColour important slot n (omega arith))))
-
-  style-valued : (at : ℕ) → Holds (Valued (length s)) (styleNumbersAt s at)
-  unfolding styleNumbersAt slotAt
-  style-valued at =
-      holds-then (Valued (length s)) (rangedAt s at 0 1) _
-      (λ n important _. holds-then (Valued (length s)) (rangedAt s n colourSlot contentSlot) _ (λ m slot _. value-valued important slot m))
+  slot-fault p q = answered-fault _ p (then-fault (rangedAt s at colourSlot lastSlot) (λ m k. valuedAt s important k m) p (number-fault _ r e p q))
 
 -- ---- a style
 module _ (s : List ℕ) (at : ℕ) where
-  within-read : (d : Decoded StyleNumbers) → Reaches 1 (length s) at d → Holds (Valued (length s)) d → styleWithin (length s) (styleAnswer d)
-  unfolding styleAnswer styleWithin Reaches Holds
-  within-read (read n x) h v = (h .1, v .0, v .1)
-  within-read (fault p) h v = tt
+  within-read : (d : Decoded StyleNumbers) → Reaches 1 (length s) at d → styleWithin (length s) (styleAnswer d)
+  unfolding styleAnswer styleWithin Reaches
+  within-read (read n x) h = h .1
+  within-read (fault p) h = tt
 
   bounded : (q : StyleAnswer) → q ≡ styleAnswer (styleNumbersAt s at) → (q ≡ styleAnswer (styleNumbersAt s at)) × styleWithin (length s) q
-  bounded q e = (e, rw e (within-read (styleNumbersAt s at) (style-numbers-reach s at) (style-valued s at)))
+  bounded q e = (e, rw e (within-read (styleNumbersAt s at) (style-numbers-reach s at)))
 
   module _ (r : NumberAnswer) (e : r ≡ numberAnswer (rangedAt s at 0 1)) where
     -- behind its first number
-    pub style-read : (n important : ℕ) → r ≡ number.Number n important → (q : StyleAnswer) → q ≡ styleAnswer (slotAt s important n)
+    pub style-read : (n important : ℕ) → r ≡ number.Number n important → (q : StyleAnswer) → q ≡ styleAnswer (slotAt s (eqb important 1) n)
         → (q ≡ styleAnswer (styleNumbersAt s at)) × styleWithin (length s) q
-    unfolding styleNumbersAt
+    unfolding styleNumbersAt flagOf is
     style-read n important p q h =
-        bounded q (h ∙ ap styleAnswer (sym (then-read (rangedAt s at 0 1) (λ m i. slotAt s i m) n important (number-read _ r e n important p))))
+        bounded q (h ∙ ap styleAnswer (sym (then-read (rangedAt s at 0 1) (λ m i. slotAt s (eqb i 1) m) n important (number-read _ r e n important p))))
 
     -- there is none
     pub style-fault : (p : ℕ) → r ≡ number.Fault p → (style.Fault p ≡ styleAnswer (styleNumbersAt s at)) × styleWithin (length s) (style.Fault p)
     unfolding styleNumbersAt
-    style-fault p q = bounded _ (answered-fault _ p (then-fault (rangedAt s at 0 1) (λ m i. slotAt s i m) p (number-fault _ r e p q)))
+    style-fault p q = bounded _ (answered-fault _ p (then-fault (rangedAt s at 0 1) (λ m i. slotAt s (flagOf i) m) p (number-fault _ r e p q)))
 
 -- ---- `skip_style`
 -- the place that an answer tells
 abbrev pub placeOf : StyleAnswer → PlaceAnswer
-placeOf (style.Style n slot important value second) = place.At n
+placeOf (style.Style n x) = place.At n
 placeOf (style.Fault p) = place.Fault p
 
 place-of : (d : Decoded StyleNumbers) → placeOf (styleAnswer d) ≡ placeAnswer d

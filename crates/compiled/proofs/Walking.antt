@@ -7,17 +7,18 @@ use native.Mathlib.Omega.{arith}
 use lib.ListN.{length}
 use Rattle.combinators.specs.Choice.{is}
 use Rattle.combinators.proofs.Rules.{pick-holds, is-true}
-use Rattle.syntax.specs.Layout.{flagOf, styleOf}
+use Rattle.syntax.specs.Layout.{styleIn}
 use Rattle.syntax.specs.RuleLayout.{pseudoFrom}
 use Rattle.syntax.specs.Selector.{Component, nth, attributeEqual}
 use Rattle.syntax.specs.Signed.{signedOf}
 use Rattle.syntax.specs.Stream.{part}
 use Rattle.syntax.specs.Style.{agentOrigin}
+use Rattle.syntax.specs.declared.styles.StyleNumbers.{StyleNumbers}
 use Rattle.compiled.specs.Decoded.{Decoded, read, fault, andThen, mapped, counted}
 use Rattle.compiled.specs.Number.{numberAt}
 use Rattle.compiled.specs.Text.{textIn}
 use Rattle.compiled.specs.Component.{Written, mark, name, numbers, names, writtenAt, markOf, namedOf, componentIn, componentAt}
-use Rattle.compiled.specs.Style.{StyleNumbers, styleNumbersAt, styleIn, styleAt}
+use Rattle.compiled.specs.Style.{styleNumbersAt, styleAt}
 use Rattle.compiled.specs.Sheet.{CompiledSelector, Head, headAt, stylesAt, Parts, partsAt, selectorOf, selectorAt, selectorsAt, ending, wholeAt, decode}
 use Rattle.compiled.specs.Answer.{writtenAnswer, componentAnswer, styleAnswer, checkAnswer}
 use Rattle.compiled.specs.declared.components.ComponentAnswer.{ComponentAnswer}
@@ -77,7 +78,7 @@ module _ (s : List ℕ) (at : ℕ) (r : ComponentAnswer) (e : r ≡ componentAns
 
 -- ---- one style
 abbrev styleNumbersOf : StyleAnswer → Decoded StyleNumbers
-styleNumbersOf (style.Style n slot important value second) = read n (record { slot = slot; important = important; value = value; second = second })
+styleNumbersOf (style.Style n x) = read n x
 styleNumbersOf (style.Fault p) = fault p
 
 style-numbers-of : (d : Decoded StyleNumbers) → styleNumbersOf (styleAnswer d) ≡ d
@@ -91,10 +92,9 @@ module _ (s : List ℕ) (at : ℕ) (r : StyleAnswer) (e : r ≡ styleAnswer (sty
   style-is q p = ap (mapped (styleIn s)) (sym (style-numbers-of (styleNumbersAt s at)) ∙ ap styleNumbersOf (sym e ∙ p))
 
   -- the style of its numbers, the compiled bytes being the text store
-  pub at-style : (n slot important value second : ℕ) → r ≡ style.Style n slot important value second
-      → styleAt s at ≡ read n (record { style = styleOf s slot value second; important = flagOf important })
-  unfolding mapped styleIn
-  at-style n slot important value second p = style-is _ p
+  pub at-style : (n : ℕ) (x : StyleNumbers) → r ≡ style.Style n x → styleAt s at ≡ read n (styleIn s x)
+  unfolding mapped
+  at-style n x p = style-is _ p
 
   -- there is none
   pub at-style-fault : (p : ℕ) → r ≡ style.Fault p → styleAt s at ≡ fault p

@@ -9,16 +9,18 @@ use Rattle.combinators.specs.Choice.{pick, or, is}
 use Rattle.combinators.specs.Store.{Store, emits}
 use Rattle.combinators.proofs.Emitted.{then}
 use Rattle.combinators.proofs.Rules.{never, pick-true, pick-false, either, is-yes, is-no, is-true}
-use Rattle.syntax.specs.Layout.{flag, flagOf, colourNumber, colourOf, whiteSpaceNumber, whiteSpaceOf, colourSlot, backgroundSlot, displaySlot, whiteSpaceSlot, contentSlot, styleOf}
+use Rattle.syntax.specs.Layout.{flag, colourNumber, colourOf, whiteSpaceNumber, whiteSpaceOf, colourSlot, backgroundSlot, displaySlot, whiteSpaceSlot, contentSlot, styleSlotOf, styleOf, styleIn}
 use Rattle.syntax.specs.RuleLayout.{starKind, classKind, elementKind, hashKind, childKind, descendantKind, nthKind, attributeKind, attributeEqualKind, componentKind, componentFrom}
 use Rattle.syntax.specs.Selector.{attributeEqual}
 use Rattle.syntax.specs.Stream.{part}
 use Rattle.syntax.specs.Style as style
 use Rattle.syntax.specs.Style.{Style}
+use Rattle.syntax.specs.declared.styles.Value.{Value}
+use Rattle.syntax.specs.declared.styles.StyleNumbers.{StyleNumbers}
 use Rattle.compiled.specs.Number.{numberLimit, numberBytes}
 use Rattle.compiled.specs.Text.{textBytes}
 use Rattle.compiled.specs.Component.{componentBody, componentBytes, isMark, isName}
-use Rattle.compiled.specs.Style.{styleSlotOf, styleBody, styleBytes}
+use Rattle.compiled.specs.Style.{styleBody, styleBytes}
 use Rattle.compiled.specs.Sheet.{headBytes}
 use Rattle.compiled.proofs.NumberBack.{signed-number-back}
 
@@ -98,16 +100,6 @@ module _ (t : List ℕ) (kind f a b : ℕ) (o₀ o₁ : Store) where
   equal-written m k n p = p ∙ ap (emits o₀) (sym (ap componentBytes (equal-is m k n) ∙ equal-bytes _ _))
 
 -- ---- styles
--- a flag that is set
-pub flag-set : (n : ℕ) → n ≡ 1 → 1 ≡ flag (flagOf n)
-unfolding flag flagOf
-flag-set n e = ap flag (sym (is-yes n 1 e))
-
--- one that is not
-pub flag-unset : (n : ℕ) → ¬ (n ≡ 1) → 0 ≡ flag (flagOf n)
-unfolding flag flagOf
-flag-unset n e = ap flag (sym (is-no n 1 e))
-
 -- the words of `white-space`
 pub word-normal : (n : ℕ) → n ≡ 0 → 0 ≡ whiteSpaceNumber (whiteSpaceOf n)
 unfolding whiteSpaceNumber whiteSpaceOf
@@ -140,31 +132,31 @@ colour-number : (v : ℕ) → colourNumber (colourOf v) ≡ v
 unfolding colourNumber colourOf
 colour-number v = omega arith
 
-module _ (t : List ℕ) (slot value second : ℕ) (o₀ o₁ : Store) where
-  -- what is written of a style
-  abbrev pub slotBytes : Style → List ℕ
-  slotBytes s = numberBytes (styleSlotOf s) ++ styleBody s
+-- what is written of a style behind its flag
+abbrev pub slotBytes : Style → List ℕ
+slotBytes s = numberBytes (styleSlotOf s) ++ styleBody s
 
-  stated : (s : Style) (xs : List ℕ) → styleOf t slot value second ≡ s → slotBytes s ≡ xs → o₁ ≡ emits o₀ xs
-      → o₁ ≡ emits o₀ (slotBytes (styleOf t slot value second))
+module _ (t : List ℕ) (slot : ℕ) (v : Value) (o₀ o₁ : Store) where
+  stated : (s : Style) (xs : List ℕ) → styleOf t slot v ≡ s → slotBytes s ≡ xs → o₁ ≡ emits o₀ xs
+      → o₁ ≡ emits o₀ (slotBytes (styleOf t slot v))
   stated s xs e f p = p ∙ ap (emits o₀) (sym (ap slotBytes e ∙ f))
 
   -- a colour
-  pub colour-written : slot ≡ colourSlot → o₁ ≡ emits o₀ (numberBytes colourSlot ++ numberBytes value) → o₁ ≡ emits o₀ (slotBytes (styleOf t slot value second))
+  pub colour-written : slot ≡ colourSlot → o₁ ≡ emits o₀ (numberBytes colourSlot ++ numberBytes (v .number)) → o₁ ≡ emits o₀ (slotBytes (styleOf t slot v))
   unfolding styleOf styleSlotOf styleBody
-  colour-written a p = stated (style.colour (colourOf value)) _ (sym (pick-true _ _ _ _ (is-yes _ _ a) refl)) (rw (colour-number value)) p
+  colour-written a p = stated (style.colour (colourOf (v .number))) _ (sym (pick-true _ _ _ _ (is-yes _ _ a) refl)) (rw (colour-number (v .number))) p
 
   module _ (a : ¬ (slot ≡ colourSlot)) where
     -- a background
-    pub background-written : slot ≡ backgroundSlot → o₁ ≡ emits o₀ (numberBytes backgroundSlot ++ numberBytes value)
-        → o₁ ≡ emits o₀ (slotBytes (styleOf t slot value second))
+    pub background-written : slot ≡ backgroundSlot → o₁ ≡ emits o₀ (numberBytes backgroundSlot ++ numberBytes (v .number))
+        → o₁ ≡ emits o₀ (slotBytes (styleOf t slot v))
     unfolding styleOf styleSlotOf styleBody
     background-written b p =
-        stated (style.background (colourOf value)) _ (sym (pick-false _ _ _ _ (is-no _ _ a) (pick-true _ _ _ _ (is-yes _ _ b) refl))) (rw (colour-number value)) p
+        stated (style.background (colourOf (v .number))) _ (sym (pick-false _ _ _ _ (is-no _ _ a) (pick-true _ _ _ _ (is-yes _ _ b) refl))) (rw (colour-number (v .number))) p
 
     module _ (b : ¬ (slot ≡ backgroundSlot)) where
       -- `display: none`
-      pub display-written : slot ≡ displaySlot → o₁ ≡ emits o₀ (numberBytes displaySlot) → o₁ ≡ emits o₀ (slotBytes (styleOf t slot value second))
+      pub display-written : slot ≡ displaySlot → o₁ ≡ emits o₀ (numberBytes displaySlot) → o₁ ≡ emits o₀ (slotBytes (styleOf t slot v))
       unfolding styleOf styleSlotOf styleBody
       display-written c p =
           stated style.displayNone _ (sym (pick-false _ _ _ _ (is-no _ _ a) (pick-false _ _ _ _ (is-no _ _ b) (pick-true _ _ _ _ (is-yes _ _ c) refl))))
@@ -172,25 +164,25 @@ module _ (t : List ℕ) (slot value second : ℕ) (o₀ o₁ : Store) where
 
       module _ (c : ¬ (slot ≡ displaySlot)) where
         -- a word of `white-space`
-        pub white-space-written : slot ≡ whiteSpaceSlot → (n : ℕ) → n ≡ whiteSpaceNumber (whiteSpaceOf value)
-            → o₁ ≡ emits o₀ (numberBytes whiteSpaceSlot ++ numberBytes n) → o₁ ≡ emits o₀ (slotBytes (styleOf t slot value second))
+        pub white-space-written : slot ≡ whiteSpaceSlot → (n : ℕ) → n ≡ whiteSpaceNumber (whiteSpaceOf (v .number))
+            → o₁ ≡ emits o₀ (numberBytes whiteSpaceSlot ++ numberBytes n) → o₁ ≡ emits o₀ (slotBytes (styleOf t slot v))
         unfolding styleOf styleSlotOf styleBody
         white-space-written d n e p =
-            stated (style.whiteSpace (whiteSpaceOf value)) _
+            stated (style.whiteSpace (whiteSpaceOf (v .number))) _
             (sym (pick-false _ _ _ _ (is-no _ _ a) (pick-false _ _ _ _ (is-no _ _ b) (pick-false _ _ _ _ (is-no _ _ c) (pick-true _ _ _ _ (is-yes _ _ d) refl)))))
             (rw e) p
 
         -- a content
-        pub content-written : ¬ (slot ≡ whiteSpaceSlot) → o₁ ≡ emits o₀ (numberBytes contentSlot ++ textBytes (part t value second))
-            → o₁ ≡ emits o₀ (slotBytes (styleOf t slot value second))
+        pub content-written : ¬ (slot ≡ whiteSpaceSlot) → o₁ ≡ emits o₀ (numberBytes contentSlot ++ textBytes (part t (v .number) (v .second)))
+            → o₁ ≡ emits o₀ (slotBytes (styleOf t slot v))
         unfolding styleOf styleSlotOf styleBody
         content-written d p =
-            stated (style.content (part t value second)) _
+            stated (style.content (part t (v .number) (v .second))) _
             (sym (pick-false _ _ _ _ (is-no _ _ a) (pick-false _ _ _ _ (is-no _ _ b) (pick-false _ _ _ _ (is-no _ _ c) (pick-false _ _ _ _ (is-no _ _ d) refl)))))
             refl p
 
 -- a style: its flag, then its slot
-pub style-written : (o₀ o₁ o₂ : Store) (i n : ℕ) (s : Style) → n ≡ flag (flagOf i) → o₁ ≡ emits o₀ (numberBytes n)
-    → o₂ ≡ emits o₁ (numberBytes (styleSlotOf s) ++ styleBody s) → o₂ ≡ emits o₀ (styleBytes (record { style = s; important = flagOf i }))
-unfolding styleBytes
-style-written o₀ o₁ o₂ i n s e p q = then o₀ o₁ o₂ _ _ (p ∙ ap (λ (m : ℕ). emits o₀ (numberBytes m)) e) q
+pub style-written : (t : List ℕ) (x : StyleNumbers) (o₀ o₁ o₂ : Store) (n : ℕ) → n ≡ flag (x .important) → o₁ ≡ emits o₀ (numberBytes n)
+    → o₂ ≡ emits o₁ (slotBytes (styleOf t (x .slot) (x .value))) → o₂ ≡ emits o₀ (styleBytes (styleIn t x))
+unfolding styleBytes styleIn
+style-written t x o₀ o₁ o₂ n e p q = then o₀ o₁ o₂ _ _ (p ∙ ap (λ (m : ℕ). emits o₀ (numberBytes m)) e) q

@@ -2,10 +2,11 @@
 use Prim.Native.Nat.{ℕ, _+_, _≤_}
 use mathlib.Core.Path.{_≡_}
 use mathlib.Core.List.{List}
+use Rattle.syntax.specs.declared.styles.Value.{Value}
+use Rattle.syntax.specs.declared.styles.StyleNumbers.{StyleNumbers}
 use Rattle.compiled.specs.Decoded.{Decoded, read, fault}
 use Rattle.compiled.specs.Text.{Span}
 use Rattle.compiled.specs.Component.{Written, mark, name, numbers, names}
-use Rattle.compiled.specs.Style.{StyleNumbers, greatestColour}
 use Rattle.compiled.specs.Sheet.{CompiledSelector, Head}
 use Rattle.compiled.specs.declared.places.PlaceAnswer.{PlaceAnswer}
 use Rattle.compiled.specs.declared.places.PlaceAnswer.the-variants as place
@@ -15,6 +16,8 @@ use Rattle.compiled.specs.declared.texts.TextAnswer.{TextAnswer}
 use Rattle.compiled.specs.declared.texts.TextAnswer.the-variants as text
 use Rattle.compiled.specs.declared.components.ComponentAnswer.{ComponentAnswer}
 use Rattle.compiled.specs.declared.components.ComponentAnswer.the-variants as component
+use Rattle.compiled.specs.declared.styles.ValueAnswer.{ValueAnswer}
+use Rattle.compiled.specs.declared.styles.ValueAnswer.the-variants as value
 use Rattle.compiled.specs.declared.styles.StyleAnswer.{StyleAnswer}
 use Rattle.compiled.specs.declared.styles.StyleAnswer.the-variants as style
 use Rattle.compiled.specs.declared.sheets.HeadAnswer.{HeadAnswer}
@@ -69,13 +72,17 @@ componentWithin len (component.Names n a b start size) = (n ≤ len) × (a + b �
 componentWithin len (component.Fault p) = Unit
 
 -- ---- styles
+unfoldable pub valueAnswer : Decoded Value → ValueAnswer
+valueAnswer (read n v) = value.Value n v
+valueAnswer (fault p) = value.Fault p
+
 unfoldable pub styleAnswer : Decoded StyleNumbers → StyleAnswer
-styleAnswer (read n x) = style.Style n (x .slot) (x .important) (x .value) (x .second)
+styleAnswer (read n x) = style.Style n x
 styleAnswer (fault p) = style.Fault p
 
--- it ends within the bytes, and so does a content; another value is at most the greatest colour
+-- it ends within the bytes
 unfoldable pub styleWithin : ℕ → StyleAnswer → Type 0
-styleWithin len (style.Style n slot important value second) = (n ≤ len) × (value ≤ greatestColour + len) × (second ≤ len)
+styleWithin len (style.Style n x) = n ≤ len
 styleWithin len (style.Fault p) = Unit
 
 -- ---- the numbers before the components of a selector

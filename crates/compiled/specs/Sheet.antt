@@ -8,7 +8,7 @@ use lib.ListN.{length}
 use Rattle.combinators.specs.Choice.{pick, or, and, is, within}
 use Rattle.syntax.specs.Selector.{Component, element, PseudoElement, none, after}
 use Rattle.syntax.specs.Stream.{part, textsMany}
-use Rattle.syntax.specs.Layout.{flag, flagOf, colourNumber, colourOf, styleOf}
+use Rattle.syntax.specs.Layout.{flag, flagOf, colourNumber, colourOf, styleSlotOf, styleOf, styleIn}
 use Rattle.syntax.specs.RuleLayout.{componentKind, pseudoNumber, pseudoFrom}
 use Rattle.syntax.specs.Style as style
 use Rattle.syntax.specs.Style.{agentOrigin, authorOrigin, StyleDecl}
@@ -16,7 +16,7 @@ use Rattle.compiled.specs.Decoded.{Decoded, read, fault, andThen, mapped
 use Rattle.compiled.specs.Number.{groupBytes, numberBytes, limited, groupsAt, numberAt, rangedAt}
 use Rattle.compiled.specs.Text.{textBytes, spanAt, textIn}
 use Rattle.compiled.specs.Component.{componentBody, componentBytes, isMark, nameAt, bodyAt, writtenAt, markOf, namedOf, componentIn, componentAt}
-use Rattle.compiled.specs.Style.{styleSlotOf, styleBody, styleBytes, styleNumbers, numberUpTo, valueAt, slotAt, styleNumbersAt, styleIn, styleAt}
+use Rattle.compiled.specs.Style.{styleBody, styleBytes, numberUpTo, valueAt, valuedAt, slotAt, styleNumbersAt, styleAt}
 
 -- a selector with the styles of its rule; components rightmost first
 pub record CompiledSelector : Type 0 where
@@ -110,7 +110,7 @@ unfolding encode selectorBytes headBytes stylesBytes textsMany pseudoNumber comp
 case-encode = refl
 
 pub case-decode : decode redBytes ≡ read 14 (redSelector ∷ [])
-unfolding decode wholeAt ending selectorsAt selectorAt selectorOf headAt pseudoAt pseudoNumber countAt partsAt stylesAt pseudoFrom counted componentAt componentIn writtenAt bodyAt nameAt isMark markOf namedOf textIn spanAt part styleAt styleIn styleNumbers styleNumbersAt slotAt valueAt numberUpTo styleOf flagOf colourOf rangedAt numberAt groupsAt limited andThen mapped pick or and is within
+unfolding decode wholeAt ending selectorsAt selectorAt selectorOf headAt pseudoAt pseudoNumber countAt partsAt stylesAt pseudoFrom counted componentAt componentIn writtenAt bodyAt nameAt isMark markOf namedOf textIn spanAt part styleAt styleIn styleNumbersAt slotAt valuedAt valueAt numberUpTo styleOf flagOf colourOf rangedAt numberAt groupsAt limited andThen mapped pick or and is within
 case-decode = refl
 
 -- no selector

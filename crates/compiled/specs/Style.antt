@@ -1,12 +1,14 @@
 -- Styles of a compiled sheet: whether it is important, the slot, and the slot's value.
 use Prim.Native.Nat.{ℕ}
 use mathlib.Core.Path.{_≡_, refl}
-use mathlib.Core.Bool.{true, false}
+use mathlib.Core.Bool.{Bool, true, false}
 use mathlib.Core.List.{List, [], _∷_, _++_}
 use Rattle.combinators.specs.Choice.{pick, and, is, within}
-use Rattle.syntax.specs.Layout.{flag, flagOf, colourNumber, whiteSpaceNumber, colourSlot, backgroundSlot, displaySlot, whiteSpaceSlot, contentSlot, styleOf}
+use Rattle.syntax.specs.Layout.{flag, flagOf, colourNumber, whiteSpaceNumber, colourSlot, displaySlot, whiteSpaceSlot, contentSlot, lastSlot, styleSlotOf, styleOf, styleIn}
 use Rattle.syntax.specs.Style as style
 use Rattle.syntax.specs.Style.{Style, StyleDecl}
+use Rattle.syntax.specs.declared.styles.Value.{Value}
+use Rattle.syntax.specs.declared.styles.StyleNumbers.{StyleNumbers}
 use Rattle.compiled.specs.Decoded.{Decoded, read, fault, andThen, mapped}
 use Rattle.compiled.specs.Number.{groupBytes, numberBytes, limited, groupsAt, numberAt, rangedAt}
 use Rattle.compiled.specs.Text.{textBytes, spanAt}
@@ -21,13 +23,6 @@ greatestWhiteSpace = 2
 
 -- ---- written
 
-unfoldable pub styleSlotOf : Style → ℕ
-styleSlotOf (style.colour c) = colourSlot
-styleSlotOf (style.background c) = backgroundSlot
-styleSlotOf style.displayNone = displaySlot
-styleSlotOf (style.whiteSpace w) = whiteSpaceSlot
-styleSlotOf (style.content x) = contentSlot
-
 -- what stands behind the slot: of `display: none` nothing
 unfoldable pub styleBody : Style → List ℕ
 styleBody (style.colour c) = numberBytes (colourNumber c)
@@ -41,40 +36,31 @@ styleBytes d = numberBytes (flag (d .important)) ++ (numberBytes (styleSlotOf (d
 
 -- ---- read
 
--- what the bytes of a style say, as a style row has it: a content's value is where it starts in these bytes, its second number its length
-pub record StyleNumbers : Type 0 where
-  pub slot : ℕ
-  pub important : ℕ
-  pub value : ℕ
-  pub second : ℕ
+-- at n, behind the slot: a text, of which the value says where it lies in these bytes, or a number up to a greatest one
+unfoldable pub contentAt : List ℕ → ℕ → Decoded Value
+contentAt t n = mapped (λ x. record { number = x .start; second = x .size }) (spanAt t n)
 
-unfoldable pub styleNumbers : ℕ → ℕ → ℕ → ℕ → StyleNumbers
-styleNumbers important slot value second = record { slot = slot; important = important; value = value; second = second }
+unfoldable pub numberUpTo : ℕ → List ℕ → ℕ → Decoded Value
+numberUpTo greatest t n = mapped (λ v. record { number = v; second = 0 }) (rangedAt t n 0 greatest)
 
--- at n, behind the slot: a text, or a number up to a greatest one
-unfoldable pub contentAt : List ℕ → ℕ → ℕ → ℕ → Decoded StyleNumbers
-contentAt t important slot n = mapped (λ x. styleNumbers important slot (x .start) (x .size)) (spanAt t n)
+unfoldable pub valueAt : List ℕ → ℕ → ℕ → Decoded Value
+valueAt t slot n =
+    pick (is slot displaySlot) (read n (record { number = 0; second = 0 }))
+    (pick (is slot contentSlot) (contentAt t n)
+    (pick (is slot whiteSpaceSlot) (numberUpTo greatestWhiteSpace t n)
+    (numberUpTo greatestColour t n)))
 
-unfoldable pub numberUpTo : ℕ → List ℕ → ℕ → ℕ → ℕ → Decoded StyleNumbers
-numberUpTo greatest t important slot n = mapped (λ v. styleNumbers important slot v 0) (rangedAt t n 0 greatest)
+unfoldable pub valuedAt : List ℕ → Bool → ℕ → ℕ → Decoded StyleNumbers
+valuedAt t important slot n = mapped (λ v. record { slot = slot; important = important; value = v }) (valueAt t slot n)
 
-unfoldable pub valueAt : List ℕ → ℕ → ℕ → ℕ → Decoded StyleNumbers
-valueAt t important slot n =
-    pick (is slot displaySlot) (read n (styleNumbers important slot 0 0))
-    (pick (is slot contentSlot) (contentAt t important slot n)
-    (pick (is slot whiteSpaceSlot) (numberUpTo greatestWhiteSpace t important slot n)
-    (numberUpTo greatestColour t important slot n)))
+unfoldable pub slotAt : List ℕ → Bool → ℕ → Decoded StyleNumbers
+slotAt t important n = andThen (rangedAt t n colourSlot lastSlot) (λ m slot. valuedAt t important slot m)
 
-unfoldable pub slotAt : List ℕ → ℕ → ℕ → Decoded StyleNumbers
-slotAt t important n = andThen (rangedAt t n colourSlot contentSlot) (λ m slot. valueAt t important slot m)
-
+-- what the bytes of a style say
 unfoldable pub styleNumbersAt : List ℕ → ℕ → Decoded StyleNumbers
-styleNumbersAt t i = andThen (rangedAt t i 0 1) (λ n important. slotAt t important n)
+styleNumbersAt t i = andThen (rangedAt t i 0 1) (λ n important. slotAt t (flagOf important) n)
 
--- the style that they say
-unfoldable pub styleIn : List ℕ → StyleNumbers → StyleDecl
-styleIn t x = record { style = styleOf t (x .slot) (x .value) (x .second); important = flagOf (x .important) }
-
+-- the style that they say, its text being a part of the same bytes
 unfoldable pub styleAt : List ℕ → ℕ → Decoded StyleDecl
 styleAt t i = mapped (styleIn t) (styleNumbersAt t i)
 
@@ -84,10 +70,10 @@ unfolding styleBytes styleSlotOf styleBody flag colourNumber numberBytes groupBy
 case-red = refl
 
 pub case-display : styleAt (0x01 ∷ 0x02 ∷ []) 0 ≡ read 2 (record { style = style.displayNone; important = true })
-unfolding styleAt styleIn styleNumbers styleNumbersAt slotAt valueAt contentAt numberUpTo styleOf flagOf rangedAt numberAt groupsAt limited andThen mapped pick and is within
+unfolding styleAt styleIn styleNumbersAt slotAt valuedAt valueAt contentAt numberUpTo styleOf flagOf rangedAt numberAt groupsAt limited andThen mapped pick and is within
 case-display = refl
 
 -- a colour of 2^24
 pub case-colour : styleAt (0x00 ∷ 0x01 ∷ 0x80 ∷ 0x80 ∷ 0x80 ∷ 0x08 ∷ []) 0 ≡ fault 2
-unfolding styleAt styleIn styleNumbers styleNumbersAt slotAt valueAt contentAt numberUpTo styleOf flagOf rangedAt numberAt groupsAt limited andThen mapped pick and is within
+unfolding styleAt styleIn styleNumbersAt slotAt valuedAt valueAt contentAt numberUpTo styleOf flagOf rangedAt numberAt groupsAt limited andThen mapped pick and is within
 case-colour = refl

@@ -11,8 +11,10 @@ use syntax::rows::AUTHOR_ORIGIN;
 use syntax::rows::PSEUDO_AFTER;
 use syntax::rows::PSEUDO_NONE;
 ghost use mathlib.Core.Path.{_≡_};
+ghost use Prim.Native.Nat.{_<_};
 ghost use lib.ListN.{length};
 ghost use Rattle.combinators.specs.Store.{emits};
+ghost use Rattle.compiled.specs.Number.{numberLimit};
 ghost use Rattle.compiled.specs.Sheet.{headBytes, countAt, pseudoAt, headAt, partsAt, selectorAt, selectorsAt, wholeAt, decode};
 ghost use Rattle.compiled.specs.Answer.{placeAnswer, headAnswer, headWithin, selectorAnswer, checkAnswer, checkWithin};
 
@@ -80,6 +82,7 @@ pub fn read_head(s: &[u8], at: usize, least: u32) -> HeadAnswer
 
 // The place behind `count` components at `at` and the styles behind them.
 pub fn skip_parts(s: &[u8], at: usize, count: u32) -> PlaceAnswer
+    requires { ⌜ length (now s) < numberLimit ⌝ }
     ensures { λ r. ⌜ r ≡ placeAnswer (partsAt (now (s .entry)) count at) ⌝ }
 {
     match skip_components(s, at, count) {
@@ -94,6 +97,7 @@ pub fn skip_parts(s: &[u8], at: usize, count: u32) -> PlaceAnswer
 
 // The place behind the selector at `at`, where the one before is of the origin `least`; and its origin.
 pub fn skip_selector(s: &[u8], at: usize, least: u32) -> SelectorAnswer
+    requires { ⌜ length (now s) < numberLimit ⌝ }
     ensures { λ r. ⌜ r ≡ selectorAnswer (selectorAt (now (s .entry)) least at) ⌝ }
 {
     match read_head(s, at, least) {
@@ -113,6 +117,7 @@ pub fn skip_selector(s: &[u8], at: usize, least: u32) -> SelectorAnswer
 
 // The place behind `count` selectors from `at` on, whose origins do not fall from `least` on.
 fn skip_selectors(s: &[u8], at: usize, count: u32, least: u32) -> PlaceAnswer
+    requires { ⌜ length (now s) < numberLimit ⌝ }
     ensures { λ r. ⌜ r ≡ placeAnswer (selectorsAt count (now (s .entry)) least at) ⌝ }
 {
     let mut i = at;
@@ -135,6 +140,7 @@ fn skip_selectors(s: &[u8], at: usize, count: u32, least: u32) -> PlaceAnswer
 
 // Whether the bytes are `count` selectors from `at` on and nothing behind them.
 fn check_selectors(s: &[u8], at: usize, count: u32) -> CheckAnswer
+    requires { ⌜ length (now s) < numberLimit ⌝ }
     ensures { λ r. ⌜ r ≡ checkAnswer (wholeAt (now (s .entry)) count at) ⌝ }
 {
     match skip_selectors(s, at, count, AGENT_ORIGIN) {
@@ -152,6 +158,7 @@ fn check_selectors(s: &[u8], at: usize, count: u32) -> CheckAnswer
 
 // Whether the bytes are a sheet, to their last byte.
 pub fn check_sheet(s: &[u8]) -> CheckAnswer
+    requires { ⌜ length (now s) < numberLimit ⌝ }
     ensures { λ r. ⌜ r ≡ checkAnswer (decode (now (s .entry))) ⌝ }
     ensures { λ r. ⌜ checkWithin (length (now (s .entry))) r ⌝ }
 {

@@ -13,84 +13,131 @@ use syntax::rows::CONTENT_SLOT;
 use syntax::rows::DISPLAY_SLOT;
 use syntax::rows::FLAG_FALSE;
 use syntax::rows::FLAG_TRUE;
+use syntax::rows::LAST_SLOT;
 use syntax::rows::WHITE_SPACE_NORMAL;
 use syntax::rows::WHITE_SPACE_PRE;
 use syntax::rows::WHITE_SPACE_PRE_WRAP;
 use syntax::rows::WHITE_SPACE_SLOT;
+use syntax::rows::flag_of;
+use syntax::styles::StyleNumbers;
+use syntax::styles::Value;
 ghost use mathlib.Core.Path.{_≡_};
 ghost use mathlib.Core.List.{_++_};
+ghost use Prim.Native.Nat.{_<_};
 ghost use lib.ListN.{length};
 ghost use Rattle.combinators.specs.Store.{emits};
-ghost use Rattle.syntax.specs.Layout.{flag, flagOf, whiteSpaceNumber, whiteSpaceOf, contentSlot, styleOf};
+ghost use Rattle.syntax.specs.Layout.{whiteSpaceNumber, whiteSpaceOf, contentSlot, styleSlotOf, styleOf, styleIn};
 ghost use Rattle.syntax.specs.Stream.{part};
 ghost use Rattle.compiled.specs.Decoded.{counted};
-ghost use Rattle.compiled.specs.Number.{numberBytes};
+ghost use Rattle.compiled.specs.Number.{numberLimit, numberBytes};
 ghost use Rattle.compiled.specs.Text.{textBytes};
-ghost use Rattle.compiled.specs.Style.{styleSlotOf, styleBody, styleBytes, contentAt, numberUpTo, valueAt, slotAt, styleNumbersAt, styleAt};
+ghost use Rattle.compiled.specs.Style.{styleBody, styleBytes, contentAt, numberUpTo, valueAt, valuedAt, slotAt, styleNumbersAt, styleAt};
 ghost use Rattle.compiled.specs.Sheet.{stylesAt};
-ghost use Rattle.compiled.specs.Answer.{placeAnswer, styleAnswer, styleWithin};
+ghost use Rattle.compiled.specs.Answer.{placeAnswer, valueAnswer, styleAnswer, styleWithin};
 
 // Colours are below 16,777,216.
 const GREATEST_COLOUR: u32 = 16777215;
 
-// The place behind a style, and what it says as a style row has it: its slot, whether it is important, its value and its second number. A content's
-// value is where it starts in the bytes, its second number its length. Or the place of the fault.
+// The place behind a slot's value, and the value: a content's first number is where it starts in the bytes. Or the place of the fault.
+pub enum ValueAnswer {
+    Value(usize, Value),
+    Fault(usize),
+}
+
+// The place behind a style, and the style; or the place of the fault.
 pub enum StyleAnswer {
-    Style(usize, u32, u32, usize, usize),
+    Style(usize, StyleNumbers),
     Fault(usize),
 }
 
 // Behind the slot, a text.
-fn read_content(s: &[u8], at: usize, important: u32, slot: u32) -> StyleAnswer
-    ensures { λ r. ⌜ r ≡ styleAnswer (contentAt (now (s .entry)) important slot at) ⌝ }
+fn read_content(s: &[u8], at: usize) -> ValueAnswer
+    requires { ⌜ length (now s) < numberLimit ⌝ }
+    ensures { λ r. ⌜ r ≡ valueAnswer (contentAt (now (s .entry)) at) ⌝ }
 {
     match read_text(s, at) {
         TextAnswer::Text(next, start, size) => {
-            return StyleAnswer::Style(next, slot, important, start, size);
+            return ValueAnswer::Value(
+                next,
+                Value {
+                    number: start as u32,
+                    second: size as u32,
+                },
+            );
         }
         TextAnswer::Fault(place) => {
-            return StyleAnswer::Fault(place);
+            return ValueAnswer::Fault(place);
         }
     }
 }
 
 // Behind the slot, a number up to `greatest`.
-fn read_number_up_to(s: &[u8], at: usize, important: u32, slot: u32, greatest: u32) -> StyleAnswer
-    ensures { λ r. ⌜ r ≡ styleAnswer (numberUpTo greatest (now (s .entry)) important slot at) ⌝ }
+fn read_number_up_to(s: &[u8], at: usize, greatest: u32) -> ValueAnswer
+    ensures { λ r. ⌜ r ≡ valueAnswer (numberUpTo greatest (now (s .entry)) at) ⌝ }
 {
     match read_ranged(s, at, 0, greatest) {
-        NumberAnswer::Number(next, value) => {
-            return StyleAnswer::Style(next, slot, important, value as usize, 0);
+        NumberAnswer::Number(next, number) => {
+            return ValueAnswer::Value(next, Value { number, second: 0 });
         }
         NumberAnswer::Fault(place) => {
-            return StyleAnswer::Fault(place);
+            return ValueAnswer::Fault(place);
         }
     }
 }
 
 // What stands behind the slot.
-fn read_value(s: &[u8], at: usize, important: u32, slot: u32) -> StyleAnswer
-    ensures { λ r. ⌜ r ≡ styleAnswer (valueAt (now (s .entry)) important slot at) ⌝ }
+fn read_value(s: &[u8], at: usize, slot: u32) -> ValueAnswer
+    requires { ⌜ length (now s) < numberLimit ⌝ }
+    ensures { λ r. ⌜ r ≡ valueAnswer (valueAt (now (s .entry)) slot at) ⌝ }
 {
     if slot == DISPLAY_SLOT {
-        return StyleAnswer::Style(at, slot, important, 0, 0);
+        return ValueAnswer::Value(
+            at,
+            Value {
+                number: 0,
+                second: 0,
+            },
+        );
     }
     if slot == CONTENT_SLOT {
-        return read_content(s, at, important, slot);
+        return read_content(s, at);
     }
     if slot == WHITE_SPACE_SLOT {
-        return read_number_up_to(s, at, important, slot, WHITE_SPACE_PRE_WRAP);
+        return read_number_up_to(s, at, WHITE_SPACE_PRE_WRAP);
     }
-    read_number_up_to(s, at, important, slot, GREATEST_COLOUR)
+    read_number_up_to(s, at, GREATEST_COLOUR)
+}
+
+// The style of a slot whose value stands at `at`.
+fn read_valued(s: &[u8], at: usize, important: bool, slot: u32) -> StyleAnswer
+    requires { ⌜ length (now s) < numberLimit ⌝ }
+    ensures { λ r. ⌜ r ≡ styleAnswer (valuedAt (now (s .entry)) important slot at) ⌝ }
+{
+    match read_value(s, at, slot) {
+        ValueAnswer::Value(next, value) => {
+            return StyleAnswer::Style(
+                next,
+                StyleNumbers {
+                    slot,
+                    important,
+                    value,
+                },
+            );
+        }
+        ValueAnswer::Fault(place) => {
+            return StyleAnswer::Fault(place);
+        }
+    }
 }
 
 // The slot and what stands behind it.
-fn read_slot(s: &[u8], at: usize, important: u32) -> StyleAnswer
+fn read_slot(s: &[u8], at: usize, important: bool) -> StyleAnswer
+    requires { ⌜ length (now s) < numberLimit ⌝ }
     ensures { λ r. ⌜ r ≡ styleAnswer (slotAt (now (s .entry)) important at) ⌝ }
 {
-    match read_ranged(s, at, COLOUR_SLOT, CONTENT_SLOT) {
+    match read_ranged(s, at, COLOUR_SLOT, LAST_SLOT) {
         NumberAnswer::Number(next, slot) => {
-            return read_value(s, next, important, slot);
+            return read_valued(s, next, important, slot);
         }
         NumberAnswer::Fault(place) => {
             return StyleAnswer::Fault(place);
@@ -98,14 +145,15 @@ fn read_slot(s: &[u8], at: usize, important: u32) -> StyleAnswer
     }
 }
 
-// The style at `at`.
+// The style at `at`. The bytes are fewer than 2^32, so that where a content starts is a number of 32 bits.
 pub fn read_style(s: &[u8], at: usize) -> StyleAnswer
+    requires { ⌜ length (now s) < numberLimit ⌝ }
     ensures { λ r. ⌜ r ≡ styleAnswer (styleNumbersAt (now (s .entry)) at) ⌝ }
     ensures { λ r. ⌜ styleWithin (length (now (s .entry))) r ⌝ }
 {
     match read_ranged(s, at, FLAG_FALSE, FLAG_TRUE) {
         NumberAnswer::Number(next, important) => {
-            return read_slot(s, next, important);
+            return read_slot(s, next, important == FLAG_TRUE);
         }
         NumberAnswer::Fault(place) => {
             return StyleAnswer::Fault(place);
@@ -115,10 +163,11 @@ pub fn read_style(s: &[u8], at: usize) -> StyleAnswer
 
 // The place behind the style at `at`.
 pub fn skip_style(s: &[u8], at: usize) -> PlaceAnswer
+    requires { ⌜ length (now s) < numberLimit ⌝ }
     ensures { λ r. ⌜ r ≡ placeAnswer (styleAt (now (s .entry)) at) ⌝ }
 {
     match read_style(s, at) {
-        StyleAnswer::Style(next, _, _, _, _) => {
+        StyleAnswer::Style(next, _) => {
             return PlaceAnswer::At(next);
         }
         StyleAnswer::Fault(place) => {
@@ -129,6 +178,7 @@ pub fn skip_style(s: &[u8], at: usize) -> PlaceAnswer
 
 // The place behind `count` styles from `at` on.
 fn skip_counted_styles(s: &[u8], at: usize, count: u32) -> PlaceAnswer
+    requires { ⌜ length (now s) < numberLimit ⌝ }
     ensures { λ r. ⌜ r ≡ placeAnswer (counted (styleAt (now (s .entry))) count at) ⌝ }
 {
     let mut i = at;
@@ -149,6 +199,7 @@ fn skip_counted_styles(s: &[u8], at: usize, count: u32) -> PlaceAnswer
 
 // The place behind the styles at `at`, which start with their count.
 pub fn skip_styles(s: &[u8], at: usize) -> PlaceAnswer
+    requires { ⌜ length (now s) < numberLimit ⌝ }
     ensures { λ r. ⌜ r ≡ placeAnswer (stylesAt (now (s .entry)) at) ⌝ }
 {
     match read_number(s, at) {
@@ -159,16 +210,6 @@ pub fn skip_styles(s: &[u8], at: usize) -> PlaceAnswer
             return PlaceAnswer::Fault(place);
         }
     }
-}
-
-// The number of a flag that a style row has.
-fn flag_number(important: u32) -> u32
-    ensures { λ r. ⌜ r ≡ flag (flagOf important) ⌝ }
-{
-    if important == FLAG_TRUE {
-        return FLAG_TRUE;
-    }
-    FLAG_FALSE
 }
 
 // The number of a white-space word that a style row has.
@@ -202,49 +243,38 @@ fn emit_content(start: u32, size: u32, texts: &[u8], store: &mut [u8], fill: usi
     emit_text_part(start as usize, size, texts, store, behind)
 }
 
-// Writes the slot of a style row and what stands behind it; the fill behind them.
-fn emit_slot(
-    slot: u32,
-    value: u32,
-    second: u32,
-    texts: &[u8],
-    store: &mut [u8],
-    fill: usize,
-) -> usize
+// Writes the slot of a style and what stands behind it, with its text in `texts`; the fill behind them.
+fn emit_slot(slot: u32, value: Value, texts: &[u8], store: &mut [u8], fill: usize) -> usize
     ensures { λ r. ⌜ record { bytes = now (store .exit); fill = r }
         ≡ emits (record { bytes = now (store .entry); fill = fill })
-        (numberBytes (styleSlotOf (styleOf (now (texts .entry)) slot value second)) ++ styleBody (styleOf (now (texts .entry)) slot value second)) ⌝ }
+        (numberBytes (styleSlotOf (styleOf (now (texts .entry)) slot value)) ++ styleBody (styleOf (now (texts .entry)) slot value)) ⌝ }
 {
     if slot == COLOUR_SLOT {
-        return emit_slot_number(COLOUR_SLOT, value, store, fill);
+        return emit_slot_number(COLOUR_SLOT, value.number, store, fill);
     }
     if slot == BACKGROUND_SLOT {
-        return emit_slot_number(BACKGROUND_SLOT, value, store, fill);
+        return emit_slot_number(BACKGROUND_SLOT, value.number, store, fill);
     }
     if slot == DISPLAY_SLOT {
         return emit_number(DISPLAY_SLOT, store, fill);
     }
     if slot == WHITE_SPACE_SLOT {
-        return emit_slot_number(WHITE_SPACE_SLOT, white_space_number(value), store, fill);
+        return emit_slot_number(
+            WHITE_SPACE_SLOT,
+            white_space_number(value.number),
+            store,
+            fill,
+        );
     }
-    emit_content(value, second, texts, store, fill)
+    emit_content(value.number, value.second, texts, store, fill)
 }
 
-// Writes the style that a style row says: its slot, whether it is important, its value and its second number, with its text in `texts`. The fill
-// behind it.
-pub fn emit_style(
-    slot: u32,
-    important: u32,
-    value: u32,
-    second: u32,
-    texts: &[u8],
-    store: &mut [u8],
-    fill: usize,
-) -> usize
+// Writes a style, with its text in `texts`; the fill behind it.
+pub fn emit_style(style: StyleNumbers, texts: &[u8], store: &mut [u8], fill: usize) -> usize
     ensures { λ r. ⌜ record { bytes = now (store .exit); fill = r }
-        ≡ emits (record { bytes = now (store .entry); fill = fill })
-        (styleBytes (record { style = styleOf (now (texts .entry)) slot value second; important = flagOf important })) ⌝ }
+        ≡ emits (record { bytes = now (store .entry); fill = fill }) (styleBytes (styleIn (now (texts .entry)) style)) ⌝ }
 {
-    let behind = emit_number(flag_number(important), store, fill);
-    emit_slot(slot, value, second, texts, store, behind)
+    let behind = emit_number(flag_of(style.important), store, fill);
+    let value = style.value;
+    emit_slot(style.slot, value, texts, store, behind)
 }

@@ -12,16 +12,18 @@ use Rattle.combinators.proofs.Emitted.{emits-none, then}
 use Rattle.combinators.proofs.Rules.{or-assoc, or-false}
 use Rattle.syntax.specs.Declaration.{Declaration}
 use Rattle.syntax.specs.Layout as layout
-use Rattle.syntax.specs.Layout.{flag, flagOf, declarationWidth, readDeclaration, declarationsAt, displaySlot, styleWidth}
+use Rattle.syntax.specs.Layout.{flag, declarationWidth, readDeclaration, declarationsAt, styleWidth, rowOfNumbers, styleIn}
 use Rattle.syntax.specs.Stream.{textsMany}
 use Rattle.syntax.specs.Style as style
 use Rattle.syntax.specs.Style.{StyleDecl}
+use Rattle.syntax.specs.declared.styles.StyleNumbers.{StyleNumbers}
+use Rattle.syntax.proofs.RowSizes.{length-style}
 use Rattle.syntax.proofs.Streams.{texts-append}
 use Rattle.declarations.specs.Styles.{one, styleOf, zeroHeight, hidesOverflow, anyDecl, ownStyles, stylesOf}
-use Rattle.declarations.specs.StyleNumbers.{ownRow, zeroRow, hiddenRow, numbersBy, ownRows, anyRow, addedRow, styleNumbers, styleCount}
+use Rattle.declarations.specs.StyleNumbers.{addedStyle, ownNumbersAt, rowOfOwn, ownRow, zeroRow, hiddenRow, ownRows, anyRow, styleNumbers, styleCount}
 use Rattle.declarations.specs.declared.styles.OwnStyle.{OwnStyle}
 use Rattle.declarations.specs.declared.styles.OwnStyle.the-variants.{Style, NoStyle}
-use Rattle.declarations.proofs.StyleLaws.{reads-alone, reads-nothing, reads-declared, any-zero, any-hidden, count-styles, styles-few}
+use Rattle.declarations.proofs.StyleLaws.{saidBy, declared-said, any-zero, any-hidden, count-styles, styles-few}
 use Rattle.declarations.proofs.Styling.{or-is, and-is}
 use Rattle.compiled.specs.Number.{numberLimit, numberBytes}
 use Rattle.compiled.specs.Style.{styleBytes}
@@ -31,39 +33,32 @@ use Rattle.compiler.specs.declared.styles.StylesFound.{StylesFound}
 use Rattle.compiler.proofs.WalkLaws.{many-length}
 
 -- ---- the style that a declaration asks for by itself
-module _ (t : List ℕ) (r : OwnStyle) (e : numbersBy r ≡ ownRow t) where
+module _ (t : List ℕ) (r : OwnStyle) (e : r ≡ ownNumbersAt t) where
   -- there is one
-  pub own-one : (s i a b : ℕ) → r ≡ Style s i a b → (styleWidth * 1 ≡ length (ownRow t)) × (1 ≤ 1)
-  unfolding numbersBy
-  own-one s i a b h = (sym (ap length (sym e ∙ ap numbersBy h)), omega arith)
+  pub own-one : (x : StyleNumbers) → r ≡ Style x → (styleWidth * 1 ≡ length (ownRow t)) × (1 ≤ 1)
+  unfolding ownRow rowOfOwn
+  own-one x h = (sym (length-style x) ∙ ap (λ (o : OwnStyle). length (rowOfOwn o)) (sym h ∙ e), omega arith)
 
   -- there is none
   pub own-none : r ≡ NoStyle → (styleWidth * 0 ≡ length (ownRow t)) × (0 ≤ 1)
-  unfolding numbersBy
-  own-none h = (sym (ap length (sym e ∙ ap numbersBy h)), omega arith)
+  unfolding ownRow rowOfOwn
+  own-none h = (ap (λ (o : OwnStyle). length (rowOfOwn o)) (sym h ∙ e), omega arith)
 
   module _ (texts : List ℕ) (o₀ : Store) where
     -- the styles of the declaration there
-    abbrev asked : List StyleDecl
-    asked = styleOf (readDeclaration texts t .value .important) (readDeclaration texts t .value .decl)
+    asked : saidBy texts r ≡ styleOf (readDeclaration texts t .value .important) (readDeclaration texts t .value .decl)
+    asked = ap (saidBy texts) e ∙ declared-said texts t
 
     -- it is written
-    pub own-written : (s i a b : ℕ) → r ≡ Style s i a b → (o₁ : Store)
-        → o₁ ≡ emits o₀ (styleBytes (record { style = layout.styleOf texts s a b; important = flagOf i }))
-        → o₁ ≡ emits o₀ (ownBytes (readDeclaration texts t .value))
-    unfolding numbersBy ownBytes textsMany
-    own-written s i a b h o₁ p =
-        let q : ownRow t ≡ s ∷ i ∷ a ∷ b ∷ [] = sym e ∙ ap numbersBy h in
-        let alone = reads-alone texts s i a b asked (rw q at (reads-declared texts t)) in
-        p ∙ ap (emits o₀) (sym (append-nil _) ∙ ap (textsMany styleBytes) (sym alone))
+    pub own-written : (x : StyleNumbers) → r ≡ Style x → (o₁ : Store) → o₁ ≡ emits o₀ (styleBytes (styleIn texts x)) → o₁ ≡ emits o₀ (ownBytes (readDeclaration texts t .value))
+    unfolding saidBy ownBytes textsMany
+    own-written x h o₁ p =
+        p ∙ ap (emits o₀) (sym (append-nil _) ∙ ap (textsMany styleBytes) (ap (saidBy texts) (sym h) ∙ asked))
 
     -- none is written
     pub own-left-out : r ≡ NoStyle → o₀ ≡ emits o₀ (ownBytes (readDeclaration texts t .value))
-    unfolding numbersBy ownBytes textsMany
-    own-left-out h =
-        let q : ownRow t ≡ [] = sym e ∙ ap numbersBy h in
-        let nothing = reads-nothing texts asked (rw q at (reads-declared texts t)) in
-        sym (emits-none o₀) ∙ ap (emits o₀) (ap (textsMany styleBytes) (sym nothing))
+    unfolding saidBy ownBytes textsMany
+    own-left-out h = sym (emits-none o₀) ∙ ap (emits o₀) (ap (textsMany styleBytes) (ap (saidBy texts) (sym h) ∙ asked))
 
 -- ---- turns of `count_styles`: what is counted and what is left make what was to be counted
 pub record Finding (rows : List ℕ) (count at own : ℕ) (height-zero overflow-hidden : Bool) (place n : ℕ) : Type 0 where
@@ -107,9 +102,9 @@ any-more p n t t₁ z x v h e d w =
     rw (or-is z x) (sym (or-assoc z x (anyRow p (n - 1) t₁)) ∙ ap (or z) q ∙ w)
 
 -- how long the row of the style is that is added
-added-length : (z : Bool) → length (pick z addedRow []) ≡ styleWidth * flag z
+added-length : (z : Bool) → length (pick z (rowOfNumbers addedStyle) []) ≡ styleWidth * flag z
 unfolding pick flag
-added-length true = refl
+added-length true = length-style addedStyle
 added-length false = refl
 
 module _ (rows : List ℕ) (count at own : ℕ) (height-zero overflow-hidden : Bool) (place n : ℕ)
@@ -150,7 +145,7 @@ module _ (rows : List ℕ) (count at own : ℕ) (height-zero overflow-hidden : B
         let t = drop at rows in
         let g : f ≡ flag both = e ∙ ap flag both-is in
         let o : styleWidth * own ≡ length (ownRows count t) = omega (arith, c .left, ap length (rows-none n (drop place rows) h)) in
-        omega (arith, length-append (ownRows count t) (pick both addedRow []), added-length both, g, o)
+        omega (arith, length-append (ownRows count t) (pick both (rowOfNumbers addedStyle) []), added-length both, g, o)
 
     -- the total is no more than the declarations are
     pub finding-fits : (f : ℕ) → f ≡ flag (height-zero && overflow-hidden) → count < numberLimit → own + f < numberLimit
@@ -199,9 +194,8 @@ module _ (t : List ℕ) (n : ℕ) (x : StylesFound) (e : x ≡ stylesFound t n) 
       (ap (λ (l : List ℕ). numberBytes (length (stylesOf declared)) ++ l) (sym (texts-append (λ _ _. []) styleBytes (ownStyles declared) (pick z (one false style.displayNone) []))))
 
   -- `display: none` is added
-  pub styles-added : x .added ≡ true → (o₃ : Store) → o₃ ≡ emits o₂ (styleBytes (record { style = layout.styleOf texts displaySlot 0 0; important = flagOf 0 }))
-      → o₃ ≡ emits o₀ (stylesBytes (stylesOf declared))
-  unfolding layout.styleOf flagOf pick is textsMany one
+  pub styles-added : x .added ≡ true → (o₃ : Store) → o₃ ≡ emits o₂ (styleBytes (styleIn texts addedStyle)) → o₃ ≡ emits o₀ (stylesBytes (stylesOf declared))
+  unfolding styleIn layout.styleOf pick is textsMany one
   styles-added h o₃ r =
       then o₀ o₁ o₃ _ _ p (then o₁ o₂ o₃ _ _ q (r ∙ ap (emits o₂) (sym (append-nil _))))
       ∙ ap (emits o₀) (all-bytes (one false style.displayNone) (rw h))

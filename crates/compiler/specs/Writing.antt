@@ -5,7 +5,7 @@ use mathlib.Core.List.{List, [], _∷_}
 use lib.ListN.{length, getD, drop}
 use Rattle.combinators.specs.Choice.{pick, or, and, is}
 use Rattle.syntax.specs.Declaration.{Declaration}
-use Rattle.syntax.specs.Layout.{flag, flagOf, colourNumber, colourOf, colorKind, heightKind, declOf, readDeclaration}
+use Rattle.syntax.specs.Layout.{flag, flagOf, colourNumber, colourOf, colorKind, heightKind, declOf, readDeclaration, styleSlotOf}
 use Rattle.syntax.specs.RuleLayout as layout
 use Rattle.syntax.specs.RuleLayout.{elementKind, componentKind, componentFrom, readComponent, pseudoNumber, pseudoFrom, ruleHead, readSelector, readRule, rulesAt}
 use Rattle.syntax.specs.Selector.{Selector, RuleSet}
@@ -16,7 +16,7 @@ use Rattle.declarations.specs.StyleNumbers.{zeroRow, hiddenRow, anyRow, styleCo
 use Rattle.compiled.specs.Number.{numberLimit, groupBytes, numberBytes}
 use Rattle.compiled.specs.Text.{textBytes}
 use Rattle.compiled.specs.Component.{componentBody, componentBytes}
-use Rattle.compiled.specs.Style.{styleSlotOf, styleBody, styleBytes}
+use Rattle.compiled.specs.Style.{styleBody, styleBytes}
 use Rattle.compiled.specs.Sheet.{headBytes, stylesBytes, selectorBytes}
 use Rattle.compiler.specs.Selectors.{compiledSelector, styledSelectors, ruleSelectors, sheetSelectors}
 use Rattle.compiler.specs.declared.styles.StylesFound.{StylesFound}

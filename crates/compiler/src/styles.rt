@@ -1,13 +1,12 @@
 // The styles of a rule, from its declaration rows: how many they are, and their bytes.
 use compiled::numbers::emit_number;
 use compiled::styles::emit_style;
+use declarations::styles::ADDED_STYLE;
 use declarations::styles::OwnStyle;
 use declarations::styles::hides_overflow;
 use declarations::styles::is_zero_height;
 use declarations::styles::own_style_at;
 use syntax::rows::DECLARATION_WIDTH;
-use syntax::rows::DISPLAY_SLOT;
-use syntax::rows::FLAG_FALSE;
 use syntax::rows::flag_of;
 use syntax::walk::forward;
 ghost use mathlib.Core.Path.{_≡_};
@@ -33,7 +32,7 @@ fn count_own_style(rows: &[u32], at: usize) -> u32
     ensures { λ r. ⌜ r ≤ 1 ⌝ }
 {
     match own_style_at(rows, at) {
-        OwnStyle::Style(_, _, _, _) => {
+        OwnStyle::Style(_) => {
             return 1;
         }
         OwnStyle::NoStyle => {
@@ -73,8 +72,8 @@ fn emit_own_style(rows: &[u32], at: usize, texts: &[u8], store: &mut [u8], fill:
         (ownBytes (readDeclaration (now (texts .entry)) (drop at (now (rows .entry))) .value)) ⌝ }
 {
     match own_style_at(rows, at) {
-        OwnStyle::Style(slot, important, value, second) => {
-            return emit_style(slot, important, value, second, texts, store, fill);
+        OwnStyle::Style(style) => {
+            return emit_style(style, texts, store, fill);
         }
         OwnStyle::NoStyle => {
             return fill;
@@ -124,7 +123,7 @@ pub fn emit_styles(
     let behind_count = emit_number(found.count, store, fill);
     let behind_own = emit_own_styles(rows, at, count, texts, store, behind_count);
     if found.added {
-        return emit_style(DISPLAY_SLOT, FLAG_FALSE, 0, 0, texts, store, behind_own);
+        return emit_style(ADDED_STYLE, texts, store, behind_own);
     }
     behind_own
 }

@@ -3,8 +3,8 @@ use borrow.Author.Needs.{needs}
 use Rattle.compiled.proofs.styles.emit_style.Statement.{statement}
 use Rattle.compiled.proofs.styles.emit_style.Tie as tie
 
-flag-number-requires : tie.Need-flag-number-requires
-flag-number-requires c κs = search needs
+flag-of-requires : tie.Need-flag-of-requires
+flag-of-requires c κs = search needs
 
 emit-number-requires : tie.Need-emit-number-requires
 emit-number-requires c κs = search needs
@@ -17,10 +17,10 @@ same-length c = search needs
 
 returns : tie.Need-returns
 returns c = let m = c .before .before in
-    let k = m .before .before .before .before in
-    laws.style-written _ _ _ _ _ _ (k .before .before .flag-number .ensures) (k .emit-number .ensures) (m .emit-slot .ensures)
+    let k = m .before .before .before .before .before in
+    laws.style-written _ _ _ _ _ _ (k .before .before .flag-of .ensures) (k .emit-number .ensures) (m .emit-slot .ensures)
 
 pub emit-style-spec : {M : Type 1} → statement M
 emit-style-spec =
     tie.close
-    (tie.spec flag-number-requires emit-number-requires emit-slot-requires same-length returns)
+    (tie.spec flag-of-requires emit-number-requires emit-slot-requires same-length returns)

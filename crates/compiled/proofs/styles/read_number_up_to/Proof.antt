@@ -9,19 +9,15 @@ read-ranged-requires c κs = search needs
 enum-known-next : tie.Need-enum-known-next
 enum-known-next c = search needs
 
-cast-t10 : tie.Need-cast-t10
-cast-t10 c = search needs
-
 returns : tie.Need-returns
-returns c = let n = c .before in laws.number-up-to _ _ _ _ _ _ (n .before .before .read-ranged .ensures .0) _ _ (n .next .given .1)
+returns c = let n = c .before in laws.number-up-to _ _ _ _ (n .before .before .read-ranged .ensures .0) _ _ (n .next .given .1)
 
 enum-known-place : tie.Need-enum-known-place
 enum-known-place c = search needs
 
 returns-2 : tie.Need-returns-2
-returns-2 c = let n = c .before in laws.number-up-to-fault _ _ _ _ _ _ (n .before .before .read-ranged .ensures .0) _ (n .place .given .1)
+returns-2 c = let n = c .before in laws.number-up-to-fault _ _ _ _ (n .before .before .read-ranged .ensures .0) _ (n .place .given .1)
 
 pub read-number-up-to-spec : {M : Type 1} → statement M
 read-number-up-to-spec =
-    tie.close
-    (tie.spec read-ranged-requires enum-known-next cast-t10 returns enum-known-place returns-2)
+    tie.close (tie.spec read-ranged-requires enum-known-next returns enum-known-place returns-2)

@@ -9,11 +9,11 @@ read-ranged-requires c κs = search needs
 enum-known-next : tie.Need-enum-known-next
 enum-known-next c = search needs
 
-read-value-requires : tie.Need-read-value-requires
-read-value-requires c κs = search needs
+read-valued-requires : tie.Need-read-valued-requires
+read-valued-requires c κs = search needs
 
 returns : tie.Need-returns
-returns c = let n = c .before .before in laws.slot-read _ _ _ _ (n .before .before .read-ranged .ensures .0) _ _ (n .next .given .1) _ (c .read-value .ensures)
+returns c = let n = c .before .before in laws.slot-read _ _ _ _ (n .before .before .read-ranged .ensures .0) _ _ (n .next .given .1) _ (c .read-valued .ensures)
 
 enum-known-place : tie.Need-enum-known-place
 enum-known-place c = search needs
@@ -27,7 +27,7 @@ read-slot-spec =
     (tie.spec
     read-ranged-requires
     enum-known-next
-    read-value-requires
+    read-valued-requires
     returns
     enum-known-place
     returns-2)

@@ -10,7 +10,7 @@ enum-told : tie.Need-enum-told
 enum-told c = search needs
 
 returns : tie.Need-returns
-returns c = laws.own-one _ _ (c .before .before .own-style-at .ensures) _ _ _ _ (c .enum-told .given .1)
+returns c = laws.own-one _ _ (c .before .before .own-style-at .ensures) _ (c .enum-told .given .1)
 
 enum-told-2 : tie.Need-enum-told-2
 enum-told-2 c = search needs

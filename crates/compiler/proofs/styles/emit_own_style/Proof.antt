@@ -6,8 +6,8 @@ use Rattle.compiler.proofs.styles.emit_own_style.Tie as tie
 own-style-at-requires : tie.Need-own-style-at-requires
 own-style-at-requires c κs = search needs
 
-enum-known-slot : tie.Need-enum-known-slot
-enum-known-slot c = search needs
+enum-known-style : tie.Need-enum-known-style
+enum-known-style c = search needs
 
 emit-style-requires : tie.Need-emit-style-requires
 emit-style-requires c κs = search needs
@@ -16,7 +16,7 @@ same-length : tie.Need-same-length
 same-length c = search needs
 
 returns : tie.Need-returns
-returns c = let b = c .before .before .before .before .before in laws.own-written _ _ (b .before .before .own-style-at .ensures) _ _ _ _ _ _ (b .slot .given .1) _ (c .before .before .emit-style .ensures)
+returns c = let b = c .before .before .before .before .before in laws.own-written _ _ (b .before .before .own-style-at .ensures) _ _ _ (b .style .given .1) _ (c .before .before .emit-style .ensures)
 
 enum-told : tie.Need-enum-told
 enum-told c = search needs
@@ -29,7 +29,7 @@ emit-own-style-spec =
     tie.close
     (tie.spec
     own-style-at-requires
-    enum-known-slot
+    enum-known-style
     emit-style-requires
     same-length
     returns
