@@ -5,6 +5,7 @@ use crate::tally::print_number;
 use crate::tally::tallied;
 use compiled::sheets::CheckAnswer;
 use compiled::sheets::check_sheet;
+use compiler::writing::COMPILED_LIMIT;
 
 // What is expected of bytes, or what came: a sheet, or the place of the fault.
 pub struct Verdict {
@@ -23,6 +24,17 @@ fn verdict_of(answer: CheckAnswer) -> Verdict {
             place: place,
         },
     }
+}
+
+// What comes of bytes. More than a sheet can have are none: the fault is the first that is too many.
+fn verdict_on(bytes: &[u8]) -> Verdict {
+    if COMPILED_LIMIT < bytes.len() {
+        return Verdict {
+            sheet: false,
+            place: COMPILED_LIMIT,
+        };
+    }
+    verdict_of(check_sheet(bytes))
 }
 
 fn same_verdict(a: Verdict, b: Verdict) -> bool {
@@ -46,7 +58,7 @@ fn print_difference(words: &[u8], v: Verdict) {
 }
 
 pub fn ask_bytes(t: Tally, words: &[u8], bytes: &[u8], expected: Verdict) -> Tally {
-    let v = verdict_of(check_sheet(bytes));
+    let v = verdict_on(bytes);
     if same_verdict(v, expected) {
         return tallied(t, true);
     }
@@ -56,7 +68,7 @@ pub fn ask_bytes(t: Tally, words: &[u8], bytes: &[u8], expected: Verdict) -> Tal
 
 // Asks for bytes that are not to be a sheet, whatever the place of the fault.
 fn ask_prefix(t: Tally, words: &[u8], bytes: &[u8]) -> Tally {
-    let v = verdict_of(check_sheet(bytes));
+    let v = verdict_on(bytes);
     if v.sheet {
         print(b"DIFFERS, ");
         print(words);

@@ -8,7 +8,7 @@ use borrow.Author.Tests.{leb-true, leb-false}
 use lib.Dec.{leb, ltb}
 use lib.ListN.{length, getD}
 use Rattle.combinators.specs.Choice.{pick, is, within}
-use Rattle.combinators.proofs.Rules.{pick-holds, within-true}
+use Rattle.combinators.proofs.Rules.{pick-holds}
 use Rattle.syntax.specs.Layout.{colourSlot, displaySlot, whiteSpaceSlot, contentSlot, lastSlot, styleIn}
 use Rattle.syntax.specs.RuleLayout.{starKind, nthKind, attributeEqualKind, pseudoNumber}
 use Rattle.syntax.specs.Selector.{none, after}
