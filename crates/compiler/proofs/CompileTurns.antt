@@ -10,9 +10,6 @@ use lib.Seq.{sets, length-sets, length-take-le, set-append-left}
 use Rattle.combinators.specs.Store.{cleared}
 use Rattle.combinators.proofs.Cleared.{length-cleared}
 use Rattle.combinators.proofs.Rules.{pick-true, pick-false, lt-or-ge}
-use Rattle.syntax.specs.RuleLayout.{ruleRows, ruleTexts}
-use Rattle.syntax.specs.Selector.{RuleSet}
-use Rattle.sheets.specs.SheetAnswer.{padded}
 use Rattle.sheets.proofs.SheetLaws.{stored}
 use Rattle.origins.specs.Checks.{Lent}
 use Rattle.origins.specs.Reading.{Sheets, rules, panicked, sheetsOf, sheetsRows, sheetsTexts, sheetsRules, sheetsAnswer, SheetsRoom}
@@ -114,13 +111,13 @@ module _ {agent user author rules₀ tokens₀ brackets₀ texts₀ : List ℕ} 
       texts₂ = et ∙ ap (λ (v : Sheets). sets t₁ 0 (sheetsTexts v)) (m .is) ∙ ap (λ (l : List ℕ). sets l 0 (textsHeld o m)) ct
 
       -- what lies there can be written
-      pub lies : Lying y₂ t₂ s
-      lies = lying o m rows₂ texts₂
+      pub lies : Lying y₂ t₂ x₂ s
+      lies = lying o m rows₂ texts₂ x₂ (ex ∙ cx)
 
       bytes : List ℕ
       bytes = encode (selectorsOf (m .agent) (m .user) (m .author))
 
-      module _ {w : ℕ} {k₃ y₃ : List ℕ} (ew : w ≡ fillOf (roomOf (length k₁)) (encode (selectorsFrom y₂ t₂ s)))
+      module _ {w : ℕ} {k₃ y₃ x₃ : List ℕ} (es : x₃ ≡ x₂) (ew : w ≡ fillOf (roomOf (length k₁)) (encode (selectorsFrom y₂ t₂ s)))
           (ek : k₃ ≡ writtenIn (roomOf (length k₁)) (encode (selectorsFrom y₂ t₂ s)) k₁) (ec : y₃ ≡ cleared 0 y₂) where
         w-is : w ≡ fillOf (roomOf (length k₁)) bytes
         unfolding bytes
@@ -145,7 +142,7 @@ module _ {agent user author rules₀ tokens₀ brackets₀ texts₀ : List ℕ} 
           q-is = eq ∙ ap roomOf k-long
 
           -- the bytes fit
-          pub fits : w ≤ q → Left (Compiled w (s .end)) k₃ t₂ y₃ x₂ b₂
+          pub fits : w ≤ q → Left (Compiled w (s .end)) k₃ t₂ y₃ x₃ b₂
           unfolding compiledLeft answeredWithin answered sheetsTexts sheetsRules bytes
           fits h =
               let z = fill-fits (roomOf (length k₁)) w bytes w-is (omega (arith, h, q-is)) in
@@ -153,16 +150,16 @@ module _ {agent user author rules₀ tokens₀ brackets₀ texts₀ : List ℕ} 
               left-by (ap₂ Compiled (z .1) ex′)
               (k-is ∙ written-whole (roomOf (length k₁)) bytes k₁ (room-within (length k₁)) (z .0) ∙ ap (λ (l : List ℕ). sets l 0 bytes) ck
               ∙ stored bytes compiled₀ (omega (arith, z .0, same-room, room-within (length compiled₀))))
-              (texts₂ ∙ texts-lie o m) rules-zero tokens-zero brackets-zero
+              (texts₂ ∙ texts-lie o m) rules-zero (es ∙ tokens-zero) brackets-zero
               ∙ pick-true _ _ _ _ (le-leb (length bytes) (roomOf (length compiled₀)) (omega (arith, z .0, same-room))) refl
               ∙ ap (compiledLeft compiled₀ texts₀ rules₀ tokens₀ brackets₀) (sym (m .is))
 
           -- they do not
-          pub over : q < w → {k₄ t₄ : List ℕ} → k₄ ≡ cleared 0 k₃ → t₄ ≡ cleared 0 t₂ → Left NoRoom k₄ t₄ y₃ x₂ b₂
+          pub over : q < w → {k₄ t₄ : List ℕ} → k₄ ≡ cleared 0 k₃ → t₄ ≡ cleared 0 t₂ → Left NoRoom k₄ t₄ y₃ x₃ b₂
           unfolding compiledLeft answeredWithin zeroed bytes
           over h {k₄} {t₄} ek₄ et₄ =
               let z = fill-over (roomOf (length k₁)) w bytes w-is (omega (arith, h, q-is)) in
               left-by refl (ek₄ ∙ zeros-of k₃ compiled₀ (k-long ∙ ap length ck ∙ length-cleared 0 compiled₀))
-              (et₄ ∙ zeros-of t₂ texts₀ (ap length texts₂ ∙ length-sets (cleared 0 texts₀) 0 (textsHeld o m) ∙ length-cleared 0 texts₀)) rules-zero tokens-zero brackets-zero
+              (et₄ ∙ zeros-of t₂ texts₀ (ap length texts₂ ∙ length-sets (cleared 0 texts₀) 0 (textsHeld o m) ∙ length-cleared 0 texts₀)) rules-zero (es ∙ tokens-zero) brackets-zero
               ∙ pick-false _ _ _ _ (lt-leb (length bytes) (roomOf (length compiled₀)) (omega (arith, z, same-room))) refl
               ∙ ap (compiledLeft compiled₀ texts₀ rules₀ tokens₀ brackets₀) (sym (m .is))

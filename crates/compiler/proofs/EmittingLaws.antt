@@ -1,12 +1,47 @@
--- A loop that reads values one behind the other and writes the bytes of each.
-use mathlib.Core.Path.{_≡_, refl, sym, ap, _∙_}
-use mathlib.Core.List.{List, [], _++_}
-use Prim.Native.Nat.{ℕ, zero, suc, _-_, _≤_, _<_}
+-- A loop that reads values one behind the other and writes the bytes of each, until the store is full.
+use mathlib.Core.Path.{_≡_, refl, sym, ap, ap₂, _∙_}
+use mathlib.Core.Bool.{Bool, true, false}
+use mathlib.Core.List.{List, [], _∷_, _++_}
+use Prim.Native.Nat.{ℕ, zero, suc, _+_, _-_, _≤_, _<_}
 use native.Mathlib.Omega.{arith}
 use lib.ListN.{length, drop}
-use Rattle.combinators.specs.Store.{emits}
-use Rattle.combinators.proofs.Emitted.{emits-none, onto}
+use Rattle.combinators.specs.Store.{Store, emits}
+use Rattle.combinators.proofs.Emitted.{emits-none, emits-append, emits-bytes, emits-over, sets-out, onto}
+use Rattle.combinators.proofs.Rules.{is-yes, is-no, is-true}
 use Rattle.syntax.specs.Stream.{Read, readMany, textsMany}
+use Rattle.compiler.specs.Writing.{past}
+
+-- ---- bytes passed the end of a store
+module _ (n f : ℕ) where
+  -- `is_past`
+  pub before-end : f ≤ n → false ≡ past n f
+  unfolding past
+  before-end h = sym (is-no f (n + 1) (λ (e : f ≡ n + 1). omega (arith, h, e)))
+
+  pub beyond-end : 1 < f - n → false ≡ past n f
+  unfolding past
+  beyond-end h = sym (is-no f (n + 1) (λ (e : f ≡ n + 1). omega (arith, h, e)))
+
+  pub at-end : n < f → f - n ≤ 1 → true ≡ past n f
+  unfolding past
+  at-end h k = sym (is-yes f (n + 1) (omega (arith, h, k)))
+
+  pub past-known : {r : Bool} → r ≡ past n f → r ≡ true → f ≡ n + 1
+  unfolding past
+  past-known e t = is-true f (n + 1) (sym e ∙ t)
+
+-- a byte more at the end, and whatever stands behind it
+out : (l ys : List ℕ) → emits (record { bytes = l; fill = length l }) (0 ∷ ys) ≡ record { bytes = l; fill = length l + 1 }
+out l ys =
+    ap₂ (λ (b : List ℕ) (f : ℕ). record { bytes = b; fill = f })
+    (emits-bytes (0 ∷ ys) l (length l) ∙ sets-out (0 ∷ ys) l (length l) (omega arith)) (emits-over (0 ∷ ys) l (length l) (omega arith) (omega arith))
+
+-- what is written behind them changes nothing
+pub past-end : (l xs : List ℕ) → emits (record { bytes = l; fill = length l + 1 }) xs ≡ record { bytes = l; fill = length l + 1 }
+past-end l xs =
+    ap (λ (o : Store). emits o xs) (sym (out l [])) ∙ emits-append (record { bytes = l; fill = length l }) (0 ∷ []) xs ∙ out l xs
+
+-- ---- a loop
 
 module _ {A : Type 0} (u : List ℕ → Read A) (w : A → List ℕ) (rows : List ℕ) (count at : ℕ) (st₀ : List ℕ) (fill : ℕ) where
   -- what is left to write of n values from a place on is what was to be written
@@ -41,3 +76,11 @@ module _ {A : Type 0} (u : List ℕ → Read A) (w : A → List ℕ) (rows : Lis
     pub emitting-done : n ≤ 0
         → record { bytes = st; fill = f } ≡ emits (record { bytes = st₀; fill = fill }) (textsMany w (readMany u count (drop at rows) .value))
     emitting-done h = sym (ap (emits (record { bytes = st; fill = f })) (none-left n (drop place rows) h) ∙ emits-none _) ∙ c .left
+
+    -- the store is full
+    pub emitting-past : f ≡ length st + 1
+        → record { bytes = st; fill = f } ≡ emits (record { bytes = st₀; fill = fill }) (textsMany w (readMany u count (drop at rows) .value))
+    emitting-past h =
+        let xs : List ℕ = textsMany w (readMany u n (drop place rows) .value) in
+        let e : emits (record { bytes = st; fill = f }) xs ≡ record { bytes = st; fill = f } = rw h (past-end st xs) in
+        sym e ∙ c .left

@@ -1,5 +1,4 @@
 pub mod Range
-pub mod WalkLaws
 pub mod EmittingLaws
 pub mod StyleWriting
 pub mod SelectorWriting

@@ -1,13 +1,13 @@
 -- Returns and turns of the functions that write rules and count their selectors.
 use mathlib.Core.Path.{_≡_, refl, sym, ap, _∙_}
 use mathlib.Core.List.{List, [], _∷_, _++_, map}
-use Prim.Native.Nat.{ℕ, zero, suc, _+_, _-_, _≤_, _<_}
+use Prim.Native.Nat.{ℕ, zero, suc, _+_, _*_, _-_, _≤_, _<_}
 use native.Mathlib.Omega.{arith}
 use lib.ListN.{length, getD, drop, length-append, length-map}
-use lib.Seq.{getD-drop, drop-drop}
-use Rattle.combinators.specs.Store.{Store, emits}
+use lib.Seq.{sets, getD-drop, drop-drop}
+use Rattle.combinators.specs.Store.{Store, emits, wiped}
 use Rattle.combinators.proofs.Emitted.{emits-none}
-use Rattle.syntax.specs.Layout.{declarationsAt}
+use Rattle.syntax.specs.Layout.{declarationsAt, styleWidth, readStyle, stylesAt}
 use Rattle.syntax.specs.RuleLayout as layout
 use Rattle.syntax.specs.RuleLayout.{ruleHead, ruleDeclarations, readSelector, readRule}
 use Rattle.syntax.specs.Selector.{Selector, RuleSet}
@@ -15,13 +15,17 @@ use Rattle.syntax.specs.Stream.{readMany, textsMany}
 use Rattle.syntax.specs.Style.{StyleDecl}
 use Rattle.syntax.proofs.Streams.{texts-append}
 use Rattle.declarations.specs.Styles.{stylesOf}
+use Rattle.declarations.specs.StyleNumbers.{styleCount}
+use Rattle.declarations.proofs.StyleLaws.{count-styles}
+use Rattle.sheets.specs.Stores.{Zeros}
+use Rattle.sheets.proofs.ZeroLaws.{zeros-back}
+use Rattle.origins.specs.Rules.{selectorsRead, ruleStyles, EachRoom}
+use Rattle.origins.proofs.WalkLaws.{many-length}
 use Rattle.compiled.specs.Number.{numberLimit}
 use Rattle.compiled.specs.Sheet.{selectorBytes}
 use Rattle.compiler.specs.Selectors.{compiledSelector, styledSelectors, ruleSelectors, sheetSelectors}
-use Rattle.compiler.specs.Writing.{selectorsRead, stylesFound, styledBytes, ruleBytes, SelectorsFew}
-use Rattle.compiler.specs.declared.styles.StylesFound.{StylesFound}
-use Rattle.compiler.proofs.WalkLaws.{many-length}
-use Rattle.compiler.proofs.StyleWriting.{found-count}
+use Rattle.compiler.specs.Writing.{styledBytes, ruleBytes, SelectorsFew, RuleLent, RulesLent}
+use Rattle.compiler.proofs.EmittingLaws.{Emitting, emitting-begin, emitting-more, emitting-done, emitting-past}
 
 -- ---- selectors of a rule with its styles
 module _ (origin : ℕ) where
@@ -56,59 +60,119 @@ module _ (origin : ℕ) where
       → o₁ ≡ emits o₀ (textsMany selectorBytes (sheetSelectors origin rs))
   rules-written rs o₀ o₁ p = p ∙ ap (emits o₀) (sheet-bytes rs)
 
--- ---- a rule at a place
+-- ---- returns of `count_rule`: a rule at a place
 module _ (rows : List ℕ) (at declarations count : ℕ) (d : (texts : List ℕ) → drop declarations rows ≡ selectorsRead texts (drop at rows) .rest)
-    (e : count ≡ getD rows (at + ruleDeclarations) 0) (x : StylesFound) (f : x ≡ stylesFound (drop declarations rows) count) where
-  declared-is : (texts : List ℕ) → readRule texts (drop at rows) .value .declarations ≡ declarationsAt (drop declarations rows) texts count
+    (e : count ≡ getD rows (at + ruleDeclarations) 0) (x : ℕ) (f : x ≡ styleCount (drop declarations rows) count) (origin : ℕ) (texts : List ℕ) where
+  count-is : x ≡ length (stylesOf (readRule texts (drop at rows) .value .declarations))
   unfolding readRule selectorsRead declarationsAt
-  declared-is texts = rw (d texts, e, getD-drop at rows ruleDeclarations 0)
-
-  count-is : (texts : List ℕ) → x .count ≡ length (stylesOf (readRule texts (drop at rows) .value .declarations))
-  count-is texts = found-count (drop declarations rows) count x f texts ∙ ap (λ ds. length (stylesOf ds)) (sym (declared-is texts))
+  count-is = f ∙ count-styles texts (drop declarations rows) count ∙ rw (d texts, e, getD-drop at rows ruleDeclarations 0)
 
   -- it has no style
-  module _ (h : x .count ≡ 0) (origin : ℕ) (texts : List ℕ) where
-    no-selectors : ruleSelectors origin (readRule texts (drop at rows) .value) ≡ []
-    unfolding ruleSelectors
-    no-selectors = none-styled origin _ _ (sym (count-is texts) ∙ h)
+  pub rule-uncounted : x ≡ 0 → 0 ≡ length (ruleSelectors origin (readRule texts (drop at rows) .value))
+  unfolding ruleSelectors
+  rule-uncounted h = sym (ap length (none-styled origin _ _ (sym count-is ∙ h)))
 
-    -- nothing is written
-    pub rule-left-out : (o : Store) → o ≡ emits o (ruleBytes origin (readRule texts (drop at rows) .value))
-    unfolding ruleBytes textsMany
-    rule-left-out o = sym (emits-none o) ∙ ap (emits o) (ap (textsMany selectorBytes) (sym no-selectors))
+  -- it has one
+  pub rule-counted : ¬ (x ≡ 0) → (n : ℕ) → n ≡ getD rows (at + layout.ruleSelectors) 0 → n ≡ length (ruleSelectors origin (readRule texts (drop at rows) .value))
+  unfolding ruleSelectors readRule
+  rule-counted h n g =
+      let t = drop at rows in
+      sym (ap length (all-styled origin _ _ (λ z. h (count-is ∙ z)))
+      ∙ length-map (readRule texts t .value .selectors) (compiledSelector origin (stylesOf (readRule texts t .value .declarations)))
+      ∙ many-length (readSelector texts) (getD t layout.ruleSelectors 0) (drop ruleHead t)
+      ∙ getD-drop at rows layout.ruleSelectors 0
+      ∙ sym g)
 
-    -- it has no selector that is counted
-    pub rule-uncounted : 0 ≡ length (ruleSelectors origin (readRule texts (drop at rows) .value))
-    rule-uncounted = sym (ap length no-selectors)
+-- ---- returns of `emit_styled`: a rule at a place with so many styles, whose rows lie in a store
+module _ (rows : List ℕ) (at origin : ℕ) (tokens : List ℕ) (styles : ℕ) (texts : List ℕ) where
+  abbrev ds : List StyleDecl
+  ds = stylesAt tokens texts styles
 
-  -- it has a style
-  module _ (h : ¬ (x .count ≡ 0)) (n : ℕ) (g : n ≡ getD rows (at + layout.ruleSelectors) 0) (origin : ℕ) (texts : List ℕ) where
-    all-selectors : ruleSelectors origin (readRule texts (drop at rows) .value)
-        ≡ map (compiledSelector origin (stylesOf (declarationsAt (drop declarations rows) texts count))) (readRule texts (drop at rows) .value .selectors)
-    unfolding ruleSelectors
-    all-selectors = all-styled origin _ _ (λ z. h (count-is texts ∙ z)) ∙ rw (declared-is texts)
+  -- the bytes of its selectors
+  abbrev styledText : List ℕ
+  styledText = textsMany selectorBytes (styledSelectors origin ds (readRule texts (drop at rows) .value .selectors))
 
-    -- they are written
-    pub rule-written : (first : ℕ) → drop first rows ≡ drop (at + ruleHead) rows → (o₀ o₁ : Store)
-        → o₁ ≡ emits o₀ (textsMany (styledBytes origin (stylesOf (declarationsAt (drop declarations rows) texts count))) (readMany (readSelector texts) n (drop first rows) .value))
-        → o₁ ≡ emits o₀ (ruleBytes origin (readRule texts (drop at rows) .value))
-    unfolding ruleBytes readRule
-    rule-written first l o₀ o₁ p =
-        let q : readMany (readSelector texts) n (drop first rows) .value ≡ readRule texts (drop at rows) .value .selectors =
-        rw (g, l, getD-drop at rows layout.ruleSelectors 0, drop-drop ruleHead at rows) in
-        p ∙ ap (λ (ss : List Selector). emits o₀ (textsMany (styledBytes origin (stylesOf (declarationsAt (drop declarations rows) texts count))) ss)) q
-        ∙ ap (emits o₀) (sym (ap (textsMany selectorBytes) all-selectors ∙ styled-bytes origin _ _))
+  long : length ds ≡ styles
+  unfolding stylesAt
+  long = many-length (readStyle texts) styles tokens
 
-    -- they are counted
-    pub rule-counted : n ≡ length (ruleSelectors origin (readRule texts (drop at rows) .value))
-    unfolding readRule
-    rule-counted =
-        let t = drop at rows in
-        sym (ap length all-selectors
-        ∙ length-map (readRule texts t .value .selectors) (compiledSelector origin (stylesOf (declarationsAt (drop declarations rows) texts count)))
-        ∙ many-length (readSelector texts) (getD t layout.ruleSelectors 0) (drop ruleHead t)
-        ∙ getD-drop at rows layout.ruleSelectors 0
-        ∙ sym g)
+  -- it has none
+  pub styled-none : styles ≡ 0 → (o : Store) → o ≡ emits o styledText
+  unfolding textsMany
+  styled-none h o = sym (emits-none o) ∙ ap (emits o) (ap (textsMany selectorBytes) (sym (none-styled origin ds _ (long ∙ h))))
+
+  -- it has some
+  pub styled-all : ¬ (styles ≡ 0) → (n : ℕ) → n ≡ getD rows (at + layout.ruleSelectors) 0 → (first : ℕ) → drop first rows ≡ drop (at + ruleHead) rows → (o₀ o₁ : Store)
+      → o₁ ≡ emits o₀ (textsMany (styledBytes origin ds) (readMany (readSelector texts) n (drop first rows) .value)) → o₁ ≡ emits o₀ styledText
+  unfolding readRule
+  styled-all h n g first l o₀ o₁ p =
+      let q : readMany (readSelector texts) n (drop first rows) .value ≡ readRule texts (drop at rows) .value .selectors =
+      rw (g, l, getD-drop at rows layout.ruleSelectors 0, drop-drop ruleHead at rows) in
+      p ∙ ap (λ (ss : List Selector). emits o₀ (textsMany (styledBytes origin ds) ss)) q
+      ∙ ap (emits o₀) (sym (ap (textsMany selectorBytes) (all-styled origin ds _ (λ z. h (sym long ∙ z))) ∙ styled-bytes origin ds _))
+
+-- ---- returns of `emit_rule`: the styles lie in the store of tokens, which was zero, and are taken back
+pub rule-written : (rows : List ℕ) (at origin : ℕ) (texts x y z : List ℕ) (n : ℕ) → Zeros x 0 → y ≡ sets x 0 (ruleStyles (drop at rows))
+    → styleWidth * n ≡ length (ruleStyles (drop at rows))
+    → ((texts : List ℕ) → stylesAt y texts n ≡ stylesOf (readRule texts (drop at rows) .value .declarations)) → (o₀ o₁ : Store)
+    → o₁ ≡ emits o₀ (textsMany selectorBytes (styledSelectors origin (stylesAt y texts n) (readRule texts (drop at rows) .value .selectors)))
+    → z ≡ wiped 0 (styleWidth * n) y → (z ≡ x) × (o₁ ≡ emits o₀ (ruleBytes origin (readRule texts (drop at rows) .value)))
+unfolding ruleBytes ruleSelectors
+rule-written rows at origin texts x y z n zx ey en m o₀ o₁ p ez = (
+  ez ∙ ap (wiped 0 (styleWidth * n)) ey ∙ zeros-back x 0 zx (ruleStyles (drop at rows)) (styleWidth * n) (omega (arith, en)),
+  p ∙ ap (λ (ds : List StyleDecl). emits o₀ (textsMany selectorBytes (styledSelectors origin ds (readRule texts (drop at rows) .value .selectors)))) (m texts),
+)
+
+-- ---- turns of `emit_rules`
+-- a rule that can be asked for its styles
+pub lent-first : (n : ℕ) (t tokens : List ℕ) → 0 < n → RulesLent n t tokens → RuleLent t tokens
+unfolding EachRoom
+lent-first zero t tokens h o = absurd (omega arith)
+lent-first (suc k) t tokens h o = record { room = o .room .each .0; zeros = o .zeros }
+
+-- and those behind it
+pub lent-next : (n : ℕ) (t tokens : List ℕ) → 0 < n → RulesLent n t tokens → (x : List ℕ) → x ≡ tokens → (next : List ℕ) → ((texts : List ℕ) → next ≡ readRule texts t .rest)
+    → RulesLent (n - 1) next x
+unfolding EachRoom
+lent-next zero t tokens h o x ex next e = absurd (omega arith)
+lent-next (suc k) t tokens h o x ex next e =
+    let q : suc k - 1 ≡ k = omega arith in
+    rw (ex, q)
+    (record { room = record { texts = o .room .texts; each = rw (e (o .room .texts)) (o .room .each .1) }; zeros = o .zeros })
+
+module _ (rows : List ℕ) (count at origin : ℕ) (tokens₀ texts st₀ : List ℕ) (fill : ℕ) where
+  pub record Writing (n place : ℕ) (tokens st : List ℕ) (f : ℕ) : Type 0 where
+    pub emitted : Emitting (readRule texts) (ruleBytes origin) rows count at st₀ fill n place st f
+    pub lent : RulesLent n (drop place rows) tokens
+    pub same : tokens ≡ tokens₀
+
+  -- nothing is written yet
+  pub writing-begin : RulesLent count (drop at rows) tokens₀ → Writing count at tokens₀ st₀ fill
+  writing-begin o = record { emitted = emitting-begin (readRule texts) (ruleBytes origin) rows count at st₀ fill; lent = o; same = refl }
+
+  module _ (n place : ℕ) (tokens st : List ℕ) (f : ℕ) (c : Writing n place tokens st f) where
+    -- a rule is written
+    pub writing-more : 0 < n → (x : List ℕ) → x ≡ tokens → (z : List ℕ) (g : ℕ)
+        → record { bytes = z; fill = g } ≡ emits (record { bytes = st; fill = f }) (ruleBytes origin (readRule texts (drop place rows) .value)) → length z ≡ length st
+        → (next : ℕ) → ((texts : List ℕ) → drop next rows ≡ readRule texts (drop place rows) .rest) → Writing (n - 1) next x z g
+    writing-more h x ex z g e k next d =
+        record {
+          emitted = emitting-more (readRule texts) (ruleBytes origin) rows count at st₀ fill n place st f (c .emitted) h z g e k next (d texts);
+          lent = lent-next n (drop place rows) tokens h (c .lent) x ex (drop next rows) d;
+          same = ex ∙ c .same;
+        }
+
+    -- all are written
+    pub writing-done : n ≤ 0 → (tokens ≡ tokens₀)
+        × (record { bytes = st; fill = f } ≡ emits (record { bytes = st₀; fill = fill }) (textsMany selectorBytes (sheetSelectors origin (readMany (readRule texts) count (drop at rows) .value))))
+    writing-done h =
+        (c .same, rules-written origin _ _ _ (emitting-done (readRule texts) (ruleBytes origin) rows count at st₀ fill n place st f (c .emitted) h))
+
+    -- the store is full
+    pub writing-past : f ≡ length st + 1 → (tokens ≡ tokens₀)
+        × (record { bytes = st; fill = f } ≡ emits (record { bytes = st₀; fill = fill }) (textsMany selectorBytes (sheetSelectors origin (readMany (readRule texts) count (drop at rows) .value))))
+    writing-past h =
+        (c .same, rules-written origin _ _ _ (emitting-past (readRule texts) (ruleBytes origin) rows count at st₀ fill n place st f (c .emitted) h))
 
 -- ---- turns of `count_selectors`
 module _ (rows : List ℕ) (count at : ℕ) where

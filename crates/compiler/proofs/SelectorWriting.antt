@@ -12,11 +12,11 @@ use Rattle.syntax.specs.RuleLayout.{componentWidth, componentKindAt, componentT
 use Rattle.syntax.specs.Selector.{Component}
 use Rattle.syntax.specs.Stream.{readMany, textsMany}
 use Rattle.syntax.specs.Style.{StyleDecl}
+use Rattle.origins.proofs.WalkLaws.{many-length, many-next}
 use Rattle.compiled.specs.Component.{componentBytes}
 use Rattle.compiled.specs.Sheet.{headBytes, stylesBytes, selectorBytes}
 use Rattle.compiler.specs.Selectors.{compiledSelector}
 use Rattle.compiler.specs.Writing.{styledBytes}
-use Rattle.compiler.proofs.WalkLaws.{many-length, many-next}
 
 -- ---- components
 -- one, from its row

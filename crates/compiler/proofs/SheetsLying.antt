@@ -1,13 +1,16 @@
 -- The selectors that lie in the stores once three sheets are read: those that the sheets mean, so they can be written.
-use mathlib.Core.Path.{_≡_, refl}
+use mathlib.Core.Path.{_≡_, refl, ap, _∙_}
 use mathlib.Core.List.{List}
 use Prim.Native.Nat.{ℕ}
+use lib.ListN.{length}
 use lib.Seq.{sets}
 use Rattle.combinators.specs.Store.{cleared}
+use Rattle.combinators.proofs.Cleared.{length-cleared}
+use Rattle.sheets.specs.Stores.{Zeros}
 use Rattle.origins.specs.Checks.{Lent}
 use Rattle.origins.specs.Reading.{sheetsOf}
 use Rattle.origins.specs.declared.reading.SheetsRules.{SheetsRules}
-use Rattle.origins.proofs.SheetsKnown.{Came, known, rowsHeld, textsHeld, agent-back, user-back, author-back, texts-within}
+use Rattle.origins.proofs.SheetsKnown.{clear-zeros, Came, known, rowsHeld, textsHeld, agent-back, user-back, author-back, agent-styled, user-styled, author-styled, texts-within}
 use Rattle.compiler.specs.Selectors.{selectorsOf}
 use Rattle.compiler.specs.Written.{selectorsFrom, Lying}
 use Rattle.compiler.proofs.Range.{selectors-bits}
@@ -20,14 +23,16 @@ module _ {agent user author rules₀ tokens brackets texts₀ : List ℕ} (o : L
   unfolding selectorsFrom
   selectors-are = rw (agent-back o m er et, user-back o m er et, author-back o m er et) refl
 
-  -- so they can be written
-  pub lying : Lying rows texts s
-  lying =
+  -- so they can be written, with the tokens that were cleared
+  pub lying : (x : List ℕ) → x ≡ cleared 0 tokens → Lying rows texts x s
+  lying x ex =
       let k = known o m in
       let w = texts-within o m er et in
+      let z : Zeros x 0 = rw ex (clear-zeros tokens) in
+      let l : length x ≡ length tokens = ap length ex ∙ length-cleared 0 tokens in
       record {
-        agent-texts = w .0;
-        user-texts = w .1;
-        author-texts = w .2;
+        agent-lies = record { texts-in = w .0; lent = record { room = rw l (agent-styled o m er et); zeros = z } };
+        user-lies = record { texts-in = w .1; lent = record { room = rw l (user-styled o m er et); zeros = z } };
+        author-lies = record { texts-in = w .2; lent = record { room = rw l (author-styled o m er et); zeros = z } };
         few = rw selectors-are (selectors-bits agent user author (k .agent-read) (k .user-read) (k .author-read) (o .agent-within) (o .user-within) (o .author-within));
       }

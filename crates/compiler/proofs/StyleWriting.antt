@@ -1,36 +1,28 @@
 -- Returns and turns of the functions that count and write the styles of a rule.
 use mathlib.Core.Path.{_≡_, refl, sym, ap, _∙_}
 use mathlib.Core.Bool.{Bool, true, false, _||_, _&&_}
-use mathlib.Core.List.{List, [], _∷_, _++_, append-nil}
+use mathlib.Core.List.{List, [], _∷_, _++_}
 use Prim.Native.Nat.{ℕ, zero, suc, _+_, _*_, _-_, _≤_, _<_}
 use native.Mathlib.Omega.{arith}
 use lib.ListN.{length, drop, length-append}
 use lib.Seq.{drop-drop}
-use Rattle.combinators.specs.Choice.{pick, or, and, is}
+use Rattle.combinators.specs.Choice.{pick, or, and}
 use Rattle.combinators.specs.Store.{Store, emits}
-use Rattle.combinators.proofs.Emitted.{emits-none, then}
+use Rattle.combinators.proofs.Emitted.{then}
 use Rattle.combinators.proofs.Rules.{or-assoc, or-false}
-use Rattle.syntax.specs.Declaration.{Declaration}
-use Rattle.syntax.specs.Layout as layout
-use Rattle.syntax.specs.Layout.{flag, declarationWidth, readDeclaration, declarationsAt, styleWidth, rowOfNumbers, styleIn}
-use Rattle.syntax.specs.Stream.{textsMany}
-use Rattle.syntax.specs.Style as style
-use Rattle.syntax.specs.Style.{StyleDecl}
+use Rattle.syntax.specs.Layout.{flag, declarationWidth, readDeclaration, declarationsAt, styleWidth, rowOfNumbers, numbersAt, styleIn, readStyle, stylesAt}
 use Rattle.syntax.specs.declared.styles.StyleNumbers.{StyleNumbers}
 use Rattle.syntax.proofs.RowSizes.{length-style}
-use Rattle.syntax.proofs.Streams.{texts-append}
-use Rattle.declarations.specs.Styles.{one, styleOf, zeroHeight, hidesOverflow, anyDecl, ownStyles, stylesOf}
+use Rattle.syntax.specs.Stream.{textsMany}
 use Rattle.declarations.specs.StyleNumbers.{addedStyle, ownNumbersAt, rowOfOwn, ownRow, zeroRow, hiddenRow, ownRows, anyRow, styleNumbers, styleCount}
 use Rattle.declarations.specs.declared.styles.OwnStyle.{OwnStyle}
 use Rattle.declarations.specs.declared.styles.OwnStyle.the-variants.{Style, NoStyle}
-use Rattle.declarations.proofs.StyleLaws.{saidBy, declared-said, any-zero, any-hidden, count-styles, styles-few}
+use Rattle.declarations.proofs.StyleLaws.{count-styles, styles-few}
 use Rattle.declarations.proofs.Styling.{or-is, and-is}
+use Rattle.origins.proofs.WalkLaws.{many-length}
 use Rattle.compiled.specs.Number.{numberLimit, numberBytes}
 use Rattle.compiled.specs.Style.{styleBytes}
 use Rattle.compiled.specs.Sheet.{stylesBytes}
-use Rattle.compiler.specs.Writing.{stylesFound, ownBytes}
-use Rattle.compiler.specs.declared.styles.StylesFound.{StylesFound}
-use Rattle.compiler.proofs.WalkLaws.{many-length}
 
 -- ---- the style that a declaration asks for by itself
 module _ (t : List ℕ) (r : OwnStyle) (e : r ≡ ownNumbersAt t) where
@@ -43,22 +35,6 @@ module _ (t : List ℕ) (r : OwnStyle) (e : r ≡ ownNumbersAt t) where
   pub own-none : r ≡ NoStyle → (styleWidth * 0 ≡ length (ownRow t)) × (0 ≤ 1)
   unfolding ownRow rowOfOwn
   own-none h = (ap (λ (o : OwnStyle). length (rowOfOwn o)) (sym h ∙ e), omega arith)
-
-  module _ (texts : List ℕ) (o₀ : Store) where
-    -- the styles of the declaration there
-    asked : saidBy texts r ≡ styleOf (readDeclaration texts t .value .important) (readDeclaration texts t .value .decl)
-    asked = ap (saidBy texts) e ∙ declared-said texts t
-
-    -- it is written
-    pub own-written : (x : StyleNumbers) → r ≡ Style x → (o₁ : Store) → o₁ ≡ emits o₀ (styleBytes (styleIn texts x)) → o₁ ≡ emits o₀ (ownBytes (readDeclaration texts t .value))
-    unfolding saidBy ownBytes textsMany
-    own-written x h o₁ p =
-        p ∙ ap (emits o₀) (sym (append-nil _) ∙ ap (textsMany styleBytes) (ap (saidBy texts) (sym h) ∙ asked))
-
-    -- none is written
-    pub own-left-out : r ≡ NoStyle → o₀ ≡ emits o₀ (ownBytes (readDeclaration texts t .value))
-    unfolding saidBy ownBytes textsMany
-    own-left-out h = sym (emits-none o₀) ∙ ap (emits o₀) (ap (textsMany styleBytes) (ap (saidBy texts) (sym h) ∙ asked))
 
 -- ---- turns of `count_styles`: what is counted and what is left make what was to be counted
 pub record Finding (rows : List ℕ) (count at own : ℕ) (height-zero overflow-hidden : Bool) (place n : ℕ) : Type 0 where
@@ -155,54 +131,25 @@ module _ (rows : List ℕ) (count at own : ℕ) (height-zero overflow-hidden : B
         omega (arith, total-is f e, count-styles [] (drop at rows) count, styles-few ds, many-length (readDeclaration []) count (drop at rows))
 
     -- all is counted
-    pub finding-done : (f : ℕ) → f ≡ flag (height-zero && overflow-hidden)
-        → record { count = own + f; added = height-zero && overflow-hidden } ≡ stylesFound (drop at rows) count
-    unfolding stylesFound
-    finding-done f e = rw (total-is f e, both-is)
+    pub finding-done : (f : ℕ) → f ≡ flag (height-zero && overflow-hidden) → own + f ≡ styleCount (drop at rows) count
+    finding-done f e = total-is f e
 
--- ---- returns of `emit_styles`
--- the styles that declarations ask for by themselves
-own-bytes : (ds : List Declaration) → textsMany styleBytes (ownStyles ds) ≡ textsMany ownBytes ds
-unfolding textsMany ownStyles ownBytes
-own-bytes [] = refl
-own-bytes (d ∷ ds) =
-    texts-append (λ _ _. []) styleBytes (styleOf (d .important) (d .decl)) (ownStyles ds) ∙ ap (λ (l : List ℕ). textsMany styleBytes (styleOf (d .important) (d .decl)) ++ l) (own-bytes ds)
+-- ---- styles from their rows
+module _ (rows : List ℕ) (at : ℕ) (texts : List ℕ) where
+  -- one
+  pub style-there : (x : StyleNumbers) → x ≡ numbersAt (drop at rows) → (o₀ o₁ : Store) → o₁ ≡ emits o₀ (styleBytes (styleIn texts x))
+      → o₁ ≡ emits o₀ (styleBytes (readStyle texts (drop at rows) .value))
+  unfolding readStyle
+  style-there x e o₀ o₁ p = p ∙ ap (λ (y : StyleNumbers). emits o₀ (styleBytes (styleIn texts y))) e
 
--- how many these are with the one that is added
-pub found-count : (t : List ℕ) (n : ℕ) (x : StylesFound) → x ≡ stylesFound t n → (texts : List ℕ) → x .count ≡ length (stylesOf (declarationsAt t texts n))
-unfolding stylesFound
-found-count t n x e texts = ap (λ (y : StylesFound). y .count) e ∙ count-styles texts t n
+  -- the next
+  pub behind-style : (place : ℕ) → drop place rows ≡ drop (at + styleWidth) rows → drop place rows ≡ readStyle texts (drop at rows) .rest
+  unfolding readStyle
+  behind-style place p = p ∙ sym (drop-drop styleWidth at rows)
 
-found-added : (t : List ℕ) (n : ℕ) (x : StylesFound) → x ≡ stylesFound t n → (texts : List ℕ)
-    → x .added ≡ and (anyDecl zeroHeight (declarationsAt t texts n)) (anyDecl hidesOverflow (declarationsAt t texts n))
-unfolding stylesFound
-found-added t n x e texts = ap (λ (y : StylesFound). y .added) e ∙ rw (any-zero texts n t, any-hidden texts n t)
-
-module _ (t : List ℕ) (n : ℕ) (x : StylesFound) (e : x ≡ stylesFound t n) (texts : List ℕ) (o₀ o₁ o₂ : Store) (p : o₁ ≡ emits o₀ (numberBytes (x .count)))
-    (q : o₂ ≡ emits o₁ (textsMany ownBytes (declarationsAt t texts n))) where
-  abbrev declared : List Declaration
-  declared = declarationsAt t texts n
-
-  -- with what is added
-  all-bytes : (xs : List StyleDecl) → pick (x .added) (one false style.displayNone) [] ≡ xs
-      → numberBytes (x .count) ++ (textsMany ownBytes declared ++ textsMany styleBytes xs) ≡ stylesBytes (stylesOf declared)
-  unfolding stylesBytes stylesOf
-  all-bytes xs d =
-      let z = and (anyDecl zeroHeight declared) (anyDecl hidesOverflow declared) in
-      let a : xs ≡ pick z (one false style.displayNone) [] = sym d ∙ rw (found-added t n x e texts) in
-      rw (found-count t n x e texts, a, ← own-bytes declared)
-      (ap (λ (l : List ℕ). numberBytes (length (stylesOf declared)) ++ l) (sym (texts-append (λ _ _. []) styleBytes (ownStyles declared) (pick z (one false style.displayNone) []))))
-
-  -- `display: none` is added
-  pub styles-added : x .added ≡ true → (o₃ : Store) → o₃ ≡ emits o₂ (styleBytes (styleIn texts addedStyle)) → o₃ ≡ emits o₀ (stylesBytes (stylesOf declared))
-  unfolding styleIn layout.styleOf pick is textsMany one
-  styles-added h o₃ r =
-      then o₀ o₁ o₃ _ _ p (then o₁ o₂ o₃ _ _ q (r ∙ ap (emits o₂) (sym (append-nil _))))
-      ∙ ap (emits o₀) (all-bytes (one false style.displayNone) (rw h))
-
-  -- it is not
-  pub styles-own : x .added ≡ false → o₂ ≡ emits o₀ (stylesBytes (stylesOf declared))
-  unfolding pick textsMany
-  styles-own h =
-      then o₀ o₁ o₂ _ _ p (then o₁ o₂ o₂ _ _ q (sym (emits-none o₂)))
-      ∙ ap (emits o₀) (all-bytes [] (rw h))
+-- with their count
+pub styles-written : (rows texts : List ℕ) (count : ℕ) (o₀ o₁ o₂ : Store) → o₁ ≡ emits o₀ (numberBytes count) → o₂ ≡ emits o₁ (textsMany styleBytes (stylesAt rows texts count))
+    → o₂ ≡ emits o₀ (stylesBytes (stylesAt rows texts count))
+unfolding stylesBytes stylesAt
+styles-written rows texts count o₀ o₁ o₂ p q =
+    then o₀ o₁ o₂ _ _ (p ∙ ap (λ (n : ℕ). emits o₀ (numberBytes n)) (sym (many-length (readStyle texts) count rows))) q

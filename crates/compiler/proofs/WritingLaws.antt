@@ -23,7 +23,7 @@ use Rattle.compiled.specs.Sheet.{CompiledSelector, selectorBytes, encode}
 use Rattle.compiler.specs.Selectors.{sheetSelectors, selectorsOf}
 use Rattle.compiler.specs.CompileAnswer.{compiledLimit, roomOf}
 use Rattle.compiler.specs.Writing.{SelectorsFew}
-use Rattle.compiler.specs.Written.{selectorsFrom, Lying, fillOf, writtenIn}
+use Rattle.compiler.specs.Written.{selectorsFrom, SheetLying, fillOf, writtenIn}
 
 -- ---- the room of a buffer
 pub room-limit : (n : ℕ) → compiledLimit < n → compiledLimit ≡ roomOf n
@@ -53,6 +53,10 @@ pub sheet-written : (rows texts : List ℕ) (s : SheetRules) (origin : ℕ) (o�
 unfolding rulesFrom rulesAt
 sheet-written rows texts s origin o₀ o₁ e =
     e ∙ ap (λ (t : List ℕ). emits o₀ (textsMany selectorBytes (sheetSelectors origin (readMany (readRule t) (s .count) (drop (s .place) rows) .value)))) (rest texts (s .from))
+
+-- it can be written with a store of tokens that is the same
+pub lies-same : (rows texts tokens x : List ℕ) (s : SheetRules) → x ≡ tokens → SheetLying rows texts tokens s → SheetLying rows texts x s
+lies-same rows texts tokens x s e l = rw e l
 
 -- ---- three sheets
 module _ (rows texts : List ℕ) (s : SheetsRules) where
@@ -98,19 +102,19 @@ module _ (rows texts : List ℕ) (s : SheetsRules) where
       let f₁ : o₁ ≡ emits o₀ n = e₁ ∙ ap (λ (k : ℕ). emits o₀ (numberBytes k)) ec in
       then o₀ o₃ o₄ ((n ++ x) ++ y) z (then o₀ o₂ o₃ (n ++ x) y (then o₀ o₁ o₂ n x f₁ e₂) e₃) e₄ ∙ ap (emits o₀) bytes-are
 
-  module _ (l : Lying rows texts s) where
+  module _ (few : length all < numberLimit) where
     -- a number can tell how many each has
     pub agent-few : SelectorsFew (drop (s .agent .place) rows) (s .agent .count)
     unfolding a rulesFrom rulesAt
-    agent-few = record { texts = drop (s .agent .from) texts; origin = agentOrigin; few = omega (arith, l .few, total) }
+    agent-few = record { texts = drop (s .agent .from) texts; origin = agentOrigin; few = omega (arith, few, total) }
 
     pub user-few : SelectorsFew (drop (s .user .place) rows) (s .user .count)
     unfolding u rulesFrom rulesAt
-    user-few = record { texts = drop (s .user .from) texts; origin = userOrigin; few = omega (arith, l .few, total) }
+    user-few = record { texts = drop (s .user .from) texts; origin = userOrigin; few = omega (arith, few, total) }
 
     pub author-few : SelectorsFew (drop (s .author .place) rows) (s .author .count)
     unfolding w rulesFrom rulesAt
-    author-few = record { texts = drop (s .author .from) texts; origin = authorOrigin; few = omega (arith, l .few, total) }
+    author-few = record { texts = drop (s .author .from) texts; origin = authorOrigin; few = omega (arith, few, total) }
 
     -- their sums fit, and are what there is
     module _ {i j k : ℕ} (ei : (origin : ℕ) (t : List ℕ) → i ≡ length (sheetSelectors origin (readMany (readRule t) (s .agent .count) (drop (s .agent .place) rows) .value)))
@@ -121,10 +125,10 @@ module _ (rows texts : List ℕ) (s : SheetsRules) where
       counts = omega (arith, total, ei agentOrigin (drop (s .agent .from) texts), ej userOrigin (drop (s .user .from) texts), ek authorOrigin (drop (s .author .from) texts))
 
       pub counts-fit : i + j + k < 2 ^ 64
-      counts-fit = omega (arith, counts, l .few)
+      counts-fit = omega (arith, counts, few)
 
       pub first-fit : i + j < 2 ^ 64
-      first-fit = omega (arith, counts, l .few)
+      first-fit = omega (arith, counts, few)
 
 -- ---- within the room r of a buffer
 module _ (l : List ℕ) {r : ℕ} (e : r ≡ roomOf (length l)) where

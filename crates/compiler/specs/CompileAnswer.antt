@@ -1,10 +1,9 @@
 -- What `compile` answers and leaves: the refusals of document 01 in the order of their numbers, or the compiled sheet.
 use Prim.Native.Nat.{ℕ, _+_}
-use mathlib.Core.List.{List, [], _++_}
+use mathlib.Core.List.{List}
 use lib.Dec.{leb, ltb}
 use lib.ListN.{length, replicate}
 use Rattle.combinators.specs.Choice.{pick}
-use Rattle.syntax.specs.Selector.{RuleSet}
 use Rattle.sheets.specs.SheetAnswer.{storesSuffice, Refusal, limitRefusal, storeRefusal, utf8Refusal, panicRefusal, padded}
 use Rattle.origins.specs.Checks.{anyTooLong, allValid}
 use Rattle.origins.specs.Reading.{Sheets, rules, panicked, sheetsOf, sheetsTexts}

@@ -1,41 +1,30 @@
--- What is written of the parts of rules that lie in rows, and what is known of a rule's styles before they are written.
-use Prim.Native.Nat.{ℕ, _<_}
+-- What is written of the parts of rules that lie in rows, and what that asks for.
+use Prim.Native.Nat.{ℕ, _+_, _<_}
+use mathlib.Core.Bool.{Bool}
 use mathlib.Core.Path.{_≡_, refl}
 use mathlib.Core.List.{List, [], _∷_}
-use lib.ListN.{length, getD, drop}
+use lib.ListN.{length}
 use Rattle.combinators.specs.Choice.{pick, or, and, is}
-use Rattle.syntax.specs.Declaration.{Declaration}
 use Rattle.syntax.specs.Layout.{flag, flagOf, colourNumber, colourOf, colorKind, heightKind, declOf, readDeclaration, styleSlotOf}
-use Rattle.syntax.specs.RuleLayout as layout
-use Rattle.syntax.specs.RuleLayout.{elementKind, componentKind, componentFrom, readComponent, pseudoNumber, pseudoFrom, ruleHead, readSelector, readRule, rulesAt}
+use Rattle.syntax.specs.RuleLayout.{elementKind, componentKind, componentFrom, readComponent, pseudoNumber, pseudoFrom, readSelector, readRule, rulesAt}
 use Rattle.syntax.specs.Selector.{Selector, RuleSet}
-use Rattle.syntax.specs.Stream.{Read, readMany, textsMany, part}
+use Rattle.syntax.specs.Stream.{readMany, textsMany, part}
 use Rattle.syntax.specs.Style.{StyleDecl, authorOrigin}
 use Rattle.declarations.specs.Styles.{one, styleOf, hidesOverflow, zeroHeight, anyDecl, ownStyles, stylesOf}
-use Rattle.declarations.specs.StyleNumbers.{zeroRow, hiddenRow, anyRow, styleCount}
+use Rattle.sheets.specs.Stores.{Zeros}
+use Rattle.origins.specs.Rules.{RuleRoom, RulesRoom}
 use Rattle.compiled.specs.Number.{numberLimit, groupBytes, numberBytes}
 use Rattle.compiled.specs.Text.{textBytes}
 use Rattle.compiled.specs.Component.{componentBody, componentBytes}
 use Rattle.compiled.specs.Style.{styleBody, styleBytes}
 use Rattle.compiled.specs.Sheet.{headBytes, stylesBytes, selectorBytes}
 use Rattle.compiler.specs.Selectors.{compiledSelector, styledSelectors, ruleSelectors, sheetSelectors}
-use Rattle.compiler.specs.declared.styles.StylesFound.{StylesFound}
 
--- ---- parts of a rule at the start of a stream
-
--- its selectors; its declarations lie behind them
-unfoldable pub selectorsRead : List ℕ → List ℕ → Read (List Selector)
-selectorsRead texts t = readMany (readSelector texts) (getD t layout.ruleSelectors 0) (drop ruleHead t)
-
--- what the first n declarations of a stream ask for: how many styles, and whether `display: none` is added to them; the texts do not matter
-unfoldable pub stylesFound : List ℕ → ℕ → StylesFound
-stylesFound t n = record { count = styleCount t n; added = and (anyRow zeroRow n t) (anyRow hiddenRow n t) }
+-- bytes passed the end of a store of n: the fill stands one above
+unfoldable pub past : ℕ → ℕ → Bool
+past n f = is f (n + 1)
 
 -- ---- bytes
-
--- of the style that a declaration asks for by itself
-unfoldable pub ownBytes : Declaration → List ℕ
-ownBytes d = textsMany styleBytes (styleOf (d .important) (d .decl))
 
 -- of a selector of a rule that has these styles
 unfoldable pub styledBytes : ℕ → List StyleDecl → Selector → List ℕ
@@ -52,6 +41,15 @@ pub record SelectorsFew (t : List ℕ) (n : ℕ) : Type 0 where
   pub texts : List ℕ
   pub origin : ℕ
   pub few : length (sheetSelectors origin (readMany (readRule texts) n t .value)) < numberLimit
+
+-- a store of tokens that is zero, with room for the styles of the rule at the start of a stream, and of each of its first n rules
+pub record RuleLent (t tokens : List ℕ) : Type 0 where
+  pub room : RuleRoom t (length tokens)
+  pub zeros : Zeros tokens 0
+
+pub record RulesLent (n : ℕ) (t tokens : List ℕ) : Type 0 where
+  pub room : RulesRoom n t (length tokens)
+  pub zeros : Zeros tokens 0
 
 -- ---- cases
 

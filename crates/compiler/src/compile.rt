@@ -65,7 +65,7 @@ fn compile_texts(
             return CompileAnswer::Panic(text, byte);
         }
         SheetsRead::Rules(sheets) => {
-            let bytes = write_within(rules, texts, sheets, compiled);
+            let bytes = write_within(rules, texts, sheets, tokens, compiled);
             clear_numbers(rules, 0);
             if bytes <= room_of(compiled.len()) {
                 return CompileAnswer::Compiled(bytes, sheets.end);

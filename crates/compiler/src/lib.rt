@@ -1,5 +1,5 @@
 // The compiler: the selectors of three sheets (specs/) as the bytes of a compiled sheet.
-pub mod walk; // walk.rt: places in rule rows
+pub mod past; // past.rt: whether bytes passed the end of a store
 pub mod styles; // styles.rt: the styles of a rule, counted and written
 pub mod selectors; // selectors.rt: one selector, written
 pub mod rules; // rules.rt: rules, written, and their selectors counted

@@ -1,5 +1,4 @@
-// A selector of a rule, from its row and the rule's declaration rows, as its bytes.
-use crate::styles::StylesFound;
+// A selector of a rule, from its row and the rule's style rows, as its bytes.
 use crate::styles::emit_styles;
 use combinators::stores::number_at;
 use compiled::components::emit_component;
@@ -20,13 +19,12 @@ ghost use mathlib.Core.Path.{_≡_};
 ghost use mathlib.Core.List.{reverse};
 ghost use lib.ListN.{getD, drop};
 ghost use Rattle.combinators.specs.Store.{emits};
-ghost use Rattle.syntax.specs.Layout.{declarationsAt};
+ghost use Rattle.syntax.specs.Layout.{stylesAt};
 ghost use Rattle.syntax.specs.RuleLayout.{selectorComponents, selectorPseudo, readComponent, pseudoNumber, pseudoFrom, readSelector};
 ghost use Rattle.syntax.specs.Stream.{readMany, textsMany};
-ghost use Rattle.declarations.specs.Styles.{stylesOf};
 ghost use Rattle.compiled.specs.Component.{componentBytes};
 ghost use Rattle.compiled.specs.Sheet.{headBytes};
-ghost use Rattle.compiler.specs.Writing.{stylesFound, styledBytes};
+ghost use Rattle.compiler.specs.Writing.{styledBytes};
 
 // Writes the component whose row starts at `at`, with its texts in `texts`; the fill behind it.
 fn emit_component_at(rows: &[u32], at: usize, texts: &[u8], store: &mut [u8], fill: usize) -> usize
@@ -97,36 +95,24 @@ fn emit_selector_head(rows: &[u32], at: usize, origin: u32, store: &mut [u8], fi
     )
 }
 
-// Writes the selector whose row starts at `at`, with the styles of the `count` declarations from `declarations` on, which were counted before; the
-// fill behind it.
+// Writes the selector whose row starts at `at`, with the styles of the first `styles` rows of `tokens`; the fill behind it.
 pub fn emit_selector(
     rows: &[u32],
     at: usize,
     origin: u32,
-    declarations: usize,
-    count: u32,
-    found: StylesFound,
+    tokens: &[u32],
+    styles: u32,
     texts: &[u8],
     store: &mut [u8],
     fill: usize,
 ) -> usize
-    requires { ⌜ found ≡ stylesFound (drop declarations (now rows)) count ⌝ }
     ensures { λ r. ⌜ record { bytes = now (store .exit); fill = r }
         ≡ emits (record { bytes = now (store .entry); fill = fill })
-        (styledBytes origin (stylesOf (declarationsAt (drop declarations (now (rows .entry))) (now (texts .entry)) count))
-        (readSelector (now (texts .entry)) (drop at (now (rows .entry))) .value)) ⌝ }
+        (styledBytes origin (stylesAt (now (tokens .entry)) (now (texts .entry)) styles) (readSelector (now (texts .entry)) (drop at (now (rows .entry))) .value)) ⌝ }
 {
     let behind_head = emit_selector_head(rows, at, origin, store, fill);
     let components = number_at(rows, at, SELECTOR_COMPONENTS);
     let first = forward(rows, at, SELECTOR_HEAD);
     let behind_components = emit_components(rows, first, components, texts, store, behind_head);
-    emit_styles(
-        rows,
-        declarations,
-        count,
-        found,
-        texts,
-        store,
-        behind_components,
-    )
+    emit_styles(tokens, styles, texts, store, behind_components)
 }

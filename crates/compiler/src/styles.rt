@@ -1,30 +1,25 @@
-// The styles of a rule, from its declaration rows: how many they are, and their bytes.
+// The styles of a rule: how many its declaration rows ask for, and the bytes of its style rows.
+use crate::past::is_past;
 use compiled::numbers::emit_number;
 use compiled::styles::emit_style;
-use declarations::styles::ADDED_STYLE;
 use declarations::styles::OwnStyle;
 use declarations::styles::hides_overflow;
 use declarations::styles::is_zero_height;
 use declarations::styles::own_style_at;
 use syntax::rows::DECLARATION_WIDTH;
+use syntax::rows::STYLE_WIDTH;
 use syntax::rows::flag_of;
+use syntax::styles::style_at;
 use syntax::walk::forward;
 ghost use mathlib.Core.Path.{_≡_};
 ghost use Prim.Native.Nat.{_*_, _≤_};
 ghost use lib.ListN.{length, drop};
 ghost use Rattle.combinators.specs.Store.{emits};
-ghost use Rattle.syntax.specs.Layout.{readDeclaration, declarationsAt, styleWidth};
+ghost use Rattle.syntax.specs.Layout.{readStyle, stylesAt, styleWidth};
 ghost use Rattle.syntax.specs.Stream.{textsMany};
-ghost use Rattle.declarations.specs.Styles.{stylesOf};
-ghost use Rattle.declarations.specs.StyleNumbers.{ownRow};
+ghost use Rattle.declarations.specs.StyleNumbers.{ownRow, styleCount};
+ghost use Rattle.compiled.specs.Style.{styleBytes};
 ghost use Rattle.compiled.specs.Sheet.{stylesBytes};
-ghost use Rattle.compiler.specs.Writing.{stylesFound, ownBytes};
-
-// How many styles declarations ask for, and whether `display: none` is added to those that they ask for by themselves.
-pub struct StylesFound {
-    pub count: u32,
-    pub added: bool,
-}
 
 // How many styles the declaration at `at` asks for by itself: one or none.
 fn count_own_style(rows: &[u32], at: usize) -> u32
@@ -41,9 +36,9 @@ fn count_own_style(rows: &[u32], at: usize) -> u32
     }
 }
 
-// The styles that `count` declarations from `at` on ask for.
-pub fn count_styles(rows: &[u32], at: usize, count: u32) -> StylesFound
-    ensures { λ r. ⌜ r ≡ stylesFound (drop at (now (rows .entry))) count ⌝ }
+// How many styles `count` declarations from `at` on ask for.
+pub fn count_styles(rows: &[u32], at: usize, count: u32) -> u32
+    ensures { λ r. ⌜ r ≡ styleCount (drop at (now (rows .entry))) count ⌝ }
 {
     let mut own: u32 = 0;
     let mut height_zero = false;
@@ -57,73 +52,44 @@ pub fn count_styles(rows: &[u32], at: usize, count: u32) -> StylesFound
         place = forward(rows, place, DECLARATION_WIDTH);
         left -= 1;
     }
-    let added = height_zero & overflow_hidden;
-    let total = own + flag_of(added);
-    StylesFound {
-        count: total,
-        added,
-    }
+    own + flag_of(height_zero & overflow_hidden)
 }
 
-// Writes the style that the declaration at `at` asks for by itself, if it asks for one, with its text in `texts`; the fill behind it.
-fn emit_own_style(rows: &[u32], at: usize, texts: &[u8], store: &mut [u8], fill: usize) -> usize
+// Writes the style whose row starts at `at`, with its text in `texts`; the fill behind it.
+fn emit_style_at(rows: &[u32], at: usize, texts: &[u8], store: &mut [u8], fill: usize) -> usize
     ensures { λ r. ⌜ record { bytes = now (store .exit); fill = r }
         ≡ emits (record { bytes = now (store .entry); fill = fill })
-        (ownBytes (readDeclaration (now (texts .entry)) (drop at (now (rows .entry))) .value)) ⌝ }
+        (styleBytes (readStyle (now (texts .entry)) (drop at (now (rows .entry))) .value)) ⌝ }
 {
-    match own_style_at(rows, at) {
-        OwnStyle::Style(style) => {
-            return emit_style(style, texts, store, fill);
-        }
-        OwnStyle::NoStyle => {
-            return fill;
-        }
-    }
+    emit_style(style_at(rows, at), texts, store, fill)
 }
 
-// Writes the styles that `count` declarations from `at` on ask for by themselves; the fill behind them.
-fn emit_own_styles(
-    rows: &[u32],
-    at: usize,
-    count: u32,
-    texts: &[u8],
-    store: &mut [u8],
-    fill: usize,
-) -> usize
+// Writes the styles of `count` rows; the fill behind them.
+fn emit_style_rows(rows: &[u32], count: u32, texts: &[u8], store: &mut [u8], fill: usize) -> usize
     ensures { λ r. ⌜ record { bytes = now (store .exit); fill = r }
         ≡ emits (record { bytes = now (store .entry); fill = fill })
-        (textsMany ownBytes (declarationsAt (drop at (now (rows .entry))) (now (texts .entry)) count)) ⌝ }
+        (textsMany styleBytes (stylesAt (now (rows .entry)) (now (texts .entry)) count)) ⌝ }
 {
     let mut f = fill;
-    let mut place = at;
+    let mut place = 0;
     let mut left = count;
     while left > 0 {
-        f = emit_own_style(rows, place, texts, store, f);
-        place = forward(rows, place, DECLARATION_WIDTH);
+        if is_past(store.len(), f) {
+            return f;
+        }
+        f = emit_style_at(rows, place, texts, store, f);
+        place = forward(rows, place, STYLE_WIDTH);
         left -= 1;
     }
     f
 }
 
-// Writes the styles that `count` declarations from `at` on ask for, which were counted before, with their count; the fill behind them.
-pub fn emit_styles(
-    rows: &[u32],
-    at: usize,
-    count: u32,
-    found: StylesFound,
-    texts: &[u8],
-    store: &mut [u8],
-    fill: usize,
-) -> usize
-    requires { ⌜ found ≡ stylesFound (drop at (now rows)) count ⌝ }
+// Writes how many rows there are and their styles; the fill behind them.
+pub fn emit_styles(rows: &[u32], count: u32, texts: &[u8], store: &mut [u8], fill: usize) -> usize
     ensures { λ r. ⌜ record { bytes = now (store .exit); fill = r }
         ≡ emits (record { bytes = now (store .entry); fill = fill })
-        (stylesBytes (stylesOf (declarationsAt (drop at (now (rows .entry))) (now (texts .entry)) count))) ⌝ }
+        (stylesBytes (stylesAt (now (rows .entry)) (now (texts .entry)) count)) ⌝ }
 {
-    let behind_count = emit_number(found.count, store, fill);
-    let behind_own = emit_own_styles(rows, at, count, texts, store, behind_count);
-    if found.added {
-        return emit_style(ADDED_STYLE, texts, store, behind_own);
-    }
-    behind_own
+    let behind_count = emit_number(count, store, fill);
+    emit_style_rows(rows, count, texts, store, behind_count)
 }

@@ -1,30 +1,31 @@
 -- What the answer of `read_sheets` tells of the three sheets: that each was read, and that the rules which lie in the stores are those that it means.
 use mathlib.Core.Path.{_≡_, refl, ap, sym, _∙_}
-use mathlib.Core.List.{List, [], _++_, append-assoc}
-use Prim.Native.Nat.{ℕ, _+_, _-_, _^_, _≤_, _<_}
+use mathlib.Core.List.{List, _++_, append-assoc}
+use Prim.Native.Nat.{ℕ, _+_, _*_, _-_, _^_, _≤_, _<_}
 use native.Mathlib.Omega.{arith}
 use lib.ListN.{length, drop, replicate, length-append}
 use lib.Seq.{sets, drop-at}
 use Rattle.combinators.specs.Store.{cleared}
 use Rattle.combinators.proofs.Cleared.{cleared-is, length-cleared}
-use Rattle.syntax.specs.RuleLayout.{ruleRows, ruleTexts, rulesAt}
+use Rattle.syntax.specs.Layout.{styleWidth}
+use Rattle.syntax.specs.RuleLayout.{ruleRows, ruleTexts}
 use Rattle.syntax.specs.Selector.{RuleSet}
 use Rattle.syntax.proofs.RuleRows.{RulesFit, rules-back}
-use Rattle.syntax.proofs.Streams.{Held}
+use Rattle.syntax.proofs.Streams.{All}
 use Rattle.sheets.specs.Outcome.{Outcome, reads, fails, panics, onOutcome}
-use Rattle.sheets.specs.Rules.{ruleWidth}
 use Rattle.sheets.specs.Sheet.{sheetOf}
 use Rattle.sheets.specs.SheetAnswer.{padded}
 use Rattle.sheets.specs.Stores.{Zeros}
 use Rattle.sheets.proofs.SheetBounds.{SheetKeeps, sheet-keeps}
 use Rattle.sheets.proofs.SheetLaws.{sheet-never-fails, stored}
 use Rattle.sheets.proofs.ZeroLaws.{zeros-all}
-use Rattle.origins.specs.Reading.{Sheets, rules, panicked, andThen, sheetsOf, sheetsRows, sheetsTexts, sheetsRules, sheetsAnswer, rulesFrom, SheetsRoom}
+use Rattle.origins.specs.Reading.{Sheets, rules, panicked, andThen, sheetsOf, sheetsRules, sheetsAnswer, rulesFrom, SheetsRoom}
 use Rattle.origins.specs.Checks.{Lent}
+use Rattle.origins.specs.Rules.{RulesRoom}
 use Rattle.origins.specs.declared.reading.SheetRules.{SheetRules}
 use Rattle.origins.specs.declared.reading.SheetsRules.{SheetsRules}
-use Rattle.origins.specs.declared.reading.SheetsRead.{SheetsRead}
 use Rattle.origins.specs.declared.reading.SheetsRead.the-variants as all
+use Rattle.origins.proofs.RuleStyles.{each-room, styles-few-enough}
 
 -- ---- a sheet that others follow was read
 record Followed (o : Outcome (List RuleSet)) (next : List RuleSet → Sheets) (s : Sheets) : Type 0 where
@@ -106,12 +107,27 @@ module _ (xs ys zs more : List ℕ) where
       ap (λ (r : List ℕ). drop n (r ++ more)) (sym (append-assoc xs ys zs)) ∙ ap (drop n) (append-assoc (xs ++ ys) zs more)
       ∙ drop-at (xs ++ ys) (zs ++ more) n (length-append xs ys ∙ sym e)
 
--- rules whose rows and texts lie from a place on are read back
-back : (rs : List RuleSet) (rows texts t more : List ℕ) (s : SheetRules) → RulesFit rs → s .count ≡ length rs → drop (s .place) rows ≡ ruleRows 0 rs ++ t
-    → drop (s .from) texts ≡ ruleTexts rs ++ more → rulesFrom rows texts s ≡ rs
-unfolding rulesFrom
-back rs rows texts t more s fit en er et =
-    rw (en, er) (rules-back (drop (s .from) texts) rs 0 t fit (record { more = more; held = et }))
+-- ---- rules whose rows and texts lie from a place on
+record Lies (rows texts : List ℕ) (s : SheetRules) (rs : List RuleSet) : Type 0 where
+  behind : List ℕ
+  more : List ℕ
+  counted : s .count ≡ length rs
+  rows-at : drop (s .place) rows ≡ ruleRows 0 rs ++ behind
+  texts-at : drop (s .from) texts ≡ ruleTexts rs ++ more
+
+module _ {rows texts : List ℕ} {s : SheetRules} {rs : List RuleSet} (l : Lies rows texts s rs) (fit : RulesFit rs) where
+  -- are read back
+  back : rulesFrom rows texts s ≡ rs
+  unfolding rulesFrom
+  back = rw (l .counted, l .rows-at) (rules-back (drop (s .from) texts) rs 0 (l .behind) fit (record { more = l .more; held = l .texts-at }))
+
+  -- and can be asked for their styles
+  styled : (n : ℕ) → All (λ r. styleWidth * (length (r .declarations) + 1) ≤ n) rs → RulesRoom (s .count) (drop (s .place) rows) n
+  styled n h =
+      record {
+        texts = drop (s .from) texts;
+        each = rw (l .counted, l .rows-at) (each-room (drop (s .from) texts) n rs 0 (l .behind) fit (record { more = l .more; held = l .texts-at }) h);
+      }
 
 -- ---- stores that were cleared
 -- a buffer cleared throughout, whatever it is that long
@@ -120,7 +136,7 @@ zeros-of l m e =
     let z : length l - 0 ≡ length m = omega (arith, e) in
     cleared-is 0 l ∙ ap (λ (n : ℕ). replicate n 0) z
 
-clear-zeros : (l : List ℕ) → Zeros (cleared 0 l) 0
+pub clear-zeros : (l : List ℕ) → Zeros (cleared 0 l) 0
 clear-zeros l = rw (zeros-of l l refl) (zeros-all (length l) 0)
 
 -- room for the three sheets in stores of the least lengths
@@ -213,30 +229,62 @@ module _ {agent user author rules₀ tokens brackets texts₀ : List ℕ} (o : L
     unfolding sheetsRules
     place₃ = ap (λ (v : SheetsRules). v .author) (m .lie)
 
-    pub agent-back : rulesFrom rows texts (s .agent) ≡ m .agent
-    agent-back =
+    agent-lies : Lies rows texts (s .agent) (m .agent)
+    agent-lies =
         rw place₁
-        (back (m .agent) rows texts _ _ _ (agent-keeps .fit) refl
-        (ap (drop 0) rows-are ∙ from-first (ruleRows 0 (m .agent)) (ruleRows 0 (m .user)) (ruleRows 0 (m .author)) zr)
-        (ap (drop 0) texts-are ∙ from-first (ruleTexts (m .agent)) (ruleTexts (m .user)) (ruleTexts (m .author)) zt))
+        (record {
+          behind = _;
+          more = _;
+          counted = refl;
+          rows-at = ap (drop 0) rows-are ∙ from-first (ruleRows 0 (m .agent)) (ruleRows 0 (m .user)) (ruleRows 0 (m .author)) zr;
+          texts-at = ap (drop 0) texts-are ∙ from-first (ruleTexts (m .agent)) (ruleTexts (m .user)) (ruleTexts (m .author)) zt;
+        })
 
-    pub user-back : rulesFrom rows texts (s .user) ≡ m .user
-    user-back =
+    user-lies : Lies rows texts (s .user) (m .user)
+    user-lies =
         let n = length (ruleRows 0 (m .agent)) in
         let f = length (ruleTexts (m .agent)) in
         rw place₂
-        (back (m .user) rows texts _ _ _ (user-keeps .fit) refl
-        (ap (drop n) rows-are ∙ from-second (ruleRows 0 (m .agent)) (ruleRows 0 (m .user)) (ruleRows 0 (m .author)) zr n refl)
-        (ap (drop f) texts-are ∙ from-second (ruleTexts (m .agent)) (ruleTexts (m .user)) (ruleTexts (m .author)) zt f refl))
+        (record {
+          behind = _;
+          more = _;
+          counted = refl;
+          rows-at = ap (drop n) rows-are ∙ from-second (ruleRows 0 (m .agent)) (ruleRows 0 (m .user)) (ruleRows 0 (m .author)) zr n refl;
+          texts-at = ap (drop f) texts-are ∙ from-second (ruleTexts (m .agent)) (ruleTexts (m .user)) (ruleTexts (m .author)) zt f refl;
+        })
 
-    pub author-back : rulesFrom rows texts (s .author) ≡ m .author
-    author-back =
+    author-lies : Lies rows texts (s .author) (m .author)
+    author-lies =
         let n = length (ruleRows 0 (m .agent)) + length (ruleRows 0 (m .user)) in
         let f = length (ruleTexts (m .agent)) + length (ruleTexts (m .user)) in
         rw place₃
-        (back (m .author) rows texts _ _ _ (author-keeps .fit) refl
-        (ap (drop n) rows-are ∙ from-third (ruleRows 0 (m .agent)) (ruleRows 0 (m .user)) (ruleRows 0 (m .author)) zr n refl)
-        (ap (drop f) texts-are ∙ from-third (ruleTexts (m .agent)) (ruleTexts (m .user)) (ruleTexts (m .author)) zt f refl))
+        (record {
+          behind = _;
+          more = _;
+          counted = refl;
+          rows-at = ap (drop n) rows-are ∙ from-third (ruleRows 0 (m .agent)) (ruleRows 0 (m .user)) (ruleRows 0 (m .author)) zr n refl;
+          texts-at = ap (drop f) texts-are ∙ from-third (ruleTexts (m .agent)) (ruleTexts (m .user)) (ruleTexts (m .author)) zt f refl;
+        })
+
+    -- the rules that lie there are those of the sheets
+    pub agent-back : rulesFrom rows texts (s .agent) ≡ m .agent
+    agent-back = back agent-lies (agent-keeps .fit)
+
+    pub user-back : rulesFrom rows texts (s .user) ≡ m .user
+    user-back = back user-lies (user-keeps .fit)
+
+    pub author-back : rulesFrom rows texts (s .author) ≡ m .author
+    author-back = back author-lies (author-keeps .fit)
+
+    -- the store of tokens has room for the styles of each
+    pub agent-styled : RulesRoom (s .agent .count) (drop (s .agent .place) rows) (length tokens)
+    agent-styled = styled agent-lies (agent-keeps .fit) (length tokens) (styles-few-enough agent _ _ (known .agent-read) _ _ (omega arith) (o .for-tokens))
+
+    pub user-styled : RulesRoom (s .user .count) (drop (s .user .place) rows) (length tokens)
+    user-styled = styled user-lies (user-keeps .fit) (length tokens) (styles-few-enough user _ _ (known .user-read) _ _ (omega arith) (o .for-tokens))
+
+    pub author-styled : RulesRoom (s .author .count) (drop (s .author .place) rows) (length tokens)
+    author-styled = styled author-lies (author-keeps .fit) (length tokens) (styles-few-enough author _ _ (known .author-read) _ _ (omega arith) (o .for-tokens))
 
     -- the texts of each sheet lie in the store
     pub texts-within : (s .agent .from ≤ length texts) × (s .user .from ≤ length texts) × (s .author .from ≤ length texts)

@@ -4,8 +4,6 @@ use combinators::stores::wipe_numbers;
 use sheets::readings::Reading;
 use sheets::statements::parse_stylesheet;
 ghost use mathlib.Core.Path.{_≡_};
-ghost use Prim.Native.Nat.{_≤_};
-ghost use lib.ListN.{length};
 ghost use lib.Seq.{sets};
 ghost use Rattle.combinators.specs.Store.{wiped};
 ghost use Rattle.syntax.specs.RuleLayout.{ruleRows, ruleTexts};

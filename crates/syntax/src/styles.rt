@@ -1,4 +1,13 @@
 // A style in numbers, as rows, compiled bytes and slots have it.
+use crate::rows::FLAG_TRUE;
+use crate::rows::STYLE_IMPORTANT;
+use crate::rows::STYLE_NUMBER;
+use crate::rows::STYLE_SECOND;
+use crate::rows::STYLE_SLOT;
+use combinators::stores::number_at;
+ghost use mathlib.Core.Path.{_≡_};
+ghost use lib.ListN.{drop};
+ghost use Rattle.syntax.specs.Layout.{numbersAt};
 
 // What a style gives its slot: a number, and a second one. Of a content they are where its text starts and how long it is.
 pub struct Value {
@@ -11,4 +20,23 @@ pub struct StyleNumbers {
     pub slot: u32,
     pub important: bool,
     pub value: Value,
+}
+
+// The style whose row starts at `at`, whatever numbers stand there.
+pub fn style_at(rows: &[u32], at: usize) -> StyleNumbers
+    ensures { λ r. ⌜ r ≡ numbersAt (drop at (now (rows .entry))) ⌝ }
+{
+    let number = number_at(rows, at, STYLE_NUMBER);
+    let second = number_at(rows, at, STYLE_SECOND);
+    let value = Value {
+        number,
+        second,
+    };
+    let slot = number_at(rows, at, STYLE_SLOT);
+    let important = number_at(rows, at, STYLE_IMPORTANT) == FLAG_TRUE;
+    StyleNumbers {
+        slot,
+        important,
+        value,
+    }
 }

@@ -13,20 +13,13 @@ count-styles-requires : tie.Need-count-styles-requires
 count-styles-requires c κs = search needs
 
 returns : tie.Need-returns
-returns c = let s = c .before .before in
-    let d = s .before .before in
-    let a = d .before .before .args in
-    laws.rule-uncounted (a .rows .now) (a .at) (d .rule-declarations .result) _ (d .rule-declarations .ensures) (s .before .number-at .ensures) _ (s .count-styles .ensures) (c .if1 .taken)
+returns c = λ origin texts. laws.rule-uncounted (c .before .before .before .before .before .args .rows .now) (c .before .before .before .before .before .args .at) (c .before .before .before .rule-declarations .result) _ (c .before .before .before .rule-declarations .ensures) (c .before .before .number-at .ensures) _ (c .before .count-styles .ensures) origin texts (c .if1 .taken)
 
 number-at-requires-2 : tie.Need-number-at-requires-2
 number-at-requires-2 c κs = search needs
 
 returns-2 : tie.Need-returns-2
-returns-2 c = let t = c .before in
-    let s = t .before .before in
-    let d = s .before .before in
-    let a = d .before .before .args in
-    laws.rule-counted (a .rows .now) (a .at) (d .rule-declarations .result) _ (d .rule-declarations .ensures) (s .before .number-at .ensures) _ (s .count-styles .ensures) (t .if1 .left) _ (c .number-at2 .ensures)
+returns-2 c = λ origin texts. laws.rule-counted (c .before .before .before .before .before .before .args .rows .now) (c .before .before .before .before .before .before .args .at) (c .before .before .before .before .rule-declarations .result) _ (c .before .before .before .before .rule-declarations .ensures) (c .before .before .before .number-at .ensures) _ (c .before .before .count-styles .ensures) origin texts (c .before .if1 .left) _ (c .number-at2 .ensures)
 
 pub count-rule-spec : {M : Type 1} → statement M
 count-rule-spec =

@@ -1,56 +1,46 @@
 use Rattle.compiler.proofs.RuleWriting as laws
+use mathlib.Core.Path.{_∙_}
 use borrow.Author.Needs.{needs}
 use Rattle.compiler.proofs.rules.emit_rule.Statement.{statement}
 use Rattle.compiler.proofs.rules.emit_rule.Tie as tie
 
-rule-declarations-requires : tie.Need-rule-declarations-requires
-rule-declarations-requires c κs = search needs
+styles-of-rule-requires : tie.Need-styles-of-rule-requires
+styles-of-rule-requires c κs = c .before .before .before .before .before .pre .room
 
-number-at-requires : tie.Need-number-at-requires
-number-at-requires c κs = search needs
+emit-styled-requires : tie.Need-emit-styled-requires
+emit-styled-requires c κs = search needs
 
-count-styles-requires : tie.Need-count-styles-requires
-count-styles-requires c κs = search needs
+cast-wipe-numbers : tie.Need-cast-wipe-numbers
+cast-wipe-numbers c = search needs
 
-returns : tie.Need-returns
-returns c = let s = c .before .before in
-    let d = s .before .before in
-    let a = d .before .before .before .before .args in
-    laws.rule-left-out (a .rows .now) (a .at) (d .rule-declarations .result) _ (d .rule-declarations .ensures) (s .before .number-at .ensures) _ (s .count-styles .ensures) (c .if1 .taken) _ _ _
+mul-wipe-numbers : tie.Need-mul-wipe-numbers
+mul-wipe-numbers c = search needs
 
-number-at-requires-2 : tie.Need-number-at-requires-2
-number-at-requires-2 c κs = search needs
-
-forward-requires : tie.Need-forward-requires
-forward-requires c κs = search needs
-
-emit-selectors-requires : tie.Need-emit-selectors-requires
-emit-selectors-requires c κs = search needs
+wipe-numbers-requires : tie.Need-wipe-numbers-requires
+wipe-numbers-requires c κs = search needs
 
 same-length : tie.Need-same-length
-same-length c = search needs
+same-length c = c .before .before .wipe-numbers .kept .0 ∙ c .before .before .before .before .before .before .before .before .before .before .before .styles-of-rule .kept .1 .1 .0
 
-returns-2 : tie.Need-returns-2
-returns-2 c = let m = c .before .before in
-    let g = m .before .before in
-    let n = g .before in
-    let t = n .before in
-    let s = t .before .before in
-    let d = s .before .before in
-    let a = d .before .before .before .before .args in
-    laws.rule-written (a .rows .now) (a .at) (d .rule-declarations .result) _ (d .rule-declarations .ensures) (s .before .number-at .ensures) _ (s .count-styles .ensures) (t .if1 .left) _
-    (n .number-at2 .ensures) _ _ (g .forward .result) (g .forward .ensures .1 .0) _ _ (m .emit-selectors .ensures)
+same-length-2 : tie.Need-same-length-2
+same-length-2 c = c .before .before .before .before .before .before .emit-styled .kept .1 .1 .1 .1 .1 .1 .0
+
+returns : tie.Need-returns
+returns c = let S = c .before .before .before .before .before .before .before .before .before .before .before .before .before .before .before .before .before in
+    let a = S .args in
+    let s = c .before .before .before .before .before .before .before .before .before .before .before .styles-of-rule in
+    laws.rule-written (a .rows .now) (a .at) (a .origin) (a .texts .now) _ _ _ (s .result) (S .pre .zeros) (s .ensures .0) (s .ensures .1 .0) (s .ensures .1 .1) _ _
+    (c .before .before .before .before .before .before .emit-styled .ensures) (c .before .before .wipe-numbers .ensures)
 
 pub emit-rule-spec : {M : Type 1} → statement M
 emit-rule-spec =
     tie.close
     (tie.spec
-    rule-declarations-requires
-    number-at-requires
-    count-styles-requires
-    returns
-    number-at-requires-2
-    forward-requires
-    emit-selectors-requires
+    styles-of-rule-requires
+    emit-styled-requires
+    cast-wipe-numbers
+    mul-wipe-numbers
+    wipe-numbers-requires
     same-length
-    returns-2)
+    same-length-2
+    returns)

@@ -27,7 +27,7 @@ returns c = let m = c .before .before in
     let g = k .before .before in
     let n = g .before in
     let h = n .before .before .before in
-    let a = h .before .before .before .before .before .args in
+    let a = h .before .before .before .before .before .before .args in
     laws.selector-written (a .rows .now) (a .at) _ _ _ (h .emit-selector-head .ensures) _ (g .forward .result) (n .number-at .ensures) (g .forward .ensures .1 .0) _ _ _ (k .emit-components .ensures) _
     (m .emit-styles .ensures)
 

@@ -42,8 +42,8 @@ loop-again c = let o = c .before .before .before in
 flag-of-requires : tie.Need-flag-of-requires Inv-loop μ-loop
 flag-of-requires c κs = search needs
 
-add-total : tie.Need-add-total Inv-loop μ-loop
-add-total c = search (needs, laws.finding-fits _ _ _ _ _ _ _ _ (c .before .before .loop .inv) (c .before .loop-test .left) _ (c .flag-of .ensures) (search needs))
+add-result : tie.Need-add-result Inv-loop μ-loop
+add-result c = search (needs, laws.finding-fits _ _ _ _ _ _ _ _ (c .before .before .loop .inv) (c .before .loop-test .left) _ (c .flag-of .ensures) (search needs))
 
 returns : tie.Need-returns Inv-loop μ-loop
 returns c = laws.finding-done _ _ _ _ _ _ _ _ (c .before .before .loop .inv) (c .before .loop-test .left) _ (c .flag-of .ensures)
@@ -64,5 +64,5 @@ count-styles-spec =
     loop-less
     loop-again
     flag-of-requires
-    add-total
+    add-result
     returns)

@@ -13,15 +13,18 @@ part-emit-rules-end : tie.Need-part-emit-rules-end
 part-emit-rules-end c = search needs
 
 emit-rules-requires : tie.Need-emit-rules-requires
-emit-rules-requires c κs = search needs
+emit-rules-requires c κs = c .before .before .before .before .before .before .before .pre .lent
 
 same-length : tie.Need-same-length
 same-length c = search needs
 
+same-length-2 : tie.Need-same-length-2
+same-length-2 c = search needs
+
 returns : tie.Need-returns
-returns c =
-    let S = c .before .before .before .before .before .before .before .before in
-    laws.sheet-written (S .args .rows .now) (S .args .texts .now) (S .args .sheet) _ _ _ (c .before .before .emit-rules .ensures)
+returns c = let a = c .before .before .before .before .before .before .before .before .before .before .before .before .args in
+    let e = c .before .before .before .before .emit-rules .ensures in
+    (e .0, laws.sheet-written (a .rows .now) (a .texts .now) (a .sheet) _ _ _ (e .1))
 
 pub write-sheet-spec : {M : Type 1} → statement M
 write-sheet-spec =
@@ -32,4 +35,5 @@ write-sheet-spec =
     part-emit-rules-end
     emit-rules-requires
     same-length
+    same-length-2
     returns)

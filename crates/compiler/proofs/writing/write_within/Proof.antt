@@ -7,19 +7,22 @@ room-of-requires : tie.Need-room-of-requires
 room-of-requires c κs = search needs
 
 slice-relend-prefix-write-sheets : tie.Need-slice-relend-prefix-write-sheets
-slice-relend-prefix-write-sheets c = laws.room-fits (c .before .before .before .before .args .compiled .now) (c .room-of .ensures)
+slice-relend-prefix-write-sheets c = laws.room-fits (c .before .before .before .before .before .before .args .compiled .now) (c .before .room-of .ensures)
 
 slice-aggregate-write-sheets : tie.Need-slice-aggregate-write-sheets
-slice-aggregate-write-sheets c = laws.room-long _ (c .before .room-of .ensures)
+slice-aggregate-write-sheets c = laws.room-long _ (c .before .before .room-of .ensures)
 
 write-sheets-requires : tie.Need-write-sheets-requires
-write-sheets-requires c κs = c .before .before .before .before .before .pre
+write-sheets-requires c κs = c .before .before .before .before .before .before .before .pre
 
 same-length : tie.Need-same-length
-same-length c = laws.same-length (c .before .before .before .before .before .before .before .before .args .compiled .now) (c .before .before .before .before .room-of .ensures) (c .before .before .write-sheets .last .1 .1 .1 .0) (c .before .before .write-sheets .kept .1 .1 .1 .0)
+same-length c = c .before .before .before .before .write-sheets .kept .1 .1 .1 .0
+
+same-length-2 : tie.Need-same-length-2
+same-length-2 c = laws.same-length (c .before .before .before .before .before .before .before .before .before .before .before .before .args .compiled .now) (c .before .before .before .before .before .before .before .room-of .ensures) (c .before .before .before .before .write-sheets .last .1 .1 .1 .1 .0) (c .before .before .before .before .write-sheets .kept .1 .1 .1 .1 .0)
 
 returns : tie.Need-returns
-returns c = laws.within _ (c .before .before .before .before .room-of .ensures) _ _ _ (c .before .before .write-sheets .ensures)
+returns c = (c .before .before .before .before .write-sheets .ensures .0, laws.within _ (c .before .before .before .before .before .before .before .room-of .ensures) _ _ _ (c .before .before .before .before .write-sheets .ensures .1))
 
 pub write-within-spec : {M : Type 1} → statement M
 write-within-spec =
@@ -30,4 +33,5 @@ write-within-spec =
     slice-aggregate-write-sheets
     write-sheets-requires
     same-length
+    same-length-2
     returns)

@@ -1,9 +1,9 @@
 use mathlib.Core.Path.{refl}
 use Rattle.syntax.specs.RuleLayout.{readSelector}
-use Rattle.compiler.proofs.WalkLaws as laws
+use Rattle.origins.proofs.WalkLaws as laws
 use borrow.Author.Needs.{needs}
-use Rattle.compiler.proofs.walk.skip_selectors.Statement.{statement}
-use Rattle.compiler.proofs.walk.skip_selectors.Tie as tie
+use Rattle.origins.proofs.walk.skip_selectors.Statement.{statement}
+use Rattle.origins.proofs.walk.skip_selectors.Tie as tie
 
 abbrev Inv-loop : tie.InvT-loop
 Inv-loop rows at count place₀ left₀ place left = laws.Passing readSelector rows count at left place

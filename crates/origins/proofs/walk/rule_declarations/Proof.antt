@@ -1,7 +1,7 @@
-use Rattle.compiler.proofs.WalkLaws as laws
+use Rattle.origins.proofs.WalkLaws as laws
 use borrow.Author.Needs.{needs}
-use Rattle.compiler.proofs.walk.rule_declarations.Statement.{statement}
-use Rattle.compiler.proofs.walk.rule_declarations.Tie as tie
+use Rattle.origins.proofs.walk.rule_declarations.Statement.{statement}
+use Rattle.origins.proofs.walk.rule_declarations.Tie as tie
 
 forward-requires : tie.Need-forward-requires
 forward-requires c κs = search needs

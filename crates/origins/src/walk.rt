@@ -14,7 +14,7 @@ ghost use Prim.Native.Nat.{ℕ};
 ghost use lib.ListN.{drop};
 ghost use Rattle.syntax.specs.Stream.{readMany};
 ghost use Rattle.syntax.specs.RuleLayout.{readSelector, readRule};
-ghost use Rattle.compiler.specs.Writing.{selectorsRead};
+ghost use Rattle.origins.specs.Rules.{selectorsRead};
 
 // The place behind the selector at `at`.
 pub fn skip_selector(rows: &[u32], at: usize) -> usize

@@ -10,7 +10,7 @@ use Rattle.syntax.specs.Layout.{declarationWidth, readDeclaration}
 use Rattle.syntax.specs.RuleLayout.{componentWidth, selectorComponents, selectorHead, ruleHead, ruleSelectors, ruleDeclarations, readComponent, readSelector, readRule}
 use Rattle.syntax.specs.Stream.{Read, readMany}
 use Rattle.declarations.proofs.StyleLaws.{read-behind}
-use Rattle.compiler.specs.Writing.{selectorsRead}
+use Rattle.origins.specs.Rules.{selectorsRead}
 
 -- ---- values one behind the other
 module _ {A : Type 0} (u : List ℕ → Read A) where

@@ -1,7 +1,7 @@
-use Rattle.compiler.proofs.WalkLaws as laws
+use Rattle.origins.proofs.WalkLaws as laws
 use borrow.Author.Needs.{needs}
-use Rattle.compiler.proofs.walk.skip_selector.Statement.{statement}
-use Rattle.compiler.proofs.walk.skip_selector.Tie as tie
+use Rattle.origins.proofs.walk.skip_selector.Statement.{statement}
+use Rattle.origins.proofs.walk.skip_selector.Tie as tie
 
 number-at-requires : tie.Need-number-at-requires
 number-at-requires c κs = search needs
