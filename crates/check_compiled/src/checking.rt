@@ -3,8 +3,10 @@ use crate::tally::Tally;
 use crate::tally::print;
 use crate::tally::print_number;
 use crate::tally::tallied;
+use combinators::refusals::BAD_BYTES;
 use compiled::sheets::CheckAnswer;
 use compiled::sheets::check_sheet;
+use compiled::sheets::refusal_of;
 
 // What is expected of bytes, or what came: a sheet, or the place of the fault.
 pub struct Verdict {
@@ -13,15 +15,10 @@ pub struct Verdict {
 }
 
 fn verdict_of(answer: CheckAnswer) -> Verdict {
-    match answer {
-        CheckAnswer::Sheet => Verdict {
-            sheet: true,
-            place: 0,
-        },
-        CheckAnswer::Fault(place) => Verdict {
-            sheet: false,
-            place: place,
-        },
+    let refusal = refusal_of(answer);
+    Verdict {
+        sheet: refusal.number != BAD_BYTES,
+        place: refusal.place,
     }
 }
 

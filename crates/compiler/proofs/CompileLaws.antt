@@ -4,15 +4,17 @@ use mathlib.Core.Bool.{Bool, true, false}
 use mathlib.Core.List.{List}
 use Prim.Native.Nat.{ℕ, _+_, _^_, _≤_, _<_}
 use native.Mathlib.Omega.{arith}
-use borrow.Author.Tests.{lt-ltb, le-ltb, ltb-false, leb-true}
+use borrow.Author.Tests.{lt-ltb, le-ltb, ltb-false}
 use lib.Dec.{ltb}
 use lib.ListN.{length}
 use Rattle.combinators.specs.Choice.{or}
-use Rattle.combinators.proofs.Rules.{never, pick-true, pick-false, or-gives, or-gives-true, and-gives, and-gives-false, and-true}
+use Rattle.combinators.specs.LeastLengths.{storesSuffice}
+use Rattle.combinators.proofs.LeastLaws.{least}
+use Rattle.combinators.proofs.Rules.{never, pick-true, pick-false, or-gives, or-gives-true, and-gives, and-gives-false}
 use Rattle.unicode.specs.Utf8.{valid}
-use Rattle.sheets.specs.SheetAnswer.{sheetLimit, textLeast, bracketLeast, numberLeast, storesSuffice}
+use Rattle.sheets.specs.SheetAnswer.{sheetLimit}
 use Rattle.compiler.specs.Reading.{sheetsOf}
-use Rattle.compiler.specs.CompileAnswer.{CompileLeft, unchanged, compiledLeft, anyTooLong, allValid, compileOf, Lent}
+use Rattle.compiler.specs.CompileAnswer.{numbersOf, CompileLeft, unchanged, compiledLeft, anyTooLong, allValid, compileOf, Lent}
 use Rattle.compiler.specs.declared.compile.CompileAnswer.{CompileAnswer}
 use Rattle.compiler.specs.declared.compile.CompileAnswer.the-variants.{TooLong, ShortStore, NotUtf8}
 
@@ -64,7 +66,7 @@ module _ (a u w : List ℕ) where
 module _ (agent user author compiled texts rules tokens brackets : List ℕ) where
   abbrev Left : CompileAnswer → Type 0
   Left a =
-      _≡_ {A = CompileLeft} (record { answer = a; compiled = compiled; texts = texts; rules = rules; tokens = tokens; brackets = brackets })
+      _≡_ {A = CompileLeft} (record { answer = numbersOf a; compiled = compiled; texts = texts; rules = rules; tokens = tokens; brackets = brackets })
       (compileOf agent user author compiled texts rules tokens brackets)
 
   abbrev count : ℕ
@@ -72,7 +74,7 @@ module _ (agent user author compiled texts rules tokens brackets : List ℕ) whe
 
   module _ {t : Bool} (e : t ≡ anyTooLong (length agent) (length user) (length author)) where
     pub too-long : t ≡ true → Left TooLong
-    unfolding compileOf unchanged
+    unfolding compileOf unchanged numbersOf
     too-long f = pick-true _ _ _ _ (sym e ∙ f) refl
 
     module _ (f : t ≡ false) where
@@ -86,34 +88,28 @@ module _ (agent user author compiled texts rules tokens brackets : List ℕ) whe
       pub count-fits : count < 2 ^ 64
       count-fits = omega (arith, within .0, within .1, within .2)
 
-      pub least-fits : numberLeast count < 2 ^ 64
-      least-fits = omega (arith, within .0, within .1, within .2)
-
       module _ {v : Bool} (g : v ≡ storesSuffice count (length rules) (length tokens) (length brackets) (length texts)) where
         pub short-store : v ≡ false → Left ShortStore
-        unfolding compileOf unchanged
+        unfolding compileOf unchanged numbersOf
         short-store h = pick-false _ _ _ _ (sym e ∙ f) (pick-false _ _ _ _ (sym g ∙ h) refl)
 
         module _ (h : v ≡ true) where
           pub lent : Lent agent user author texts rules tokens brackets
-          unfolding storesSuffice
           lent =
-              let p = and-true _ _ (sym g ∙ h) in
-              let q = and-true _ _ (p .1) in
-              let u = and-true _ _ (q .1) in
+              let l = least g h in
               record {
                 agent-within = within .0;
                 user-within = within .1;
                 author-within = within .2;
-                for-texts = leb-true _ _ (p .0);
-                for-brackets = leb-true _ _ (q .0);
-                for-rules = leb-true _ _ (u .0);
-                for-tokens = leb-true _ _ (u .1);
+                for-texts = l .for-texts;
+                for-brackets = l .for-brackets;
+                for-rules = l .for-rules;
+                for-tokens = l .for-tokens;
               }
 
           module _ {x : Bool} (i : x ≡ allValid agent user author) where
             pub not-utf8 : x ≡ false → Left NotUtf8
-            unfolding compileOf unchanged
+            unfolding compileOf unchanged numbersOf
             not-utf8 j = pick-false _ _ _ _ (sym e ∙ f) (pick-true _ _ _ _ (sym g ∙ h) (pick-false _ _ _ _ (sym i ∙ j) refl))
 
             pub compiled-left : x ≡ true → {l : CompileLeft} → l ≡ compiledLeft compiled texts rules tokens brackets (sheetsOf agent user author)

@@ -1,10 +1,10 @@
 // `hicsolmab_matches`: whether a selector, in component rows, matches an element of a page, and how specific it is.
-use crate::refusals::BAD_ROW;
-use crate::refusals::BAD_TEXT;
-use crate::refusals::NO_ELEMENT;
-use crate::refusals::PAGE_LIMIT;
-use crate::refusals::SHORT_STORE;
-use crate::refusals::TOO_LONG;
+use combinators::refusals::BAD_ROW;
+use combinators::refusals::BAD_TEXT;
+use combinators::refusals::NO_ELEMENT;
+use combinators::refusals::SHORT_STORE;
+use combinators::refusals::TOO_LARGE;
+use combinators::refusals::TOO_LONG;
 use matching::components::specificity;
 use matching::matcher::do_matches;
 use page::check::PageAnswer;
@@ -16,7 +16,8 @@ use syntax::rows::COMPONENT_WIDTH;
 use syntax::rows::flag_of;
 ghost use mathlib.Core.Path.{_≡_};
 ghost use Prim.Native.Nat.{_≤_};
-ghost use Rattle.page.specs.Accepted.{noRefusal, pageRefusal};
+ghost use Rattle.combinators.specs.Refusal.{noRefusal};
+ghost use Rattle.page.specs.Accepted.{pageRefusal};
 ghost use Rattle.engine.specs.Matches.{componentLimit, refusedMatch, rowMatch, pageMatch, matchCalled};
 
 // The refusal's number and place; 1 where the selector matches; how many ids, classes (with attributes and nth-child) and types it names.
@@ -104,7 +105,7 @@ pub extern "C" fn hicsolmab_matches(
             return match_row(components, count, texts, nodes, attributes, text, row);
         }
         PageAnswer::TooLarge => {
-            return refused(PAGE_LIMIT, 0);
+            return refused(TOO_LARGE, 0);
         }
         PageAnswer::BadRow(place) => {
             return refused(BAD_ROW, place);

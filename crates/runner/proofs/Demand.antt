@@ -6,13 +6,14 @@ use mathlib.Core.Bool.{Bool}
 use mathlib.Core.List.{List, _++_}
 use native.Mathlib.Omega.{arith}
 use lib.ListN.{length, length-set}
+use Rattle.combinators.specs.Refusal.{noRefusal}
 use Rattle.syntax.specs.Layout.{contentSlot}
 use Rattle.syntax.specs.Selector.{RuleSet}
 use Rattle.sheets.specs.SheetAnswer.{sheetLimit}
 use Rattle.cascade.specs.Record.{ComputedStyle, Formed, slotOf}
 use Rattle.cascade.specs.Row.{styleAt}
 use Rattle.cascade.proofs.RowBack.{style-back}
-use Rattle.page.specs.Accepted.{noRefusal, pageRefusal}
+use Rattle.page.specs.Accepted.{pageRefusal}
 use Rattle.page.specs.Path.{Path}
 use Rattle.page.specs.PathOf.{pathOf}
 use Rattle.page.specs.Rows.{nodeCount, nodeAt, elementKind}

@@ -3,13 +3,13 @@ use crate::lists::ListAnswer;
 use crate::lists::first;
 use crate::lists::read_list;
 use crate::outcome::Outcome;
+use combinators::refusals::NO_ELEMENT;
 use compiled::numbers::NumberAnswer;
 use compiled::numbers::read_number;
 use compiled::texts::TextAnswer;
 use compiled::texts::read_text;
 use engine::matches::MatchResult;
 use engine::matches::hicsolmab_matches;
-use engine::refusals::NO_ELEMENT;
 use page::rows::node_count;
 use syntax::texts::part_of;
 
