@@ -1,5 +1,9 @@
 // Reads one sheet of 32,768 bytes a thousand times, so that the time of `read_sheet` can be taken from outside, and prints how many bytes
 // were read and how many rules there were.
+use combinators::least::NUMBER_MORE;
+use combinators::least::NUMBER_WIDTH;
+use combinators::least::TEXT_MORE;
+use combinators::least::TEXT_WIDTH;
 use libc::STDOUT_FILENO;
 use sheets::sheet::SHEET_LIMIT;
 use sheets::sheet::SheetAnswer;
@@ -7,9 +11,9 @@ use sheets::sheet::read_sheet;
 use std::num::wrapping_add_u64;
 
 // The least lengths of the stores.
-const NUMBERS: usize = 8 * SHEET_LIMIT + 64;
+const NUMBERS: usize = NUMBER_WIDTH * SHEET_LIMIT + NUMBER_MORE;
 
-const STORE: usize = 2 * SHEET_LIMIT + 12;
+const STORE: usize = TEXT_WIDTH * SHEET_LIMIT + TEXT_MORE;
 
 const TIMES: u64 = 1000;
 
@@ -50,7 +54,7 @@ fn read_once(
     store: &mut [u8],
 ) -> Amount {
     let answer = read_sheet(sheet, rules, tokens, brackets, store);
-    if let SheetAnswer::Sheet(count, stop, _, _) = answer {
+    if let SheetAnswer::Sheet { count, stop, .. } = answer {
         return Amount {
             bytes: stop as u64,
             rules: count as u64,

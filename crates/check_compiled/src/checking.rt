@@ -3,9 +3,10 @@ use crate::tally::Tally;
 use crate::tally::print;
 use crate::tally::print_number;
 use crate::tally::tallied;
+use combinators::refusals::BAD_BYTES;
 use compiled::sheets::CheckAnswer;
 use compiled::sheets::check_sheet;
-use compiler::writing::COMPILED_LIMIT;
+use compiled::sheets::refusal_of;
 
 // What is expected of bytes, or what came: a sheet, or the place of the fault.
 pub struct Verdict {
@@ -14,27 +15,11 @@ pub struct Verdict {
 }
 
 fn verdict_of(answer: CheckAnswer) -> Verdict {
-    match answer {
-        CheckAnswer::Sheet => Verdict {
-            sheet: true,
-            place: 0,
-        },
-        CheckAnswer::Fault(place) => Verdict {
-            sheet: false,
-            place: place,
-        },
+    let refusal = refusal_of(answer);
+    Verdict {
+        sheet: refusal.number != BAD_BYTES,
+        place: refusal.place,
     }
-}
-
-// What comes of bytes. More than a sheet can have are none: the fault is the first that is too many.
-fn verdict_on(bytes: &[u8]) -> Verdict {
-    if COMPILED_LIMIT < bytes.len() {
-        return Verdict {
-            sheet: false,
-            place: COMPILED_LIMIT,
-        };
-    }
-    verdict_of(check_sheet(bytes))
 }
 
 fn same_verdict(a: Verdict, b: Verdict) -> bool {
@@ -58,7 +43,7 @@ fn print_difference(words: &[u8], v: Verdict) {
 }
 
 pub fn ask_bytes(t: Tally, words: &[u8], bytes: &[u8], expected: Verdict) -> Tally {
-    let v = verdict_on(bytes);
+    let v = verdict_of(check_sheet(bytes));
     if same_verdict(v, expected) {
         return tallied(t, true);
     }
@@ -68,7 +53,7 @@ pub fn ask_bytes(t: Tally, words: &[u8], bytes: &[u8], expected: Verdict) -> Tal
 
 // Asks for bytes that are not to be a sheet, whatever the place of the fault.
 fn ask_prefix(t: Tally, words: &[u8], bytes: &[u8]) -> Tally {
-    let v = verdict_on(bytes);
+    let v = verdict_of(check_sheet(bytes));
     if v.sheet {
         print(b"DIFFERS, ");
         print(words);

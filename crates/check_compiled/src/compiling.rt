@@ -5,6 +5,15 @@ use crate::tally::print_bytes;
 use crate::tally::print_number;
 use crate::tally::tallied;
 use combinators::bytes::starts_with;
+use combinators::least::NUMBER_MORE;
+use combinators::least::NUMBER_WIDTH;
+use combinators::least::TEXT_MORE;
+use combinators::least::TEXT_WIDTH;
+use combinators::refusals::NO_REFUSAL;
+use combinators::refusals::NOT_UTF8;
+use combinators::refusals::SHORT_STORE;
+use combinators::refusals::TOO_LONG;
+use compiler::answers::numbers_of;
 use compiler::compile::CompileAnswer;
 use compiler::compile::compile;
 use syntax::texts::part_of;
@@ -13,11 +22,11 @@ ghost use Prim.Native.Nat.{_≤_};
 // The longest texts of a case, all together, and stores of the least lengths for them.
 pub const LONGEST: usize = 33000;
 
-const NUMBERS: usize = 8 * LONGEST + 64;
+const NUMBERS: usize = NUMBER_WIDTH * LONGEST + NUMBER_MORE;
 
 const BRACKETS: usize = LONGEST;
 
-const TEXTS: usize = 2 * LONGEST + 12;
+const TEXTS: usize = TEXT_WIDTH * LONGEST + TEXT_MORE;
 
 // More than any compiled sheet here has.
 pub const COMPILED: usize = 80000;
@@ -26,19 +35,6 @@ pub const COMPILED: usize = 80000;
 pub const FULL_BYTE: u8 = 0xff;
 
 const FULL_NUMBER: u32 = 0xffff_ffff;
-
-// The refusals of the scope.
-const NO_REFUSAL: usize = 0;
-
-const TOO_LONG: usize = 1;
-
-const SHORT_STORE: usize = 2;
-
-const NOT_UTF8: usize = 3;
-
-const PANIC: usize = 4;
-
-const NO_ROOM: usize = 10;
 
 // How much is lent of each buffer.
 pub struct Lengths {
@@ -69,30 +65,15 @@ pub fn all() -> Lengths {
     }
 }
 
-fn refused(number: usize, text: usize, place: usize) -> Outcome {
-    Outcome {
-        number: number,
-        text: text,
-        place: place,
-        bytes: 0,
-        texts: 0,
-    }
-}
-
 fn outcome_of(answer: CompileAnswer) -> Outcome {
-    match answer {
-        CompileAnswer::Compiled(bytes, texts) => Outcome {
-            number: NO_REFUSAL,
-            text: 0,
-            place: 0,
-            bytes: bytes,
-            texts: texts,
-        },
-        CompileAnswer::TooLong => refused(TOO_LONG, 0, 0),
-        CompileAnswer::ShortStore => refused(SHORT_STORE, 0, 0),
-        CompileAnswer::NotUtf8 => refused(NOT_UTF8, 0, 0),
-        CompileAnswer::Panic(text, byte) => refused(PANIC, text, byte),
-        CompileAnswer::NoRoom => refused(NO_ROOM, 0, 0),
+    let numbers = numbers_of(answer);
+    let refusal = numbers.refusal;
+    Outcome {
+        number: refusal.number as usize,
+        text: refusal.text,
+        place: refusal.place,
+        bytes: numbers.bytes,
+        texts: numbers.texts,
     }
 }
 
@@ -167,6 +148,17 @@ fn left_full(
     false
 }
 
+// Whether a refusal leaves the buffers as they were.
+fn is_before_reading(number: usize) -> bool {
+    if number == TOO_LONG as usize {
+        return true;
+    }
+    if number == SHORT_STORE as usize {
+        return true;
+    }
+    number == NOT_UTF8 as usize
+}
+
 // Whether refusals 1, 2 and 3 leave the buffers as they were, and all else zeros beyond what was written.
 fn left_right(
     o: Outcome,
@@ -176,8 +168,8 @@ fn left_right(
     tokens: &[u32],
     brackets: &[u8],
 ) -> bool {
-    match o.number {
-        TOO_LONG | SHORT_STORE | NOT_UTF8 => left_full(
+    if is_before_reading(o.number) {
+        return left_full(
             o,
             compiled,
             texts,
@@ -186,16 +178,16 @@ fn left_right(
             brackets,
             FULL_BYTE,
             FULL_NUMBER,
-        ),
-        _ => left_full(o, compiled, texts, rules, tokens, brackets, 0, 0),
+        );
     }
+    left_full(o, compiled, texts, rules, tokens, brackets, 0, 0)
 }
 
 // What came, of a case that differs.
 fn print_difference(words: &[u8], o: Outcome, bytes: &[u8], texts: &[u8], left: bool) {
     print(b"DIFFERS, ");
     print(words);
-    if o.number == NO_REFUSAL {
+    if o.number == NO_REFUSAL as usize {
         print(b": came");
         print_bytes(bytes);
         print(b", texts ");

@@ -6,7 +6,8 @@ use native.Mathlib.Omega.{arith}
 use lib.ListN.{length}
 use lib.Seq.{length-take-le}
 use Rattle.io.specs.Counts.{Counts}
-use Rattle.page.specs.Accepted.{noRefusal, pageRefusal, refusalOf}
+use Rattle.combinators.specs.Refusal.{noRefusal}
+use Rattle.page.specs.Accepted.{pageRefusal, refusalOf}
 use Rattle.page.specs.Rows.{elementKind, nodeAt, nodeCount}
 use Rattle.page.specs.declared.check.PageAnswer.{PageAnswer}
 use Rattle.page.specs.declared.check.PageAnswer.the-variants.{Page}

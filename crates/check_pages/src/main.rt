@@ -1,6 +1,11 @@
 // Asks `check_page` and `do_matches` for cases whose answers document 01 fixes, and prints a line for each: the case, what is expected, what came, and
 // `ok` or `DIFFERS`. A last line counts them.
 use combinators::bytes::wide;
+use combinators::refusals::BAD_ROW;
+use combinators::refusals::BAD_TEXT;
+use combinators::refusals::NO_REFUSAL;
+use combinators::refusals::Refusal;
+use combinators::refusals::TOO_LARGE;
 use combinators::stores::emit_part;
 use lexer::names::Name;
 use lexer::names::parse_ident;
@@ -8,6 +13,7 @@ use libc::STDOUT_FILENO;
 use matching::matcher::do_matches;
 use page::check::PageAnswer;
 use page::check::check_page;
+use page::check::refusal_of;
 use page::rows::ATTRIBUTE_WIDTH;
 use page::rows::NODE_WIDTH;
 use page::rows::kind_of;
@@ -18,15 +24,6 @@ ghost use lib.ListN.{length};
 ghost use Rattle.io.specs.Counts.{Counts};
 ghost use Rattle.page.specs.Rows.{nodeWidth};
 ghost use Rattle.check_pages.specs.Bounds.{deeper, rowsAtMost};
-
-// What a page is: accepted, or refused by document 01's number.
-const ACCEPTED: u64 = 0;
-
-const TOO_LARGE: u64 = 5;
-
-const BAD_ROW: u64 = 6;
-
-const BAD_TEXT: u64 = 7;
 
 // What a selector does; or it could not be asked, since the page is refused or the selector does not read.
 const MISSES: u64 = 0;
@@ -81,12 +78,6 @@ struct Tally {
     differing: u64,
 }
 
-// A refusal by its number and its place.
-struct Refusal {
-    number: u64,
-    place: usize,
-}
-
 fn print(text: &[u8]) {
     io::write_all(STDOUT_FILENO, text);
 }
@@ -110,39 +101,18 @@ fn judge(tally: Tally, same: bool) -> Tally {
 
 // ---- pages
 
-fn refusal_of(answer: PageAnswer) -> Refusal {
-    match answer {
-        PageAnswer::Page => Refusal {
-            number: ACCEPTED,
-            place: 0,
-        },
-        PageAnswer::TooLarge => Refusal {
-            number: TOO_LARGE,
-            place: 0,
-        },
-        PageAnswer::BadRow(row) => Refusal {
-            number: BAD_ROW,
-            place: row,
-        },
-        PageAnswer::BadText(row) => Refusal {
-            number: BAD_TEXT,
-            place: row,
-        },
-    }
-}
-
-fn print_refusal(number: u64, place: usize) {
-    if number == ACCEPTED {
+fn print_refusal(number: u32, place: usize) {
+    if number == NO_REFUSAL {
         print(b"accepted");
         return;
     }
     print(b"refused ");
-    io::print_decimal(STDOUT_FILENO, number);
+    io::print_decimal(STDOUT_FILENO, number as u64);
     print(b" at ");
     io::print_decimal(STDOUT_FILENO, place as u64);
 }
 
-fn is_refusal(came: Refusal, number: u64, place: usize) -> bool {
+fn is_refusal(came: Refusal, number: u32, place: usize) -> bool {
     if came.number == number {
         return came.place == place;
     }
@@ -156,7 +126,7 @@ fn ask_page(
     nodes: &[u32],
     attributes: &[u32],
     text: &[u8],
-    number: u64,
+    number: u32,
     place: usize,
 ) -> Tally {
     let came = refusal_of(check_page(nodes, attributes, text));
@@ -196,7 +166,7 @@ fn ask_short(
     nodes: &[u8],
     attributes: &[u8],
     text: &[u8],
-    number: u64,
+    number: u32,
     place: usize,
 ) -> Tally {
     let mut node_numbers = [0u32; SHORT];
@@ -245,7 +215,7 @@ fn put_children(rows: usize, nodes: &mut [u32]) -> usize
 }
 
 // Asks for a page whose nodes name nothing.
-fn ask_nodes(tally: Tally, words: &[u8], nodes: &[u32], number: u64, place: usize) -> Tally {
+fn ask_nodes(tally: Tally, words: &[u8], nodes: &[u32], number: u32, place: usize) -> Tally {
     ask_page(tally, words, nodes, &NO_NUMBERS, b"", number, place)
 }
 
@@ -255,7 +225,7 @@ fn ask_depth(
     words: &[u8],
     depth: usize,
     last: u32,
-    number: u64,
+    number: u32,
     place: usize,
 ) -> Tally
     requires { ⌜ depth ≤ deeper ⌝ }
@@ -267,14 +237,14 @@ fn ask_depth(
 
 // "depth, which is 0 at row 0, is at most 64"
 fn ask_depths(t: Tally) -> Tally {
-    let t = ask_depth(t, b"an element at depth 64", 64, ELEMENT, ACCEPTED, 0);
+    let t = ask_depth(t, b"an element at depth 64", 64, ELEMENT, NO_REFUSAL, 0);
     let t = ask_depth(t, b"an element at depth 65", 65, ELEMENT, BAD_ROW, 65);
-    let t = ask_depth(t, b"other content at depth 64", 64, OTHER, ACCEPTED, 0);
+    let t = ask_depth(t, b"other content at depth 64", 64, OTHER, NO_REFUSAL, 0);
     ask_depth(t, b"other content at depth 65", 65, OTHER, BAD_ROW, 65)
 }
 
 // Asks for a page of `rows` rows.
-fn ask_children(tally: Tally, words: &[u8], rows: usize, number: u64) -> Tally
+fn ask_children(tally: Tally, words: &[u8], rows: usize, number: u32) -> Tally
     requires { ⌜ rows ≤ rowsAtMost ⌝ }
 {
     let mut nodes = [0u32; MANY];
@@ -284,7 +254,7 @@ fn ask_children(tally: Tally, words: &[u8], rows: usize, number: u64) -> Tally
 
 // "over 4,096 nodes"
 fn ask_node_limit(t: Tally) -> Tally {
-    let t = ask_children(t, b"4,096 nodes", 4096, ACCEPTED);
+    let t = ask_children(t, b"4,096 nodes", 4096, NO_REFUSAL);
     ask_children(t, b"4,097 nodes", 4097, TOO_LARGE)
 }
 
@@ -298,7 +268,7 @@ fn ask_attribute_limit(tally: Tally) -> Tally {
         &nodes,
         &attributes[..ATTRIBUTE_NUMBERS],
         b"",
-        ACCEPTED,
+        NO_REFUSAL,
         0,
     );
     ask_page(
@@ -322,7 +292,7 @@ fn ask_byte_limit(tally: Tally) -> Tally {
         &nodes,
         &NO_NUMBERS,
         &text[..LONGEST_TEXT],
-        ACCEPTED,
+        NO_REFUSAL,
         0,
     );
     ask_page(
@@ -363,7 +333,7 @@ fn ask_whole_rows(t: Tally) -> Tally {
 // "Row 0 is all zeros"; "or no row at all"
 fn ask_row_0(t: Tally) -> Tally {
     let t = ask_short(t, b"no row at all", b"", b"", b"", BAD_ROW, 0);
-    let t = ask_short(t, b"the document alone", b"000000", b"", b"", ACCEPTED, 0);
+    let t = ask_short(t, b"the document alone", b"000000", b"", b"", NO_REFUSAL, 0);
     let t = ask_short(
         t,
         b"a document with a name",
@@ -406,7 +376,7 @@ fn ask_parents(t: Tally) -> Tally {
         b"000000 100000 110000 120000 110000",
         b"",
         b"",
-        ACCEPTED,
+        NO_REFUSAL,
         0,
     );
     let t = ask_short(
@@ -459,7 +429,7 @@ fn ask_unnamed(t: Tally) -> Tally {
         b"000000 100101 200000",
         b"1121",
         b"abc",
-        ACCEPTED,
+        NO_REFUSAL,
         0,
     );
     let t = ask_short(
@@ -592,7 +562,7 @@ fn ask_attributes(t: Tally) -> Tally {
         b"000000 100101",
         b"1121 9999",
         b"abc\xff",
-        ACCEPTED,
+        NO_REFUSAL,
         0,
     )
 }
@@ -630,14 +600,22 @@ fn ask_outside(t: Tally) -> Tally {
 
 // Texts that lie in it
 fn ask_inside(t: Tally) -> Tally {
-    let t = ask_short(t, b"an empty name", b"000000 100000", b"", b"", ACCEPTED, 0);
+    let t = ask_short(
+        t,
+        b"an empty name",
+        b"000000 100000",
+        b"",
+        b"",
+        NO_REFUSAL,
+        0,
+    );
     let t = ask_short(
         t,
         b"a name to the end of the text",
         b"000000 100200",
         b"",
         b"ab",
-        ACCEPTED,
+        NO_REFUSAL,
         0,
     );
     ask_short(
@@ -646,7 +624,7 @@ fn ask_inside(t: Tally) -> Tally {
         b"000000 100200",
         b"",
         b"\xc3\xa9",
-        ACCEPTED,
+        NO_REFUSAL,
         0,
     )
 }

@@ -1,8 +1,17 @@
 // Runs `read_sheet` on the cases of the scope that are checked by running, and prints a line for each: the case, what is expected, what
 // came, and `ok` or `DIFFERS`. A last line counts them. All that is expected stands in the tables below.
+use combinators::least::NUMBER_MORE;
+use combinators::least::NUMBER_WIDTH;
+use combinators::least::TEXT_MORE;
+use combinators::least::TEXT_WIDTH;
+use combinators::refusals::NO_REFUSAL;
+use combinators::refusals::NOT_UTF8;
+use combinators::refusals::PANIC;
+use combinators::refusals::SHORT_STORE;
+use combinators::refusals::TOO_LONG;
 use libc::STDOUT_FILENO;
+use sheets::answers::numbers_of;
 use sheets::sheet::SHEET_LIMIT;
-use sheets::sheet::SheetAnswer;
 use sheets::sheet::read_sheet;
 use std::num::wrapping_add_u64;
 ghost use Prim.Native.Nat.{_≤_};
@@ -11,27 +20,16 @@ ghost use lib.ListN.{length};
 // One byte more than a sheet may have, and stores of the least lengths for it.
 const LONGEST: usize = SHEET_LIMIT + 1;
 
-const NUMBERS: usize = 8 * LONGEST + 64;
+const NUMBERS: usize = NUMBER_WIDTH * LONGEST + NUMBER_MORE;
 
 const BRACKETS: usize = LONGEST;
 
-const STORE: usize = 2 * LONGEST + 12;
+const STORE: usize = TEXT_WIDTH * LONGEST + TEXT_MORE;
 
 // What every store is full of before a sheet is read: bytes 255.
 const FULL_BYTE: u8 = 0xff;
 
 const FULL_NUMBER: u32 = 0xffff_ffff;
-
-// The refusals of the scope; none where a sheet is read.
-const NO_REFUSAL: usize = 0;
-
-const TOO_LONG: usize = 1;
-
-const SHORT_STORE: usize = 2;
-
-const NOT_UTF8: usize = 3;
-
-const PANIC: usize = 4;
 
 // The rule that long sheets repeat.
 const RULE: usize = 12;
@@ -43,7 +41,7 @@ const MOST_RULES: usize = 2730 * RULE;
 // What comes of a sheet. `place` is that of the refusal, or the first byte not read. `kept` says that the stores are as the scope has it:
 // unchanged after refusals 1, 2 and 3, zero throughout after 4, zero beyond the answer after an answer.
 struct Outcome {
-    refusal: usize,
+    refusal: u32,
     place: usize,
     rules: usize,
     kept: bool,
@@ -74,7 +72,7 @@ fn read(rules: usize, stop: usize) -> Outcome {
     }
 }
 
-fn refused(refusal: usize, place: usize) -> Outcome {
+fn refused(refusal: u32, place: usize) -> Outcome {
     Outcome {
         refusal: refusal,
         place: place,
@@ -161,53 +159,28 @@ fn outcome_of(
     brackets: &mut [u8],
     store: &mut [u8],
 ) -> Outcome {
-    let answer = read_sheet(sheet, rules, tokens, brackets, store);
-    match answer {
-        SheetAnswer::Sheet(count, stop, numbers, text) => {
-            let kept = zero_beyond(rules, tokens, brackets, store, numbers, text);
-            return Outcome {
-                refusal: NO_REFUSAL,
-                place: stop,
-                rules: count,
-                kept: kept,
-            };
-        }
-        SheetAnswer::Panic(p) => {
-            let kept = zero_beyond(rules, tokens, brackets, store, 0, 0);
-            return Outcome {
-                refusal: PANIC,
-                place: p,
-                rules: 0,
-                kept: kept,
-            };
-        }
-        SheetAnswer::TooLong => {
-            let kept = unchanged(rules, tokens, brackets, store);
-            return Outcome {
-                refusal: TOO_LONG,
-                place: 0,
-                rules: 0,
-                kept: kept,
-            };
-        }
-        SheetAnswer::ShortStore => {
-            let kept = unchanged(rules, tokens, brackets, store);
-            return Outcome {
-                refusal: SHORT_STORE,
-                place: 0,
-                rules: 0,
-                kept: kept,
-            };
-        }
-        SheetAnswer::NotUtf8 => {
-            let kept = unchanged(rules, tokens, brackets, store);
-            return Outcome {
-                refusal: NOT_UTF8,
-                place: 0,
-                rules: 0,
-                kept: kept,
-            };
-        }
+    let came = numbers_of(read_sheet(sheet, rules, tokens, brackets, store));
+    let refusal = came.refusal;
+    let number = refusal.number;
+    match number {
+        NO_REFUSAL => Outcome {
+            refusal: number,
+            place: came.stop,
+            rules: came.count,
+            kept: zero_beyond(rules, tokens, brackets, store, came.numbers, came.bytes),
+        },
+        PANIC => Outcome {
+            refusal: number,
+            place: refusal.place,
+            rules: 0,
+            kept: zero_beyond(rules, tokens, brackets, store, 0, 0),
+        },
+        _ => Outcome {
+            refusal: number,
+            place: refusal.place,
+            rules: 0,
+            kept: unchanged(rules, tokens, brackets, store),
+        },
     }
 }
 
@@ -269,7 +242,7 @@ fn print_read(o: Outcome) {
 
 fn print_refused(o: Outcome) {
     print(b"refused ");
-    print_number(o.refusal);
+    print_number(o.refusal as usize);
     print(b" at ");
     print_number(o.place);
     print(b", stores ");

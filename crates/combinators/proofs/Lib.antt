@@ -6,3 +6,4 @@ pub mod Words
 pub mod Emitted
 pub mod Cleared
 pub mod Wiped
+pub mod LeastLaws

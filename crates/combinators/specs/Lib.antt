@@ -4,3 +4,5 @@ pub mod Parsed
 pub mod Repeat
 pub mod Word
 pub mod Store
+pub mod Refusal
+pub mod LeastLengths

@@ -4,15 +4,17 @@ use mathlib.Core.Bool.{Bool, true, false}
 use mathlib.Core.List.{List}
 use mathlib.Core.Path.{_≡_, refl, ap, sym, _∙_}
 use native.Mathlib.Omega.{arith}
-use borrow.Author.Tests.{lt-ltb, le-ltb, leb-true}
+use borrow.Author.Tests.{lt-ltb, le-ltb}
 use lib.ListN.{length}
-use Rattle.combinators.proofs.Rules.{pick-true, pick-false, and-true}
+use Rattle.combinators.specs.LeastLengths.{storesSuffice}
+use Rattle.combinators.specs.Refusal.{tooLong, shortStore}
+use Rattle.combinators.proofs.LeastLaws.{least}
+use Rattle.combinators.proofs.Rules.{pick-true, pick-false}
 use Rattle.values.specs.Layout.{Room}
 use Rattle.values.specs.declared.colours.ColourAnswer.{ColourAnswer}
 use Rattle.declarations.specs.Leaving.{Leaves, ColourLeft, colourLeft, styleLeft, StyleRoom}
 use Rattle.declarations.specs.declared.attributes.StylesRead.{StylesRead}
 use Rattle.declarations.proofs.LeastLengths.{least-room, least-style-room}
-use Rattle.sheets.specs.SheetAnswer.{textLeast, bracketLeast, numberLeast, storesSuffice, limitRefusal, storeRefusal}
 use Rattle.page.specs.Accepted.{textLimit}
 use Rattle.comparison.specs.Attributes.{refusedOr, refusedStyles, stylesResult, StyleCalled, styleRead, styleCalled, refusedColour, colourResult, ColourCalled, colourRead, colourCalled}
 use Rattle.comparison.specs.declared.attributes.StylesResult.{StylesResult}
@@ -20,12 +22,12 @@ use Rattle.comparison.specs.declared.attributes.ColourResult.{ColourResu
 
 -- ---- refusals, in their order
 module _ {A : Type 0} (s : List ℕ) (rules tokens brackets texts : ℕ) (refused : ℕ → A) (answer : A) where
-  limit-first : textLimit < length s → refused limitRefusal ≡ refusedOr s rules tokens brackets texts refused answer
+  limit-first : textLimit < length s → refused tooLong ≡ refusedOr s rules tokens brackets texts refused answer
   unfolding refusedOr
   limit-first h = pick-true _ _ _ _ (lt-ltb textLimit (length s) h) refl
 
   module _ (h : length s ≤ textLimit) {t : Bool} (et : t ≡ storesSuffice (length s) rules tokens brackets texts) where
-    stores-then : t ≡ false → refused storeRefusal ≡ refusedOr s rules tokens brackets texts refused answer
+    stores-then : t ≡ false → refused shortStore ≡ refusedOr s rules tokens brackets texts refused answer
     unfolding refusedOr
     stores-then e = pick-false _ _ _ _ (le-ltb textLimit (length s) h) (pick-false _ _ _ _ (sym et ∙ e) refl)
 
@@ -33,32 +35,17 @@ module _ {A : Type 0} (s : List ℕ) (rules tokens brackets texts : ℕ) (refuse
     unfolding refusedOr
     answered e = pick-false _ _ _ _ (le-ltb textLimit (length s) h) (pick-true _ _ _ _ (sym et ∙ e) refl)
 
--- ---- stores that suffice have the least lengths
-record Least (n rules tokens brackets texts : ℕ) : Type 0 where
-  for-texts : textLeast n ≤ texts
-  for-brackets : bracketLeast n ≤ brackets
-  for-rules : numberLeast n ≤ rules
-  for-tokens : numberLeast n ≤ tokens
-
-least : {n rules tokens brackets texts : ℕ} {t : Bool} → t ≡ storesSuffice n rules tokens brackets texts → t ≡ true → Least n rules tokens brackets texts
-unfolding storesSuffice
-least et e =
-    let p = and-true _ _ (sym et ∙ e) in
-    let q = and-true _ _ (p .1) in
-    let u = and-true _ _ (q .1) in
-    record { for-texts = leb-true _ _ (p .0); for-brackets = leb-true _ _ (q .0); for-rules = leb-true _ _ (u .0); for-tokens = leb-true _ _ (u .1) }
-
 -- ---- styles
 module _ (s rules tokens brackets texts : List ℕ) where
   pub style-too-long : textLimit < length s
-      → record { result = record { refusal = limitRefusal; count = 0; bytes = 0 }; rules = rules; tokens = tokens; brackets = brackets; texts = texts }
+      → record { result = record { refusal = tooLong; count = 0; bytes = 0 }; rules = rules; tokens = tokens; brackets = brackets; texts = texts }
       ≡ styleCalled s rules tokens brackets texts
   unfolding styleCalled refusedStyles
   style-too-long h = limit-first s (length rules) (length tokens) (length brackets) (length texts) _ _ h
 
   module _ (h : length s ≤ textLimit) {t : Bool} (et : t ≡ storesSuffice (length s) (length rules) (length tokens) (length brackets) (length texts)) where
     pub style-short : t ≡ false
-        → record { result = record { refusal = storeRefusal; count = 0; bytes = 0 }; rules = rules; tokens = tokens; brackets = brackets; texts = texts }
+        → record { result = record { refusal = shortStore; count = 0; bytes = 0 }; rules = rules; tokens = tokens; brackets = brackets; texts = texts }
         ≡ styleCalled s rules tokens brackets texts
     unfolding styleCalled refusedStyles
     style-short e = stores-then s (length rules) (length tokens) (length brackets) (length texts) _ _ h et e
@@ -79,14 +66,14 @@ module _ (s rules tokens brackets texts : List ℕ) where
 -- ---- colours
 module _ (s tokens brackets texts : List ℕ) where
   pub colour-too-long : textLimit < length s
-      → record { result = record { refusal = limitRefusal; found = 0; colour = 0 }; tokens = tokens; brackets = brackets; texts = texts }
+      → record { result = record { refusal = tooLong; found = 0; colour = 0 }; tokens = tokens; brackets = brackets; texts = texts }
       ≡ colourCalled s tokens brackets texts
   unfolding colourCalled refusedColour
   colour-too-long h = limit-first s (length tokens) (length tokens) (length brackets) (length texts) _ _ h
 
   module _ (h : length s ≤ textLimit) {t : Bool} (et : t ≡ storesSuffice (length s) (length tokens) (length tokens) (length brackets) (length texts)) where
     pub colour-short : t ≡ false
-        → record { result = record { refusal = storeRefusal; found = 0; colour = 0 }; tokens = tokens; brackets = brackets; texts = texts }
+        → record { result = record { refusal = shortStore; found = 0; colour = 0 }; tokens = tokens; brackets = brackets; texts = texts }
         ≡ colourCalled s tokens brackets texts
     unfolding colourCalled refusedColour
     colour-short e = stores-then s (length tokens) (length tokens) (length brackets) (length texts) _ _ h et e

@@ -7,28 +7,27 @@ use native.Mathlib.Omega.{arith}
 use borrow.Author.Tests.{lt-ltb, le-ltb, le-leb, lt-leb}
 use lib.ListN.{length}
 use Rattle.combinators.specs.Choice.{pick, is}
+use Rattle.combinators.specs.Refusal.{noRefusal, tooLong, shortStore, noElement}
+use Rattle.combinators.specs.declared.refusals.Refusal.{Refusal}
 use Rattle.combinators.proofs.Rules.{pick-true, pick-false, and-both, and-left, and-right, is-yes, is-yes-of, is-no-of, pick-holds}
 use Rattle.syntax.specs.Layout.{flag}
 use Rattle.syntax.specs.RuleLayout.{componentWidth}
 use Rattle.cascade.specs.declared.specificity.Specificity.{Specificity}
-use Rattle.sheets.specs.SheetAnswer.{limitRefusal, storeRefusal}
-use Rattle.page.specs.Accepted.{Refusal, noRefusal, rowsRefusal, pageRefusal}
+use Rattle.page.specs.Accepted.{rowsRefusal, pageRefusal}
 use Rattle.page.specs.PathOf.{pathOf}
 use Rattle.page.specs.Rows.{nodeCount, nodeAt, elementKind}
 use Rattle.matching.specs.Matches.{matches}
 use Rattle.matching.specs.Rows.{componentsAt, Rooted}
 use Rattle.matching.specs.Specificity.{specificity}
 use Rattle.matching.proofs.Roots.{accepted-element}
-use Rattle.engine.specs.Page.{pageResult}
-use Rattle.engine.specs.declared.pages.PageResult.{PageResult}
-use Rattle.comparison.specs.Matches.{componentLimit, askedRefusal, isElement, refusedMatch, answeredMatch, selectorMatch, rowMatch, pageMatch, matchCalled}
+use Rattle.comparison.specs.Matches.{componentLimit, isElement, refusedMatch, answeredMatch, selectorMatch, rowMatch, pageMatch, matchCalled}
 use Rattle.comparison.specs.declared.matches.MatchResult.{MatchResult}
 
 -- a refusal whose number is 0 is none
 unfoldable Quiet : Refusal → Type 0
 Quiet r = r .number ≡ 0 → r ≡ noRefusal
 
-loud : (n place : ℕ) → Quiet (record { number = suc n; place = place })
+loud : (n place : ℕ) → Quiet (record { number = suc n; text = 0; place = place })
 unfolding Quiet
 loud n place e = absurd (omega (arith, e))
 
@@ -42,12 +41,12 @@ quiet nodes attributes text =
 module _ (components : List ℕ) (count : ℕ) (texts nodes attributes text : List ℕ) (row : ℕ) where
   -- ---- a row of an accepted page
   module _ {n : ℕ} (en : n ≡ nodeCount nodes) where
-    pub row-beyond : n ≤ row → refusedMatch askedRefusal 0 ≡ rowMatch components count texts nodes attributes text row
+    pub row-beyond : n ≤ row → refusedMatch noElement 0 ≡ rowMatch components count texts nodes attributes text row
     unfolding rowMatch isElement
     row-beyond h = pick-false _ _ _ _ (and-left _ _ (le-ltb row (nodeCount nodes) (omega arith))) refl
 
     module _ (h : row < n) {k : ℕ} (ek : k ≡ nodeAt nodes row .kind) where
-      pub row-other : (k ≡ elementKind → ⊥) → refusedMatch askedRefusal 0 ≡ rowMatch components count texts nodes attributes text row
+      pub row-other : (k ≡ elementKind → ⊥) → refusedMatch noElement 0 ≡ rowMatch components count texts nodes attributes text row
       unfolding rowMatch isElement
       row-other f = pick-false _ _ _ _ (and-right _ _ (is-no-of k (nodeAt nodes row .kind) elementKind ek f)) refl
 
@@ -64,12 +63,12 @@ module _ (components : List ℕ) (count : ℕ) (texts nodes attributes text : Li
             (rw (ef, em, es texts) refl)
 
   -- ---- the call
-  pub too-many : componentLimit < count → refusedMatch limitRefusal 0 ≡ matchCalled components count texts nodes attributes text row
+  pub too-many : componentLimit < count → refusedMatch tooLong 0 ≡ matchCalled components count texts nodes attributes text row
   unfolding matchCalled
   too-many h = pick-true _ _ _ _ (lt-ltb componentLimit count h) refl
 
   module _ (h : count ≤ componentLimit) where
-    pub too-few : length components < componentWidth * count → refusedMatch storeRefusal 0 ≡ matchCalled components count texts nodes attributes text row
+    pub too-few : length components < componentWidth * count → refusedMatch shortStore 0 ≡ matchCalled components count texts nodes attributes text row
     unfolding matchCalled
     too-few g = pick-false _ _ _ _ (le-ltb componentLimit count h) (pick-false _ _ _ _ (lt-leb (componentWidth * count) (length components) g) refl)
 
@@ -79,18 +78,18 @@ module _ (components : List ℕ) (count : ℕ) (texts nodes attributes text : Li
       unfolding matchCalled
       of-page e = pick-false _ _ _ _ (le-ltb componentLimit count h) (pick-true _ _ _ _ (le-leb (componentWidth * count) (length components) g) e)
 
-      module _ {a : PageResult} (ea : a ≡ pageResult (pageRefusal nodes attributes text)) where
-        pub accepts : a .refusal ≡ 0 → pageRefusal nodes attributes text ≡ noRefusal
-        unfolding pageResult Quiet
-        accepts e = quiet nodes attributes text (ap (λ (r : PageResult). r .refusal) (sym ea) ∙ e)
+      module _ {a : Refusal} (ea : a ≡ pageRefusal nodes attributes text) where
+        pub accepts : a .number ≡ 0 → pageRefusal nodes attributes text ≡ noRefusal
+        unfolding Quiet
+        accepts e = quiet nodes attributes text (ap (λ (r : Refusal). r .number) (sym ea) ∙ e)
 
-        pub on-page : {r : MatchResult} → a .refusal ≡ 0 → r ≡ rowMatch components count texts nodes attributes text row
+        pub on-page : {r : MatchResult} → a .number ≡ 0 → r ≡ rowMatch components count texts nodes attributes text row
             → r ≡ matchCalled components count texts nodes attributes text row
-        unfolding pageMatch pageResult
-        on-page e p = of-page (pick-true _ _ _ _ (is-yes _ 0 (ap (λ (r : PageResult). r .refusal) (sym ea) ∙ e)) p)
+        unfolding pageMatch
+        on-page e p = of-page (pick-true _ _ _ _ (is-yes _ 0 (ap (λ (r : Refusal). r .number) (sym ea) ∙ e)) p)
 
-        pub no-page : (a .refusal ≡ 0 → ⊥) → refusedMatch (a .refusal) (a .place) ≡ matchCalled components count texts nodes attributes text row
-        unfolding pageMatch pageResult
+        pub no-page : (a .number ≡ 0 → ⊥) → refusedMatch (a .number) (a .place) ≡ matchCalled components count texts nodes attributes text row
+        unfolding pageMatch
         no-page f =
-            of-page (pick-false _ _ _ _ (is-no-of (a .refusal) _ 0 (ap (λ (r : PageResult). r .refusal) ea) f)
-            (ap (λ (r : PageResult). refusedMatch (r .refusal) (r .place)) ea))
+            of-page (pick-false _ _ _ _ (is-no-of (a .number) _ 0 (ap (λ (r : Refusal). r .number) ea) f)
+            (ap (λ (r : Refusal). refusedMatch (r .number) (r .place)) ea))

@@ -5,11 +5,12 @@ use mathlib.Core.List.{List}
 use lib.Dec.{ltb}
 use lib.ListN.{length}
 use Rattle.combinators.specs.Choice.{pick}
+use Rattle.combinators.specs.LeastLengths.{storesSuffice}
+use Rattle.combinators.specs.Refusal.{tooLong, shortStore}
 use Rattle.values.specs.declared.colours.ColourAnswer.{ColourAnswer}
 use Rattle.values.specs.declared.colours.ColourAnswer.the-variants.{Colour, NoColour}
 use Rattle.declarations.specs.Leaving.{Leaves, ColourLeft, colourLeft, styleLeft}
 use Rattle.declarations.specs.declared.attributes.StylesRead.{StylesRead}
-use Rattle.sheets.specs.SheetAnswer.{storesSuffice, limitRefusal, storeRefusal}
 use Rattle.page.specs.Accepted.{textLimit}
 use Rattle.comparison.specs.declared.attributes.StylesResult.{StylesResult}
 use Rattle.comparison.specs.declared.attributes.ColourResult.{ColourResult}
@@ -17,7 +18,7 @@ use Rattle.comparison.specs.declared.attributes.ColourResult.{ColourResu
 -- ---- a call with the text s: a text over `textLimit` is refused first, then stores shorter than the least lengths
 unfoldable pub refusedOr : {A : Type 0} → List ℕ → ℕ → ℕ → ℕ → ℕ → (ℕ → A) → A → A
 refusedOr s rules tokens brackets texts refused answer =
-    pick (ltb textLimit (length s)) (refused limitRefusal) (pick (storesSuffice (length s) rules tokens brackets texts) answer (refused storeRefusal))
+    pick (ltb textLimit (length s)) (refused tooLong) (pick (storesSuffice (length s) rules tokens brackets texts) answer (refused shortStore))
 
 -- ---- styles
 unfoldable pub refusedStyles : ℕ → StylesResult

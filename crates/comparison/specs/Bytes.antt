@@ -1,14 +1,19 @@
--- What `comparison_check_bytes` returns: what decoding the bytes comes to, as a struct of numbers.
+-- What `comparison_check_bytes` returns: the refusal of bytes as a struct of numbers.
 use Prim.Native.Nat.{ℕ}
 use mathlib.Core.List.{List}
-use Rattle.compiled.specs.Decoded.{Decoded, read, fault}
-use Rattle.compiled.specs.Sheet.{CompiledSelector}
+use lib.Dec.{ltb}
+use lib.ListN.{length}
+use Rattle.combinators.specs.Choice.{pick}
+use Rattle.combinators.specs.Refusal.{refused, refusedAt, tooLong}
+use Rattle.combinators.specs.declared.refusals.Refusal.{Refusal}
+use Rattle.compiled.specs.Answer.{bytesRefusal}
+use Rattle.compiler.specs.CompileAnswer.{compiledLimit}
 use Rattle.comparison.specs.declared.bytes.BytesResult.{BytesResult}
 
--- "9 the bytes do not read as a sheet to their last byte"
-abbrev pub sheetRefusal : ℕ
-sheetRefusal = 9
+-- the refusal that a struct tells
+unfoldable pub refusalIn : BytesResult → Refusal
+refusalIn r = refusedAt (r .refusal) (r .place)
 
-unfoldable pub bytesResult : Decoded (List CompiledSelector) → BytesResult
-bytesResult (read n ss) = record { refusal = 0; place = 0 }
-bytesResult (fault p) = record { refusal = sheetRefusal; place = p }
+-- "1 .. compiled bytes over 65,536"; "9 the bytes do not read as a sheet to their last byte"
+unfoldable pub bytesCalled : List ℕ → Refusal
+bytesCalled t = pick (ltb compiledLimit (length t)) (refused tooLong) (bytesRefusal t)

@@ -5,12 +5,14 @@ use mathlib.Core.List.{List}
 use lib.Dec.{leb, ltb}
 use lib.ListN.{length}
 use Rattle.combinators.specs.Choice.{pick, and, is}
+use Rattle.combinators.specs.Refusal.{tooLong, shortStore, noElement}
+use Rattle.combinators.specs.declared.refusals.Refusal.{Refusal}
 use Rattle.syntax.specs.Layout.{flag}
 use Rattle.syntax.specs.RuleLayout.{componentWidth}
 use Rattle.syntax.specs.Selector.{Component}
 use Rattle.cascade.specs.declared.specificity.Specificity.{Specificity}
-use Rattle.sheets.specs.SheetAnswer.{sheetLimit, limitRefusal, storeRefusal}
-use Rattle.page.specs.Accepted.{Refusal, pageRefusal}
+use Rattle.sheets.specs.SheetAnswer.{sheetLimit}
+use Rattle.page.specs.Accepted.{pageRefusal}
 use Rattle.page.specs.Path.{Path}
 use Rattle.page.specs.PathOf.{pathOf}
 use Rattle.page.specs.Rows.{nodeCount, nodeAt, elementKind}
@@ -22,10 +24,6 @@ use Rattle.comparison.specs.declared.matches.MatchResult.{MatchResult}
 -- the most components that a selector may have here: as many as a sheet may have bytes, for each takes one
 abbrev pub componentLimit : ℕ
 componentLimit = sheetLimit
-
--- "8 the asked row is no element or beyond the page"
-abbrev pub askedRefusal : ℕ
-askedRefusal = 8
 
 unfoldable pub isElement : List ℕ → ℕ → Bool
 isElement nodes row = and (ltb row (nodeCount nodes)) (is (nodeAt nodes row .kind) elementKind)
@@ -45,7 +43,7 @@ selectorMatch cs path = answeredMatch (matches cs path) (specificity cs)
 -- of an accepted page
 unfoldable pub rowMatch : List ℕ → ℕ → List ℕ → List ℕ → List ℕ → List ℕ → ℕ → MatchResult
 rowMatch components count texts nodes attributes text row =
-    pick (isElement nodes row) (selectorMatch (componentsAt texts components count) (pathOf nodes attributes text row)) (refusedMatch askedRefusal 0)
+    pick (isElement nodes row) (selectorMatch (componentsAt texts components count) (pathOf nodes attributes text row)) (refusedMatch noElement 0)
 
 -- of a page with a refusal, whose number is 0 where there is none
 unfoldable pub pageMatch : Refusal → MatchResult → MatchResult
@@ -54,7 +52,7 @@ pageMatch r answer = pick (is (r .number) 0) answer (refusedMatch (r .number) (r
 -- the lowest number that applies
 unfoldable pub matchCalled : List ℕ → ℕ → List ℕ → List ℕ → List ℕ → List ℕ → ℕ → MatchResult
 matchCalled components count texts nodes attributes text row =
-    pick (ltb componentLimit count) (refusedMatch limitRefusal 0)
+    pick (ltb componentLimit count) (refusedMatch tooLong 0)
     (pick (leb (componentWidth * count) (length components))
     (pageMatch (pageRefusal nodes attributes text) (rowMatch components count texts nodes attributes text row))
-    (refusedMatch storeRefusal 0))
+    (refusedMatch shortStore 0))

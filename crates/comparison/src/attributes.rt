@@ -1,10 +1,10 @@
 // `comparison_style_attribute` and `comparison_color_attribute`: what a `style` attribute says, and the colour of a `color` or `bgcolor` attribute.
+use combinators::least::stores_suffice;
+use combinators::refusals::SHORT_STORE;
+use combinators::refusals::TOO_LONG;
 use declarations::attributes::parse_color_attribute;
 use declarations::attributes::parse_style_attribute;
-use engine::refusals::SHORT_STORE;
-use engine::refusals::TOO_LONG;
 use page::check::TEXT_LIMIT;
-use sheets::sheet::stores_suffice;
 use values::colours::ColourAnswer;
 ghost use mathlib.Core.Path.{_≡_};
 ghost use Rattle.comparison.specs.Attributes.{styleCalled, colourCalled};

@@ -1,12 +1,10 @@
 // `comparison_check_bytes`: whether bytes are a compiled sheet.
-use compiled::sheets::CheckAnswer;
+use combinators::refusals::TOO_LONG;
 use compiled::sheets::check_sheet;
+use compiled::sheets::refusal_of;
+use compiler::writing::COMPILED_LIMIT;
 ghost use mathlib.Core.Path.{_≡_};
-ghost use Rattle.compiled.specs.Sheet.{decode};
-ghost use Rattle.comparison.specs.Bytes.{bytesResult};
-
-// The refusal of bytes that do not read as a sheet to their last byte.
-const NO_SHEET: u32 = 9;
+ghost use Rattle.comparison.specs.Bytes.{refusalIn, bytesCalled};
 
 // The refusal's number and place.
 #[repr(C)]
@@ -15,23 +13,20 @@ pub struct BytesResult {
     pub place: usize,
 }
 
-// Whether the bytes are a sheet to their last byte, however many they are.
+// Whether the bytes are a sheet to their last byte; more than a compiled sheet may have are refused before they are read.
 #[no_mangle]
 pub extern "C" fn comparison_check_bytes(bytes: &[u8]) -> BytesResult
-    ensures { λ r. ⌜ r ≡ bytesResult (decode (now (bytes .entry))) ⌝ }
+    ensures { λ r. ⌜ refusalIn r ≡ bytesCalled (now (bytes .entry)) ⌝ }
 {
-    match check_sheet(bytes) {
-        CheckAnswer::Sheet => {
-            return BytesResult {
-                refusal: 0,
-                place: 0,
-            };
-        }
-        CheckAnswer::Fault(place) => {
-            return BytesResult {
-                refusal: NO_SHEET,
-                place,
-            };
-        }
+    if bytes.len() > COMPILED_LIMIT {
+        return BytesResult {
+            refusal: TOO_LONG,
+            place: 0,
+        };
+    }
+    let refusal = refusal_of(check_sheet(bytes));
+    BytesResult {
+        refusal: refusal.number,
+        place: refusal.place,
     }
 }

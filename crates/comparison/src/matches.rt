@@ -1,10 +1,11 @@
 // `comparison_matches`: whether a selector, in component rows, matches an element of a page, and how specific it is.
-use engine::pages::hicsolmab_check_page;
-use engine::refusals::NO_ELEMENT;
-use engine::refusals::SHORT_STORE;
-use engine::refusals::TOO_LONG;
+use combinators::refusals::NO_ELEMENT;
+use combinators::refusals::SHORT_STORE;
+use combinators::refusals::TOO_LONG;
 use matching::components::specificity;
 use matching::matcher::do_matches;
+use page::check::check_page;
+use page::check::refusal_of;
 use page::rows::ELEMENT;
 use page::rows::kind_of;
 use page::rows::node_count;
@@ -12,7 +13,8 @@ use syntax::rows::COMPONENT_WIDTH;
 use syntax::rows::flag_of;
 ghost use mathlib.Core.Path.{_≡_};
 ghost use Prim.Native.Nat.{_≤_};
-ghost use Rattle.page.specs.Accepted.{noRefusal, pageRefusal};
+ghost use Rattle.combinators.specs.Refusal.{noRefusal};
+ghost use Rattle.page.specs.Accepted.{pageRefusal};
 ghost use Rattle.comparison.specs.Matches.{componentLimit, refusedMatch, rowMatch, pageMatch, matchCalled};
 
 // The refusal's number and place; 1 where the selector matches; how many ids, classes (with attributes and nth-child) and types it names.
@@ -95,9 +97,9 @@ pub extern "C" fn comparison_matches(
     if components.len() < COMPONENT_WIDTH * count {
         return refused(SHORT_STORE, 0);
     }
-    let page = hicsolmab_check_page(nodes, attributes, text);
-    if page.refusal == 0 {
+    let page = refusal_of(check_page(nodes, attributes, text));
+    if page.number == 0 {
         return match_row(components, count, texts, nodes, attributes, text, row);
     }
-    refused(page.refusal, page.place)
+    refused(page.number, page.place)
 }

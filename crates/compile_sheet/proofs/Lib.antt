@@ -1,2 +1,1 @@
 pub mod HexadecimalLaws
-pub mod RefusalLaws

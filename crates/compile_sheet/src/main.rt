@@ -1,18 +1,23 @@
 // Compiles an author sheet from standard input, beside an empty agent's and an empty user's sheet, and prints one line: the compiled bytes as
 // hexadecimal pairs parted by spaces, or `refused`, the refusal's number and its place; after 4 the text and then the byte.
 mod hexadecimal; // hexadecimal.rt: bytes as a line of pairs
-mod refusal; // refusal.rt: refusals by their numbers
 
-use compiler::compile::CompileAnswer;
+use combinators::least::NUMBER_MORE;
+use combinators::least::NUMBER_WIDTH;
+use combinators::least::TEXT_MORE;
+use combinators::least::TEXT_WIDTH;
+use combinators::refusals::NO_REFUSAL;
+use combinators::refusals::PANIC;
+use combinators::refusals::Refusal;
+use combinators::refusals::TOO_LONG;
+use combinators::refusals::refused;
+use compiler::answers::numbers_of;
 use compiler::compile::compile;
 use compiler::writing::COMPILED_LIMIT;
 use hexadecimal::PAIR_WIDTH;
 use hexadecimal::emit_line;
 use libc::STDIN_FILENO;
 use libc::STDOUT_FILENO;
-use refusal::PANIC;
-use refusal::Refusal;
-use refusal::refusal_of;
 use syntax::texts::part_of;
 
 // The bytes that the sheet may have here, and one byte more, to see whether the input goes on.
@@ -21,11 +26,11 @@ const LONGEST: usize = 1024;
 const INPUT: usize = LONGEST + 1;
 
 // The least lengths of the stores for a sheet of that size.
-const TEXTS: usize = 2 * LONGEST + 12;
+const TEXTS: usize = TEXT_WIDTH * LONGEST + TEXT_MORE;
 
 const BRACKETS: usize = LONGEST;
 
-const NUMBERS: usize = 8 * LONGEST + 64;
+const NUMBERS: usize = NUMBER_WIDTH * LONGEST + NUMBER_MORE;
 
 // The longest line.
 const LINE: usize = PAIR_WIDTH * COMPILED_LIMIT;
@@ -41,7 +46,7 @@ fn print_number(n: usize) {
 
 fn print_refusal(r: Refusal) {
     print(b"refused");
-    print_number(r.number);
+    print_number(r.number as usize);
     if r.number == PANIC {
         print_number(r.text);
     }
@@ -61,7 +66,7 @@ fn print_compiled(author: &[u8]) {
     let mut rules = [0u32; NUMBERS];
     let mut tokens = [0u32; NUMBERS];
     let mut brackets = [0u8; BRACKETS];
-    let answer = compile(
+    let numbers = numbers_of(compile(
         b"",
         b"",
         author,
@@ -70,19 +75,20 @@ fn print_compiled(author: &[u8]) {
         &mut rules,
         &mut tokens,
         &mut brackets,
-    );
-    if let CompileAnswer::Compiled(n, _) = answer {
-        print_bytes(part_of(&compiled, 0, n));
+    ));
+    let refusal = numbers.refusal;
+    if refusal.number == NO_REFUSAL {
+        print_bytes(part_of(&compiled, 0, numbers.bytes));
         return;
     }
-    print_refusal(refusal_of(answer));
+    print_refusal(refusal);
 }
 
 fn main() {
     let mut input = [0u8; INPUT];
     let n = io::read_full(STDIN_FILENO, &mut input);
     if n > LONGEST {
-        print_refusal(refusal_of(CompileAnswer::TooLong));
+        print_refusal(refused(TOO_LONG));
         return;
     }
     print_compiled(&input[..n]);

@@ -4,15 +4,16 @@ use mathlib.Core.List.{List, _∷_}
 use Prim.Native.Nat.{ℕ, zero, suc, _-_, _≤_, _<_}
 use native.Mathlib.Omega.{arith}
 use lib.ListN.{length}
+use Rattle.combinators.specs.Refusal.{noRefusal, refusedAt, badBytes}
 use Rattle.combinators.proofs.Rules.{pick-true, pick-false, is-yes, is-no}
 use Rattle.syntax.specs.RuleLayout.{pseudoNumber}
 use Rattle.syntax.specs.Selector.{none, after}
 use Rattle.syntax.specs.Style.{agentOrigin, authorOrigin}
-use Rattle.compiled.specs.Decoded.{Decoded, read, fault, mapped, counted}
+use Rattle.compiled.specs.Decoded.{Decoded, read, fault, onDecoded, mapped, counted}
 use Rattle.compiled.specs.Number.{numberAt, rangedAt}
 use Rattle.compiled.specs.Component.{componentAt}
 use Rattle.compiled.specs.Sheet.{CompiledSelector, Head, countAt, pseudoAt, headAt, stylesAt, partsAt, selectorOf, selectorAt, selectorsAt, ending, wholeAt, decode}
-use Rattle.compiled.specs.Answer.{numberAnswer, placeAnswer, headAnswer, headWithin, selectorAnswer, checkAnswer, checkWithin}
+use Rattle.compiled.specs.Answer.{numberAnswer, placeAnswer, headAnswer, headWithin, selectorAnswer, checkAnswer, refusalOf, bytesRefusal, checkWithin}
 use Rattle.compiled.specs.declared.numbers.NumberAnswer.{NumberAnswer}
 use Rattle.compiled.specs.declared.numbers.NumberAnswer.the-variants as number
 use Rattle.compiled.specs.declared.places.PlaceAnswer.{PlaceAnswer}
@@ -192,17 +193,23 @@ module _ (s : List ℕ) where
   check-within (read n ss) h = tt
   check-within (fault p) h = h (omega arith)
 
-  checked : (q : CheckAnswer) → q ≡ checkAnswer (decode s) → (q ≡ checkAnswer (decode s)) × checkWithin (length s) q
-  checked q e = (e, rw e (check-within (decode s) (sheet-reaches s)))
+  refusal-is : (d : Decoded (List CompiledSelector)) → refusalOf (checkAnswer d) ≡ onDecoded d (λ _ _. noRefusal) (λ p. refusedAt badBytes p)
+  unfolding checkAnswer refusalOf onDecoded
+  refusal-is (read n ss) = refl
+  refusal-is (fault p) = refl
+
+  checked : (q : CheckAnswer) → q ≡ checkAnswer (decode s) → (refusalOf q ≡ bytesRefusal s) × checkWithin (length s) q
+  unfolding bytesRefusal
+  checked q e = (ap refusalOf e ∙ refusal-is (decode s), rw e (check-within (decode s) (sheet-reaches s)))
 
   module _ (r : NumberAnswer) (e : r ≡ numberAnswer (numberAt s 0)) where
     -- behind the count of selectors
     pub sheet-checked : (n count : ℕ) → r ≡ number.Number n count → (q : CheckAnswer) → q ≡ checkAnswer (wholeAt s count n)
-        → (q ≡ checkAnswer (decode s)) × checkWithin (length s) q
+        → (refusalOf q ≡ bytesRefusal s) × checkWithin (length s) q
     unfolding decode
     sheet-checked n count p q h = checked q (h ∙ ap checkAnswer (sym (then-read (numberAt s 0) (λ m k. wholeAt s k m) n count (number-read _ r e n count p))))
 
     -- there is none
-    pub sheet-fault : (p : ℕ) → r ≡ number.Fault p → (check.Fault p ≡ checkAnswer (decode s)) × checkWithin (length s) (check.Fault p)
+    pub sheet-fault : (p : ℕ) → r ≡ number.Fault p → (refusalOf (check.Fault p) ≡ bytesRefusal s) × checkWithin (length s) (check.Fault p)
     unfolding decode checkAnswer
     sheet-fault p q = checked _ (ap checkAnswer (sym (then-fault (numberAt s 0) (λ m k. wholeAt s k m) p (number-fault _ r e p q))))

@@ -2,12 +2,14 @@
 use Prim.Native.Nat.{ℕ, _+_, _≤_}
 use mathlib.Core.Path.{_≡_}
 use mathlib.Core.List.{List}
+use Rattle.combinators.specs.Refusal.{noRefusal, refusedAt, badBytes}
+use Rattle.combinators.specs.declared.refusals.Refusal.{Refusal}
 use Rattle.syntax.specs.declared.styles.Value.{Value}
 use Rattle.syntax.specs.declared.styles.StyleNumbers.{StyleNumbers}
-use Rattle.compiled.specs.Decoded.{Decoded, read, fault}
+use Rattle.compiled.specs.Decoded.{Decoded, read, fault, onDecoded}
 use Rattle.compiled.specs.Text.{Span}
 use Rattle.compiled.specs.Component.{Written, mark, name, numbers, names}
-use Rattle.compiled.specs.Sheet.{CompiledSelector, Head}
+use Rattle.compiled.specs.Sheet.{CompiledSelector, Head, decode}
 use Rattle.compiled.specs.declared.places.PlaceAnswer.{PlaceAnswer}
 use Rattle.compiled.specs.declared.places.PlaceAnswer.the-variants as place
 use Rattle.compiled.specs.declared.numbers.NumberAnswer.{NumberAnswer}
@@ -103,6 +105,15 @@ selectorAnswer (fault p) = selector.Fault p
 unfoldable pub checkAnswer : Decoded (List CompiledSelector) → CheckAnswer
 checkAnswer (read n ss) = check.Sheet
 checkAnswer (fault p) = check.Fault p
+
+-- what each answer stands for
+unfoldable pub refusalOf : CheckAnswer → Refusal
+refusalOf check.Sheet = noRefusal
+refusalOf (check.Fault p) = refusedAt badBytes p
+
+-- "9 the bytes do not read as a sheet to their last byte"
+unfoldable pub bytesRefusal : List ℕ → Refusal
+bytesRefusal t = onDecoded (decode t) (λ _ _. noRefusal) (λ p. refusedAt badBytes p)
 
 -- the fault lies within the bytes or at their end
 unfoldable pub checkWithin : ℕ → CheckAnswer → Type 0

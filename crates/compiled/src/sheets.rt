@@ -6,6 +6,10 @@ use crate::numbers::read_number;
 use crate::numbers::read_ranged;
 use crate::places::PlaceAnswer;
 use crate::styles::skip_styles;
+use combinators::refusals::BAD_BYTES;
+use combinators::refusals::Refusal;
+use combinators::refusals::no_refusal;
+use combinators::refusals::refused_at;
 use syntax::rows::AGENT_ORIGIN;
 use syntax::rows::AUTHOR_ORIGIN;
 use syntax::rows::PSEUDO_AFTER;
@@ -15,8 +19,8 @@ ghost use Prim.Native.Nat.{_<_};
 ghost use lib.ListN.{length};
 ghost use Rattle.combinators.specs.Store.{emits};
 ghost use Rattle.compiled.specs.Number.{numberLimit};
-ghost use Rattle.compiled.specs.Sheet.{headBytes, countAt, pseudoAt, headAt, partsAt, selectorAt, selectorsAt, wholeAt, decode};
-ghost use Rattle.compiled.specs.Answer.{placeAnswer, headAnswer, headWithin, selectorAnswer, checkAnswer, checkWithin};
+ghost use Rattle.compiled.specs.Sheet.{headBytes, countAt, pseudoAt, headAt, partsAt, selectorAt, selectorsAt, wholeAt};
+ghost use Rattle.compiled.specs.Answer.{placeAnswer, headAnswer, headWithin, selectorAnswer, checkAnswer, refusalOf, bytesRefusal, checkWithin};
 
 // The place behind the numbers before a selector's components: its origin, its pseudo element and how many components it has. Or the place of the
 // fault.
@@ -35,6 +39,20 @@ pub enum SelectorAnswer {
 pub enum CheckAnswer {
     Sheet,
     Fault(usize),
+}
+
+// What an answer stands for: refusal 9 with its place, or none.
+pub fn refusal_of(answer: CheckAnswer) -> Refusal
+    ensures { λ r. ⌜ r ≡ refusalOf answer ⌝ }
+{
+    match answer {
+        CheckAnswer::Sheet => {
+            return no_refusal();
+        }
+        CheckAnswer::Fault(place) => {
+            return refused_at(BAD_BYTES, place);
+        }
+    }
 }
 
 // Behind the origin and the pseudo element, the count.
@@ -159,7 +177,7 @@ fn check_selectors(s: &[u8], at: usize, count: u32) -> CheckAnswer
 // Whether the bytes are a sheet, to their last byte.
 pub fn check_sheet(s: &[u8]) -> CheckAnswer
     requires { ⌜ length (now s) < numberLimit ⌝ }
-    ensures { λ r. ⌜ r ≡ checkAnswer (decode (now (s .entry))) ⌝ }
+    ensures { λ r. ⌜ refusalOf r ≡ bytesRefusal (now (s .entry)) ⌝ }
     ensures { λ r. ⌜ checkWithin (length (now (s .entry))) r ⌝ }
 {
     match read_number(s, 0) {

@@ -5,12 +5,13 @@ use mathlib.Core.List.{List}
 use Prim.Native.Nat.{ℕ, _+_, _^_, _≤_, _<_}
 use native.Mathlib.Omega.{arith}
 use lib.ListN.{length}
+use Rattle.combinators.specs.LeastLengths.{storesSuffice}
 use Rattle.combinators.proofs.Rules.{pick-true, pick-false}
-use Rattle.sheets.specs.SheetAnswer.{sheetLimit, numberLeast, storesSuffice}
+use Rattle.sheets.specs.SheetAnswer.{sheetLimit}
 use Rattle.origins.specs.Checks.{anyTooLong, allValid, Lent}
 use Rattle.origins.specs.Reading.{sheetsOf}
 use Rattle.origins.proofs.ChecksLaws.{none-long, lent-by}
-use Rattle.compiler.specs.CompileAnswer.{CompileLeft, unchanged, compiledLeft, compileOf}
+use Rattle.compiler.specs.CompileAnswer.{numbersOf, CompileLeft, unchanged, compiledLeft, compileOf}
 use Rattle.compiler.specs.declared.compile.CompileAnswer.{CompileAnswer}
 use Rattle.compiler.specs.declared.compile.CompileAnswer.the-variants.{TooLong, ShortStore, NotUtf8}
 
@@ -18,7 +19,7 @@ use Rattle.compiler.specs.declared.compile.CompileAnswer.the-variants.{T
 module _ (agent user author compiled texts rules tokens brackets : List ℕ) where
   abbrev Left : CompileAnswer → Type 0
   Left a =
-      _≡_ {A = CompileLeft} (record { answer = a; compiled = compiled; texts = texts; rules = rules; tokens = tokens; brackets = brackets })
+      _≡_ {A = CompileLeft} (record { answer = numbersOf a; compiled = compiled; texts = texts; rules = rules; tokens = tokens; brackets = brackets })
       (compileOf agent user author compiled texts rules tokens brackets)
 
   abbrev count : ℕ
@@ -26,7 +27,7 @@ module _ (agent user author compiled texts rules tokens brackets : List ℕ) whe
 
   module _ {t : Bool} (e : t ≡ anyTooLong (length agent) (length user) (length author)) where
     pub too-long : t ≡ true → Left TooLong
-    unfolding compileOf unchanged
+    unfolding compileOf unchanged numbersOf
     too-long f = pick-true _ _ _ _ (sym e ∙ f) refl
 
     module _ (f : t ≡ false) where
@@ -40,12 +41,9 @@ module _ (agent user author compiled texts rules tokens brackets : List ℕ) whe
       pub count-fits : count < 2 ^ 64
       count-fits = omega (arith, within .0, within .1, within .2)
 
-      pub least-fits : numberLeast count < 2 ^ 64
-      least-fits = omega (arith, within .0, within .1, within .2)
-
       module _ {v : Bool} (g : v ≡ storesSuffice count (length rules) (length tokens) (length brackets) (length texts)) where
         pub short-store : v ≡ false → Left ShortStore
-        unfolding compileOf unchanged
+        unfolding compileOf unchanged numbersOf
         short-store h = pick-false _ _ _ _ (sym e ∙ f) (pick-false _ _ _ _ (sym g ∙ h) refl)
 
         module _ (h : v ≡ true) where
@@ -54,7 +52,7 @@ module _ (agent user author compiled texts rules tokens brackets : List ℕ) whe
 
           module _ {x : Bool} (i : x ≡ allValid agent user author) where
             pub not-utf8 : x ≡ false → Left NotUtf8
-            unfolding compileOf unchanged
+            unfolding compileOf unchanged numbersOf
             not-utf8 j = pick-false _ _ _ _ (sym e ∙ f) (pick-true _ _ _ _ (sym g ∙ h) (pick-false _ _ _ _ (sym i ∙ j) refl))
 
             pub compiled-left : x ≡ true → {l : CompileLeft} → l ≡ compiledLeft compiled texts rules tokens brackets (sheetsOf agent user author)

@@ -19,8 +19,9 @@ use Rattle.origins.specs.declared.reading.SheetsRead.the-variants as all
 use Rattle.origins.proofs.SheetsKnown.{zeros-of, room-cleared, Came, came, panic-known, rowsHeld, textsHeld, texts-length, texts-lie}
 use Rattle.compiled.specs.Sheet.{encode}
 use Rattle.compiler.specs.Selectors.{selectorsOf}
-use Rattle.compiler.specs.CompileAnswer.{roomOf, CompileLeft, zeroed, answered, answeredWithin, compiledLeft}
+use Rattle.compiler.specs.CompileAnswer.{roomOf, numbersOf, CompileLeft, zeroed, answered, answeredWithin, compiledLeft}
 use Rattle.compiler.specs.Written.{selectorsFrom, Lying, fillOf, writtenIn}
+use Rattle.compiler.specs.declared.answers.CompileNumbers.{CompileNumbers}
 use Rattle.compiler.specs.declared.compile.CompileAnswer.{CompileAnswer}
 use Rattle.compiler.specs.declared.compile.CompileAnswer.the-variants.{Compiled, Panic, NoRoom}
 use Rattle.compiler.proofs.SheetsLying.{selectors-are, lying}
@@ -62,7 +63,7 @@ written-length room b l h =
     omega (arith, h, length-append (sets (take room l) 0 b) (drop room l), length-sets (take room l) 0 b, length-take-le room l h, length-drop room l)
 
 -- ---- what is left, by its parts
-left-by : {a a′ : CompileAnswer} {k k′ t t′ y y′ x x′ b b′ : List ℕ} → a ≡ a′ → k ≡ k′ → t ≡ t′ → y ≡ y′ → x ≡ x′ → b ≡ b′
+left-by : {a a′ : CompileNumbers} {k k′ t t′ y y′ x x′ b b′ : List ℕ} → a ≡ a′ → k ≡ k′ → t ≡ t′ → y ≡ y′ → x ≡ x′ → b ≡ b′
     → _≡_ {A = CompileLeft} (record { answer = a; compiled = k; texts = t; rules = y; tokens = x; brackets = b }) (record { answer = a′; compiled = k′; texts = t′; rules = y′; tokens = x′; brackets = b′ })
 left-by p q r s t u = rw (p, q, r, s, t, u) refl
 
@@ -78,7 +79,7 @@ module _ {agent user author rules₀ tokens₀ brackets₀ texts₀ : List ℕ} 
 
   abbrev Left : CompileAnswer → List ℕ → List ℕ → List ℕ → List ℕ → List ℕ → Type 0
   Left a k t y x b =
-      _≡_ {A = CompileLeft} (record { answer = a; compiled = k; texts = t; rules = y; tokens = x; brackets = b }) (compiledLeft compiled₀ texts₀ rules₀ tokens₀ brackets₀ meant)
+      _≡_ {A = CompileLeft} (record { answer = numbersOf a; compiled = k; texts = t; rules = y; tokens = x; brackets = b }) (compiledLeft compiled₀ texts₀ rules₀ tokens₀ brackets₀ meant)
 
   module _ {r : SheetsRead} {y₂ x₂ b₂ t₂ : List ℕ} (er : r ≡ sheetsAnswer meant) (ey : y₂ ≡ sets y₁ 0 (sheetsRows meant)) (ex : x₂ ≡ x₁) (eb : b₂ ≡ b₁)
       (et : t₂ ≡ sets t₁ 0 (sheetsTexts meant)) where
@@ -90,7 +91,7 @@ module _ {agent user author rules₀ tokens₀ brackets₀ texts₀ : List ℕ} 
 
     -- where the crate panics all is zero
     pub panics : {which p : ℕ} → r ≡ all.Panic which p → Left (Panic which p) k₁ t₂ y₂ x₂ b₂
-    unfolding compiledLeft zeroed sheetsRows sheetsTexts
+    unfolding compiledLeft zeroed numbersOf sheetsRows sheetsTexts
     panics {which} {p} g =
         let q : meant ≡ panicked which p = panic-known meant which p (sym g ∙ er) in
         let ey′ : y₂ ≡ y₁ = ey ∙ ap (λ (s : Sheets). sets y₁ 0 (sheetsRows s)) q in
@@ -143,11 +144,11 @@ module _ {agent user author rules₀ tokens₀ brackets₀ texts₀ : List ℕ} 
 
           -- the bytes fit
           pub fits : w ≤ q → Left (Compiled w (s .end)) k₃ t₂ y₃ x₃ b₂
-          unfolding compiledLeft answeredWithin answered sheetsTexts sheetsRules bytes
+          unfolding compiledLeft answeredWithin answered numbersOf sheetsTexts sheetsRules bytes
           fits h =
               let z = fill-fits (roomOf (length k₁)) w bytes w-is (omega (arith, h, q-is)) in
               let ex′ : s .end ≡ length (textsHeld o m) = ap (λ (v : SheetsRules). v .end) (m .lie) ∙ sym (texts-length o m) in
-              left-by (ap₂ Compiled (z .1) ex′)
+              left-by (ap numbersOf (ap₂ Compiled (z .1) ex′))
               (k-is ∙ written-whole (roomOf (length k₁)) bytes k₁ (room-within (length k₁)) (z .0) ∙ ap (λ (l : List ℕ). sets l 0 bytes) ck
               ∙ stored bytes compiled₀ (omega (arith, z .0, same-room, room-within (length compiled₀))))
               (texts₂ ∙ texts-lie o m) rules-zero (es ∙ tokens-zero) brackets-zero
@@ -156,7 +157,7 @@ module _ {agent user author rules₀ tokens₀ brackets₀ texts₀ : List ℕ} 
 
           -- they do not
           pub over : q < w → {k₄ t₄ : List ℕ} → k₄ ≡ cleared 0 k₃ → t₄ ≡ cleared 0 t₂ → Left NoRoom k₄ t₄ y₃ x₃ b₂
-          unfolding compiledLeft answeredWithin zeroed bytes
+          unfolding compiledLeft answeredWithin zeroed numbersOf bytes
           over h {k₄} {t₄} ek₄ et₄ =
               let z = fill-over (roomOf (length k₁)) w bytes w-is (omega (arith, h, q-is)) in
               left-by refl (ek₄ ∙ zeros-of k₃ compiled₀ (k-long ∙ ap length ck ∙ length-cleared 0 compiled₀))

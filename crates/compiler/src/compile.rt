@@ -2,6 +2,7 @@
 // texts are known to be UTF-8, and all sheets are read before the room for the bytes is judged.
 use crate::writing::room_of;
 use crate::writing::write_within;
+use combinators::least::stores_suffice;
 use combinators::stores::clear_bytes;
 use combinators::stores::clear_numbers;
 use origins::checks::all_valid;
@@ -9,12 +10,11 @@ use origins::checks::any_too_long;
 use origins::reading::SheetsRead;
 use origins::reading::read_sheets;
 use sheets::sheet::clear_stores;
-use sheets::sheet::stores_suffice;
 ghost use mathlib.Core.Path.{_≡_};
 ghost use Rattle.combinators.specs.Store.{cleared};
 ghost use Rattle.origins.specs.Checks.{Lent};
 ghost use Rattle.origins.specs.Reading.{sheetsOf};
-ghost use Rattle.compiler.specs.CompileAnswer.{compiledLeft, compileOf};
+ghost use Rattle.compiler.specs.CompileAnswer.{numbersOf, compiledLeft, compileOf};
 
 // How many bytes the compiled sheet has, and the texts that its rules name; or the refusal, with the sheet and the byte where the crate panics.
 pub enum CompileAnswer {
@@ -56,7 +56,7 @@ fn compile_texts(
     brackets: &mut [u8],
 ) -> CompileAnswer
     requires { ⌜ Lent (now agent) (now user) (now author) (now rules) (now tokens) (now brackets) (now texts) ⌝ }
-    ensures { λ r. ⌜ record { answer = r; compiled = now (compiled .exit); texts = now (texts .exit); rules = now (rules .exit); tokens = now (tokens .exit); brackets = now (brackets .exit) }
+    ensures { λ r. ⌜ record { answer = numbersOf r; compiled = now (compiled .exit); texts = now (texts .exit); rules = now (rules .exit); tokens = now (tokens .exit); brackets = now (brackets .exit) }
         ≡ compiledLeft (now (compiled .entry)) (now (texts .entry)) (now (rules .entry)) (now (tokens .entry)) (now (brackets .entry)) (sheetsOf (now (agent .entry)) (now (user .entry)) (now (author .entry))) ⌝ }
 {
     clear_all(compiled, texts, rules, tokens, brackets);
@@ -88,7 +88,7 @@ pub fn compile(
     tokens: &mut [u32],
     brackets: &mut [u8],
 ) -> CompileAnswer
-    ensures { λ r. ⌜ record { answer = r; compiled = now (compiled .exit); texts = now (texts .exit); rules = now (rules .exit); tokens = now (tokens .exit); brackets = now (brackets .exit) }
+    ensures { λ r. ⌜ record { answer = numbersOf r; compiled = now (compiled .exit); texts = now (texts .exit); rules = now (rules .exit); tokens = now (tokens .exit); brackets = now (brackets .exit) }
         ≡ compileOf (now (agent .entry)) (now (user .entry)) (now (author .entry)) (now (compiled .entry)) (now (texts .entry)) (now (rules .entry)) (now (tokens .entry)) (now (brackets .entry)) ⌝ }
 {
     if any_too_long(agent.len(), user.len(), author.len()) {

@@ -5,3 +5,4 @@ pub mod selectors; // selectors.rt: one selector, written
 pub mod rules; // rules.rt: rules, written, and their selectors counted
 pub mod writing; // writing.rt: the rows of three sheets as one compiled sheet
 pub mod compile; // compile.rt: the entry point
+pub mod answers; // answers.rt: what compiling answers, in numbers

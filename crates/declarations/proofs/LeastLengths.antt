@@ -8,6 +8,7 @@ use native.Mathlib.Omega.{arith}
 use lib.ListN.{length, getD, drop, length-drop}
 use Rattle.combinators.specs.Ascii as ascii
 use Rattle.combinators.specs.Choice.{pick, is}
+use Rattle.combinators.specs.LeastLengths.{textLeast, bracketLeast, numberLeast}
 use Rattle.combinators.specs.Parsed.{ok}
 use Rattle.combinators.specs.Store.{most}
 use Rattle.combinators.proofs.Lists.{byte-there}
@@ -114,7 +115,8 @@ rules-small names s =
 
 -- ---- stores of the least lengths for N bytes of text have room for any text among them, behind as many bytes of texts kept
 module _ (N : ℕ) (s rules tokens brackets store : List ℕ) (fill : ℕ) (within : length s ≤ N) (filled : fill ≤ N) (bits : N < 2 ^ 30)
-    (for-store : 2 * N + 12 ≤ length store) (for-brackets : N ≤ length brackets) (for-rules : 8 * N + 64 ≤ length rules) (for-tokens : 8 * N + 64 ≤ length tokens) where
+    (for-store : textLeast N ≤ length store) (for-brackets : bracketLeast N ≤ length brackets) (for-rules : numberLeast N ≤ length rules)
+    (for-tokens : numberLeast N ≤ length tokens) where
   pub least-room : Room (length s) fill tokens brackets store
   least-room = record { for-tokens = omega arith; for-brackets = omega arith; for-texts = omega arith; bits = omega arith }
 

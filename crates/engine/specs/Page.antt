@@ -1,7 +1,8 @@
 -- What `hicsolmab_check_page` returns: the refusal of a page as a struct.
-use Rattle.page.specs.Accepted.{Refusal}
+use Rattle.combinators.specs.Refusal.{refusedAt}
+use Rattle.combinators.specs.declared.refusals.Refusal.{Refusal}
 use Rattle.engine.specs.declared.pages.PageResult.{PageResult}
 
--- a refusal by its number and place
-unfoldable pub pageResult : Refusal → PageResult
-pageResult r = record { refusal = r .number; place = r .place }
+-- the refusal that a struct tells
+unfoldable pub refusalIn : PageResult → Refusal
+refusalIn r = refusedAt (r .refusal) (r .place)

@@ -1,13 +1,10 @@
 // `hicsolmab_read_sheet`: a sheet into lent stores.
-use crate::refusals::NOT_UTF8;
-use crate::refusals::PANIC;
-use crate::refusals::SHORT_STORE;
-use crate::refusals::TOO_LONG;
+use sheets::answers::numbers_of;
 use sheets::sheet::SheetAnswer;
 use sheets::sheet::read_sheet;
 ghost use mathlib.Core.Path.{_≡_};
-ghost use Rattle.sheets.specs.SheetAnswer.{readSheet};
-ghost use Rattle.engine.specs.Sheet.{refusedSheet, sheetResult, sheetCalled};
+ghost use Rattle.sheets.specs.SheetAnswer.{numbersOf, readSheet};
+ghost use Rattle.engine.specs.Sheet.{numbersIn};
 
 // The refusal's number and place; of a sheet that was read the count of its rules, the first byte not read, the numbers that the rules take and
 // the bytes of their texts. What does not apply is 0.
@@ -21,47 +18,19 @@ pub struct SheetResult {
     pub bytes: usize,
 }
 
-// A sheet that is refused.
-fn refused(refusal: u32, place: usize) -> SheetResult
-    ensures { λ r. ⌜ r ≡ refusedSheet refusal place ⌝ }
-{
-    SheetResult {
-        refusal,
-        place,
-        count: 0,
-        stop: 0,
-        numbers: 0,
-        bytes: 0,
-    }
-}
-
 // An answer in numbers.
 fn result_of(answer: SheetAnswer) -> SheetResult
-    ensures { λ r. ⌜ r ≡ sheetResult answer ⌝ }
+    ensures { λ r. ⌜ numbersIn r ≡ numbersOf answer ⌝ }
 {
-    match answer {
-        SheetAnswer::Sheet(count, stop, numbers, bytes) => {
-            return SheetResult {
-                refusal: 0,
-                place: 0,
-                count,
-                stop,
-                numbers,
-                bytes,
-            };
-        }
-        SheetAnswer::TooLong => {
-            return refused(TOO_LONG, 0);
-        }
-        SheetAnswer::ShortStore => {
-            return refused(SHORT_STORE, 0);
-        }
-        SheetAnswer::NotUtf8 => {
-            return refused(NOT_UTF8, 0);
-        }
-        SheetAnswer::Panic(place) => {
-            return refused(PANIC, place);
-        }
+    let numbers = numbers_of(answer);
+    let refusal = numbers.refusal;
+    SheetResult {
+        refusal: refusal.number,
+        place: refusal.place,
+        count: numbers.count,
+        stop: numbers.stop,
+        numbers: numbers.numbers,
+        bytes: numbers.bytes,
     }
 }
 
@@ -74,7 +43,7 @@ pub extern "C" fn hicsolmab_read_sheet(
     brackets: &mut [u8],
     texts: &mut [u8],
 ) -> SheetResult
-    ensures { λ r. ⌜ record { result = r; rules = now (rules .exit); tokens = now (tokens .exit); brackets = now (brackets .exit); texts = now (texts .exit) } ≡ sheetCalled (readSheet (now (sheet .entry)) (now (rules .entry)) (now (tokens .entry)) (now (brackets .entry)) (now (texts .entry))) ⌝ }
+    ensures { λ r. ⌜ record { answer = numbersIn r; rules = now (rules .exit); tokens = now (tokens .exit); brackets = now (brackets .exit); texts = now (texts .exit) } ≡ readSheet (now (sheet .entry)) (now (rules .entry)) (now (tokens .entry)) (now (brackets .entry)) (now (texts .entry)) ⌝ }
 {
     result_of(read_sheet(sheet, rules, tokens, brackets, texts))
 }

@@ -7,8 +7,9 @@ use native.Mathlib.Omega.{arith}
 use borrow.Author.Tests.{ltb-true}
 use lib.Dec.{ltb}
 use Rattle.combinators.specs.Choice.{is}
+use Rattle.combinators.specs.Refusal.{noRefusal}
 use Rattle.combinators.proofs.Rules.{never, pick-holds, either, and-true, is-true, is-yes}
-use Rattle.page.specs.Accepted.{isDocument, isParent, parentRight, rowRight, noRefusal, pageRefusal}
+use Rattle.page.specs.Accepted.{isDocument, isParent, parentRight, rowRight, pageRefusal}
 use Rattle.page.specs.Ancestors.{ancestorsFrom, ancestorsOf, lineOf, member, elementChildren}
 use Rattle.page.specs.Rows.{elementKind, nodeAt, nodeCount}
 use Rattle.page.proofs.AcceptedPages.{accepted}

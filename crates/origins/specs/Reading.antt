@@ -3,13 +3,14 @@ use Prim.Native.Nat.{ℕ, _+_, _*_, _^_, _≤_, _<_}
 use mathlib.Core.Path.{_≡_}
 use mathlib.Core.List.{List, [], _++_}
 use lib.ListN.{length, drop}
+use Rattle.combinators.specs.LeastLengths.{textLeast, bracketLeast, numberLeast}
 use Rattle.lexer.specs.TokenRow.{tokenWidth}
 use Rattle.syntax.specs.RuleLayout.{ruleRows, ruleTexts, rulesAt}
 use Rattle.syntax.specs.Selector.{RuleSet}
 use Rattle.sheets.specs.Outcome.{Outcome, onOutcome}
 use Rattle.sheets.specs.Rules.{ruleWidth}
 use Rattle.sheets.specs.Sheet.{sheetOf}
-use Rattle.sheets.specs.SheetAnswer.{sheetLimit, textLeast, bracketLeast, numberLeast}
+use Rattle.sheets.specs.SheetAnswer.{sheetLimit}
 use Rattle.sheets.specs.Stores.{Zeros}
 use Rattle.origins.specs.declared.reading.RulesRead.{RulesRead}
 use Rattle.origins.specs.declared.reading.RulesRead.the-variants as one

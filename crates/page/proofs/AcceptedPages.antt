@@ -10,9 +10,11 @@ use borrow.Author.Tests.{leb-true, le-leb, ltb-false, le-ltb, ltb-true}
 use lib.Dec.{ltb}
 use lib.ListN.{length}
 use Rattle.combinators.specs.Choice.{pick, is}
+use Rattle.combinators.specs.Refusal.{noRefusal, refused, refusedAt, tooLarge, badRow, badText}
+use Rattle.combinators.specs.declared.refusals.Refusal.{Refusal}
 use Rattle.combinators.proofs.Rules.{pick-true, pick-false, and-both, and-true, is-yes, is-no, is-true, is-false}
 use Rattle.page.specs.Rows.{nodeWidth, nodeCount, attributeWidth, attributeRows}
-use Rattle.page.specs.Accepted.{nodeLimit, attributeLimit, textLimit, withinLimits, rowRight, textsRight, firstFault, firstBadRow, firstBadText, Refusal, limitRefusal, rowRefusal, textRefusal, noRefusal, rowsRefusal, pageRefusal}
+use Rattle.page.specs.Accepted.{nodeLimit, attributeLimit, textLimit, withinLimits, rowRight, textsRight, firstFault, firstBadRow, firstBadText, rowsRefusal, pageRefusal}
 use Rattle.page.proofs.FirstFault.{fault-passed, fault-fails, fault-none}
 
 -- an accepted page
@@ -43,57 +45,57 @@ module _ (right : ℕ → Bool) (rows : ℕ) where
   all-of h m l = fault-passed right rows 0 m (omega arith) (omega arith)
 
 -- two refusals that are the same have the same number and the same place
-numbers : {x y p q : ℕ} → _≡_ {A = Refusal} (record { number = x; place = p }) (record { number = y; place = q }) → x ≡ y
+numbers : {x y p q : ℕ} → refusedAt x p ≡ refusedAt y q → x ≡ y
 numbers e = ap (λ (r : Refusal). r .number) e
 
-places : {x y p q : ℕ} → _≡_ {A = Refusal} (record { number = x; place = p }) (record { number = y; place = q }) → q ≡ p
+places : {x y p q : ℕ} → refusedAt x p ≡ refusedAt y q → q ≡ p
 places e = sym (ap (λ (r : Refusal). r .place) e)
 
 -- the tests in their order
 abbrev tested : Bool → Bool → Bool → Bool → ℕ → ℕ → Refusal
 tested w z b t r u =
     pick w
-    (pick z (record { number = rowRefusal; place = 0 })
-    (pick b (record { number = rowRefusal; place = r }) (pick t (record { number = textRefusal; place = u }) noRefusal)))
-    (record { number = limitRefusal; place = 0 })
+    (pick z (refusedAt badRow 0)
+    (pick b (refusedAt badRow r) (pick t (refusedAt badText u) noRefusal)))
+    (refused tooLarge)
 
 -- what a refusal says of the tests that led to it
 accepted-tests : (w z b t : Bool) (r u : ℕ) → tested w z b t r u ≡ noRefusal → (w ≡ true) × (z ≡ false) × (b ≡ false) × (t ≡ false)
 unfolding pick
-accepted-tests true true b t r u e = absurd (let n : rowRefusal ≡ 0 = numbers e in omega arith)
-accepted-tests true false true t r u e = absurd (let n : rowRefusal ≡ 0 = numbers e in omega arith)
-accepted-tests true false false true r u e = absurd (let n : textRefusal ≡ 0 = numbers e in omega arith)
+accepted-tests true true b t r u e = absurd (let n : badRow ≡ 0 = numbers e in omega arith)
+accepted-tests true false true t r u e = absurd (let n : badRow ≡ 0 = numbers e in omega arith)
+accepted-tests true false false true r u e = absurd (let n : badText ≡ 0 = numbers e in omega arith)
 accepted-tests true false false false r u e = (refl, refl, refl, refl)
-accepted-tests false z b t r u e = absurd (let n : limitRefusal ≡ 0 = numbers e in omega arith)
+accepted-tests false z b t r u e = absurd (let n : tooLarge ≡ 0 = numbers e in omega arith)
 
 -- the same of refusal 5
-limit-tests : (w z b t : Bool) (r u : ℕ) → tested w z b t r u ≡ record { number = limitRefusal; place = 0 } → w ≡ false
+limit-tests : (w z b t : Bool) (r u : ℕ) → tested w z b t r u ≡ refused tooLarge → w ≡ false
 unfolding pick
-limit-tests true true b t r u e = absurd (let n : rowRefusal ≡ limitRefusal = numbers e in omega arith)
-limit-tests true false true t r u e = absurd (let n : rowRefusal ≡ limitRefusal = numbers e in omega arith)
-limit-tests true false false true r u e = absurd (let n : textRefusal ≡ limitRefusal = numbers e in omega arith)
-limit-tests true false false false r u e = absurd (let n : 0 ≡ limitRefusal = numbers e in omega arith)
+limit-tests true true b t r u e = absurd (let n : badRow ≡ tooLarge = numbers e in omega arith)
+limit-tests true false true t r u e = absurd (let n : badRow ≡ tooLarge = numbers e in omega arith)
+limit-tests true false false true r u e = absurd (let n : badText ≡ tooLarge = numbers e in omega arith)
+limit-tests true false false false r u e = absurd (let n : 0 ≡ tooLarge = numbers e in omega arith)
 limit-tests false z b t r u e = refl
 
 -- of refusal 7
-bad-text-tests : (w z b t : Bool) (r u row : ℕ) → tested w z b t r u ≡ record { number = textRefusal; place = row }
+bad-text-tests : (w z b t : Bool) (r u row : ℕ) → tested w z b t r u ≡ refusedAt badText row
     → (w ≡ true) × (z ≡ false) × (b ≡ false) × (t ≡ true) × (row ≡ u)
 unfolding pick
-bad-text-tests true true b t r u row e = absurd (let n : rowRefusal ≡ textRefusal = numbers e in omega arith)
-bad-text-tests true false true t r u row e = absurd (let n : rowRefusal ≡ textRefusal = numbers e in omega arith)
+bad-text-tests true true b t r u row e = absurd (let n : badRow ≡ badText = numbers e in omega arith)
+bad-text-tests true false true t r u row e = absurd (let n : badRow ≡ badText = numbers e in omega arith)
 bad-text-tests true false false true r u row e = (refl, refl, refl, refl, places e)
-bad-text-tests true false false false r u row e = absurd (let n : 0 ≡ textRefusal = numbers e in omega arith)
-bad-text-tests false z b t r u row e = absurd (let n : limitRefusal ≡ textRefusal = numbers e in omega arith)
+bad-text-tests true false false false r u row e = absurd (let n : 0 ≡ badText = numbers e in omega arith)
+bad-text-tests false z b t r u row e = absurd (let n : tooLarge ≡ badText = numbers e in omega arith)
 
 -- and of refusal 6
-bad-row-tests : (w z b t : Bool) (r u row : ℕ) → tested w z b t r u ≡ record { number = rowRefusal; place = row }
+bad-row-tests : (w z b t : Bool) (r u row : ℕ) → tested w z b t r u ≡ refusedAt badRow row
     → (w ≡ true) × (((z ≡ true) × (row ≡ 0)) ⊎ ((b ≡ true) × (row ≡ r)))
 unfolding pick
 bad-row-tests true true b t r u row e = (refl, inl (refl, places e))
 bad-row-tests true false true t r u row e = (refl, inr (refl, places e))
-bad-row-tests true false false true r u row e = absurd (let n : textRefusal ≡ rowRefusal = numbers e in omega arith)
-bad-row-tests true false false false r u row e = absurd (let n : 0 ≡ rowRefusal = numbers e in omega arith)
-bad-row-tests false z b t r u row e = absurd (let n : limitRefusal ≡ rowRefusal = numbers e in omega arith)
+bad-row-tests true false false true r u row e = absurd (let n : badText ≡ badRow = numbers e in omega arith)
+bad-row-tests true false false false r u row e = absurd (let n : 0 ≡ badRow = numbers e in omega arith)
+bad-row-tests false z b t r u row e = absurd (let n : tooLarge ≡ badRow = numbers e in omega arith)
 
 module _ (nodes attributes text : List ℕ) where
   -- a page is accepted only if all this holds
@@ -139,12 +141,12 @@ module _ (nodes attributes text : List ℕ) where
       (pick-false _ _ _ _ (le-ltb _ _ hu) refl))))
 
   -- refusal 5 says that the page is over a limit, or a list no whole count of rows
-  pub refused-limit : pageRefusal nodes attributes text ≡ record { number = limitRefusal; place = 0 } → withinLimits nodes attributes text ≡ false
+  pub refused-limit : pageRefusal nodes attributes text ≡ refused tooLarge → withinLimits nodes attributes text ≡ false
   unfolding pageRefusal rowsRefusal
   refused-limit e = limit-tests _ _ _ _ _ _ e
 
   -- refusal 6 names the first row against the rules, or row 0 where there is none
-  pub refused-row : (row : ℕ) → pageRefusal nodes attributes text ≡ record { number = rowRefusal; place = row }
+  pub refused-row : (row : ℕ) → pageRefusal nodes attributes text ≡ refusedAt badRow row
       → ((nodeCount nodes ≡ 0) × (row ≡ 0)) ⊎ First (rowRight nodes attributes) (nodeCount nodes) row
   unfolding pageRefusal rowsRefusal firstBadRow firstBadText
   refused-row row e = go (bad-row-tests _ _ _ _ _ _ row e .1)
@@ -155,7 +157,7 @@ module _ (nodes attributes text : List ℕ) where
       go (inr t) = inr (rw (t .1) (first-of (rowRight nodes attributes) (nodeCount nodes) (ltb-true _ _ (t .0))))
 
   -- refusal 7 names the first row with a text that cannot be read; no row is against the rules then
-  pub refused-text : (row : ℕ) → pageRefusal nodes attributes text ≡ record { number = textRefusal; place = row }
+  pub refused-text : (row : ℕ) → pageRefusal nodes attributes text ≡ refusedAt badText row
       → ((m : ℕ) → m < nodeCount nodes → rowRight nodes attributes m ≡ true) × First (textsRight nodes attributes text) (nodeCount nodes) row
   unfolding pageRefusal rowsRefusal firstBadRow firstBadText
   refused-text row e =

@@ -7,9 +7,10 @@ use borrow.Author.Tests.{le-leb, lt-leb, lt-ltb, le-ltb}
 use lib.Dec.{eqb, ltb}
 use lib.ListN.{length}
 use Rattle.combinators.specs.Choice.{is}
+use Rattle.combinators.specs.Refusal.{refusedAt, badRow, badText}
 use Rattle.combinators.proofs.Rules.{pick-true, pick-false, and-both, and-left, and-right, and-gives, and-gives-false, is-yes, is-no}
 use Rattle.page.specs.Rows.{nodeWidth, nodeCount, attributeWidth, attributeRows}
-use Rattle.page.specs.Accepted.{nodeLimit, attributeLimit, textLimit, withinLimits, firstBadRow, firstBadText, rowRefusal, textRefusal, rowsRefusal, pageRefusal, refusalOf}
+use Rattle.page.specs.Accepted.{nodeLimit, attributeLimit, textLimit, withinLimits, firstBadRow, firstBadText, rowsRefusal, pageRefusal, refusalOf}
 use Rattle.page.specs.declared.check.PageAnswer.the-variants.{Page, TooLarge, BadRow, BadText}
 
 -- ---- `within_limits`
@@ -75,7 +76,7 @@ module _ (nodes attributes text : List ℕ) (t : Bool) (et : t ≡ withinLimits 
       unfolding pageRefusal rowsRefusal refusalOf
       page-bad-row l =
           let h : firstBadRow nodes attributes < nodeCount nodes = rw (← eb, ← er) l in
-          pick-true _ _ _ _ (sym et ∙ y) (pick-false _ _ _ _ none (pick-true _ _ _ _ (lt-ltb (firstBadRow nodes attributes) (nodeCount nodes) h) (ap (λ (row : ℕ). record { number = rowRefusal; place = row }) eb)))
+          pick-true _ _ _ _ (sym et ∙ y) (pick-false _ _ _ _ none (pick-true _ _ _ _ (lt-ltb (firstBadRow nodes attributes) (nodeCount nodes) h) (ap (refusedAt badRow) eb)))
 
       module _ (l : rows ≤ bad) (unread : ℕ) (eu : unread ≡ firstBadText nodes attributes text) where
         -- no row is against the rules
@@ -88,7 +89,7 @@ module _ (nodes attributes text : List ℕ) (t : Bool) (et : t ≡ withinLimits 
         page-bad-text m =
             let h : firstBadText nodes attributes text < nodeCount nodes = rw (← eu, ← er) m in
             pick-true _ _ _ _ (sym et ∙ y)
-            (pick-false _ _ _ _ none (pick-false _ _ _ _ no-bad (pick-true _ _ _ _ (lt-ltb (firstBadText nodes attributes text) (nodeCount nodes) h) (ap (λ (row : ℕ). record { number = textRefusal; place = row }) eu))))
+            (pick-false _ _ _ _ none (pick-false _ _ _ _ no-bad (pick-true _ _ _ _ (lt-ltb (firstBadText nodes attributes text) (nodeCount nodes) h) (ap (refusedAt badText) eu))))
 
         -- it is accepted
         pub page-accepted : rows ≤ unread → refusalOf Page ≡ pageRefusal nodes attributes text

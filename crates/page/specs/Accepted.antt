@@ -5,6 +5,8 @@ use mathlib.Core.List.{List}
 use lib.Dec.{leb, ltb}
 use lib.ListN.{length}
 use Rattle.combinators.specs.Choice.{pick, or, and, is}
+use Rattle.combinators.specs.Refusal.{noRefusal, refused, refusedAt, tooLarge, badRow, badText}
+use Rattle.combinators.specs.declared.refusals.Refusal.{Refusal}
 use Rattle.syntax.specs.Stream.{part}
 use Rattle.unicode.specs.Utf8.{valid}
 use Rattle.page.specs.Rows.{nodeWidth, nodeCount, NodeRow, nodeAt, documentKind, elementKind, otherKind, attributeWidth, attributeRows, attributeAt}
@@ -133,42 +135,24 @@ firstBadRow nodes attributes = firstFault (rowRight nodes attributes) (nodeCount
 unfoldable pub firstBadText : List ℕ → List ℕ → List ℕ → ℕ
 firstBadText nodes attributes text = firstFault (textsRight nodes attributes text) (nodeCount nodes) 0
 
--- a refusal by document 01's number, and its place
-pub record Refusal : Type 0 where
-  pub number : ℕ
-  pub place : ℕ
-
-abbrev pub limitRefusal : ℕ
-limitRefusal = 5
-
-abbrev pub rowRefusal : ℕ
-rowRefusal = 6
-
-abbrev pub textRefusal : ℕ
-textRefusal = 7
-
--- nothing is refused
-abbrev pub noRefusal : Refusal
-noRefusal = record { number = 0; place = 0 }
-
 -- of a page within the limits: any 6 comes before any 7, and to have no row at all is against the rules
 unfoldable pub rowsRefusal : List ℕ → List ℕ → List ℕ → Refusal
 rowsRefusal nodes attributes text =
     let bad = firstBadRow nodes attributes in
     let unread = firstBadText nodes attributes text in
-    let texts = pick (ltb unread (nodeCount nodes)) (record { number = textRefusal; place = unread }) noRefusal in
-    let rows = pick (ltb bad (nodeCount nodes)) (record { number = rowRefusal; place = bad }) texts in
-    pick (is (nodeCount nodes) 0) (record { number = rowRefusal; place = 0 }) rows
+    let texts = pick (ltb unread (nodeCount nodes)) (refusedAt badText unread) noRefusal in
+    let rows = pick (ltb bad (nodeCount nodes)) (refusedAt badRow bad) texts in
+    pick (is (nodeCount nodes) 0) (refusedAt badRow 0) rows
 
 -- the lowest number that applies, with its place
 unfoldable pub pageRefusal : List ℕ → List ℕ → List ℕ → Refusal
 pageRefusal nodes attributes text =
     let rows = rowsRefusal nodes attributes text in
-    pick (withinLimits nodes attributes text) rows (record { number = limitRefusal; place = 0 })
+    pick (withinLimits nodes attributes text) rows (refused tooLarge)
 
 -- what each answer of `check_page` stands for
 unfoldable pub refusalOf : PageAnswer → Refusal
 refusalOf Page = noRefusal
-refusalOf TooLarge = record { number = limitRefusal; place = 0 }
-refusalOf (BadRow row) = record { number = rowRefusal; place = row }
-refusalOf (BadText row) = record { number = textRefusal; place = row }
+refusalOf TooLarge = refused tooLarge
+refusalOf (BadRow row) = refusedAt badRow row
+refusalOf (BadText row) = refusedAt badText row

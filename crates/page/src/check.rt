@@ -5,6 +5,13 @@ use crate::rows::attribute_rows;
 use crate::rows::node_count;
 use crate::rules::first_bad_row;
 use crate::texts::first_bad_text;
+use combinators::refusals::BAD_ROW;
+use combinators::refusals::BAD_TEXT;
+use combinators::refusals::Refusal;
+use combinators::refusals::TOO_LARGE;
+use combinators::refusals::no_refusal;
+use combinators::refusals::refused;
+use combinators::refusals::refused_at;
 ghost use mathlib.Core.Path.{_≡_};
 ghost use Rattle.page.specs.Accepted.{withinLimits, refusalOf, pageRefusal};
 
@@ -21,6 +28,26 @@ pub enum PageAnswer {
     TooLarge,
     BadRow(usize),
     BadText(usize),
+}
+
+// What an answer stands for.
+pub fn refusal_of(answer: PageAnswer) -> Refusal
+    ensures { λ r. ⌜ r ≡ refusalOf answer ⌝ }
+{
+    match answer {
+        PageAnswer::Page => {
+            return no_refusal();
+        }
+        PageAnswer::TooLarge => {
+            return refused(TOO_LARGE);
+        }
+        PageAnswer::BadRow(row) => {
+            return refused_at(BAD_ROW, row);
+        }
+        PageAnswer::BadText(row) => {
+            return refused_at(BAD_TEXT, row);
+        }
+    }
 }
 
 // Whether a page is within the limits, and its lists are whole counts of rows.

@@ -5,12 +5,13 @@ use mathlib.Core.Path.{_≡_}
 use mathlib.Core.List.{List, _++_}
 use native.Mathlib.Omega.{arith}
 use lib.ListN.{length}
+use Rattle.combinators.specs.Refusal.{noRefusal}
 use Rattle.syntax.specs.Selector.{RuleSet}
 use Rattle.sheets.specs.SheetAnswer.{sheetLimit}
 use Rattle.cascade.specs.declared.slots.Cascade.the-variants.{Crate}
 use Rattle.cascade.specs.Related.{SameStyle}
 use Rattle.cascade.specs.Row.{styleAt}
-use Rattle.page.specs.Accepted.{noRefusal, pageRefusal}
+use Rattle.page.specs.Accepted.{pageRefusal}
 use Rattle.page.specs.Path.{Path}
 use Rattle.page.specs.PathOf.{pathOf}
 use Rattle.page.specs.Rows.{nodeCount, nodeAt, elementKind}

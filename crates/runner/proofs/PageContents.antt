@@ -6,9 +6,10 @@ use mathlib.Core.List.{List, []}
 use native.Mathlib.Omega.{arith}
 use lib.ListN.{length, length-append}
 use Rattle.combinators.specs.Choice.{is}
+use Rattle.combinators.specs.Refusal.{noRefusal}
 use Rattle.combinators.proofs.Rules.{pick-holds}
 use Rattle.syntax.specs.Stream.{textsMany}
-use Rattle.page.specs.Accepted.{attributesBefore, attributesEnd, textsEnd, bytesBefore, noRefusal, pageRefusal}
+use Rattle.page.specs.Accepted.{attributesBefore, attributesEnd, textsEnd, bytesBefore, pageRefusal}
 use Rattle.page.specs.Path.{Attribute}
 use Rattle.page.specs.PathOf.{attributesFrom, elementAt}
 use Rattle.page.specs.Rows.{nodeCount, nodeAt, elementKind, attributeAt, attributeValue}

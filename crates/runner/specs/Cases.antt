@@ -7,6 +7,7 @@ use lib.IntN.{pos}
 use lib.ListN.{replicate}
 use Rattle.combinators.specs.Choice as choice
 use Rattle.combinators.specs.Parsed as parsed
+use Rattle.combinators.specs.Refusal.{noRefusal}
 use Rattle.combinators.specs.Repeat as repeat
 use Rattle.combinators.specs.Word as word
 use Rattle.unicode.specs.Literal as literal
@@ -60,7 +61,6 @@ use Rattle.syntax.specs.Style.{agentOrigin, authorOrigin}
 use Rattle.cascade.specs.Cases.{red}
 use Rattle.cascade.specs.Record.{mainRecord, beforeRecord}
 use Rattle.cascade.specs.Row.{styleRowWidth}
-use Rattle.page.specs.Accepted.{noRefusal}
 use Rattle.page.specs.Rows.{elementKind, otherKind}
 use Rattle.compiled.specs.Sheet.{CompiledSelector}
 use Rattle.runner.specs.Run.{Page, Running}

@@ -3,7 +3,7 @@ use Prim.Native.Nat.{ℕ, _+_, _*_, _≤_}
 use mathlib.Core.Path.{_≡_, refl}
 use mathlib.Core.List.{List}
 use lib.ListN.{length, replicate}
-use Rattle.sheets.specs.SheetAnswer.{textLeast}
+use Rattle.combinators.specs.LeastLengths.{textLeast}
 use Rattle.cascade.specs.Row.{styleRowWidth}
 use Rattle.page.specs.Rows.{nodeWidth, nodeCount, attributeWidth, attributeRows}
 use Rattle.runner.specs.State.{depths, partWidth}

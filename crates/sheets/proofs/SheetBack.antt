@@ -1,9 +1,11 @@
 -- What `read_sheet` leaves reads back: the rows and texts are those of the rules that the sheet means.
-use mathlib.Core.Path.{_≡_, refl}
+use mathlib.Core.Path.{_≡_, refl, sym, ap}
 use mathlib.Core.List.{List, _++_}
-use Prim.Native.Nat.{ℕ, _-_}
+use Prim.Native.Nat.{ℕ, _-_, _<_}
 use native.Mathlib.Omega.{arith}
 use lib.ListN.{length, replicate}
+use Rattle.combinators.specs.Refusal.{noRefusal, refused, panic}
+use Rattle.combinators.specs.declared.refusals.Refusal.{Refusal}
 use Rattle.combinators.proofs.Rules.{pick-holds}
 use Rattle.syntax.specs.RuleLayout.{ruleRows, ruleTexts, rulesAt}
 use Rattle.syntax.specs.Selector.{RuleSet}
@@ -11,8 +13,7 @@ use Rattle.syntax.proofs.RuleRows.{RulesFit, rules-back}
 use Rattle.sheets.specs.Outcome.{Outcome, reads, fails, panics, onOutcome}
 use Rattle.sheets.specs.Sheet.{sheetOf}
 use Rattle.sheets.specs.Reading.{written}
-use Rattle.sheets.specs.SheetAnswer.{SheetLeft, padded, sheetAnswer, sheetLeft, unchanged, readSheet}
-use Rattle.sheets.specs.declared.sheet.SheetAnswer.the-variants.{Sheet}
+use Rattle.sheets.specs.SheetAnswer.{SheetLeft, padded, sheetNumbers, sheetLeft, unchanged, readSheet}
 use Rattle.sheets.proofs.SheetBounds.{sheet-keeps}
 use Rattle.sheets.proofs.SheetLaws.{sheet-never-fails}
 
@@ -25,26 +26,28 @@ stored-back rs m n h =
     (record { more = replicate (n - length (ruleTexts rs)) 0; held = refl })
 
 -- by the answer
-answered : (o : Outcome (List RuleSet)) → ((k : ℕ) (rs : List RuleSet) → o ≡ reads k rs → RulesFit rs) → (o ≡ fails → ⊥) → (long short n stop m x : ℕ) → sheetAnswer o ≡ Sheet n stop m x
-    → o ≡ reads stop (rulesAt (padded (written (ruleRows 0) o) long) (padded (written ruleTexts o) short) n)
-unfolding sheetAnswer written onOutcome
-answered (reads k rs) h never long short n stop m x e =
-    let a : k ≡ stop = cc in
-    let b : length rs ≡ n = cc in
-    rw (← a, ← b, stored-back rs long short (h k rs refl)) refl
-answered fails h never long short n stop m x e = absurd (never refl)
-answered (panics p) h never long short n stop m x e = absurd (let z : _≡_ {A = ℕ} 0 1 = cc in omega arith)
+answered : (o : Outcome (List RuleSet)) → ((k : ℕ) (rs : List RuleSet) → o ≡ reads k rs → RulesFit rs) → (o ≡ fails → ⊥) → (long short : ℕ)
+    → sheetNumbers o .refusal ≡ noRefusal
+    → o ≡ reads (sheetNumbers o .stop) (rulesAt (padded (written (ruleRows 0) o) long) (padded (written ruleTexts o) short) (sheetNumbers o .count))
+unfolding sheetNumbers written onOutcome
+answered (reads k rs) h never long short e = ap (reads k) (sym (stored-back rs long short (h k rs refl)))
+answered fails h never long short e = absurd (never refl)
+answered (panics p) h never long short e = absurd (let z : panic ≡ 0 = ap (λ (r : Refusal). r .number) e in omega arith)
 
--- where `read_sheet` answers, the rules that lie in its stores are those that the sheet means
-module _ (s rules tokens brackets store : List ℕ) (n stop m x : ℕ) where
+-- where `read_sheet` refuses nothing, the rules that lie in its stores are those that the sheet means
+module _ (s rules tokens brackets texts : List ℕ) where
   abbrev Back : SheetLeft → Type 0
-  Back l = l .answer ≡ Sheet n stop m x → sheetOf s ≡ reads stop (rulesAt (l .rules) (l .store) n)
+  Back l = l .answer .refusal ≡ noRefusal → sheetOf s ≡ reads (l .answer .stop) (rulesAt (l .rules) (l .texts) (l .answer .count))
 
-  pub sheet-back : Back (readSheet s rules tokens brackets store)
+  -- a number that is not 0 is a refusal
+  not-refused : {n : ℕ} {A : Type 0} → 0 < n → refused n ≡ noRefusal → A
+  not-refused {n} h e = absurd (let z : n ≡ 0 = ap (λ (r : Refusal). r .number) e in omega arith)
+
+  pub sheet-back : Back (readSheet s rules tokens brackets texts)
   unfolding readSheet unchanged sheetLeft
   sheet-back =
-      pick-holds Back _ _ _ (λ _ e. absurd (let z : _≡_ {A = ℕ} 0 1 = cc in omega arith))
+      pick-holds Back _ _ _ (λ _ e. not-refused (omega arith) e)
       (λ _. pick-holds Back _ _ _
-      (λ _. pick-holds Back _ _ _ (λ _. answered (sheetOf s) (λ k rs e. sheet-keeps s k rs e .fit) (sheet-never-fails s) (length rules) (length store) n stop m x)
-      (λ _ e. absurd (let z : _≡_ {A = ℕ} 0 1 = cc in omega arith)))
-      (λ _ e. absurd (let z : _≡_ {A = ℕ} 0 1 = cc in omega arith)))
+      (λ _. pick-holds Back _ _ _ (λ _. answered (sheetOf s) (λ k rs e. sheet-keeps s k rs e .fit) (sheet-never-fails s) (length rules) (length texts))
+      (λ _ e. not-refused (omega arith) e))
+      (λ _ e. not-refused (omega arith) e))

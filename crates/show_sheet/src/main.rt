@@ -6,6 +6,10 @@ mod rule;
 mod selector;
 mod writing;
 
+use combinators::least::NUMBER_MORE;
+use combinators::least::NUMBER_WIDTH;
+use combinators::least::TEXT_MORE;
+use combinators::least::TEXT_WIDTH;
 use libc::STDIN_FILENO;
 use place::print_place;
 use rule::print_rules;
@@ -19,11 +23,11 @@ use writing::print_number;
 const INPUT: usize = SHEET_LIMIT + 1;
 
 // The least lengths of the stores for a sheet of that size.
-const STORE: usize = 2 * SHEET_LIMIT + 12;
+const STORE: usize = TEXT_WIDTH * SHEET_LIMIT + TEXT_MORE;
 
 const BRACKETS: usize = SHEET_LIMIT;
 
-const NUMBERS: usize = 8 * SHEET_LIMIT + 64;
+const NUMBERS: usize = NUMBER_WIDTH * SHEET_LIMIT + NUMBER_MORE;
 
 // How many bytes were read of the sheet, and where reading stopped before its end.
 fn print_read(s: &[u8], stop: usize) {
@@ -56,7 +60,7 @@ fn print_sheet(s: &[u8]) {
     let mut brackets = [0u8; BRACKETS];
     let mut store = [0u8; STORE];
     match read_sheet(s, &mut rules, &mut tokens, &mut brackets, &mut store) {
-        SheetAnswer::Sheet(count, stop, _, _) => {
+        SheetAnswer::Sheet { count, stop, .. } => {
             print_read(s, stop);
             print_rules(&rules, &store, count);
         }

@@ -3,13 +3,13 @@ use crate::lists::ListAnswer;
 use crate::lists::first;
 use crate::lists::read_list;
 use crate::outcome::Outcome;
-use comparison::matches::MatchResult;
-use comparison::matches::comparison_matches;
+use combinators::refusals::NO_ELEMENT;
 use compiled::numbers::NumberAnswer;
 use compiled::numbers::read_number;
 use compiled::texts::TextAnswer;
 use compiled::texts::read_text;
-use engine::refusals::NO_ELEMENT;
+use engine::matches::MatchResult;
+use engine::matches::hicsolmab_matches;
 use page::rows::node_count;
 use syntax::texts::part_of;
 
@@ -52,7 +52,7 @@ fn rows_are(
     }
     let mut row = 0;
     while row < answers.len() {
-        let came = comparison_matches(components, count, texts, nodes, attributes, text, row);
+        let came = hicsolmab_matches(components, count, texts, nodes, attributes, text, row);
         if row_is(came, counts, answers[row]) {
             row += 1;
         } else {

@@ -16,7 +16,7 @@ add-stores-suffice-2 : tie.Need-add-stores-suffice-2
 add-stores-suffice-2 c = let S = c .before .before .before .before .before .before .before .before .before .before in record { fits = laws.count-fits (S .args .agent .now) (S .args .user .now) (S .args .author .now) (S .args .compiled .now) (S .args .texts .now) (S .args .rules .now) (S .args .tokens .now) (S .args .brackets .now) (c .before .any-too-long .ensures) (c .if1 .left) }
 
 stores-suffice-requires : tie.Need-stores-suffice-requires
-stores-suffice-requires c κs = let S = c .before .before .before .before .before .before .before .before .before .before in laws.least-fits (S .args .agent .now) (S .args .user .now) (S .args .author .now) (S .args .compiled .now) (S .args .texts .now) (S .args .rules .now) (S .args .tokens .now) (S .args .brackets .now) (c .before .any-too-long .ensures) (c .if1 .left)
+stores-suffice-requires c κs = search needs
 
 all-valid-requires : tie.Need-all-valid-requires
 all-valid-requires c κs = search needs

@@ -1,72 +1,15 @@
-use Rattle.sheets.specs.SheetAnswer.{refusalOf}
-use Rattle.engine.specs.Sheet.{sheetResult}
-use mathlib.Core.Path.{sym, ap, _∙_}
+use Rattle.engine.specs.Sheet.{numbersIn}
+use Rattle.engine.proofs.Results as results
 use borrow.Author.Needs.{needs}
 use Rattle.engine.proofs.sheet.result_of.Statement.{statement}
 use Rattle.engine.proofs.sheet.result_of.Tie as tie
 
-enum-known-answer : tie.Need-enum-known-answer
-enum-known-answer c = search needs
+numbers-of-requires : tie.Need-numbers-of-requires
+numbers-of-requires c κs = search needs
 
 returns : tie.Need-returns
-unfolding sheetResult
-returns c = ap sheetResult (sym (c .before .answer .given .1))
-
-enum-told : tie.Need-enum-told
-enum-told c = search needs
-
-refused-requires : tie.Need-refused-requires
-refused-requires c κs = search needs
-
-returns-2 : tie.Need-returns-2
-unfolding sheetResult refusalOf
-returns-2 c = c .refused .ensures ∙ ap sheetResult (sym (c .before .enum-told .given .1))
-
-enum-told-2 : tie.Need-enum-told-2
-enum-told-2 c = search needs
-
-refused-requires-2 : tie.Need-refused-requires-2
-refused-requires-2 c κs = search needs
-
-returns-3 : tie.Need-returns-3
-unfolding sheetResult refusalOf
-returns-3 c = c .refused2 .ensures ∙ ap sheetResult (sym (c .before .enum-told2 .given .1))
-
-enum-told-3 : tie.Need-enum-told-3
-enum-told-3 c = search needs
-
-refused-requires-3 : tie.Need-refused-requires-3
-refused-requires-3 c κs = search needs
-
-returns-4 : tie.Need-returns-4
-unfolding sheetResult refusalOf
-returns-4 c = c .refused3 .ensures ∙ ap sheetResult (sym (c .before .enum-told3 .given .1))
-
-enum-known-answer-2 : tie.Need-enum-known-answer-2
-enum-known-answer-2 c = search needs
-
-refused-requires-4 : tie.Need-refused-requires-4
-refused-requires-4 c κs = search needs
-
-returns-5 : tie.Need-returns-5
-unfolding sheetResult refusalOf
-returns-5 c = c .refused4 .ensures ∙ ap sheetResult (sym (c .before .before .answer2 .given .1))
+unfolding numbersIn
+returns c = results.sheet-numbers _ (c .before .numbers-of .ensures)
 
 pub result-of-spec : {M : Type 1} → statement M
-result-of-spec =
-    tie.close
-    (tie.spec
-    enum-known-answer
-    returns
-    enum-told
-    refused-requires
-    returns-2
-    enum-told-2
-    refused-requires-2
-    returns-3
-    enum-told-3
-    refused-requires-3
-    returns-4
-    enum-known-answer-2
-    refused-requires-4
-    returns-5)
+result-of-spec = tie.close (tie.spec numbers-of-requires returns)

@@ -4,7 +4,7 @@ use Rattle.sheets.proofs.sheet.read_sheet.Statement.{statement}
 use Rattle.sheets.proofs.sheet.read_sheet.Tie as tie
 
 returns : tie.Need-returns
-returns c = let S = c .before .before .before .before .before .before in laws.too-long (S .args .s .now) (S .args .rules .now) (S .args .tokens .now) (S .args .brackets .now) (S .args .store .now) (c .if1 .taken)
+returns c = let S = c .before .before .before .before .before .before in laws.too-long (S .args .s .now) (S .args .rules .now) (S .args .tokens .now) (S .args .brackets .now) (S .args .texts .now) (c .if1 .taken)
 
 stores-suffice-requires : tie.Need-stores-suffice-requires
 stores-suffice-requires c κs = search needs
@@ -17,7 +17,7 @@ read-text-requires c κs = let t = c .before .before .before .before in
     let u = t .before .before in
     let w = u .before in
     let S = w .before .before .before .before .before .before .before in
-    laws.lent (S .args .s .now) (S .args .rules .now) (S .args .tokens .now) (S .args .brackets .now) (S .args .store .now) (w .before .if1 .left) (w .stores-suffice .ensures) (u .if2 .taken)
+    laws.lent (S .args .s .now) (S .args .rules .now) (S .args .tokens .now) (S .args .brackets .now) (S .args .texts .now) (w .before .if1 .left) (w .stores-suffice .ensures) (u .if2 .taken)
 
 same-length : tie.Need-same-length
 same-length c = search needs
@@ -37,19 +37,19 @@ returns-2 c = let t = c .before .before .before .before .before .before .before 
     let u = v .before in
     let w = u .before in
     let S = w .before .before .before .before .before .before .before in
-    laws.read (S .args .s .now) (S .args .rules .now) (S .args .tokens .now) (S .args .brackets .now) (S .args .store .now) (w .before .if1 .left) (w .stores-suffice .ensures) (u .if2 .taken) (v .is-valid .ensures) (t .if3 .taken) (c .before .before .before .before .before .before .before .before .read-text .ensures)
+    laws.read (S .args .s .now) (S .args .rules .now) (S .args .tokens .now) (S .args .brackets .now) (S .args .texts .now) (w .before .if1 .left) (w .stores-suffice .ensures) (u .if2 .taken) (v .is-valid .ensures) (t .if3 .taken) (c .before .before .before .before .before .before .before .before .read-text .ensures)
 
 returns-3 : tie.Need-returns-3
 returns-3 c = let v = c .before in
     let u = v .before in
     let w = u .before in
     let S = w .before .before .before .before .before .before .before in
-    laws.not-utf8 (S .args .s .now) (S .args .rules .now) (S .args .tokens .now) (S .args .brackets .now) (S .args .store .now) (w .before .if1 .left) (w .stores-suffice .ensures) (u .if2 .taken) (v .is-valid .ensures) (c .if3 .left)
+    laws.not-utf8 (S .args .s .now) (S .args .rules .now) (S .args .tokens .now) (S .args .brackets .now) (S .args .texts .now) (w .before .if1 .left) (w .stores-suffice .ensures) (u .if2 .taken) (v .is-valid .ensures) (c .if3 .left)
 
 returns-4 : tie.Need-returns-4
 returns-4 c = let w = c .before in
     let S = w .before .before .before .before .before .before .before in
-    laws.short-store (S .args .s .now) (S .args .rules .now) (S .args .tokens .now) (S .args .brackets .now) (S .args .store .now) (w .before .if1 .left) (w .stores-suffice .ensures) (c .if2 .left)
+    laws.short-store (S .args .s .now) (S .args .rules .now) (S .args .tokens .now) (S .args .brackets .now) (S .args .texts .now) (w .before .if1 .left) (w .stores-suffice .ensures) (c .if2 .left)
 
 pub read-sheet-spec : {M : Type 1} → statement M
 read-sheet-spec =
