@@ -13,7 +13,7 @@ import sys
 HERE = os.path.dirname(os.path.abspath(__file__))
 CASES = os.path.join(HERE, "cases")
 REPLAY = os.path.join(HERE, "..", "..", "crates", "replay")
-LISTS = ["sheets", "compiled sheets", "compiled bytes", "pages", "classes"]
+LISTS = ["sheets", "compiled sheets", "compiled bytes", "pages", "attributes", "classes"]
 RECORDED = {"vectors": "html2text's sheets, attributes and selectors", "compile_vectors": "html2text's compiled sheets"}
 
 # The calls, as crates/replay/src/calls.rt has them.
@@ -318,8 +318,8 @@ def fields(line, words):
     return {word: Field(value.strip()) for word, value in found.items()}
 
 
-WORDS = {"sheet", "agent", "user", "author", "lent", "filled", "nodes", "attributes", "text", "selector", "row", "bytes", "value",
-         "refused", "in", "at", "rules", "stop", "numbers", "texts", "matches", "misses", "compiled", "accepted"}
+WORDS = {"sheet", "agent", "user", "author", "lent", "filled", "nodes", "attributes", "text", "selector", "bytes", "value",
+         "refused", "in", "at", "rules", "stop", "numbers", "texts", "matches", "misses", "compiled", "accepted", "styles", "colour", "none"}
 
 
 def total(parts):
@@ -338,16 +338,20 @@ def lent_to(f, n):
     return f.get("lent", Field("plenty")).lengths(n)
 
 
+def filling(f):
+    return int(f["filled"].value) if "filled" in f else FULL
+
+
 def sheet_case(words, f):
     sheet = f["sheet"].texts()
     n = total(sheet)
     number_, _, place = refusal(f)
     if number_:
-        return Vector(words, "read_sheet", lent_to(f, n), FULL, [n], sheet, [], [number_, place], left_by(number_))
+        return Vector(words, "read_sheet", lent_to(f, n), filling(f), [n], sheet, [], [number_, place], left_by(number_))
     taken, names = int(f["numbers"].value), f["texts"].texts() if "texts" in f else []
     after = {"all": "zero", "rules": ([(taken, [])] if taken else [], 0), "texts": (names, 0), "bytes": "unchanged"}
     results = [0, 0, int(f["rules"].value), int(f["stop"].value), taken, total(names)]
-    return Vector(words, "read_sheet", lent_to(f, n), FULL, [n], sheet, [], results, after)
+    return Vector(words, "read_sheet", lent_to(f, n), filling(f), [n], sheet, [], results, after)
 
 
 def compile_case(words, f):
@@ -361,7 +365,23 @@ def compile_case(words, f):
         compiled, names = f["compiled"].hexadecimal(), f["texts"].texts() if "texts" in f else []
         results = [0, 0, 0, total(compiled), total(names)]
         after = {"all": "zero", "bytes": (compiled, 0), "texts": (names, 0)}
-    return Vector(words, "compile", lent, FULL, lengths, sum(sheets, []), [], results, after)
+    return Vector(words, "compile", lent, filling(f), lengths, sum(sheets, []), [], results, after)
+
+
+def style_case(words, f):
+    """Of the rows no more is said than how many they are. The call leaves what it does not use, so the buffers are filled with zeros."""
+    value = f["value"].texts()
+    number_, names = refusal(f)[0], f["texts"].texts() if "texts" in f else []
+    count = int(f["styles"].value) if "styles" in f else 0
+    after = {"tokens": ([(4 * count, [])] if count else [], 0), "texts": (names, 0)}
+    return Vector(words, "style_attribute", lent_to(f, total(value)), 0, [total(value)], value, [], [number_, count, total(names)], after)
+
+
+def colour_case(words, f):
+    value = f["value"].texts()
+    found = int("colour" in f)
+    results = [refusal(f)[0], found, int(f["colour"].value, 16) if found else 0]
+    return Vector(words, "color_attribute", lent_to(f, total(value)), 0, [total(value)], value, [], results)
 
 
 def page_of(f):
@@ -401,7 +421,8 @@ def prefixes_case(words, f):
     return [Vector(name + str(n), "check_bytes", {}, 0, [n], whole(data[:n]), [], [NO_SHEET, ANY]) for n in range(len(data))]
 
 
-KINDS = {"read_sheet": sheet_case, "compile": compile_case, "check_page": page_case, "check_bytes": bytes_case, "prefixes": prefixes_case, "class": class_case}
+KINDS = {"read_sheet": sheet_case, "compile": compile_case, "check_page": page_case, "check_bytes": bytes_case, "prefixes": prefixes_case,
+         "style_attribute": style_case, "color_attribute": colour_case, "class": class_case}
 
 
 def cases(name):

@@ -119,7 +119,7 @@ pub fn put_bytes(s: &[u8], at: usize, buffer: &mut [u8]) -> Put {
 }
 
 // Writes `b` from `from` to the end; whether it stood there already.
-pub fn fill_bytes(buffer: &mut [u8], from: usize, b: u8) -> bool {
+fn fill_bytes(buffer: &mut [u8], from: usize, b: u8) -> bool {
     let mut i = from;
     let mut same = true;
     while i < buffer.len() {
@@ -216,7 +216,7 @@ pub fn put_numbers(s: &[u8], at: usize, buffer: &mut [u32]) -> Put {
 }
 
 // Writes `n` from `from` to the end; whether it stood there already.
-pub fn fill_numbers(buffer: &mut [u32], from: usize, n: u32) -> bool {
+fn fill_numbers(buffer: &mut [u32], from: usize, n: u32) -> bool {
     let mut i = from;
     let mut same = true;
     while i < buffer.len() {

@@ -28,8 +28,6 @@ use calls::TOKENS_LENT;
 use content::Verdict;
 use content::both;
 use content::byte_of;
-use content::fill_bytes;
-use content::fill_numbers;
 use content::put_bytes;
 use content::put_numbers;
 use content::settle_bytes;
@@ -199,24 +197,7 @@ fn settle_stores(
 
 // ---- a vector
 
-// Fills the lent buffers with one value.
-fn fill(
-    value: u32,
-    rules: &mut [u32],
-    tokens: &mut [u32],
-    brackets: &mut [u8],
-    texts: &mut [u8],
-    compiled: &mut [u8],
-) {
-    let byte = byte_of(value);
-    fill_numbers(rules, 0, value);
-    fill_numbers(tokens, 0, value);
-    fill_bytes(brackets, 0, byte);
-    fill_bytes(texts, 0, byte);
-    fill_bytes(compiled, 0, byte);
-}
-
-// Asks with lent buffers that are filled, and judges the results at `at` and what is left.
+// Asks with lent buffers, and judges the results at `at` and what is left.
 fn judged(
     s: &[u8],
     arguments: usize,
@@ -251,36 +232,6 @@ fn judged(
     }
 }
 
-fn filled_and_judged(
-    s: &[u8],
-    arguments: usize,
-    call: u32,
-    at: usize,
-    input: &[u8],
-    numbers: &[u32],
-    rules: &mut [u32],
-    tokens: &mut [u32],
-    brackets: &mut [u8],
-    texts: &mut [u8],
-    compiled: &mut [u8],
-) -> Verdict {
-    let value = number_at(s, behind_numbers(s, arguments, FILLING));
-    fill(value.value, rules, tokens, brackets, texts, compiled);
-    judged(
-        s,
-        arguments,
-        call,
-        at,
-        input,
-        numbers,
-        rules,
-        tokens,
-        brackets,
-        texts,
-        compiled,
-    )
-}
-
 // The length that a vector lends of a buffer, or all of it where that is less.
 fn lent(s: &[u8], arguments: usize, k: u32, length: usize) -> usize
     ensures { λ r. ⌜ r ≤ length ⌝ }
@@ -292,7 +243,7 @@ fn lent(s: &[u8], arguments: usize, k: u32, length: usize) -> usize
     length
 }
 
-// Lends as much of each buffer as the vector says.
+// Lends as much of each buffer as the vector says, full of the value that it says.
 fn lend(
     s: &[u8],
     arguments: usize,
@@ -300,18 +251,21 @@ fn lend(
     at: usize,
     input: &[u8],
     numbers: &[u32],
-    rules: &mut [u32],
-    tokens: &mut [u32],
-    brackets: &mut [u8],
-    texts: &mut [u8],
-    compiled: &mut [u8],
 ) -> Verdict {
-    let r = lent(s, arguments, RULES_LENT, rules.len());
-    let t = lent(s, arguments, TOKENS_LENT, tokens.len());
-    let b = lent(s, arguments, BRACKETS_LENT, brackets.len());
-    let n = lent(s, arguments, TEXTS_LENT, texts.len());
-    let c = lent(s, arguments, BYTES_LENT, compiled.len());
-    filled_and_judged(
+    let filling = number_at(s, behind_numbers(s, arguments, FILLING));
+    let value = filling.value;
+    let byte = byte_of(value);
+    let mut rules = [value; NUMBERS];
+    let mut tokens = [value; NUMBERS];
+    let mut brackets = [byte; LONGEST];
+    let mut texts = [byte; TEXTS];
+    let mut compiled = [byte; COMPILED];
+    let r = lent(s, arguments, RULES_LENT, NUMBERS);
+    let t = lent(s, arguments, TOKENS_LENT, NUMBERS);
+    let b = lent(s, arguments, BRACKETS_LENT, LONGEST);
+    let n = lent(s, arguments, TEXTS_LENT, TEXTS);
+    let c = lent(s, arguments, BYTES_LENT, COMPILED);
+    judged(
         s,
         arguments,
         call,
@@ -327,51 +281,19 @@ fn lend(
 }
 
 // Replays the vector whose call is known: a list of arguments, the bytes and the numbers that are lent to read, what is expected.
-fn replay_vector(
-    s: &[u8],
-    at: usize,
-    call: u32,
-    input: &mut [u8],
-    numbers: &mut [u32],
-    rules: &mut [u32],
-    tokens: &mut [u32],
-    brackets: &mut [u8],
-    texts: &mut [u8],
-    compiled: &mut [u8],
-) -> Verdict {
+fn replay_vector(s: &[u8], at: usize, call: u32) -> Verdict {
+    let mut input = [0u8; INPUT];
+    let mut numbers = [0u32; INPUT_NUMBERS];
     let count = number_at(s, at);
-    let bytes = put_bytes(s, behind_numbers(s, count.next, count.value), input);
-    let rows = put_numbers(s, bytes.next, numbers);
-    lend(
-        s,
-        count.next,
-        call,
-        rows.next,
-        input,
-        numbers,
-        rules,
-        tokens,
-        brackets,
-        texts,
-        compiled,
-    )
+    let bytes = put_bytes(s, behind_numbers(s, count.next, count.value), &mut input);
+    let rows = put_numbers(s, bytes.next, &mut numbers);
+    lend(s, count.next, call, rows.next, &input, &numbers)
 }
 
 // ---- all of them
 
 // Replays what lies at `at`: a vector, or the end of a list.
-fn replay(
-    s: &[u8],
-    at: usize,
-    tally: Tally,
-    input: &mut [u8],
-    numbers: &mut [u32],
-    rules: &mut [u32],
-    tokens: &mut [u32],
-    brackets: &mut [u8],
-    texts: &mut [u8],
-    compiled: &mut [u8],
-) -> Replayed {
+fn replay(s: &[u8], at: usize, tally: Tally) -> Replayed {
     let text = text_at(s, at);
     let words = part_of(s, text.start, text.size);
     let call = number_at(s, text.next);
@@ -382,18 +304,7 @@ fn replay(
             tally: nothing(),
         };
     }
-    let verdict = replay_vector(
-        s,
-        call.next,
-        call.value,
-        input,
-        numbers,
-        rules,
-        tokens,
-        brackets,
-        texts,
-        compiled,
-    );
+    let verdict = replay_vector(s, call.next, call.value);
     Replayed {
         next: verdict.next,
         tally: tallied(tally, call.value, words, verdict.same),
@@ -430,34 +341,13 @@ fn left_of(left: u32, more: bool) -> u32
 }
 
 // Moves the window on, and replays what it shows first.
-fn replay_next(
-    window: &mut [u8],
-    from: Step,
-    input: &mut [u8],
-    numbers: &mut [u32],
-    rules: &mut [u32],
-    tokens: &mut [u32],
-    brackets: &mut [u8],
-    texts: &mut [u8],
-    compiled: &mut [u8],
-) -> Step {
+fn replay_next(window: &mut [u8], from: Step) -> Step {
     let place = move_on(window, from.at, from.held);
     let held = place.held;
     if place.at >= held {
         return ended();
     }
-    let replayed = replay(
-        part_of(window, 0, held),
-        place.at,
-        from.tally,
-        input,
-        numbers,
-        rules,
-        tokens,
-        brackets,
-        texts,
-        compiled,
-    );
+    let replayed = replay(part_of(window, 0, held), place.at, from.tally);
     let tally = replayed.tally;
     Step {
         more: true,
@@ -468,51 +358,16 @@ fn replay_next(
 }
 
 // Replays all of standard input, one vector behind the other.
-fn replay_all(
-    window: &mut [u8],
-    input: &mut [u8],
-    numbers: &mut [u32],
-    rules: &mut [u32],
-    tokens: &mut [u32],
-    brackets: &mut [u8],
-    texts: &mut [u8],
-    compiled: &mut [u8],
-) {
+fn replay_all(window: &mut [u8]) {
     let mut now = started(refill(window, 0, 0));
     let mut left = MOST_VECTORS;
     while left > 0 {
-        now = replay_next(
-            window,
-            now,
-            input,
-            numbers,
-            rules,
-            tokens,
-            brackets,
-            texts,
-            compiled,
-        );
+        now = replay_next(window, now);
         left = left_of(left, now.more);
     }
 }
 
 fn main() {
     let mut window = [0u8; WINDOW];
-    let mut input = [0u8; INPUT];
-    let mut numbers = [0u32; INPUT_NUMBERS];
-    let mut rules = [0u32; NUMBERS];
-    let mut tokens = [0u32; NUMBERS];
-    let mut brackets = [0u8; LONGEST];
-    let mut texts = [0u8; TEXTS];
-    let mut compiled = [0u8; COMPILED];
-    replay_all(
-        &mut window,
-        &mut input,
-        &mut numbers,
-        &mut rules,
-        &mut tokens,
-        &mut brackets,
-        &mut texts,
-        &mut compiled,
-    );
+    replay_all(&mut window);
 }

@@ -33,20 +33,23 @@ pub fn ask_sheet(
 }
 
 // Compiles three sheets, which lie one behind the other.
-fn compile_all(
-    agent: &[u8],
-    user: &[u8],
-    author: &[u8],
+pub fn ask_compile(
+    s: &[u8],
+    arguments: usize,
+    input: &[u8],
     rules: &mut [u32],
     tokens: &mut [u32],
     brackets: &mut [u8],
     texts: &mut [u8],
     compiled: &mut [u8],
 ) -> [usize; RESULTS] {
+    let agent = argument(s, arguments, FIRST);
+    let user = argument(s, arguments, SECOND);
+    let author = argument(s, arguments, THIRD);
     let came = hicsolmab_compile(
-        agent,
-        user,
-        author,
+        part_of(input, 0, agent),
+        part_of(input, agent, user),
+        part_of(input, wrapping_add_usize(agent, user), author),
         compiled,
         texts,
         rules,
@@ -61,31 +64,6 @@ fn compile_all(
         came.texts,
         0,
     ]
-}
-
-pub fn ask_compile(
-    s: &[u8],
-    arguments: usize,
-    input: &[u8],
-    rules: &mut [u32],
-    tokens: &mut [u32],
-    brackets: &mut [u8],
-    texts: &mut [u8],
-    compiled: &mut [u8],
-) -> [usize; RESULTS] {
-    let agent = argument(s, arguments, FIRST);
-    let user = argument(s, arguments, SECOND);
-    let author = argument(s, arguments, THIRD);
-    compile_all(
-        part_of(input, 0, agent),
-        part_of(input, agent, user),
-        part_of(input, wrapping_add_usize(agent, user), author),
-        rules,
-        tokens,
-        brackets,
-        texts,
-        compiled,
-    )
 }
 
 pub fn ask_style(

@@ -5,11 +5,10 @@ use Rattle.replay.proofs.replay_all.Statement.{statement}
 use Rattle.replay.proofs.replay_all.Tie as tie
 
 abbrev Inv-loop : tie.InvT-loop
-Inv-loop window₀ input₀ numbers₀ rules₀ tokens₀ brackets₀ texts₀ compiled₀ now₀ left₀ window input numbers rules tokens brackets texts compiled now left =
-    (length window ≡ length window₀) × (length input ≡ length input₀) × (length numbers ≡ length numbers₀) × (length rules ≡ length rules₀) × (length tokens ≡ length tokens₀) × (length brackets ≡ length brackets₀) × (length texts ≡ length texts₀) × (length compiled ≡ length compiled₀)
+Inv-loop window₀ now₀ left₀ window now left = length window ≡ length window₀
 
 abbrev μ-loop : tie.MeasureT-loop
-μ-loop window₀ input₀ numbers₀ rules₀ tokens₀ brackets₀ texts₀ compiled₀ now₀ left₀ window input numbers rules tokens brackets texts compiled now left = left
+μ-loop window₀ now₀ left₀ window now left = left
 
 refill-requires : tie.Need-refill-requires Inv-loop μ-loop
 refill-requires c κs = search needs
@@ -35,27 +34,6 @@ loop-again c = search needs
 same-length : tie.Need-same-length Inv-loop μ-loop
 same-length c = search needs
 
-same-length-2 : tie.Need-same-length-2 Inv-loop μ-loop
-same-length-2 c = search needs
-
-same-length-3 : tie.Need-same-length-3 Inv-loop μ-loop
-same-length-3 c = search needs
-
-same-length-4 : tie.Need-same-length-4 Inv-loop μ-loop
-same-length-4 c = search needs
-
-same-length-5 : tie.Need-same-length-5 Inv-loop μ-loop
-same-length-5 c = search needs
-
-same-length-6 : tie.Need-same-length-6 Inv-loop μ-loop
-same-length-6 c = search needs
-
-same-length-7 : tie.Need-same-length-7 Inv-loop μ-loop
-same-length-7 c = search needs
-
-same-length-8 : tie.Need-same-length-8 Inv-loop μ-loop
-same-length-8 c = search needs
-
 returns : tie.Need-returns Inv-loop μ-loop
 returns c = search needs
 
@@ -73,11 +51,4 @@ replay-all-spec =
     loop-less
     loop-again
     same-length
-    same-length-2
-    same-length-3
-    same-length-4
-    same-length-5
-    same-length-6
-    same-length-7
-    same-length-8
     returns)
