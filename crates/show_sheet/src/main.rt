@@ -1,5 +1,5 @@
 // Prints a sheet from standard input as it was read: how many bytes were read and where reading stopped, then a line for each rule with its
-// selectors and its declarations. A refusal is printed by its number, in words.
+// selectors and its declarations. A refusal is printed by its number, in words. Takes 2.2 MB of stack, the stores for a sheet of 32,768 bytes.
 mod declaration;
 mod place;
 mod rule;

@@ -1,0 +1,373 @@
+// Replays vectors, which it reads from standard input: asks the exported functions of crates/engine and crates/comparison, and holds what they answer and
+// leave in the lent buffers against what each vector expects. Prints the number, the call and the words of each vector that differs, then for each list how
+// many vectors it has and how many differ. tools/vectors/README.md says how vectors lie in bytes; tools/vectors/vectors.py writes them. Takes 3 MB of stack.
+mod calls; // calls.rt: the calls, and where their arguments stand
+mod content; // content.rt: what stands in a buffer
+mod pages; // pages.rt: calls with a page or with compiled bytes
+mod reading; // reading.rt: calls with sheets and attributes
+mod stream; // stream.rt: numbers and texts of a vector
+mod tally; // tally.rt: counts, and what is printed
+mod window; // window.rt: a window over standard input
+
+use calls::BRACKETS_LENT;
+use calls::BYTES_LENT;
+use calls::CHECK_BYTES;
+use calls::CHECK_PAGE;
+use calls::COLOUR;
+use calls::COMPILE;
+use calls::FILLING;
+use calls::MATCHES;
+use calls::READ_SHEET;
+use calls::RESULTS;
+use calls::ROWS;
+use calls::RULES_LENT;
+use calls::SELECTOR;
+use calls::STYLE;
+use calls::TEXTS_LENT;
+use calls::TOKENS_LENT;
+use content::Verdict;
+use content::both;
+use content::byte_of;
+use content::put_bytes;
+use content::put_numbers;
+use content::settle_bytes;
+use content::settle_numbers;
+use pages::ask_bytes;
+use pages::ask_matches;
+use pages::ask_page;
+use pages::ask_rows;
+use pages::ask_selector;
+use reading::ask_colour;
+use reading::ask_compile;
+use reading::ask_sheet;
+use reading::ask_style;
+use stream::argument;
+use stream::behind_numbers;
+use stream::number_at;
+use stream::text_at;
+use syntax::texts::part_of;
+use tally::Tally;
+use tally::nothing;
+use tally::print_tally;
+use tally::tallied;
+use window::WINDOW;
+use window::move_on;
+use window::refill;
+ghost use Prim.Native.Nat.{_<_, _≤_};
+
+// The longest text of a vector, three sheets together, and stores of the least lengths for it.
+const LONGEST: usize = 33200;
+
+const NUMBERS: usize = 8 * LONGEST + 64;
+
+const TEXTS: usize = 2 * LONGEST + 12;
+
+// More than any compiled sheet has.
+const COMPILED: usize = 80000;
+
+// What is lent to read: bytes of sheets or of a page, and numbers of a page and a selector.
+const INPUT: usize = 98304;
+
+const INPUT_NUMBERS: usize = 90112;
+
+// The vectors that standard input may hold.
+const MOST_VECTORS: u32 = 1_000_000;
+
+// A result may be anything; or one number, of which the vector has the one higher.
+const ANYTHING: usize = 0;
+
+// In place of a call: the end of a list.
+const END: u32 = 0;
+
+// The place behind a vector, and the counts with it.
+struct Replayed {
+    next: usize,
+    tally: Tally,
+}
+
+// Where the replay stands: whether it goes on, how far the window is read and filled, and the counts.
+struct Step {
+    more: bool,
+    at: usize,
+    held: usize,
+    tally: Tally,
+}
+
+// ---- a call
+
+// Asks what writes at most `rules`.
+fn ask_page_call(
+    s: &[u8],
+    arguments: usize,
+    call: u32,
+    input: &[u8],
+    numbers: &[u32],
+    rules: &mut [u32],
+) -> [usize; RESULTS] {
+    match call {
+        CHECK_PAGE => ask_page(s, arguments, input, numbers),
+        CHECK_BYTES => ask_bytes(s, arguments, input),
+        MATCHES => ask_matches(s, arguments, input, numbers),
+        ROWS => ask_rows(s, arguments, input, numbers, rules),
+        _ => [0; RESULTS],
+    }
+}
+
+fn ask(
+    s: &[u8],
+    arguments: usize,
+    call: u32,
+    input: &[u8],
+    numbers: &[u32],
+    rules: &mut [u32],
+    tokens: &mut [u32],
+    brackets: &mut [u8],
+    texts: &mut [u8],
+    compiled: &mut [u8],
+) -> [usize; RESULTS] {
+    match call {
+        READ_SHEET => ask_sheet(s, arguments, input, rules, tokens, brackets, texts),
+        COMPILE => ask_compile(
+            s,
+            arguments,
+            input,
+            rules,
+            tokens,
+            brackets,
+            texts,
+            compiled,
+        ),
+        STYLE => ask_style(s, arguments, input, rules, tokens, brackets, texts),
+        COLOUR => ask_colour(s, arguments, input, tokens, brackets, texts),
+        SELECTOR => ask_selector(s, arguments, input, numbers, rules, tokens, brackets, texts),
+        _ => ask_page_call(s, arguments, call, input, numbers, rules),
+    }
+}
+
+// ---- what is expected
+
+// Whether a result is what the vector says of it.
+fn is_expected(expected: usize, came: usize) -> bool {
+    if expected == ANYTHING {
+        return true;
+    }
+    expected - 1 == came
+}
+
+// Holds the results against those at `at`.
+fn settle_results(s: &[u8], at: usize, came: [usize; RESULTS]) -> Verdict {
+    let mut next = at;
+    let mut same = true;
+    let mut k = 0;
+    while k < RESULTS {
+        let expected = number_at(s, next);
+        same = both(same, is_expected(expected.value as usize, came[k]));
+        next = expected.next;
+        k += 1;
+    }
+    Verdict { next, same }
+}
+
+// Holds the two buffers of numbers against what is expected at `at`.
+fn settle_rows(s: &[u8], at: usize, rules: &mut [u32], tokens: &mut [u32]) -> Verdict {
+    let first = settle_numbers(s, at, rules);
+    let second = settle_numbers(s, first.next, tokens);
+    Verdict {
+        next: second.next,
+        same: both(first.same, second.same),
+    }
+}
+
+// The same of the three buffers of bytes.
+fn settle_stores(
+    s: &[u8],
+    at: usize,
+    brackets: &mut [u8],
+    texts: &mut [u8],
+    compiled: &mut [u8],
+) -> Verdict {
+    let first = settle_bytes(s, at, brackets);
+    let second = settle_bytes(s, first.next, texts);
+    let third = settle_bytes(s, second.next, compiled);
+    Verdict {
+        next: third.next,
+        same: both(first.same, both(second.same, third.same)),
+    }
+}
+
+// ---- a vector
+
+// Asks with lent buffers, and judges the results at `at` and what is left.
+fn judged(
+    s: &[u8],
+    arguments: usize,
+    call: u32,
+    at: usize,
+    input: &[u8],
+    numbers: &[u32],
+    rules: &mut [u32],
+    tokens: &mut [u32],
+    brackets: &mut [u8],
+    texts: &mut [u8],
+    compiled: &mut [u8],
+) -> Verdict {
+    let came = ask(
+        s,
+        arguments,
+        call,
+        input,
+        numbers,
+        rules,
+        tokens,
+        brackets,
+        texts,
+        compiled,
+    );
+    let told = settle_results(s, at, came);
+    let rows = settle_rows(s, told.next, rules, tokens);
+    let stores = settle_stores(s, rows.next, brackets, texts, compiled);
+    Verdict {
+        next: stores.next,
+        same: both(told.same, both(rows.same, stores.same)),
+    }
+}
+
+// The length that a vector lends of a buffer, or all of it where that is less.
+fn lent(s: &[u8], arguments: usize, k: u32, length: usize) -> usize
+    ensures { λ r. ⌜ r ≤ length ⌝ }
+{
+    let asked = argument(s, arguments, k);
+    if asked < length {
+        return asked;
+    }
+    length
+}
+
+// Lends as much of each buffer as the vector says, full of the value that it says.
+fn lend(
+    s: &[u8],
+    arguments: usize,
+    call: u32,
+    at: usize,
+    input: &[u8],
+    numbers: &[u32],
+) -> Verdict {
+    let filling = number_at(s, behind_numbers(s, arguments, FILLING));
+    let value = filling.value;
+    let byte = byte_of(value);
+    let mut rules = [value; NUMBERS];
+    let mut tokens = [value; NUMBERS];
+    let mut brackets = [byte; LONGEST];
+    let mut texts = [byte; TEXTS];
+    let mut compiled = [byte; COMPILED];
+    let r = lent(s, arguments, RULES_LENT, NUMBERS);
+    let t = lent(s, arguments, TOKENS_LENT, NUMBERS);
+    let b = lent(s, arguments, BRACKETS_LENT, LONGEST);
+    let n = lent(s, arguments, TEXTS_LENT, TEXTS);
+    let c = lent(s, arguments, BYTES_LENT, COMPILED);
+    judged(
+        s,
+        arguments,
+        call,
+        at,
+        input,
+        numbers,
+        &mut rules[..r],
+        &mut tokens[..t],
+        &mut brackets[..b],
+        &mut texts[..n],
+        &mut compiled[..c],
+    )
+}
+
+// Replays the vector whose call is known: a list of arguments, the bytes and the numbers that are lent to read, what is expected.
+fn replay_vector(s: &[u8], at: usize, call: u32) -> Verdict {
+    let mut input = [0u8; INPUT];
+    let mut numbers = [0u32; INPUT_NUMBERS];
+    let count = number_at(s, at);
+    let bytes = put_bytes(s, behind_numbers(s, count.next, count.value), &mut input);
+    let rows = put_numbers(s, bytes.next, &mut numbers);
+    lend(s, count.next, call, rows.next, &input, &numbers)
+}
+
+// ---- all of them
+
+// Replays what lies at `at`: a vector, or the end of a list.
+fn replay(s: &[u8], at: usize, tally: Tally) -> Replayed {
+    let text = text_at(s, at);
+    let words = part_of(s, text.start, text.size);
+    let call = number_at(s, text.next);
+    if call.value == END {
+        print_tally(words, tally);
+        return Replayed {
+            next: call.next,
+            tally: nothing(),
+        };
+    }
+    let verdict = replay_vector(s, call.next, call.value);
+    Replayed {
+        next: verdict.next,
+        tally: tallied(tally, call.value, words, verdict.same),
+    }
+}
+
+fn started(held: usize) -> Step {
+    Step {
+        more: true,
+        at: 0,
+        held,
+        tally: nothing(),
+    }
+}
+
+fn ended() -> Step {
+    Step {
+        more: false,
+        at: 0,
+        held: 0,
+        tally: nothing(),
+    }
+}
+
+// How many vectors there may still be.
+fn left_of(left: u32, more: bool) -> u32
+    requires { ⌜ 0 < left ⌝ }
+    ensures { λ r. ⌜ r < left ⌝ }
+{
+    if more {
+        return left - 1;
+    }
+    0
+}
+
+// Moves the window on, and replays what it shows first.
+fn replay_next(window: &mut [u8], from: Step) -> Step {
+    let place = move_on(window, from.at, from.held);
+    let held = place.held;
+    if place.at >= held {
+        return ended();
+    }
+    let replayed = replay(part_of(window, 0, held), place.at, from.tally);
+    let tally = replayed.tally;
+    Step {
+        more: true,
+        at: replayed.next,
+        held,
+        tally,
+    }
+}
+
+// Replays all of standard input, one vector behind the other.
+fn replay_all(window: &mut [u8]) {
+    let mut now = started(refill(window, 0, 0));
+    let mut left = MOST_VECTORS;
+    while left > 0 {
+        now = replay_next(window, now);
+        left = left_of(left, now.more);
+    }
+}
+
+fn main() {
+    let mut window = [0u8; WINDOW];
+    replay_all(&mut window);
+}

@@ -1,0 +1,101 @@
+// Calls with sheets and attributes. Each answers the numbers of its result, in the order of its struct.
+use crate::calls::FIRST;
+use crate::calls::RESULTS;
+use crate::calls::SECOND;
+use crate::calls::THIRD;
+use crate::stream::argument;
+use comparison::attributes::comparison_color_attribute;
+use comparison::attributes::comparison_style_attribute;
+use engine::compile::hicsolmab_compile;
+use engine::sheet::hicsolmab_read_sheet;
+use std::num::wrapping_add_usize;
+use syntax::texts::part_of;
+
+pub fn ask_sheet(
+    s: &[u8],
+    arguments: usize,
+    input: &[u8],
+    rules: &mut [u32],
+    tokens: &mut [u32],
+    brackets: &mut [u8],
+    texts: &mut [u8],
+) -> [usize; RESULTS] {
+    let sheet = part_of(input, 0, argument(s, arguments, FIRST));
+    let came = hicsolmab_read_sheet(sheet, rules, tokens, brackets, texts);
+    [
+        came.refusal as usize,
+        came.place,
+        came.count,
+        came.stop,
+        came.numbers,
+        came.bytes,
+    ]
+}
+
+// Compiles three sheets, which lie one behind the other.
+pub fn ask_compile(
+    s: &[u8],
+    arguments: usize,
+    input: &[u8],
+    rules: &mut [u32],
+    tokens: &mut [u32],
+    brackets: &mut [u8],
+    texts: &mut [u8],
+    compiled: &mut [u8],
+) -> [usize; RESULTS] {
+    let agent = argument(s, arguments, FIRST);
+    let user = argument(s, arguments, SECOND);
+    let author = argument(s, arguments, THIRD);
+    let came = hicsolmab_compile(
+        part_of(input, 0, agent),
+        part_of(input, agent, user),
+        part_of(input, wrapping_add_usize(agent, user), author),
+        compiled,
+        texts,
+        rules,
+        tokens,
+        brackets,
+    );
+    [
+        came.refusal as usize,
+        came.text,
+        came.place,
+        came.bytes,
+        came.texts,
+        0,
+    ]
+}
+
+pub fn ask_style(
+    s: &[u8],
+    arguments: usize,
+    input: &[u8],
+    rules: &mut [u32],
+    tokens: &mut [u32],
+    brackets: &mut [u8],
+    texts: &mut [u8],
+) -> [usize; RESULTS] {
+    let value = part_of(input, 0, argument(s, arguments, FIRST));
+    let came = comparison_style_attribute(value, rules, tokens, brackets, texts);
+    [came.refusal as usize, came.count, came.bytes, 0, 0, 0]
+}
+
+pub fn ask_colour(
+    s: &[u8],
+    arguments: usize,
+    input: &[u8],
+    tokens: &mut [u32],
+    brackets: &mut [u8],
+    texts: &mut [u8],
+) -> [usize; RESULTS] {
+    let value = part_of(input, 0, argument(s, arguments, FIRST));
+    let came = comparison_color_attribute(value, tokens, brackets, texts);
+    [
+        came.refusal as usize,
+        came.found as usize,
+        came.colour as usize,
+        0,
+        0,
+        0,
+    ]
+}

@@ -1,0 +1,476 @@
+#!/usr/bin/env python3
+"""Writes the vectors that crates/replay replays: crates/replay/stdin, and the counts that it prints, crates/replay/stdout.
+
+    vectors.py join [FOLDER]    from cases/*.txt here and html2text's answers, which stay as they are in stdin; with FOLDER
+                                they are read from FOLDER/vectors and FOLDER/compile_vectors
+    vectors.py split FOLDER     writes html2text's answers in stdin to those two files, for `compare replay`
+
+README.md says how all of these are written."""
+import os
+import re
+import sys
+
+HERE = os.path.dirname(os.path.abspath(__file__))
+CASES = os.path.join(HERE, "cases")
+REPLAY = os.path.join(HERE, "..", "..", "crates", "replay")
+LISTS = ["sheets", "compiled sheets", "compiled bytes", "pages", "attributes", "classes"]
+RECORDED = {"vectors": "html2text's sheets, attributes and selectors", "compile_vectors": "html2text's compiled sheets"}
+
+# The calls, as crates/replay/src/calls.rt has them.
+CALLS = {"read_sheet": 1, "compile": 2, "check_page": 3, "check_bytes": 7, "style_attribute": 8, "color_attribute": 9, "matches": 10, "rows": 11, "selector": 12}
+BUFFERS = ["rules", "tokens", "brackets", "texts", "bytes"]
+NUMBER_BUFFERS = ("rules", "tokens")
+RESULTS = 6
+ANY = None
+NODE_WIDTH, COMPONENTS_OF_FIRST_RULE = 6, 5
+PANIC, NO_ELEMENT, NO_SHEET, NO_ROOM = 4, 8, 9, 10
+FULL = 255
+ROOM = 4096
+MORE = 100  # 'plenty' is what so many bytes more would need
+
+
+# ---- bytes of vectors
+
+def number(n):
+    groups = [n & 127]
+    while n > 127:
+        n >>= 7
+        groups.append((n & 127) | 128)
+    return bytes(reversed(groups))
+
+
+def text(t):
+    return number(len(t)) + t
+
+
+def numbers(xs):
+    return number(len(xs)) + b"".join(map(number, xs))
+
+
+def content(parts):
+    """Parts of bytes or of numbers, each (total, pattern)."""
+    write = lambda p: text(p) if isinstance(p, bytes) else numbers(p)
+    return number(len(parts)) + b"".join(number(total) + write(pattern) for total, pattern in parts)
+
+
+def whole(pattern):
+    return [(len(pattern), pattern)] if pattern else []
+
+
+def expected(value):
+    return number(0 if value is ANY else value + 1)
+
+
+class Vector:
+    """A call; `after` has for a buffer its parts and what stands beyond them (ANY: anything), 'zero' or 'unchanged'."""
+
+    def __init__(self, words, call, lent, filling, arguments, read=(), rows=(), results=(), after=None):
+        self.words, self.call, self.lent, self.filling, self.arguments = words, call, lent, filling, list(arguments)
+        self.read, self.rows, self.results, self.after = list(read), list(rows), list(results), after or {}
+
+    def left(self, name):
+        after = self.after.get(name, self.after.get("all", "unchanged"))
+        if after == "zero":
+            return [], 0
+        return ([], self.filling) if after == "unchanged" else after
+
+    def bytes(self):
+        lengths = [self.lent.get(name, 0) for name in BUFFERS]
+        results = self.results + [0] * (RESULTS - len(self.results))
+        out = text(self.words.encode()) + number(CALLS[self.call]) + numbers([self.filling] + lengths + self.arguments)
+        out += content(self.read) + content(self.rows) + b"".join(map(expected, results))
+        return out + b"".join(content(parts) + expected(beyond) for parts, beyond in map(self.left, BUFFERS))
+
+
+def list_bytes(words, vectors):
+    return b"".join(vectors) + text(words.encode()) + number(0)
+
+
+class Reader:
+    """Numbers, texts and lists; `highest` group first as in vectors, or last as in the compiled sheet."""
+
+    def __init__(self, data, highest=True):
+        self.data, self.at, self.highest = data, 0, highest
+
+    def number(self):
+        groups = []
+        while True:
+            b = self.data[self.at]
+            self.at += 1
+            groups.append(b & 127)
+            if b < 128:
+                break
+        value = 0
+        for group in groups if self.highest else reversed(groups):
+            value = value << 7 | group
+        return value
+
+    def text(self):
+        n = self.number()
+        self.at += n
+        return self.data[self.at - n:self.at]
+
+    def list(self):
+        return [self.number() for _ in range(self.number())]
+
+    def content(self, read):
+        return [(self.number(), read()) for _ in range(self.number())]
+
+    def vector(self):
+        """Words, call, and for a call its arguments, what is read, results, and what is left."""
+        words, call = self.text().decode(), self.number()
+        if call == 0:
+            return words, call, None
+        parts = {"arguments": self.list(), "read": self.content(self.text), "rows": self.content(self.list)}
+        parts["results"] = [self.number() - 1 for _ in range(RESULTS)]
+        for name in BUFFERS:
+            parts[name] = self.content(self.list if name in NUMBER_BUFFERS else self.text)
+            self.number()
+        return words, call, parts
+
+    def lists(self):
+        """The words of each list, and the bytes of its vectors."""
+        found, vectors = {}, []
+        while self.at < len(self.data):
+            start = self.at
+            words, call, _ = self.vector()
+            if call == 0:
+                found[words], vectors = vectors, []
+            else:
+                vectors.append(self.data[start:self.at])
+        return found
+
+
+# ---- lengths and what a refusal leaves
+
+def least(n):
+    return {"rules": 8 * n + 64, "tokens": 8 * n + 64, "brackets": n, "texts": 2 * n + 12}
+
+
+def left_by(refusal):
+    return {"all": "zero" if refusal in (PANIC, NO_ROOM) else "unchanged"}
+
+
+# ---- html2text's answers
+
+def recorded_sheet(r):
+    sheet, refusal = r.text(), r.number()
+    results, after = [refusal, ANY, ANY, ANY, ANY, ANY], left_by(refusal)
+    if refusal == 0:
+        count, stop, rows, texts = r.number(), r.number(), r.list(), r.text()
+        results = [0, 0, count, stop, len(rows), len(texts)]
+        after = {"all": "zero", "rules": (whole(rows), 0), "texts": (whole(texts), 0), "bytes": "unchanged"}
+    return Vector("", "read_sheet", least(len(sheet)), FULL, [len(sheet)], whole(sheet), [], results, after)
+
+
+def recorded_style(r):
+    value, rows, texts = r.text(), r.list(), r.text()
+    after = {"tokens": (whole(rows), 0), "texts": (whole(texts), 0)}
+    return Vector("", "style_attribute", least(len(value)), 0, [len(value)], whole(value), [], [0, len(rows) // 4, len(texts)], after)
+
+
+def recorded_colour(r):
+    value, found, colour = r.text(), r.number(), r.number()
+    return Vector("", "color_attribute", least(len(value)), 0, [len(value)], whole(value), [], [0, found, colour])
+
+
+def recorded_selector(r):
+    count, components, names, nodes, attributes, page = r.number(), r.list(), r.text(), r.list(), r.list(), r.text()
+    counts, matches = r.list(), r.list()
+    answers = []
+    for row, match in enumerate(matches):
+        answers += [0, match] + counts if nodes[row * NODE_WIDTH] == 1 else [NO_ELEMENT, 0, 0, 0, 0]
+    # behind the row, which is not asked here, the counts, for a page without an element tells none
+    arguments = [len(nodes), len(attributes), len(page), len(components), len(names), count, 0] + counts
+    after = {"rules": (whole(answers), ANY)}
+    return Vector("", "rows", {"rules": len(answers)}, 0, arguments, whole(page + names), whole(nodes + attributes + components), [len(matches)], after)
+
+
+def recorded_compile(r):
+    sheets, refusal = [r.text() for _ in range(3)], r.number()
+    lengths = [len(s) for s in sheets]
+    results, after = [refusal, ANY, ANY, ANY, ANY], left_by(refusal)
+    if refusal == 0:
+        compiled = r.text()
+        results = [0, 0, 0, len(compiled), ANY]
+        after = {"all": "zero", "texts": ([], ANY), "bytes": (whole(compiled), 0)}
+    lent = dict(least(sum(lengths)), bytes=ROOM)
+    return Vector("", "compile", lent, FULL, lengths, whole(b"".join(sheets)), [], results, after)
+
+
+RECORDED_KINDS = {1: recorded_sheet, 2: recorded_style, 3: recorded_colour, 4: recorded_selector, 5: recorded_compile}
+
+
+def recorded(path):
+    r = Reader(open(path, "rb").read(), highest=False)
+    vectors = [RECORDED_KINDS[r.number()](r).bytes() for _ in range(r.number())]
+    assert r.at == len(r.data), path + " goes on behind its last vector"
+    return vectors
+
+
+# ---- html2text's answers back from vectors
+
+def low_number(n):
+    groups = []
+    while n > 127:
+        groups.append((n & 127) | 128)
+        n >>= 7
+    return bytes(groups + [n])
+
+
+def low_text(t):
+    return low_number(len(t)) + t
+
+
+def low_list(xs):
+    return low_number(len(xs)) + b"".join(map(low_number, xs))
+
+
+def joined(parts, start):
+    """Parts of which each is its pattern once."""
+    for _, pattern in parts:
+        start = start + pattern
+    return start
+
+
+def unrecorded(data):
+    _, call, v = Reader(data).vector()
+    own, read, rows, results = v["arguments"][6:], joined(v["read"], b""), joined(v["rows"], []), v["results"]
+    rules, tokens = joined(v["rules"], []), joined(v["tokens"], [])
+    texts, compiled = joined(v["texts"], b""), joined(v["bytes"], b"")
+    if call == CALLS["read_sheet"]:
+        question = low_number(1) + low_text(read) + low_number(results[0])
+        return question if results[0] else question + low_number(results[2]) + low_number(results[3]) + low_list(rules) + low_text(texts)
+    if call == CALLS["style_attribute"]:
+        return low_number(2) + low_text(read) + low_list(tokens) + low_text(texts)
+    if call == CALLS["color_attribute"]:
+        return low_number(3) + low_text(read) + low_number(results[1]) + low_number(results[2])
+    if call == CALLS["compile"]:
+        a, b = own[0], own[0] + own[1]
+        sheets = low_text(read[:a]) + low_text(read[a:b]) + low_text(read[b:])
+        return low_number(5) + sheets + low_number(results[0]) + (b"" if results[0] else low_text(compiled))
+    nodes, attributes, page, _, _, count, _, *counts = own
+    answers = [rules[i:i + 5] for i in range(0, len(rules), 5)]
+    question = low_number(count) + low_list(rows[nodes + attributes:]) + low_text(read[page:])
+    on_page = low_list(rows[:nodes]) + low_list(rows[nodes:nodes + attributes]) + low_text(read[:page])
+    return low_number(4) + question + on_page + low_list(counts) + low_list([a[1] for a in answers])
+
+
+# ---- cases
+
+class Field:
+    """What stands behind a word, up to the next word of the call."""
+
+    def __init__(self, value):
+        self.value = value
+
+    def texts(self):
+        """`"p{}"*3 + "x"` as parts; a text in quotes with the escapes of Python's bytes, again and again with *TIMES or up to <BYTES."""
+        parts = []
+        for piece in re.finditer(r'"((?:[^"\\]|\\.)*)"(?:\*(\d+)|<(\d+))?', self.value):
+            pattern = piece[1].encode().decode("unicode_escape").encode("latin-1") if "\\" in piece[1] else piece[1].encode()
+            total = int(piece[3]) if piece[3] else len(pattern) * int(piece[2] or 1)
+            if total:
+                parts.append((total, pattern))
+        return parts
+
+    def hexadecimal(self):
+        """`03 (01 [02 03]*5)*4` as parts; what is in square brackets is written out."""
+        parts = []
+        value = re.sub(r"\[([0-9a-f ]*)\]\*(\d+)", lambda m: " ".join([m[1]] * int(m[2])), self.value)
+        for piece in re.finditer(r"\(([0-9a-f ]*)\)\*(\d+)|([0-9a-f][0-9a-f ]*)", value):
+            pattern = bytes.fromhex(piece[1] or piece[3])
+            parts.append((len(pattern) * int(piece[2] or 1), pattern))
+        return parts
+
+    def rows(self):
+        """Rows of a digit for each number, each once or *TIMES; chain:DEPTH:KIND goes down to a depth, with a row of the kind there."""
+        parts = []
+        for row in self.value.split():
+            if row.startswith("chain:"):
+                depth, kind = map(int, row.split(":")[1:])
+                below = [n for d in range(1, depth + 1) for n in (kind if d == depth else 1, d - 1, 0, 0, 0, 0)]
+                parts += whole([0] * NODE_WIDTH + below)
+                continue
+            digits, _, times = row.partition("*")
+            parts.append((len(digits) * int(times or 1), [int(d) for d in digits]))
+        return parts
+
+    def lengths(self, n):
+        """`least` or `plenty` for n bytes of text, and then buffers with a length of their own."""
+        first, *others = self.value.split()
+        lent = {"least": least(n), "plenty": least(n + MORE), "nothing": {}}[first]
+        return dict(lent, **{name: int(length) for name, length in (o.split("=") for o in others)})
+
+
+def fields(line, words):
+    """The words of a call with what stands behind each, texts in quotes kept together."""
+    pattern = r'"(?:[^"\\]|\\.)*"|[^\s"]+\s*|\s+'
+    found, word = {}, None
+    for token in re.findall(pattern, line):
+        if token.strip() in words:
+            word = token.strip()
+            found[word] = ""
+        elif word:
+            found[word] += token
+        elif token.strip():
+            sys.exit("no such word: " + token + " in " + line)
+    return {word: Field(value.strip()) for word, value in found.items()}
+
+
+WORDS = {"sheet", "agent", "user", "author", "lent", "filled", "nodes", "attributes", "text", "selector", "bytes", "value",
+         "refused", "in", "at", "rules", "stop", "numbers", "texts", "matches", "misses", "compiled", "accepted", "styles", "colour", "none"}
+
+
+def total(parts):
+    return sum(t for t, _ in parts)
+
+
+def refusal(f):
+    """Number, text and place."""
+    if "refused" not in f:
+        return 0, 0, 0
+    at = f["at"].value if "at" in f else "0"
+    return int(f["refused"].value), int(f["in"].value) if "in" in f else 0, ANY if at == "any" else int(at)
+
+
+def lent_to(f, n):
+    return f.get("lent", Field("plenty")).lengths(n)
+
+
+def filling(f):
+    return int(f["filled"].value) if "filled" in f else FULL
+
+
+def sheet_case(words, f):
+    sheet = f["sheet"].texts()
+    n = total(sheet)
+    number_, _, place = refusal(f)
+    if number_:
+        return Vector(words, "read_sheet", lent_to(f, n), filling(f), [n], sheet, [], [number_, place], left_by(number_))
+    taken, names = int(f["numbers"].value), f["texts"].texts() if "texts" in f else []
+    after = {"all": "zero", "rules": ([(taken, [])] if taken else [], 0), "texts": (names, 0), "bytes": "unchanged"}
+    results = [0, 0, int(f["rules"].value), int(f["stop"].value), taken, total(names)]
+    return Vector(words, "read_sheet", lent_to(f, n), filling(f), [n], sheet, [], results, after)
+
+
+def compile_case(words, f):
+    sheets = [f[word].texts() if word in f else [] for word in ("agent", "user", "author")]
+    lengths = [total(s) for s in sheets]
+    lent = {"bytes": 80000}
+    lent.update(lent_to(f, sum(lengths)))
+    number_, which, place = refusal(f)
+    results, after = [number_, which, place], left_by(number_)
+    if number_ == 0:
+        compiled, names = f["compiled"].hexadecimal(), f["texts"].texts() if "texts" in f else []
+        results = [0, 0, 0, total(compiled), total(names)]
+        after = {"all": "zero", "bytes": (compiled, 0), "texts": (names, 0)}
+    return Vector(words, "compile", lent, filling(f), lengths, sum(sheets, []), [], results, after)
+
+
+def style_case(words, f):
+    """Of the rows no more is said than how many they are. The call leaves what it does not use, so the buffers are filled with zeros."""
+    value = f["value"].texts()
+    number_, names = refusal(f)[0], f["texts"].texts() if "texts" in f else []
+    count = int(f["styles"].value) if "styles" in f else 0
+    after = {"tokens": ([(4 * count, [])] if count else [], 0), "texts": (names, 0)}
+    return Vector(words, "style_attribute", lent_to(f, total(value)), 0, [total(value)], value, [], [number_, count, total(names)], after)
+
+
+def colour_case(words, f):
+    value = f["value"].texts()
+    found = int("colour" in f)
+    results = [refusal(f)[0], found, int(f["colour"].value, 16) if found else 0]
+    return Vector(words, "color_attribute", lent_to(f, total(value)), 0, [total(value)], value, [], results)
+
+
+def page_of(f):
+    nodes = f["nodes"].rows()
+    attributes = f["attributes"].rows() if "attributes" in f else []
+    page = f["text"].texts() if "text" in f else []
+    return nodes, attributes, page
+
+
+def page_case(words, f):
+    nodes, attributes, page = page_of(f)
+    number_, _, place = refusal(f)
+    return Vector(words, "check_page", {}, 0, map(total, (nodes, attributes, page)), page, nodes + attributes, [number_, place])
+
+
+def bytes_case(words, f):
+    data = f["bytes"].hexadecimal()
+    number_, _, place = refusal(f)
+    return Vector(words, "check_bytes", {}, 0, [total(data)], data, [], [number_, place])
+
+
+def class_case(words, f):
+    """The selector is read as that of a rule without declarations; the page is an element p with a class."""
+    value, selector = f["value"].texts(), f["selector"].texts()
+    sheet = selector + [(2, b"{}")]
+    page = [(6, b"pclass")] + value
+    nodes, attributes = whole([0] * 6 + [1, 0, 0, 1, 0, 1]), whole([1, 5, 6, total(value)])
+    arguments = [total(nodes), total(attributes), total(page), COMPONENTS_OF_FIRST_RULE, total(sheet), 1, 1]
+    left = {"all": ([], ANY)}
+    return Vector(words, "selector", least(total(sheet)), FULL, arguments, page + sheet, nodes + attributes, [0, 0, int("matches" in f), 0, 1, 0], left)
+
+
+def prefixes_case(words, f):
+    """Every proper prefix of the bytes is no sheet, whatever the place."""
+    data = b"".join(pattern for _, pattern in f["bytes"].hexadecimal())
+    name = words + ", its first bytes: "
+    return [Vector(name + str(n), "check_bytes", {}, 0, [n], whole(data[:n]), [], [NO_SHEET, ANY]) for n in range(len(data))]
+
+
+KINDS = {"read_sheet": sheet_case, "compile": compile_case, "check_page": page_case, "check_bytes": bytes_case, "prefixes": prefixes_case,
+         "style_attribute": style_case, "color_attribute": colour_case, "class": class_case}
+
+
+def cases(name):
+    """The lines of a file: name | call | inputs | what is expected. A line that starts with # says something to the reader."""
+    vectors = []
+    for line in open(os.path.join(CASES, name.replace(" ", "_") + ".txt"), encoding="utf-8"):
+        if line.startswith("#") or not line.strip():
+            continue
+        words, call, rest = line.rstrip("\n").split(" | ", 2)
+        inputs, _, result = rest.rpartition(" | ")
+        made = KINDS[call](words, fields(inputs + " " + result, WORDS))
+        vectors += [v.bytes() for v in (made if isinstance(made, list) else [made])]
+    return vectors
+
+
+# ---- files
+
+def stdin_lists():
+    with open(os.path.join(REPLAY, "stdin"), "rb") as file:
+        return Reader(file.read()).lists()
+
+
+def join(folder):
+    lists = {name: cases(name) for name in LISTS}
+    kept = stdin_lists() if folder is None else None
+    for file, words in RECORDED.items():
+        lists[words] = recorded(os.path.join(folder, file)) if folder else kept[words]
+    with open(os.path.join(REPLAY, "stdin"), "wb") as file:
+        file.write(b"".join(list_bytes(words, vectors) for words, vectors in lists.items()))
+    with open(os.path.join(REPLAY, "stdout"), "w", encoding="utf-8") as file:
+        file.writelines(f"{words}: {len(vectors)} vectors, 0 differ\n" for words, vectors in lists.items())
+
+
+def split(folder):
+    lists = stdin_lists()
+    for file, words in RECORDED.items():
+        with open(os.path.join(folder, file), "wb") as out:
+            out.write(low_number(len(lists[words])) + b"".join(map(unrecorded, lists[words])))
+
+
+def main():
+    if sys.argv[1:2] == ["join"] and len(sys.argv) <= 3:
+        join(sys.argv[2] if len(sys.argv) == 3 else None)
+    elif sys.argv[1:2] == ["split"] and len(sys.argv) == 3:
+        split(sys.argv[2])
+    else:
+        sys.exit(__doc__)
+
+
+if __name__ == "__main__":
+    main()
