@@ -1,4 +1,4 @@
--- The loop of `pass_tests` and the returns of `match_recursively` behind it.
+-- The loop of `pass_tests`, what it answers, and the returns of `match_recursively`.
 use Prim.Native.Nat.{ℕ, _+_, _-_, _≤_, _<_}
 use mathlib.Core.Bool.{Bool, true, false}
 use mathlib.Core.List.{List, [], _∷_}
@@ -11,7 +11,7 @@ use Rattle.page.specs.Rows.{nodeAt}
 use Rattle.matching.specs.Matches.{matches}
 use Rattle.matching.specs.Rows.{componentNumber, componentAt, componentsAt, SimpleAt, Rooted}
 use Rattle.matching.specs.Recursion.{matchRecursively}
-use Rattle.matching.specs.Tests.{EndsInCombinator, TestsLeft, TestsPassed}
+use Rattle.matching.specs.Tests.{EndsInCombinator, CombinatorAt, TestsLeft, TestsPassed}
 use Rattle.matching.specs.declared.matcher.SelectorMatch.{SelectorMatch}
 use Rattle.matching.specs.declared.matcher.SelectorMatch.the-variants.{Matches, FailsLocally, FailsCompletely}
 use Rattle.matching.specs.declared.matcher.Tested.{Tested}
@@ -74,74 +74,93 @@ module _ (store components nodes attributes text : List ℕ) (left row : ℕ) wh
           unfolding TestsPassed
           test-fails h = g .same ∙ one.match-fails store components nodes attributes text n row no-zero rooted k ek no-child no-descendant b eb h
 
--- ---- `match_recursively`, behind the tests that the row passed
-module _ (store components nodes attributes text : List ℕ) (left row : ℕ) (rooted : Rooted nodes row) (r : Tested)
-    (h : TestsPassed store components (pathOf nodes attributes text row) left r) where
+-- ---- what `pass_tests` answered, on the path of a row
+module _ (store components nodes attributes text : List ℕ) (left row : ℕ) (t : Tested)
+    (h : TestsPassed store components (pathOf nodes attributes text row) left t) where
   -- the result of the first l components on the path of a row
-  abbrev ResultOf : ℕ → ℕ → SelectorMatch
-  ResultOf l q = matchRecursively (componentsAt store components l) (pathOf nodes attributes text q)
+  abbrev ResultOn : ℕ → ℕ → SelectorMatch
+  ResultOn l q = matchRecursively (componentsAt store components l) (pathOf nodes attributes text q)
 
   -- a test fails
-  pub failed : r ≡ Failed → FailsLocally ≡ ResultOf left row
+  pub tests-fail : t ≡ Failed → ResultOn left row ≡ FailsLocally
   unfolding TestsPassed
-  failed e = let z : ResultOf left row ≡ FailsLocally = subst (TestsPassed store components (pathOf nodes attributes text row) left) e h in sym z
+  tests-fail e = subst (TestsPassed store components (pathOf nodes attributes text row) left) e h
 
-  module _ {n : ℕ} (e : r ≡ Left n) where
+  module _ {n : ℕ} (e : t ≡ Left n) where
     behind : TestsLeft store components (pathOf nodes attributes text row) left n
     unfolding TestsPassed
     behind = subst (TestsPassed store components (pathOf nodes attributes text row) left) e h
 
-    -- no component is left
-    pub all-passed : n ≡ 0 → Matches ≡ ResultOf left row
-    all-passed z = one.match-end store components nodes attributes text n row z ∙ sym (behind .same)
+    -- components are left: where they fail locally, all do
+    pub left-local : (r : SelectorMatch) → r ≡ ResultOn n row → r ≡ FailsLocally → ResultOn left row ≡ FailsLocally
+    left-local r er y = behind .same ∙ sym er ∙ y
 
-    module _ (some : ¬ (n ≡ 0)) where
-      ends : EndsInCombinator components n
-      ends = ⊎-elim (λ (z : n ≡ 0). absurd (some z)) (λ (k : EndsInCombinator components n). k) (behind .ends)
+    -- their result is that of all
+    pub left-result : (r : SelectorMatch) → r ≡ ResultOn n row → r ≡ ResultOn left row
+    left-result r er = er ∙ sym (behind .same)
 
-      -- a combinator fails on the document
-      pub no-parent : row ≡ 0 → FailsCompletely ≡ ResultOf left row
-      no-parent z =
+    -- not more
+    pub left-fewer : n ≤ left
+    left-fewer = behind .fewer
+
+    -- none is left
+    pub tests-all : n ≡ 0 → ResultOn left row ≡ Matches
+    tests-all z = behind .same ∙ sym (one.match-end store components nodes attributes text n row z)
+
+    -- or a combinator
+    pub left-combinator : ¬ (n ≡ 0) → CombinatorAt components n
+    left-combinator z =
+        record {
+          some = omega arith;
+          ends = ⊎-elim (λ (y : n ≡ 0). absurd (z y)) (λ (k : EndsInCombinator components n). k) (behind .ends);
+        }
+
+-- ---- `match_recursively`
+
+-- the measure falls to the parent, with no more components
+pub falls : (nodes : List ℕ) (n row : ℕ) → Rooted nodes row → ¬ (row ≡ 0) → (p : ℕ) → p ≡ nodeAt nodes row .parent → (m : ℕ) → m ≤ n
+    → (t : ℕ) → n + row ≡ t → m + p < t
+falls nodes n row rooted z p ep m l t et = let b = parent-before nodes row rooted z p ep in omega arith
+
+module _ (store components nodes attributes text : List ℕ) (n row : ℕ) (rooted : Rooted nodes row) (at : CombinatorAt components n) where
+  -- the result of the first l components on the path of a row
+  abbrev ResultOf : ℕ → ℕ → SelectorMatch
+  ResultOf l q = matchRecursively (componentsAt store components l) (pathOf nodes attributes text q)
+
+  no-zero-left : ¬ (n ≡ 0)
+  no-zero-left z = absurd (omega (arith, at .some))
+
+  -- a combinator fails on the document
+  pub no-parent : row ≡ 0 → FailsCompletely ≡ ResultOf n row
+  no-parent z =
+      ⊎-elim
+      (λ k. one.child-of-document store components nodes attributes text n row no-zero-left rooted _ refl k z)
+      (λ k. one.descendant-of-document store components nodes attributes text n row no-zero-left rooted _ refl k z) (at .ends)
+
+  module _ (z : ¬ (row ≡ 0)) (p : ℕ) (ep : p ≡ nodeAt nodes row .parent) where
+    module _ (r : SelectorMatch) (er : r ≡ ResultOf (n - 1) p) where
+      -- the parent matches what is left in front of the combinator
+      pub parent-matches : r ≡ Matches → Matches ≡ ResultOf n row
+      parent-matches y =
           ⊎-elim
-          (λ k. one.child-of-document store components nodes attributes text n row some rooted _ refl k z)
-          (λ k. one.descendant-of-document store components nodes attributes text n row some rooted _ refl k z) ends
-          ∙ sym (behind .same)
+          (λ k. sym y ∙ one.child-of-parent store components nodes attributes text n row no-zero-left rooted _ refl k z p ep r er)
+          (λ k. one.descendant-matches store components nodes attributes text n row no-zero-left rooted _ refl k z p ep r er y) (at .ends)
 
-      module _ (z : ¬ (row ≡ 0)) (p : ℕ) (ep : p ≡ nodeAt nodes row .parent) where
-        -- the measure falls, with what is left behind the combinator and with all of it
-        pub falls-next : (t : ℕ) → left + row ≡ t → (n - 1) + p < t
-        falls-next t et = let l = parent-before nodes row rooted z p ep in omega (arith, behind .fewer)
+      -- neither the parent nor a row above does
+      pub none-matches : r ≡ FailsCompletely → FailsCompletely ≡ ResultOf n row
+      none-matches y =
+          ⊎-elim
+          (λ k. sym y ∙ one.child-of-parent store components nodes attributes text n row no-zero-left rooted _ refl k z p ep r er)
+          (λ k. one.descendant-fails store components nodes attributes text n row no-zero-left rooted _ refl k z p ep r er y) (at .ends)
 
-        pub falls-again : (t : ℕ) → left + row ≡ t → n + p < t
-        falls-again t et = let l = parent-before nodes row rooted z p ep in omega (arith, behind .fewer)
+      module _ (y : r ≡ FailsLocally) (k : ℕ) (ek : k ≡ componentNumber components (n - 1) componentKindAt) where
+        -- a child combinator asks no other row
+        pub parent-alone : k ≡ childKind → FailsLocally ≡ ResultOf n row
+        parent-alone c = sym y ∙ one.child-of-parent store components nodes attributes text n row no-zero-left rooted k ek c z p ep r er
 
-        module _ (m : SelectorMatch) (em : m ≡ ResultOf (n - 1) p) where
-          -- the parent matches what is left behind the combinator
-          pub parent-matches : m ≡ Matches → Matches ≡ ResultOf left row
-          parent-matches y =
-              ⊎-elim
-              (λ k. sym y ∙ one.child-of-parent store components nodes attributes text n row some rooted _ refl k z p ep m em)
-              (λ k. one.descendant-matches store components nodes attributes text n row some rooted _ refl k z p ep m em y) ends
-              ∙ sym (behind .same)
-
-          -- neither the parent nor a row above does
-          pub none-matches : m ≡ FailsCompletely → FailsCompletely ≡ ResultOf left row
-          none-matches y =
-              ⊎-elim
-              (λ k. sym y ∙ one.child-of-parent store components nodes attributes text n row some rooted _ refl k z p ep m em)
-              (λ k. one.descendant-fails store components nodes attributes text n row some rooted _ refl k z p ep m em y) ends
-              ∙ sym (behind .same)
-
-          module _ (y : m ≡ FailsLocally) (k : ℕ) (ek : k ≡ componentNumber components (n - 1) componentKindAt) where
-            -- a child step asks no other
-            pub parent-alone : k ≡ childKind → FailsLocally ≡ ResultOf left row
-            parent-alone c =
-                sym y ∙ one.child-of-parent store components nodes attributes text n row some rooted k ek c z p ep m em ∙ sym (behind .same)
-
-            -- a descendant step asks the parent's own ancestors
-            pub ancestors-asked : ¬ (k ≡ childKind) → (s : SelectorMatch) → s ≡ ResultOf n p → s ≡ ResultOf left row
-            ancestors-asked c s es =
-                ⊎-elim
-                (λ (j : componentNumber components (n - 1) componentKindAt ≡ childKind). absurd (c (ek ∙ j)))
-                (λ (j : componentNumber components (n - 1) componentKindAt ≡ descendantKind). one.descendant-of-ancestor store components nodes attributes text n row some rooted k ek (ek ∙ j) z p ep m em y s es) ends
-                ∙ sym (behind .same)
+        -- a descendant combinator asks the parent's own ancestors
+        pub ancestors-asked : ¬ (k ≡ childKind) → (s : SelectorMatch) → s ≡ ResultOf n p → s ≡ ResultOf n row
+        ancestors-asked c s es =
+            ⊎-elim
+            (λ (j : componentNumber components (n - 1) componentKindAt ≡ childKind). absurd (c (ek ∙ j)))
+            (λ (j : componentNumber components (n - 1) componentKindAt ≡ descendantKind). one.descendant-of-ancestor store components nodes attributes text n row no-zero-left rooted k ek (ek ∙ j) z p ep r er y s es) (at .ends)

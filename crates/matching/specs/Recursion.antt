@@ -67,7 +67,7 @@ unfoldable pub matchRecursively : List Component → Path → SelectorMatch
 matchRecursively [] p = Matches
 matchRecursively (c ∷ cs) p = resultStep c (matchRecursively cs) p
 
--- ---- the calls that it takes, each of which asks one row for the simple selectors up to a combinator
+-- ---- the calls that it takes: those of `match_recursively`, and those of `pass_tests` that none of them follows
 
 -- the call itself, and the parent's
 unfoldable pub callsOnParent : (Path → ℕ) → Path → ℕ
