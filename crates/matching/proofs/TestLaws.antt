@@ -17,7 +17,7 @@ use Rattle.matching.specs.declared.matcher.SelectorMatch.the-variants.{M
 use Rattle.matching.specs.declared.matcher.Tested.{Tested}
 use Rattle.matching.specs.declared.matcher.Tested.the-variants.{Left, Failed}
 use Rattle.matching.proofs.MatchLaws as one
-use Rattle.matching.proofs.PathLaws.{parent-before}
+use Rattle.matching.proofs.PathLaws.{parent-rooted, parent-before}
 
 -- ---- `pass_tests`: with n components left, their result is that of all
 module _ (store components nodes attributes text : List ℕ) (left row : ℕ) where
@@ -117,10 +117,22 @@ module _ (store components nodes attributes text : List ℕ) (left row : ℕ) (t
 
 -- ---- `match_recursively`
 
--- the measure falls to the parent, with no more components
-pub falls : (nodes : List ℕ) (n row : ℕ) → Rooted nodes row → ¬ (row ≡ 0) → (p : ℕ) → p ≡ nodeAt nodes row .parent → (m : ℕ) → m ≤ n
-    → (t : ℕ) → n + row ≡ t → m + p < t
-falls nodes n row rooted z p ep m l t et = let b = parent-before nodes row rooted z p ep in omega arith
+-- the loop stands at a row above, on which the components have the result that they have on the row
+pub record Climbing (store components nodes attributes text : List ℕ) (n row above : ℕ) : Type 0 where
+  pub rooted : Rooted nodes above
+  pub not-below : above ≤ row
+  pub same :
+      matchRecursively (componentsAt store components n) (pathOf nodes attributes text row)
+      ≡ matchRecursively (componentsAt store components n) (pathOf nodes attributes text above)
+
+-- at the row itself
+pub climb-begin : (store components nodes attributes text : List ℕ) (n row : ℕ) → Rooted nodes row → Climbing store components nodes attributes text n row row
+climb-begin store components nodes attributes text n row r = record { rooted = r; not-below = omega arith; same = refl }
+
+-- the measure falls to the parent of such a row, with no more components
+pub falls : (nodes : List ℕ) (n row above : ℕ) → Rooted nodes above → above ≤ row → ¬ (above ≡ 0) → (p : ℕ) → p ≡ nodeAt nodes above .parent → (m : ℕ)
+    → m ≤ n → (t : ℕ) → n + row ≡ t → m + p < t
+falls nodes n row above rooted h z p ep m l t et = let b = parent-before nodes above rooted z p ep in omega arith
 
 module _ (store components nodes attributes text : List ℕ) (n row : ℕ) (rooted : Rooted nodes row) (at : CombinatorAt components n) where
   -- the result of the first l components on the path of a row
@@ -164,3 +176,16 @@ module _ (store components nodes attributes text : List ℕ) (n row : ℕ) (root
             ⊎-elim
             (λ (j : componentNumber components (n - 1) componentKindAt ≡ childKind). absurd (c (ek ∙ j)))
             (λ (j : componentNumber components (n - 1) componentKindAt ≡ descendantKind). one.descendant-of-ancestor store components nodes attributes text n row no-zero-left rooted k ek (ek ∙ j) z p ep r er y s es) (at .ends)
+
+-- a step of the climb, where the parent fails locally
+pub climb-on : (store components nodes attributes text : List ℕ) (n row above : ℕ) → CombinatorAt components n
+    → Climbing store components nodes attributes text n row above → ¬ (above ≡ 0) → (p : ℕ) → p ≡ nodeAt nodes above .parent
+    → FailsLocally ≡ matchRecursively (componentsAt store components (n - 1)) (pathOf nodes attributes text p)
+    → (k : ℕ) → k ≡ componentNumber components (n - 1) componentKindAt → ¬ (k ≡ childKind) → Climbing store components nodes attributes text n row p
+climb-on store components nodes attributes text n row above at c z p ep f k ek d =
+    let b = parent-before nodes above (c .rooted) z p ep in
+    record {
+      rooted = parent-rooted nodes above (c .rooted) z p ep;
+      not-below = omega (arith, c .not-below);
+      same = c .same ∙ sym (ancestors-asked store components nodes attributes text n above (c .rooted) at z p ep FailsLocally f refl k ek d _ refl);
+    }

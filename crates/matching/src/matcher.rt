@@ -15,7 +15,6 @@ use page::rows::attribute_count;
 use page::rows::first_attribute;
 use page::rows::kind_of;
 use page::rows::name_of;
-use page::rows::node_count;
 use page::rows::parent_of;
 use syntax::rows::CHILD;
 use syntax::rows::DESCENDANT;
@@ -40,9 +39,9 @@ fn place_of(nodes: &[u32], row: usize) -> usize
     ensures { λ r. ⌜ r ≡ placeOf (now (nodes .entry)) row ⌝ }
 {
     let parent = parent_of(nodes, row);
-    if row < node_count(nodes) {
-        if parent < row {
-            let behind = (parent + 1) * NODE_WIDTH;
+    if parent < row {
+        let behind = (parent + 1) * NODE_WIDTH;
+        if behind <= nodes.len() {
             return element_children(&nodes[behind..], parent, row - parent);
         }
     }
@@ -178,27 +177,27 @@ fn match_recursively(
     requires { ⌜ Rooted (now nodes) row ⌝ }
     ensures { λ r. ⌜ r ≡ matchRecursively (componentsAt (now (store .entry)) (now (components .entry)) n) (pathOf (now (nodes .entry)) (now (attributes .entry)) (now (text .entry)) row) ⌝ }
 {
-    if row == 0 {
-        return SelectorMatch::FailsCompletely;
-    }
     let next = n - 1;
-    let parent = parent_of(nodes, row);
-    let tested = pass_tests(components, store, next, nodes, attributes, text, parent);
-    if let Tested::Left(m) = tested {
-        if m == 0 {
-            return SelectorMatch::Matches;
+    let mut above = row;
+    while above != 0 {
+        above = parent_of(nodes, above);
+        let tested = pass_tests(components, store, next, nodes, attributes, text, above);
+        if let Tested::Left(m) = tested {
+            if m == 0 {
+                return SelectorMatch::Matches;
+            }
+            let result = match_recursively(components, store, m, nodes, attributes, text, above);
+            match result {
+                SelectorMatch::Matches => return SelectorMatch::Matches,
+                SelectorMatch::FailsCompletely => return SelectorMatch::FailsCompletely,
+                SelectorMatch::FailsLocally => {}
+            }
         }
-        let result = match_recursively(components, store, m, nodes, attributes, text, parent);
-        match result {
-            SelectorMatch::Matches => return SelectorMatch::Matches,
-            SelectorMatch::FailsCompletely => return SelectorMatch::FailsCompletely,
-            SelectorMatch::FailsLocally => {}
+        if kind_at(components, next) == CHILD {
+            return SelectorMatch::FailsLocally;
         }
     }
-    if kind_at(components, next) == CHILD {
-        return SelectorMatch::FailsLocally;
-    }
-    match_recursively(components, store, n, nodes, attributes, text, parent)
+    SelectorMatch::FailsCompletely
 }
 
 // Whether the first `left` components match a row, the last of them first. The row is the document or an element, and parents lead from it to the
