@@ -87,6 +87,7 @@ module _ (store components nodes attributes text : List ℕ) (left row : ℕ) (t
   tests-fail e = subst (TestsPassed store components (pathOf nodes attributes text row) left) e h
 
   module _ {n : ℕ} (e : t ≡ Left n) where
+    -- what the answer says
     behind : TestsLeft store components (pathOf nodes attributes text row) left n
     unfolding TestsPassed
     behind = subst (TestsPassed store components (pathOf nodes attributes text row) left) e h
@@ -139,6 +140,7 @@ module _ (store components nodes attributes text : List ℕ) (n row : ℕ) (root
   abbrev ResultOf : ℕ → ℕ → SelectorMatch
   ResultOf l q = matchRecursively (componentsAt store components l) (pathOf nodes attributes text q)
 
+  -- there are components
   no-zero-left : ¬ (n ≡ 0)
   no-zero-left z = absurd (omega (arith, at .some))
 
@@ -188,4 +190,27 @@ climb-on store components nodes attributes text n row above at c z p ep f k ek d
       rooted = parent-rooted nodes above (c .rooted) z p ep;
       not-below = omega (arith, c .not-below);
       same = c .same ∙ sym (ancestors-asked store components nodes attributes text n above (c .rooted) at z p ep FailsLocally f refl k ek d _ refl);
+    }
+
+-- ---- `do_matches`: n components on a row above have the result of all
+
+pub record Handed (store components nodes attributes text : List ℕ) (left row n at : ℕ) : Type 0 where
+  pub rooted : Rooted nodes at
+  pub same :
+      matchRecursively (componentsAt store components left) (pathOf nodes attributes text row)
+      ≡ matchRecursively (componentsAt store components n) (pathOf nodes attributes text at)
+
+-- all of them, on the row itself
+pub hand-begin : (store components nodes attributes text : List ℕ) (left row : ℕ) → Rooted nodes row → Handed store components nodes attributes text left row left row
+hand-begin store components nodes attributes text left row r = record { rooted = r; same = refl }
+
+-- a child combinator hands on the parent's result
+pub hand-on : (store components nodes attributes text : List ℕ) (left row n at : ℕ) → Handed store components nodes attributes text left row n at
+    → (t : Tested) → TestsPassed store components (pathOf nodes attributes text at) n t → {m : ℕ} → t ≡ Left m → ¬ (m ≡ 0)
+    → (k : ℕ) → k ≡ componentNumber components (m - 1) componentKindAt → k ≡ childKind → ¬ (at ≡ 0) → (p : ℕ) → p ≡ nodeAt nodes at .parent
+    → Handed store components nodes attributes text left row (m - 1) p
+hand-on store components nodes attributes text left row n at c t h {m = m} e some k ek j z p ep =
+    record {
+      rooted = parent-rooted nodes at (c .rooted) z p ep;
+      same = c .same ∙ sym (left-result store components nodes attributes text n at t h e _ (one.child-of-parent store components nodes attributes text m at some (c .rooted) k ek j z p ep _ refl));
     }

@@ -200,8 +200,8 @@ fn match_recursively(
     SelectorMatch::FailsCompletely
 }
 
-// Whether the first `left` components match a row, the last of them first. The row is the document or an element, and parents lead from it to the
-// document; on an accepted page they do from every element (law `accepted-element`).
+// Whether the first `left` components match a row, the last of them first. Child combinators lead to the parent, up to a descendant combinator. The
+// row is the document or an element, and parents lead from it to the document; on an accepted page they do from every element (law `accepted-element`).
 pub fn do_matches(
     components: &[u32],
     store: &[u8],
@@ -214,16 +214,27 @@ pub fn do_matches(
     requires { ⌜ Rooted (now nodes) row ⌝ }
     ensures { λ r. ⌜ r ≡ matches (componentsAt (now (store .entry)) (now (components .entry)) left) (pathOf (now (nodes .entry)) (now (attributes .entry)) (now (text .entry)) row) ⌝ }
 {
-    let Tested::Left(n) = pass_tests(components, store, left, nodes, attributes, text, row) else {
-        return false;
-    };
-    if n == 0 {
-        return true;
-    }
-    let result = match_recursively(components, store, n, nodes, attributes, text, row);
-    match result {
-        SelectorMatch::Matches => true,
-        SelectorMatch::FailsLocally => false,
-        SelectorMatch::FailsCompletely => false,
+    let mut n = left;
+    let mut at = row;
+    loop {
+        let Tested::Left(m) = pass_tests(components, store, n, nodes, attributes, text, at) else {
+            return false;
+        };
+        if m == 0 {
+            return true;
+        }
+        if kind_at(components, m - 1) != CHILD {
+            let result = match_recursively(components, store, m, nodes, attributes, text, at);
+            match result {
+                SelectorMatch::Matches => return true,
+                SelectorMatch::FailsLocally => return false,
+                SelectorMatch::FailsCompletely => return false,
+            }
+        }
+        if at == 0 {
+            return false;
+        }
+        at = parent_of(nodes, at);
+        n = m - 1;
     }
 }
