@@ -229,6 +229,31 @@ pub fn matches(sheet: &str, page: &Page) -> Option<Vec<Matched>> {
     })
 }
 
+/// A selector and the nodes of a page, for `do_matches` to be measured.
+pub struct Asked {
+    components: Vec<SelectorComponent>,
+    handles: Vec<Handle>,
+}
+
+/// The components of the first selector of a sheet, so many times over, for a page.
+pub fn ask(sheet: &str, times: usize, page: &Page) -> Asked {
+    let (_, rules) = parser::parse_stylesheet(sheet).expect("many0 reads");
+    let components = vec![rules[0].selectors[0].components.clone(); times].concat();
+    Asked { components, handles: tree(page) }
+}
+
+impl Asked {
+    /// As plain data.
+    pub fn components(&self) -> Vec<Component> {
+        self.components.iter().map(component).collect()
+    }
+
+    /// `do_matches`, and nothing but it.
+    pub fn matches(&self, row: usize) -> bool {
+        Selector::do_matches(&self.components, &self.handles[row])
+    }
+}
+
 // ---- computed styles
 
 fn origin(value: StyleOrigin) -> u32 {

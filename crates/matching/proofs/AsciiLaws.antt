@@ -44,42 +44,52 @@ lead-one b h = ap (λ (l : Lead). l .long) (at-most (record { long = 1; low = 0;
 
 -- ---- the byte b at i
 module _ (s : List ℕ) (i : ℕ) (inside : i < length s) (b : ℕ) (eb : b ≡ getD s i 0) where
+  -- the text goes on there
   some-left : ¬ (length (drop i s) ≡ 0)
   some-left z = absurd (omega (arith, length-drop i s))
 
+  -- a byte of ASCII is read as a character
   one-byte : b ≤ 0x7f → Value 1 b ≡ scalarOf (drop i s)
   one-byte h = at-ascii (drop i s) some-left b (eb ∙ sym (first s i)) (leadOf b) refl (sym (lead-one b h)) b refl
 
-  -- a visible character is no White_Space, but one of a word
+  -- ---- a visible character
   module _ (g : Bool) (eg : g ≡ within b 0x21 0x7e) (yes-graphic : g ≡ true) where
+    -- it lies between `!` and `~`
     between-ends : (0x21 ≤ b) × (b ≤ 0x7e)
     between-ends = within-true b 0x21 0x7e (sym eg ∙ yes-graphic)
 
+    -- it is no White_Space
     no-white : isWhiteSpace b ≡ false
     no-white = graphic-is-none b (between-ends .0) (between-ends .1)
 
+    -- it is ASCII
     ascii : b ≤ 0x7f
     ascii = let h = between-ends .1 in omega arith
 
+    -- White_Space ends before it
     pub graphic-stops : Repeating whiteTaken s i → i ≡ many whiteTaken 0 0 s
     unfolding pick
     graphic-stops c = repeat-stop _ _ _ c (sym (white-value (drop i s) _ (one-byte ascii) 1 b refl _ false (sym no-white) refl))
 
+    -- a word goes on with it
     pub graphic-goes-on : Repeating wordTaken s i → Repeating wordTaken s (i + 1)
     unfolding pick
     graphic-goes-on c =
         repeat-more _ _ _ c 1 (sym (word-value (drop i s) _ (one-byte ascii) some-left 1 b refl _ false (sym no-white) refl)) (omega arith) (λ z. absurd (omega arith))
 
-  -- a space is White_Space, and no character of a word
+  -- ---- a space
   module _ (e : b ≡ 0x20) where
+    -- it is White_Space
     white : true ≡ isWhiteSpace b
     white = sym (ap isWhiteSpace e ∙ space-is-white)
 
+    -- White_Space goes on with it
     pub space-goes-on : Repeating whiteTaken s i → Repeating whiteTaken s (i + 1)
     unfolding pick
     space-goes-on c =
         repeat-more _ _ _ c 1 (sym (white-value (drop i s) _ (one-byte (omega arith)) 1 b refl _ true white refl)) (omega arith) (λ z. absurd (omega arith))
 
+    -- a word ends before it
     pub space-stops : Repeating wordTaken s i → i ≡ many wordTaken 0 0 s
     unfolding pick
     space-stops c = repeat-stop _ _ _ c (sym (word-value (drop i s) _ (one-byte (omega arith)) some-left 1 b refl _ true white refl))

@@ -54,16 +54,16 @@ module _ (m d : ℕ) where
   more-components k h = omega (arith, suc-mul m (suc d))
 
   -- a component and an ancestor more, with the call itself
-  more-of-both : (k n : ℕ) → k ≤ m * suc d → n ≡ 0 → 1 + k + n ≤ suc m * suc (suc d)
+  more-of-both : (k n : ℕ) → k ≤ m * suc d → n ≡ 0 → 1 + (k + n) ≤ suc m * suc (suc d)
   more-of-both k n h e = omega (arith, suc-mul m (suc d), mul-suc (suc m) (suc d))
 
   -- an ancestor more, with the call itself and the calls of a result that fails locally
-  more-ancestors : (k n : ℕ) → k ≤ m → n ≤ suc m * suc d → 1 + k + n ≤ suc m * suc (suc d)
+  more-ancestors : (k n : ℕ) → k ≤ m → 1 + n ≤ suc m * suc d → 1 + (k + n) ≤ suc m * suc (suc d)
   more-ancestors k n h l = omega (arith, mul-suc (suc m) (suc d))
 
   -- ---- a descendant combinator: the second result does not fail locally
-  bounded-else : (s t : SelectorMatch) (a b : ℕ) → Bounded m d s a → Bounded (suc m) d t b → ¬ (t ≡ FailsLocally)
-      → Bounded (suc m) (suc d) (orElse s t) (1 + a + callsElse s b)
+  bounded-else : (s t : SelectorMatch) (a b : ℕ) → Bounded m d s a → Bounded (suc m) d t (1 + b) → ¬ (t ≡ FailsLocally)
+      → Bounded (suc m) (suc d) (orElse s t) (1 + (a + callsElse s b))
   unfolding orElse callsElse
   bounded-else Matches t a b h l o = record { all = more-of-both a 0 (h .all) refl; local = λ e. no-match e }
   bounded-else FailsLocally t a b h l o = record { all = more-ancestors a b (h .local refl) (l .all); local = λ e. absurd (o e) }
@@ -79,7 +79,7 @@ else-local FailsCompletely t e = no-complete e
 -- ---- one component more
 module _ (f : Path → SelectorMatch) (k : Path → ℕ) (m : ℕ) (bounded : (p : Path) → Bounded m (length p) (f p) (k p)) where
   -- a child combinator
-  bounded-child : (p : Path) → Bounded (suc m) (length p) (resultOnParent f p) (callsOnParent k p)
+  bounded-child : (p : Path) → Bounded (suc m) (length p) (resultOnParent f p) (1 + callsOnParent k p)
   unfolding resultOnParent callsOnParent
   bounded-child [] = record { all = one-call m 0; local = λ e. no-complete e }
   bounded-child (x ∷ up) =
@@ -95,7 +95,7 @@ module _ (f : Path → SelectorMatch) (k : Path → ℕ) (m : ℕ) (bounded : (p
   never-local (x ∷ up) e = never-local up (else-local (f up) (resultOnAncestors f up) e)
 
   -- a descendant combinator
-  bounded-descendant : (p : Path) → Bounded (suc m) (length p) (resultOnAncestors f p) (callsOnAncestors f k p)
+  bounded-descendant : (p : Path) → Bounded (suc m) (length p) (resultOnAncestors f p) (1 + callsOnAncestors f k p)
   unfolding resultOnAncestors callsOnAncestors
   bounded-descendant [] = record { all = one-call m 0; local = λ e. no-complete e }
   bounded-descendant (x ∷ up) =

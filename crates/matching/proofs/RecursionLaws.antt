@@ -121,6 +121,7 @@ result-holds (attributeEqual n v ∷ cs) p =
 
 -- ---- the returns of `do_matches`
 module _ (cs : List Component) (p : Path) (r : SelectorMatch) (e : r ≡ matchRecursively cs p) where
+  -- what the result says is so
   holds-of : {s : SelectorMatch} → r ≡ s → ResultHolds (matches cs) p s
   holds-of h = subst (ResultHolds (matches cs) p) (sym e ∙ h) (result-holds cs p)
 

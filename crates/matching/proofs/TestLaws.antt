@@ -1,4 +1,4 @@
--- The loop of `pass_tests` and the returns of `match_recursively` behind it.
+-- The loop of `pass_tests`, what it answers, and the returns of `match_recursively`.
 use Prim.Native.Nat.{ℕ, _+_, _-_, _≤_, _<_}
 use mathlib.Core.Bool.{Bool, true, false}
 use mathlib.Core.List.{List, [], _∷_}
@@ -11,13 +11,13 @@ use Rattle.page.specs.Rows.{nodeAt}
 use Rattle.matching.specs.Matches.{matches}
 use Rattle.matching.specs.Rows.{componentNumber, componentAt, componentsAt, SimpleAt, Rooted}
 use Rattle.matching.specs.Recursion.{matchRecursively}
-use Rattle.matching.specs.Tests.{EndsInCombinator, TestsLeft, TestsPassed}
+use Rattle.matching.specs.Tests.{EndsInCombinator, CombinatorAt, TestsLeft, TestsPassed}
 use Rattle.matching.specs.declared.matcher.SelectorMatch.{SelectorMatch}
 use Rattle.matching.specs.declared.matcher.SelectorMatch.the-variants.{Matches, FailsLocally, FailsCompletely}
 use Rattle.matching.specs.declared.matcher.Tested.{Tested}
 use Rattle.matching.specs.declared.matcher.Tested.the-variants.{Left, Failed}
 use Rattle.matching.proofs.MatchLaws as one
-use Rattle.matching.proofs.PathLaws.{parent-before}
+use Rattle.matching.proofs.PathLaws.{parent-rooted, parent-before}
 
 -- ---- `pass_tests`: with n components left, their result is that of all
 module _ (store components nodes attributes text : List ℕ) (left row : ℕ) where
@@ -74,74 +74,143 @@ module _ (store components nodes attributes text : List ℕ) (left row : ℕ) wh
           unfolding TestsPassed
           test-fails h = g .same ∙ one.match-fails store components nodes attributes text n row no-zero rooted k ek no-child no-descendant b eb h
 
--- ---- `match_recursively`, behind the tests that the row passed
-module _ (store components nodes attributes text : List ℕ) (left row : ℕ) (rooted : Rooted nodes row) (r : Tested)
-    (h : TestsPassed store components (pathOf nodes attributes text row) left r) where
+-- ---- what `pass_tests` answered, on the path of a row
+module _ (store components nodes attributes text : List ℕ) (left row : ℕ) (t : Tested)
+    (h : TestsPassed store components (pathOf nodes attributes text row) left t) where
   -- the result of the first l components on the path of a row
-  abbrev ResultOf : ℕ → ℕ → SelectorMatch
-  ResultOf l q = matchRecursively (componentsAt store components l) (pathOf nodes attributes text q)
+  abbrev ResultOn : ℕ → ℕ → SelectorMatch
+  ResultOn l q = matchRecursively (componentsAt store components l) (pathOf nodes attributes text q)
 
   -- a test fails
-  pub failed : r ≡ Failed → FailsLocally ≡ ResultOf left row
+  pub tests-fail : t ≡ Failed → ResultOn left row ≡ FailsLocally
   unfolding TestsPassed
-  failed e = let z : ResultOf left row ≡ FailsLocally = subst (TestsPassed store components (pathOf nodes attributes text row) left) e h in sym z
+  tests-fail e = subst (TestsPassed store components (pathOf nodes attributes text row) left) e h
 
-  module _ {n : ℕ} (e : r ≡ Left n) where
+  module _ {n : ℕ} (e : t ≡ Left n) where
+    -- what the answer says
     behind : TestsLeft store components (pathOf nodes attributes text row) left n
     unfolding TestsPassed
     behind = subst (TestsPassed store components (pathOf nodes attributes text row) left) e h
 
-    -- no component is left
-    pub all-passed : n ≡ 0 → Matches ≡ ResultOf left row
-    all-passed z = one.match-end store components nodes attributes text n row z ∙ sym (behind .same)
+    -- components are left: where they fail locally, all do
+    pub left-local : (r : SelectorMatch) → r ≡ ResultOn n row → r ≡ FailsLocally → ResultOn left row ≡ FailsLocally
+    left-local r er y = behind .same ∙ sym er ∙ y
 
-    module _ (some : ¬ (n ≡ 0)) where
-      ends : EndsInCombinator components n
-      ends = ⊎-elim (λ (z : n ≡ 0). absurd (some z)) (λ (k : EndsInCombinator components n). k) (behind .ends)
+    -- their result is that of all
+    pub left-result : (r : SelectorMatch) → r ≡ ResultOn n row → r ≡ ResultOn left row
+    left-result r er = er ∙ sym (behind .same)
 
-      -- a combinator fails on the document
-      pub no-parent : row ≡ 0 → FailsCompletely ≡ ResultOf left row
-      no-parent z =
+    -- not more
+    pub left-fewer : n ≤ left
+    left-fewer = behind .fewer
+
+    -- none is left
+    pub tests-all : n ≡ 0 → ResultOn left row ≡ Matches
+    tests-all z = behind .same ∙ sym (one.match-end store components nodes attributes text n row z)
+
+    -- or a combinator
+    pub left-combinator : ¬ (n ≡ 0) → CombinatorAt components n
+    left-combinator z =
+        record {
+          some = omega arith;
+          ends = ⊎-elim (λ (y : n ≡ 0). absurd (z y)) (λ (k : EndsInCombinator components n). k) (behind .ends);
+        }
+
+-- ---- `match_recursively`
+
+-- the loop stands at a row above, on which the components have the result that they have on the row
+pub record Climbing (store components nodes attributes text : List ℕ) (n row above : ℕ) : Type 0 where
+  pub rooted : Rooted nodes above
+  pub not-below : above ≤ row
+  pub same :
+      matchRecursively (componentsAt store components n) (pathOf nodes attributes text row)
+      ≡ matchRecursively (componentsAt store components n) (pathOf nodes attributes text above)
+
+-- at the row itself
+pub climb-begin : (store components nodes attributes text : List ℕ) (n row : ℕ) → Rooted nodes row → Climbing store components nodes attributes text n row row
+climb-begin store components nodes attributes text n row r = record { rooted = r; not-below = omega arith; same = refl }
+
+-- the measure falls to the parent of such a row, with no more components
+pub falls : (nodes : List ℕ) (n row above : ℕ) → Rooted nodes above → above ≤ row → ¬ (above ≡ 0) → (p : ℕ) → p ≡ nodeAt nodes above .parent → (m : ℕ)
+    → m ≤ n → (t : ℕ) → n + row ≡ t → m + p < t
+falls nodes n row above rooted h z p ep m l t et = let b = parent-before nodes above rooted z p ep in omega arith
+
+module _ (store components nodes attributes text : List ℕ) (n row : ℕ) (rooted : Rooted nodes row) (at : CombinatorAt components n) where
+  -- the result of the first l components on the path of a row
+  abbrev ResultOf : ℕ → ℕ → SelectorMatch
+  ResultOf l q = matchRecursively (componentsAt store components l) (pathOf nodes attributes text q)
+
+  -- there are components
+  no-zero-left : ¬ (n ≡ 0)
+  no-zero-left z = absurd (omega (arith, at .some))
+
+  -- a combinator fails on the document
+  pub no-parent : row ≡ 0 → FailsCompletely ≡ ResultOf n row
+  no-parent z =
+      ⊎-elim
+      (λ k. one.child-of-document store components nodes attributes text n row no-zero-left rooted _ refl k z)
+      (λ k. one.descendant-of-document store components nodes attributes text n row no-zero-left rooted _ refl k z) (at .ends)
+
+  module _ (z : ¬ (row ≡ 0)) (p : ℕ) (ep : p ≡ nodeAt nodes row .parent) where
+    module _ (r : SelectorMatch) (er : r ≡ ResultOf (n - 1) p) where
+      -- the parent matches what is left in front of the combinator
+      pub parent-matches : r ≡ Matches → Matches ≡ ResultOf n row
+      parent-matches y =
           ⊎-elim
-          (λ k. one.child-of-document store components nodes attributes text n row some rooted _ refl k z)
-          (λ k. one.descendant-of-document store components nodes attributes text n row some rooted _ refl k z) ends
-          ∙ sym (behind .same)
+          (λ k. sym y ∙ one.child-of-parent store components nodes attributes text n row no-zero-left rooted _ refl k z p ep r er)
+          (λ k. one.descendant-matches store components nodes attributes text n row no-zero-left rooted _ refl k z p ep r er y) (at .ends)
 
-      module _ (z : ¬ (row ≡ 0)) (p : ℕ) (ep : p ≡ nodeAt nodes row .parent) where
-        -- the measure falls, with what is left behind the combinator and with all of it
-        pub falls-next : (t : ℕ) → left + row ≡ t → (n - 1) + p < t
-        falls-next t et = let l = parent-before nodes row rooted z p ep in omega (arith, behind .fewer)
+      -- neither the parent nor a row above does
+      pub none-matches : r ≡ FailsCompletely → FailsCompletely ≡ ResultOf n row
+      none-matches y =
+          ⊎-elim
+          (λ k. sym y ∙ one.child-of-parent store components nodes attributes text n row no-zero-left rooted _ refl k z p ep r er)
+          (λ k. one.descendant-fails store components nodes attributes text n row no-zero-left rooted _ refl k z p ep r er y) (at .ends)
 
-        pub falls-again : (t : ℕ) → left + row ≡ t → n + p < t
-        falls-again t et = let l = parent-before nodes row rooted z p ep in omega (arith, behind .fewer)
+      module _ (y : r ≡ FailsLocally) (k : ℕ) (ek : k ≡ componentNumber components (n - 1) componentKindAt) where
+        -- a child combinator asks no other row
+        pub parent-alone : k ≡ childKind → FailsLocally ≡ ResultOf n row
+        parent-alone c = sym y ∙ one.child-of-parent store components nodes attributes text n row no-zero-left rooted k ek c z p ep r er
 
-        module _ (m : SelectorMatch) (em : m ≡ ResultOf (n - 1) p) where
-          -- the parent matches what is left behind the combinator
-          pub parent-matches : m ≡ Matches → Matches ≡ ResultOf left row
-          parent-matches y =
-              ⊎-elim
-              (λ k. sym y ∙ one.child-of-parent store components nodes attributes text n row some rooted _ refl k z p ep m em)
-              (λ k. one.descendant-matches store components nodes attributes text n row some rooted _ refl k z p ep m em y) ends
-              ∙ sym (behind .same)
+        -- a descendant combinator asks the parent's own ancestors
+        pub ancestors-asked : ¬ (k ≡ childKind) → (s : SelectorMatch) → s ≡ ResultOf n p → s ≡ ResultOf n row
+        ancestors-asked c s es =
+            ⊎-elim
+            (λ (j : componentNumber components (n - 1) componentKindAt ≡ childKind). absurd (c (ek ∙ j)))
+            (λ (j : componentNumber components (n - 1) componentKindAt ≡ descendantKind). one.descendant-of-ancestor store components nodes attributes text n row no-zero-left rooted k ek (ek ∙ j) z p ep r er y s es) (at .ends)
 
-          -- neither the parent nor a row above does
-          pub none-matches : m ≡ FailsCompletely → FailsCompletely ≡ ResultOf left row
-          none-matches y =
-              ⊎-elim
-              (λ k. sym y ∙ one.child-of-parent store components nodes attributes text n row some rooted _ refl k z p ep m em)
-              (λ k. one.descendant-fails store components nodes attributes text n row some rooted _ refl k z p ep m em y) ends
-              ∙ sym (behind .same)
+-- a step of the climb, where the parent fails locally
+pub climb-on : (store components nodes attributes text : List ℕ) (n row above : ℕ) → CombinatorAt components n
+    → Climbing store components nodes attributes text n row above → ¬ (above ≡ 0) → (p : ℕ) → p ≡ nodeAt nodes above .parent
+    → FailsLocally ≡ matchRecursively (componentsAt store components (n - 1)) (pathOf nodes attributes text p)
+    → (k : ℕ) → k ≡ componentNumber components (n - 1) componentKindAt → ¬ (k ≡ childKind) → Climbing store components nodes attributes text n row p
+climb-on store components nodes attributes text n row above at c z p ep f k ek d =
+    let b = parent-before nodes above (c .rooted) z p ep in
+    record {
+      rooted = parent-rooted nodes above (c .rooted) z p ep;
+      not-below = omega (arith, c .not-below);
+      same = c .same ∙ sym (ancestors-asked store components nodes attributes text n above (c .rooted) at z p ep FailsLocally f refl k ek d _ refl);
+    }
 
-          module _ (y : m ≡ FailsLocally) (k : ℕ) (ek : k ≡ componentNumber components (n - 1) componentKindAt) where
-            -- a child step asks no other
-            pub parent-alone : k ≡ childKind → FailsLocally ≡ ResultOf left row
-            parent-alone c =
-                sym y ∙ one.child-of-parent store components nodes attributes text n row some rooted k ek c z p ep m em ∙ sym (behind .same)
+-- ---- `do_matches`: n components on a row above have the result of all
 
-            -- a descendant step asks the parent's own ancestors
-            pub ancestors-asked : ¬ (k ≡ childKind) → (s : SelectorMatch) → s ≡ ResultOf n p → s ≡ ResultOf left row
-            ancestors-asked c s es =
-                ⊎-elim
-                (λ (j : componentNumber components (n - 1) componentKindAt ≡ childKind). absurd (c (ek ∙ j)))
-                (λ (j : componentNumber components (n - 1) componentKindAt ≡ descendantKind). one.descendant-of-ancestor store components nodes attributes text n row some rooted k ek (ek ∙ j) z p ep m em y s es) ends
-                ∙ sym (behind .same)
+pub record Handed (store components nodes attributes text : List ℕ) (left row n at : ℕ) : Type 0 where
+  pub rooted : Rooted nodes at
+  pub same :
+      matchRecursively (componentsAt store components left) (pathOf nodes attributes text row)
+      ≡ matchRecursively (componentsAt store components n) (pathOf nodes attributes text at)
+
+-- all of them, on the row itself
+pub hand-begin : (store components nodes attributes text : List ℕ) (left row : ℕ) → Rooted nodes row → Handed store components nodes attributes text left row left row
+hand-begin store components nodes attributes text left row r = record { rooted = r; same = refl }
+
+-- a child combinator hands on the parent's result
+pub hand-on : (store components nodes attributes text : List ℕ) (left row n at : ℕ) → Handed store components nodes attributes text left row n at
+    → (t : Tested) → TestsPassed store components (pathOf nodes attributes text at) n t → {m : ℕ} → t ≡ Left m → ¬ (m ≡ 0)
+    → (k : ℕ) → k ≡ componentNumber components (m - 1) componentKindAt → k ≡ childKind → ¬ (at ≡ 0) → (p : ℕ) → p ≡ nodeAt nodes at .parent
+    → Handed store components nodes attributes text left row (m - 1) p
+hand-on store components nodes attributes text left row n at c t h {m = m} e some k ek j z p ep =
+    record {
+      rooted = parent-rooted nodes at (c .rooted) z p ep;
+      same = c .same ∙ sym (left-result store components nodes attributes text n at t h e _ (one.child-of-parent store components nodes attributes text m at some (c .rooted) k ek j z p ep _ refl));
+    }

@@ -67,12 +67,13 @@ unfoldable pub matchRecursively : List Component → Path → SelectorMatch
 matchRecursively [] p = Matches
 matchRecursively (c ∷ cs) p = resultStep c (matchRecursively cs) p
 
--- ---- the calls that it takes, each of which asks one row for the simple selectors up to a combinator
+-- ---- the calls of `pass_tests` that it takes, each of which asks one row for the simple selectors up to a combinator; a call of `match_recursively`
+-- comes behind one of them
 
--- the call itself, and the parent's
+-- the parent's
 unfoldable pub callsOnParent : (Path → ℕ) → Path → ℕ
-callsOnParent k [] = 1
-callsOnParent k (e ∷ up) = 1 + k up
+callsOnParent k [] = 0
+callsOnParent k (e ∷ up) = k up
 
 -- the calls for a second result: none where the first decides
 unfoldable pub callsElse : SelectorMatch → ℕ → ℕ
@@ -80,14 +81,14 @@ callsElse Matches n = 0
 callsElse FailsLocally n = n
 callsElse FailsCompletely n = 0
 
--- the call itself, the parent's, and those of the parent's own ancestors where the parent fails locally
+-- the parent's, and those of the parent's own ancestors where the parent fails locally
 unfoldable pub callsOnAncestors : (Path → SelectorMatch) → (Path → ℕ) → Path → ℕ
-callsOnAncestors f k [] = 1
-callsOnAncestors f k (e ∷ up) = 1 + k up + callsElse (f up) (callsOnAncestors f k up)
+callsOnAncestors f k [] = 0
+callsOnAncestors f k (e ∷ up) = k up + callsElse (f up) (callsOnAncestors f k up)
 
--- one component, where f is the result of what is left and k its calls; simple selectors that are passed share the call of what is left
+-- one component, where f is the result of what is left and k its calls: a call ends at a combinator and at a simple selector that is not passed
 unfoldable pub callsStep : Component → (Path → SelectorMatch) → (Path → ℕ) → Path → ℕ
-callsStep c f k p = byCombinator c (callsOnParent k p) (callsOnAncestors f k p) (pick (matches (c ∷ []) p) (k p) 1)
+callsStep c f k p = byCombinator c (1 + callsOnParent k p) (1 + callsOnAncestors f k p) (pick (matches (c ∷ []) p) (k p) 1)
 
 -- the calls for a selector's components
 unfoldable pub calls : List Component → Path → ℕ
@@ -117,7 +118,7 @@ test-results : (matchRecursively (element (text "a") ∷ child ∷ element (text
 unfolding matchRecursively resultStep byCombinator resultOnParent resultOnAncestors orElse matches step here nameIs sameText startsWith named nested descendants text utf8 pick and is
 test-results = (refl, refl, refl, refl)
 
--- `b a a a a a a a` on 64 nested `a`
-test-calls : calls (descendants 7) (nested 64) ≡ 123
+-- `b a a a a a a a` on 64 nested `a`: each row is asked once, and so is the document
+test-calls : calls (descendants 7) (nested 64) ≡ 65
 unfolding calls callsStep callsOnAncestors callsElse matchRecursively resultStep byCombinator resultOnParent resultOnAncestors orElse matches step here nameIs sameText startsWith named nested descendants text utf8 pick and is
 test-calls = refl

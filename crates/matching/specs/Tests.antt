@@ -1,5 +1,5 @@
 -- What is left of a selector behind the tests that a row passed.
-use Prim.Native.Nat.{ℕ, _-_, _≤_}
+use Prim.Native.Nat.{ℕ, _-_, _≤_, _<_}
 use mathlib.Core.List.{List}
 use mathlib.Core.Logic.{_⊎_}
 use mathlib.Core.Path.{_≡_}
@@ -15,6 +15,11 @@ use Rattle.matching.specs.declared.matcher.Tested.the-variants.{Left, Fa
 abbrev pub EndsInCombinator : List ℕ → ℕ → Type 0
 EndsInCombinator components n =
     (componentNumber components (n - 1) componentKindAt ≡ childKind) ⊎ (componentNumber components (n - 1) componentKindAt ≡ descendantKind)
+
+-- there is such a component
+pub record CombinatorAt (components : List ℕ) (n : ℕ) : Type 0 where
+  pub some : 0 < n
+  pub ends : EndsInCombinator components n
 
 -- of `left` components n are left, whose result is that of all; there is none, or the last is a combinator
 pub record TestsLeft (store components : List ℕ) (p : Path) (left n : ℕ) : Type 0 where

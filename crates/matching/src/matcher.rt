@@ -15,7 +15,6 @@ use page::rows::attribute_count;
 use page::rows::first_attribute;
 use page::rows::kind_of;
 use page::rows::name_of;
-use page::rows::node_count;
 use page::rows::parent_of;
 use syntax::rows::CHILD;
 use syntax::rows::DESCENDANT;
@@ -32,7 +31,7 @@ ghost use Rattle.matching.specs.Matches.{matches};
 ghost use Rattle.matching.specs.Nth.{nthMatches};
 ghost use Rattle.matching.specs.Rows.{componentNumber, componentAt, componentsAt, SimpleAt, Rooted, elementPasses};
 ghost use Rattle.matching.specs.Recursion.{matchRecursively};
-ghost use Rattle.matching.specs.Tests.{TestsPassed};
+ghost use Rattle.matching.specs.Tests.{CombinatorAt, TestsPassed};
 
 // The place of a row among the element children of its parent, counted from the parent on, behind which they stand.
 fn place_of(nodes: &[u32], row: usize) -> usize
@@ -40,9 +39,9 @@ fn place_of(nodes: &[u32], row: usize) -> usize
     ensures { λ r. ⌜ r ≡ placeOf (now (nodes .entry)) row ⌝ }
 {
     let parent = parent_of(nodes, row);
-    if row < node_count(nodes) {
-        if parent < row {
-            let behind = (parent + 1) * NODE_WIDTH;
+    if parent < row {
+        let behind = (parent + 1) * NODE_WIDTH;
+        if behind <= nodes.len() {
             return element_children(&nodes[behind..], parent, row - parent);
         }
     }
@@ -162,46 +161,47 @@ pub enum SelectorMatch {
     FailsCompletely,
 }
 
-// Matches the first `left` components on a row, the last of them first. Where what is left behind a combinator fails completely, no other row is
-// tried: the calls are at most (components + 1) * (ancestors + 1) (law `few-calls`).
-pub fn match_recursively(
+// Matches the first `n` components, of which the last is a combinator, on a row that passed what stands behind them: on its parent and, for a
+// descendant combinator, on the parent's own ancestors. Where what is left fails completely on one of them, no other is tried: the calls
+// are at most (components + 1) * (ancestors + 1) (law `few-calls`).
+fn match_recursively(
     components: &[u32],
     store: &[u8],
-    left: usize,
+    n: usize,
     nodes: &[u32],
     attributes: &[u32],
     text: &[u8],
     row: usize,
 ) -> SelectorMatch
+    requires { ⌜ CombinatorAt (now components) n ⌝ }
     requires { ⌜ Rooted (now nodes) row ⌝ }
-    ensures { λ r. ⌜ r ≡ matchRecursively (componentsAt (now (store .entry)) (now (components .entry)) left) (pathOf (now (nodes .entry)) (now (attributes .entry)) (now (text .entry)) row) ⌝ }
+    ensures { λ r. ⌜ r ≡ matchRecursively (componentsAt (now (store .entry)) (now (components .entry)) n) (pathOf (now (nodes .entry)) (now (attributes .entry)) (now (text .entry)) row) ⌝ }
 {
-    let Tested::Left(n) = pass_tests(components, store, left, nodes, attributes, text, row) else {
-        return SelectorMatch::FailsLocally;
-    };
-    if n == 0 {
-        return SelectorMatch::Matches;
-    }
-    if row == 0 {
-        return SelectorMatch::FailsCompletely;
-    }
     let next = n - 1;
-    let parent = parent_of(nodes, row);
-    let result = match_recursively(components, store, next, nodes, attributes, text, parent);
-    match result {
-        SelectorMatch::Matches => SelectorMatch::Matches,
-        SelectorMatch::FailsCompletely => SelectorMatch::FailsCompletely,
-        SelectorMatch::FailsLocally => {
-            if kind_at(components, next) == CHILD {
-                return SelectorMatch::FailsLocally;
+    let mut above = row;
+    while above != 0 {
+        above = parent_of(nodes, above);
+        let tested = pass_tests(components, store, next, nodes, attributes, text, above);
+        if let Tested::Left(m) = tested {
+            if m == 0 {
+                return SelectorMatch::Matches;
             }
-            match_recursively(components, store, n, nodes, attributes, text, parent)
+            let result = match_recursively(components, store, m, nodes, attributes, text, above);
+            match result {
+                SelectorMatch::Matches => return SelectorMatch::Matches,
+                SelectorMatch::FailsCompletely => return SelectorMatch::FailsCompletely,
+                SelectorMatch::FailsLocally => {}
+            }
+        }
+        if kind_at(components, next) == CHILD {
+            return SelectorMatch::FailsLocally;
         }
     }
+    SelectorMatch::FailsCompletely
 }
 
-// Whether the first `left` components match a row. The row is the document or an element, and parents lead from it to the document; on an accepted
-// page they do from every element (law `accepted-element`).
+// Whether the first `left` components match a row, the last of them first. Child combinators lead to the parent, up to a descendant combinator. The
+// row is the document or an element, and parents lead from it to the document; on an accepted page they do from every element (law `accepted-element`).
 pub fn do_matches(
     components: &[u32],
     store: &[u8],
@@ -214,10 +214,27 @@ pub fn do_matches(
     requires { ⌜ Rooted (now nodes) row ⌝ }
     ensures { λ r. ⌜ r ≡ matches (componentsAt (now (store .entry)) (now (components .entry)) left) (pathOf (now (nodes .entry)) (now (attributes .entry)) (now (text .entry)) row) ⌝ }
 {
-    let result = match_recursively(components, store, left, nodes, attributes, text, row);
-    match result {
-        SelectorMatch::Matches => true,
-        SelectorMatch::FailsLocally => false,
-        SelectorMatch::FailsCompletely => false,
+    let mut n = left;
+    let mut at = row;
+    loop {
+        let Tested::Left(m) = pass_tests(components, store, n, nodes, attributes, text, at) else {
+            return false;
+        };
+        if m == 0 {
+            return true;
+        }
+        if kind_at(components, m - 1) != CHILD {
+            let result = match_recursively(components, store, m, nodes, attributes, text, at);
+            match result {
+                SelectorMatch::Matches => return true,
+                SelectorMatch::FailsLocally => return false,
+                SelectorMatch::FailsCompletely => return false,
+            }
+        }
+        if at == 0 {
+            return false;
+        }
+        at = parent_of(nodes, at);
+        n = m - 1;
     }
 }

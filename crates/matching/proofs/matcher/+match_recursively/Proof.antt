@@ -1,6 +1,9 @@
 use Rattle.matching.proofs.TestLaws as laws
-use Rattle.matching.proofs.PathLaws.{parent-rooted}
+use Rattle.matching.proofs.PathLaws.{parent-rooted, parent-before}
 use borrow.Author.Needs.{needs}
+use mathlib.Core.Logic.{⊎-elim}
+use mathlib.Core.Path.{refl, sym, _∙_}
+use native.Mathlib.Omega.{arith}
 use Prim.Native.Nat.{ℕ, _+_, _<_}
 use borrow.Fn.Kinds.{In}
 use borrow.Fn.PlainCycle.{Measures, is, falls, and}
@@ -24,12 +27,18 @@ abbrev match-recursively-below : ℕ → In 5 match-recursively-kinds.ps
 match-recursively-below t =
     and 5 match-recursively-kinds.ps (falls 5 match-recursively-kinds.ps _<_ μ-match-recursively t) match-recursively.Pre
 
+abbrev match-recursively-Inv-loop : match-recursively-lts.InvT-loop
+match-recursively-Inv-loop components store n nodes attributes text row next above₀ above = laws.Climbing store components nodes attributes text n row above
+
+abbrev match-recursively-μ-loop : match-recursively-lts.MeasureT-loop
+match-recursively-μ-loop components store n nodes attributes text row next above₀ above = above
+
 pub +match-recursively-spec : {M : Type 1} → statement M
 +match-recursively-spec = close μ-match-recursively λ t. match-recursively-lts.spec (
-  pass-tests-reads.Asked,
-  pass-tests-reads.Learnt,
   parent-of-reads.Asked,
   parent-of-reads.Learnt,
+  pass-tests-reads.Asked,
+  pass-tests-reads.Learnt,
   match-recursively-below t,
   match-recursively.Post,
   kind-at-reads.Asked,
@@ -37,26 +46,30 @@ pub +match-recursively-spec : {M : Type 1} → statement M
 )
     (match-recursively-at t)
     match-recursively.Post
-    -- pass-tests-requires
-    (λ c κs. search needs)
-    -- enum-known-n
-    (λ c. search needs)
-    -- enum-told
-    (λ c. search needs)
-    -- returns
-    (λ c. laws.failed _ _ _ _ _ _ _ (c .before .before .before .before .before .before .before .before .pre .1) _ (c .before .before .pass-tests .ensures) (c .enum-told .given .1))
-    -- returns-2
-    (λ c. laws.all-passed _ _ _ _ _ _ _ (c .before .before .before .before .before .before .before .before .before .before .pre .1) _ (c .before .before .before .before .pass-tests .ensures) (c .before .before .n .given .1) (c .if1 .taken))
-    -- returns-3
-    (λ c. laws.no-parent _ _ _ _ _ _ _ (c .before .before .before .before .before .before .before .before .before .before .before .pre .1) _ (c .before .before .before .before .before .pass-tests .ensures) (c .before .before .before .n .given .1) (c .before .if1 .left) (c .if2 .taken))
+    match-recursively-Inv-loop
+    match-recursively-μ-loop
     -- sub-next
-    (λ c. search needs)
+    (λ c. omega (arith, c .before .before .before .before .before .pre .1 .0 .some))
+    -- loop-holds
+    (λ c. laws.climb-begin _ _ _ _ _ _ _ (c .before .before .before .before .before .pre .1 .1))
     -- parent-of-requires
     (λ c κs. search needs)
+    -- pass-tests-requires
+    (λ c κs. parent-rooted _ _ (c .before .before .loop .inv .rooted) (c .before .loop-test .taken) _ (c .parent-of .ensures .0))
+    -- enum-known-tested
+    (λ c. search needs)
+    -- returns
+    (λ c. laws.parent-matches _ _ _ _ _ _ _ (c .before .before .before .before .before .before .before .loop .inv .rooted) (c .before .before .before .before .before .before .before .before .before .before .before .before .before .pre .1 .0) (c .before .before .before .before .before .before .loop-test .taken) _ (c .before .before .before .before .before .parent-of .ensures .0) _ (sym (laws.tests-all _ _ _ _ _ _ _ _ (c .before .before .before .before .pass-tests .ensures) (c .before .before .tested .given .1) (c .if1 .taken))) refl ∙ sym (c .before .before .before .before .before .before .before .loop .inv .same))
     -- match-recursively-requires
-    (λ c κs. (laws.falls-next _ _ _ _ _ _ _ (c .before .before .before .before .before .before .before .before .before .before .before .before .pre .1) _ (c .before .before .before .before .before .before .pass-tests .ensures) (c .before .before .before .before .n .given .1) (c .before .before .if1 .left) (c .before .if2 .left) _ (c .parent-of .ensures .0) _ (c .before .before .before .before .before .before .before .before .before .before .before .before .pre .0), search (needs, parent-rooted)))
+    (λ c κs. (laws.falls _ _ _ _ (c .before .before .before .before .before .before .before .loop .inv .rooted) (c .before .before .before .before .before .before .before .loop .inv .not-below) (c .before .before .before .before .before .before .loop-test .taken) _ (c .before .before .before .before .before .parent-of .ensures .0) _ (omega (arith, laws.left-fewer _ _ _ _ _ _ _ _ (c .before .before .before .before .pass-tests .ensures) (c .before .before .tested .given .1))) _ (c .before .before .before .before .before .before .before .before .before .before .before .before .before .pre .0), (laws.left-combinator _ _ _ _ _ _ _ _ (c .before .before .before .before .pass-tests .ensures) (c .before .before .tested .given .1) (c .if1 .left), parent-rooted _ _ (c .before .before .before .before .before .before .before .loop .inv .rooted) (c .before .before .before .before .before .before .loop-test .taken) _ (c .before .before .before .before .before .parent-of .ensures .0))))
+    -- enum-told
+    (λ c. search needs)
+    -- returns-2
+    (λ c. laws.parent-matches _ _ _ _ _ _ _ (c .before .before .before .before .before .before .before .before .before .before .loop .inv .rooted) (c .before .before .before .before .before .before .before .before .before .before .before .before .before .before .before .before .pre .1 .0) (c .before .before .before .before .before .before .before .before .before .loop-test .taken) _ (c .before .before .before .before .before .before .before .before .parent-of .ensures .0) _ (laws.left-result _ _ _ _ _ _ _ _ (c .before .before .before .before .before .before .before .pass-tests .ensures) (c .before .before .before .before .before .tested .given .1) _ (c .before .before .match-recursively .ensures)) (c .enum-told .given .1) ∙ sym (c .before .before .before .before .before .before .before .before .before .before .loop .inv .same))
     -- enum-told-2
     (λ c. search needs)
+    -- returns-3
+    (λ c. laws.none-matches _ _ _ _ _ _ _ (c .before .before .before .before .before .before .before .before .before .before .loop .inv .rooted) (c .before .before .before .before .before .before .before .before .before .before .before .before .before .before .before .before .pre .1 .0) (c .before .before .before .before .before .before .before .before .before .loop-test .taken) _ (c .before .before .before .before .before .before .before .before .parent-of .ensures .0) _ (laws.left-result _ _ _ _ _ _ _ _ (c .before .before .before .before .before .before .before .pass-tests .ensures) (c .before .before .before .before .before .tested .given .1) _ (c .before .before .match-recursively .ensures)) (c .enum-told2 .given .1) ∙ sym (c .before .before .before .before .before .before .before .before .before .before .loop .inv .same))
     -- enum-told-3
     (λ c. search needs)
     -- enum-told-4
@@ -64,12 +77,10 @@ pub +match-recursively-spec : {M : Type 1} → statement M
     -- kind-at-requires
     (λ c κs. search needs)
     -- returns-4
-    (λ c. laws.parent-alone _ _ _ _ _ _ _ (c .before .before .before .before .before .before .before .before .before .before .before .before .before .before .before .before .before .pre .1) _ (c .before .before .before .before .before .before .before .before .before .before .before .pass-tests .ensures) (c .before .before .before .before .before .before .before .before .before .n .given .1) (c .before .before .before .before .before .before .before .if1 .left) (c .before .before .before .before .before .before .if2 .left) _ (c .before .before .before .before .before .parent-of .ensures .0) _ (c .before .before .before .before .match-recursively .ensures) (c .before .before .enum-told4 .given .1) _ (c .before .kind-at .ensures) (c .if3 .taken))
-    -- match-recursively-requires-2
-    (λ c κs. (laws.falls-again _ _ _ _ _ _ _ (c .before .before .before .before .before .before .before .before .before .before .before .before .before .before .before .before .before .pre .1) _ (c .before .before .before .before .before .before .before .before .before .before .before .pass-tests .ensures) (c .before .before .before .before .before .before .before .before .before .n .given .1) (c .before .before .before .before .before .before .before .if1 .left) (c .before .before .before .before .before .before .if2 .left) _ (c .before .before .before .before .before .parent-of .ensures .0) _ (c .before .before .before .before .before .before .before .before .before .before .before .before .before .before .before .before .before .pre .0), search (needs, parent-rooted)))
+    (λ c. laws.parent-alone _ _ _ _ _ _ _ (c .before .before .before .before .before .before .loop .inv .rooted) (c .before .before .before .before .before .before .before .before .before .before .before .before .pre .1 .0) (c .before .before .before .before .before .loop-test .taken) _ (c .before .before .before .before .parent-of .ensures .0) _ (sym (⊎-elim (λ g. laws.left-local _ _ _ _ _ _ _ _ (c .before .before .before .pass-tests .ensures) (g .1 .given .1) _ (g .4 .ensures) (g .6 .given .1)) (λ g. laws.tests-fail _ _ _ _ _ _ _ _ (c .before .before .before .pass-tests .ensures) (g .1 .given .1)) (c .before .before .match .came))) refl _ (c .before .kind-at .ensures) (c .if2 .taken) ∙ sym (c .before .before .before .before .before .before .loop .inv .same))
+    -- loop-less
+    (λ c. parent-before _ _ (c .before .before .before .before .before .before .loop .inv .rooted) (c .before .before .before .before .before .loop-test .taken) _ (c .before .before .before .before .parent-of .ensures .0))
+    -- loop-again
+    (λ c. laws.climb-on _ _ _ _ _ _ _ _ (c .before .before .before .before .before .before .before .before .before .before .before .before .pre .1 .0) (c .before .before .before .before .before .before .loop .inv) (c .before .before .before .before .before .loop-test .taken) _ (c .before .before .before .before .parent-of .ensures .0) (sym (⊎-elim (λ g. laws.left-local _ _ _ _ _ _ _ _ (c .before .before .before .pass-tests .ensures) (g .1 .given .1) _ (g .4 .ensures) (g .6 .given .1)) (λ g. laws.tests-fail _ _ _ _ _ _ _ _ (c .before .before .before .pass-tests .ensures) (g .1 .given .1)) (c .before .before .match .came))) _ (c .before .kind-at .ensures) (c .if2 .left))
     -- returns-5
-    (λ c. laws.parent-matches _ _ _ _ _ _ _ (c .before .before .before .before .before .before .before .before .before .before .before .before .before .before .before .pre .1) _ (c .before .before .before .before .before .before .before .before .before .pass-tests .ensures) (c .before .before .before .before .before .before .before .n .given .1) (c .before .before .before .before .before .if1 .left) (c .before .before .before .before .if2 .left) _ (c .before .before .before .parent-of .ensures .0) _ (c .before .before .match-recursively .ensures) (c .enum-told2 .given .1))
-    -- returns-6
-    (λ c. laws.none-matches _ _ _ _ _ _ _ (c .before .before .before .before .before .before .before .before .before .before .before .before .before .before .before .pre .1) _ (c .before .before .before .before .before .before .before .before .before .pass-tests .ensures) (c .before .before .before .before .before .before .before .n .given .1) (c .before .before .before .before .before .if1 .left) (c .before .before .before .before .if2 .left) _ (c .before .before .before .parent-of .ensures .0) _ (c .before .before .match-recursively .ensures) (c .enum-told3 .given .1))
-    -- returns-7
-    (λ c. laws.ancestors-asked _ _ _ _ _ _ _ (c .before .before .before .before .before .before .before .before .before .before .before .before .before .before .before .before .before .before .pre .1) _ (c .before .before .before .before .before .before .before .before .before .before .before .before .pass-tests .ensures) (c .before .before .before .before .before .before .before .before .before .before .n .given .1) (c .before .before .before .before .before .before .before .before .if1 .left) (c .before .before .before .before .before .before .before .if2 .left) _ (c .before .before .before .before .before .before .parent-of .ensures .0) _ (c .before .before .before .before .before .match-recursively .ensures) (c .before .before .before .enum-told4 .given .1) _ (c .before .before .kind-at .ensures) (c .before .if3 .left) _ (c .match-recursively2 .ensures))
+    (λ c. laws.no-parent _ _ _ _ _ _ _ (c .before .loop .inv .rooted) (c .before .before .before .before .before .before .before .pre .1 .0) (c .loop-test .left) ∙ sym (c .before .loop .inv .same))

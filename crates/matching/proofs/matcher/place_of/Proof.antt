@@ -6,9 +6,6 @@ use Rattle.matching.proofs.matcher.place_of.Tie as tie
 parent-of-requires : tie.Need-parent-of-requires
 parent-of-requires c κs = search needs
 
-node-count-requires : tie.Need-node-count-requires
-node-count-requires c κs = search needs
-
 add-behind : tie.Need-add-behind
 add-behind c = search needs
 
@@ -47,7 +44,6 @@ place-of-spec =
     tie.close
     (tie.spec
     parent-of-requires
-    node-count-requires
     add-behind
     mul-behind
     mul-element-children
