@@ -1,5 +1,9 @@
 // Compiled sheets: the agent, user and author sheet; then the refusal, and if that is 0 the compiled bytes.
 use crate::outcome::Outcome;
+use combinators::least::NUMBER_MORE;
+use combinators::least::NUMBER_WIDTH;
+use combinators::least::TEXT_MORE;
+use combinators::least::TEXT_WIDTH;
 use compiled::numbers::NumberAnswer;
 use compiled::numbers::read_number;
 use compiled::texts::TextAnswer;
@@ -12,9 +16,9 @@ use syntax::texts::part_of;
 // The longest three sheets together, and stores of the least lengths for them.
 const LONGEST: usize = 1024;
 
-const NUMBERS: usize = 8 * LONGEST + 64;
+const NUMBERS: usize = NUMBER_WIDTH * LONGEST + NUMBER_MORE;
 
-const TEXTS: usize = 2 * LONGEST + 12;
+const TEXTS: usize = TEXT_WIDTH * LONGEST + TEXT_MORE;
 
 // The room for compiled bytes.
 const ROOM: usize = 4096;

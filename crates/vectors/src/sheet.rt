@@ -4,6 +4,10 @@ use crate::lists::first;
 use crate::lists::read_list;
 use crate::lists::same_numbers;
 use crate::outcome::Outcome;
+use combinators::least::NUMBER_MORE;
+use combinators::least::NUMBER_WIDTH;
+use combinators::least::TEXT_MORE;
+use combinators::least::TEXT_WIDTH;
 use compiled::numbers::NumberAnswer;
 use compiled::numbers::read_number;
 use compiled::texts::TextAnswer;
@@ -16,9 +20,9 @@ use syntax::texts::part_of;
 // The longest sheet, and stores of the least lengths for it.
 const LONGEST: usize = 512;
 
-const NUMBERS: usize = 8 * LONGEST + 64;
+const NUMBERS: usize = NUMBER_WIDTH * LONGEST + NUMBER_MORE;
 
-const TEXTS: usize = 2 * LONGEST + 12;
+const TEXTS: usize = TEXT_WIDTH * LONGEST + TEXT_MORE;
 
 // Compares the rows and texts of the answer, which lie at `at`.
 fn compare_rows(s: &[u8], at: usize, came: SheetResult, rules: &[u32], texts: &[u8]) -> Outcome {
