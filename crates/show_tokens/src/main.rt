@@ -1,5 +1,9 @@
 // Prints the tokens of a text from standard input, a line for each: the byte where it starts, the byte behind it, its kind and
 // its texts in double quotes. A last line says where reading stopped.
+use combinators::least::TEXT_MORE;
+use combinators::least::TEXT_WIDTH;
+use combinators::refusals::NOT_UTF8;
+use combinators::refusals::TOO_LONG;
 use lexer::tokens::Lexed;
 use lexer::tokens::Token;
 use lexer::tokens::parse_token;
@@ -18,12 +22,7 @@ const LONGEST: usize = 32768;
 const INPUT: usize = LONGEST + 1;
 
 // Room for the texts of every token.
-const STORE: usize = 2 * LONGEST + 12;
-
-// Why a text is refused.
-const TOO_LONG: u64 = 1;
-
-const NOT_UTF8: u64 = 3;
+const STORE: usize = TEXT_WIDTH * LONGEST + TEXT_MORE;
 
 const DELETE: u8 = 0x7f;
 
@@ -212,9 +211,9 @@ fn print_tokens(s: &[u8], store: &mut [u8]) -> usize
 }
 
 // That the text is refused as a whole, with nothing else printed.
-fn print_refusal(code: u64) {
+fn print_refusal(number: u32) {
     print(b"refused ");
-    io::print_decimal(STDOUT_FILENO, code);
+    io::print_decimal(STDOUT_FILENO, number as u64);
     print(b" 0\n");
 }
 
