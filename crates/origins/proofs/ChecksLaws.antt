@@ -7,9 +7,10 @@ use borrow.Author.Tests.{lt-ltb, le-ltb, ltb-false, leb-true}
 use lib.Dec.{ltb}
 use lib.ListN.{length}
 use Rattle.combinators.specs.Choice.{or}
+use Rattle.combinators.specs.LeastLengths.{storesSuffice}
 use Rattle.combinators.proofs.Rules.{never, or-gives, or-gives-true, and-gives, and-gives-false, and-true}
 use Rattle.unicode.specs.Utf8.{valid}
-use Rattle.sheets.specs.SheetAnswer.{sheetLimit, storesSuffice}
+use Rattle.sheets.specs.SheetAnswer.{sheetLimit}
 use Rattle.origins.specs.Checks.{anyTooLong, allValid, Lent}
 
 -- neither of two tests holds

@@ -21,7 +21,7 @@ use Rattle.declarations.proofs.StyleLaws.{reads-styles, count-styles, styles-fe
 use Rattle.sheets.specs.Outcome.{reads}
 use Rattle.sheets.specs.Rules.{ruleWidth}
 use Rattle.sheets.specs.Sheet.{sheetOf}
-use Rattle.sheets.specs.SheetAnswer.{numberLeast}
+use Rattle.combinators.specs.LeastLengths.{numberLeast}
 use Rattle.sheets.proofs.AllLaws.{all-weaker, each-size}
 use Rattle.sheets.proofs.SheetBounds.{sheet-keeps}
 use Rattle.origins.specs.Rules.{selectorsRead, ruleStyles, RuleRoom, EachRoom}

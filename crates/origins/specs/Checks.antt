@@ -5,8 +5,9 @@ use mathlib.Core.List.{List}
 use lib.Dec.{ltb}
 use lib.ListN.{length}
 use Rattle.combinators.specs.Choice.{or, and}
+use Rattle.combinators.specs.LeastLengths.{textLeast, bracketLeast, numberLeast}
 use Rattle.unicode.specs.Utf8.{valid}
-use Rattle.sheets.specs.SheetAnswer.{sheetLimit, textLeast, bracketLeast, numberLeast}
+use Rattle.sheets.specs.SheetAnswer.{sheetLimit}
 
 -- ---- texts: one too long, and all of them UTF-8
 unfoldable pub anyTooLong : ℕ → ℕ → ℕ → Bool
