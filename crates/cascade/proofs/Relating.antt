@@ -160,7 +160,8 @@ module _ {A B : Type 0} (R : A → B → Type 0) where
   weight-same : (a b : Bool) (o : ℕ) (p q : Specificity) → a ≡ b → p ≡ q → _≡_ {A = Weight} (record { important = a; origin = o; spec = p }) (record { important = b; origin = o; spec = q })
   weight-same a b o p q e f = rw (e, f)
 
-  rule-declared : (o : ℕ) (x : RuleStyle A) (y : RuleStyle B) → SameRule x y → SameDeclared (fromRule o x) (fromRule o y)
+  -- a style of a rule as a declaration
+  pub rule-declared : (o : ℕ) (x : RuleStyle A) (y : RuleStyle B) → SameRule x y → SameDeclared (fromRule o x) (fromRule o y)
   unfolding fromRule
   rule-declared o x y h =
       record {
@@ -169,7 +170,8 @@ module _ {A B : Type 0} (R : A → B → Type 0) where
         candidates = record { weights = weight-same (x .style .important) (y .style .important) o (x .spec) (y .spec) (h .styles .importances) (h .specs); values = h .styles .values };
       }
 
-  attribute-declared : (i j : Bool) (p : Specificity) (x : AttributeStyle A) (y : AttributeStyle B) → i ≡ j → SameAttribute x y → SameDeclared (fromAttribute i p x) (fromAttribute j p y)
+  -- one of an attribute
+  pub attribute-declared : (i j : Bool) (p : Specificity) (x : AttributeStyle A) (y : AttributeStyle B) → i ≡ j → SameAttribute x y → SameDeclared (fromAttribute i p x) (fromAttribute j p y)
   unfolding fromAttribute
   attribute-declared i j p x y e h =
       record { pseudos = refl; slots = h .styles .slots; candidates = record { weights = weight-same i j authorOrigin p p e refl; values = h .styles .values } }

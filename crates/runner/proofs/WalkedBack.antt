@@ -1,6 +1,6 @@
 -- The pass over the bytes of a sheet meets the selectors that the sheet was made of, and the contents of their styles by places where their texts lie.
 use Prim.Native.Nat.{ℕ, _+_, _≤_, _<_}
-use mathlib.Core.Path.{_≡_, refl, ap, sym, _∙_}
+use mathlib.Core.Path.{_≡_, refl, sym, subst, _∙_}
 use mathlib.Core.List.{List, [], _∷_, _++_, map, append-assoc}
 use native.Mathlib.Nat.{add-zero}
 use native.Mathlib.Omega.{arith}
@@ -42,21 +42,22 @@ module _ (t : List ℕ) where
   Reads {A} d n P = (a : A) × (d ≡ read n a) × ((more : List ℕ) → P (t ++ more) a)
 
   -- the text of a content lies behind its length
-  content-lies : (d : StyleDecl) (i : ℕ) (h : Held t i (styleBytes d)) (x : List ℕ) → d .style ≡ style.content x → Lies t (place t d i h) x
-  content-lies d i h x e =
-      let own : styleText d ≡ x = unfold styleText in unfold styleTextOf in rw e in
-      let body : length (styleBody (d .style)) ≡ length (textBytes x) = unfold styleBody in rw e in
-      let size : length (styleTextOf (d .style)) ≡ length x = unfold styleTextOf in rw e in
-      record {
-        within = omega (arith, held-within t i (styleBytes d) h (style-some d), body, text-length x, rw (← size) at numbers (length x), bytes-long d);
-        there = rw own at text-there t d i h;
-      }
-    where
-      numbers : (n : ℕ) → length (numberBytes n) ≡ length (numberBytes n)
-      numbers n = refl
+  abbrev Behind : ℕ → List ℕ → Style → Type 0
+  Behind n x s =
+      n + length (styleBody s) ≤ length t → Held t (n + length (numberBytes (length (styleTextOf s)))) (styleTextOf s) → Lies t (n + length (numberBytes (length (styleTextOf s)))) x
 
-      bytes-long : (d : StyleDecl) → length (styleBytes d) ≡ length (numberBytes (flag (d .important))) + (length (numberBytes (styleSlotOf (d .style))) + length (styleBody (d .style)))
-      bytes-long d = unfold styleBytes in (length-append (numberBytes (flag (d .important))) (numberBytes (styleSlotOf (d .style)) ++ styleBody (d .style)) ∙ ap (λ (n : ℕ). length (numberBytes (flag (d .important))) + n) (length-append (numberBytes (styleSlotOf (d .style))) (styleBody (d .style))))
+  content-behind : (n : ℕ) (x : List ℕ) → Behind n x (style.content x)
+  unfolding styleBody styleTextOf
+  content-behind n x w h = record { within = omega (arith, w, text-length x); there = h }
+
+  content-lies : (d : StyleDecl) (i : ℕ) (h : Held t i (styleBytes d)) (x : List ℕ) → d .style ≡ style.content x → Lies t (place t d i h) x
+  unfolding styleText styleBytes
+  content-lies d i h x e =
+      let a : List ℕ = numberBytes (flag (d .important)) in
+      let b : List ℕ = numberBytes (styleSlotOf (d .style)) in
+      let c : List ℕ = styleBody (d .style) in
+      subst (Behind (i + length a + length b) x) (sym e) (content-behind (i + length a + length b) x)
+      (omega (arith, held-within t i (a ++ (b ++ c)) h (style-some d), length-append a (b ++ c), length-append b c)) (text-there t d i h)
 
   -- a style
   style-walked : (d : StyleDecl) (i : ℕ) → StyleFits d → Held t i (styleBytes d)

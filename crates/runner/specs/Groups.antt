@@ -66,7 +66,7 @@ unfoldable pub combinators : List Component → ℕ
 combinators [] = 0
 combinators (c ∷ cs) = onComponent c (λ _. suc (combinators cs)) (λ _. combinators cs)
 
-unfoldable pub groupCount : WalkedSelector Value → ℕ
+unfoldable pub groupCount : {A : Type 0} → WalkedSelector A → ℕ
 groupCount s = suc (combinators (s .components))
 
 -- the bytes of all selectors, from the parent's, where the first group of each has no byte to look at
@@ -97,6 +97,6 @@ matchingAt p [] = []
 matchingAt p (s ∷ ss) = pick (matches (s .components) p) (s ∷ []) [] ++ matchingAt p ss
 
 -- how many bytes all selectors have
-unfoldable pub groupsCount : List (WalkedSelector Value) → ℕ
+unfoldable pub groupsCount : {A : Type 0} → List (WalkedSelector A) → ℕ
 groupsCount [] = 0
 groupsCount (s ∷ ss) = groupCount s + groupsCount ss
