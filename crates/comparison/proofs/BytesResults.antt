@@ -1,32 +1,31 @@
 -- Returns of `comparison_check_bytes`, from what `check_sheet` answers.
-use Prim.Native.Nat.{ℕ}
+use Prim.Native.Nat.{ℕ, _≤_, _<_}
 use mathlib.Core.List.{List}
 use mathlib.Core.Path.{_≡_, refl, ap, sym, _∙_}
-use Rattle.compiled.specs.Answer.{checkAnswer}
-use Rattle.compiled.specs.Decoded.{Decoded, read, fault}
-use Rattle.compiled.specs.Sheet.{CompiledSelector}
+use borrow.Author.Tests.{lt-ltb, le-ltb}
+use lib.ListN.{length}
+use Rattle.combinators.specs.Refusal.{refused, refusedAt, tooLong}
+use Rattle.combinators.specs.declared.refusals.Refusal.{Refusal}
+use Rattle.combinators.proofs.Rules.{pick-true, pick-false}
+use Rattle.compiled.specs.Answer.{refusalOf, bytesRefusal}
 use Rattle.compiled.specs.declared.sheets.CheckAnswer.{CheckAnswer}
 use Rattle.compiled.specs.declared.sheets.CheckAnswer.the-variants.{Sheet, Fault}
-use Rattle.comparison.specs.Bytes.{sheetRefusal, bytesResult}
-use Rattle.comparison.specs.declared.bytes.BytesResult.{BytesResult}
+use Rattle.compiler.specs.CompileAnswer.{compiledLimit}
+use Rattle.comparison.specs.Bytes.{bytesCalled}
 
-unfoldable numbersOf : CheckAnswer → BytesResult
-numbersOf Sheet = record { refusal = 0; place = 0 }
-numbersOf (Fault p) = record { refusal = sheetRefusal; place = p }
+-- more bytes than a compiled sheet may have
+pub too-long : (t : List ℕ) → compiledLimit < length t → refusedAt tooLong 0 ≡ bytesCalled t
+unfolding bytesCalled
+too-long t h = pick-true _ _ _ _ (lt-ltb compiledLimit (length t) h) refl
 
-numbers-of : (d : Decoded (List CompiledSelector)) → numbersOf (checkAnswer d) ≡ bytesResult d
-unfolding numbersOf checkAnswer bytesResult
-numbers-of (read n ss) = refl
-numbers-of (fault p) = refl
+-- a refusal of bytes names no text
+names-none : (a : CheckAnswer) → refusedAt (refusalOf a .number) (refusalOf a .place) ≡ refusalOf a
+unfolding refusalOf
+names-none Sheet = refl
+names-none (Fault p) = refl
 
-module _ (d : Decoded (List CompiledSelector)) {a : CheckAnswer} (e : a ≡ checkAnswer d) where
-  answered : {v : CheckAnswer} → a ≡ v → numbersOf v ≡ bytesResult d
-  answered f = ap numbersOf (sym f ∙ e) ∙ numbers-of d
-
-  pub is-sheet : a ≡ Sheet → record { refusal = 0; place = 0 } ≡ bytesResult d
-  unfolding numbersOf
-  is-sheet f = answered f
-
-  pub is-fault : (p : ℕ) → a ≡ Fault p → record { refusal = sheetRefusal; place = p } ≡ bytesResult d
-  unfolding numbersOf
-  is-fault p f = answered f
+-- the bytes are read
+pub bytes-read : (t : List ℕ) (a : CheckAnswer) (r : Refusal) → length t ≤ compiledLimit → r ≡ refusalOf a → refusalOf a ≡ bytesRefusal t → refusedAt (r .number) (r .place) ≡ bytesCalled t
+unfolding bytesCalled
+bytes-read t a r h e f =
+    pick-false _ _ _ _ (le-ltb compiledLimit (length t) h) (ap (λ (q : Refusal). refusedAt (q .number) (q .place)) e ∙ names-none a ∙ f)

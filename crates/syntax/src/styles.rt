@@ -28,10 +28,7 @@ pub fn style_at(rows: &[u32], at: usize) -> StyleNumbers
 {
     let number = number_at(rows, at, STYLE_NUMBER);
     let second = number_at(rows, at, STYLE_SECOND);
-    let value = Value {
-        number,
-        second,
-    };
+    let value = Value { number, second };
     let slot = number_at(rows, at, STYLE_SLOT);
     let important = number_at(rows, at, STYLE_IMPORTANT) == FLAG_TRUE;
     StyleNumbers {
