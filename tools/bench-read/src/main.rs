@@ -27,7 +27,8 @@ fn repeated(rules: &str, length: usize) -> String {
     rules.repeat(length / rules.len())
 }
 
-// What opens a comment that nothing closes: by itself, and behind each mark that looks for a comment of its own before it reads on.
+// What opens a comment that nothing closes: before a name, behind a hash, a sign and a digit, each of which looks for a comment before it reads on, and
+// behind a name.
 const UNCLOSED: [&str; 5] = ["/*a", "#/*", "+/*", "1/*", "a/*"];
 const VALUE: &str = "p{a:";
 
