@@ -11,6 +11,7 @@ use Rattle.syntax.specs.Layout.{flag}
 use Rattle.syntax.specs.Selector.{Component, star, class, element, hash, child, descendant, nth, attribute, attributeEqual}
 use Rattle.page.specs.Path.{Element, Path}
 use Rattle.matching.specs.Matches.{here, onParent, onAncestors, step, matches}
+use Rattle.syntax.specs.declared.styles.Value.{Value}
 use Rattle.runner.specs.Walked.{WalkedSelector}
 use Rattle.runner.specs.Groups.{pack, matchesIn, Combinator, direct, anywhere, combined, onComponent, tested, groups, combinators, groupCount, allGroups, matching, behind, allBehind, matchingAt, groupsCount}
 
@@ -277,7 +278,7 @@ combinators-most (c ∷ cs) =
 
 -- ---- all selectors
 -- as many bytes as all have groups
-pub length-all-groups : (ss : List WalkedSelector) (row : Path) (above : List ℕ) → length (allGroups row ss above) ≡ groupsCount ss
+pub length-all-groups : (ss : List (WalkedSelector Value)) (row : Path) (above : List ℕ) → length (allGroups row ss above) ≡ groupsCount ss
 unfolding allGroups groupsCount groupCount
 length-all-groups [] row above = refl
 length-all-groups (s ∷ ss) row above =
@@ -285,7 +286,7 @@ length-all-groups (s ∷ ss) row above =
     ∙ ap₂ _+_ (length-groups (s .components) row true false (drop 1 above)) (length-all-groups ss row (drop (suc (combinators (s .components))) above))
 
 -- the same by the direct matcher
-pub length-all-behind : (ss : List WalkedSelector) (p : Path) → length (allBehind ss p) ≡ groupsCount ss
+pub length-all-behind : (ss : List (WalkedSelector Value)) (p : Path) → length (allBehind ss p) ≡ groupsCount ss
 unfolding allBehind groupsCount groupCount
 length-all-behind [] p = refl
 length-all-behind (s ∷ ss) p =
@@ -293,7 +294,7 @@ length-all-behind (s ∷ ss) p =
     ∙ ap₂ _+_ (ap suc (length-behind (s .components) p)) (length-all-behind ss p)
 
 -- an element's bytes, from its parent's
-pub all-groups-right : (ss : List WalkedSelector) (e : Element) (up : Path) (more : List ℕ)
+pub all-groups-right : (ss : List (WalkedSelector Value)) (e : Element) (up : Path) (more : List ℕ)
     → allGroups (e ∷ []) ss (allBehind ss up ++ more) ≡ allBehind ss (e ∷ up)
 unfolding allGroups allBehind groupCount
 all-groups-right [] e up more = refl
@@ -307,13 +308,13 @@ all-groups-right (s ∷ ss) e up more =
     )
 
 -- the document's, where nothing is above
-pub all-groups-at-top : (ss : List WalkedSelector) → allGroups [] ss [] ≡ allBehind ss []
+pub all-groups-at-top : (ss : List (WalkedSelector Value)) → allGroups [] ss [] ≡ allBehind ss []
 unfolding allGroups allBehind groupCount
 all-groups-at-top [] = refl
 all-groups-at-top (s ∷ ss) = rw (groups-at-top (s .components) true false, all-groups-at-top ss, ← and-first (matches (s .components) []))
 
 -- the first byte of a selector says whether it matches
-pub matching-right : (ss : List WalkedSelector) (p : Path) → matching ss (allBehind ss p) ≡ matchingAt p ss
+pub matching-right : (ss : List (WalkedSelector Value)) (p : Path) → matching ss (allBehind ss p) ≡ matchingAt p ss
 unfolding matching allBehind matchingAt groupCount
 matching-right [] p = refl
 matching-right (s ∷ ss) p =

@@ -16,6 +16,8 @@ use Rattle.cascade.specs.Row.{rowOf}
 use Rattle.page.specs.Path.{Element, Path}
 use Rattle.page.specs.Rows.{otherKind}
 use Rattle.styles.specs.StyleCall.{inlineContents}
+use Rattle.syntax.specs.declared.styles.Value.{Value}
+use Rattle.styles.specs.declared.settings.Settings.{Settings}
 use Rattle.runner.specs.Walked.{WalkedSelector, walked}
 use Rattle.runner.specs.Groups.{Combinator, combined, tested, groups, combinators, groupCount, groupsCount, allGroups, matching}
 use Rattle.runner.specs.State.{partWidth, partPlace, countWidth, countBytes, countAt, raised, groupsFrom, opened}
@@ -25,24 +27,24 @@ use Rattle.runner.proofs.StateParts.{part-kept, part-written, part-fron
 use Rattle.runner.proofs.OpenParts.{used, length-raised}
 
 -- ---- the text store
-module _ (code : List ℕ) (on : Bool) (x : Handed) (parent state store store′ : List ℕ) (fill : ℕ) where
+module _ (code : List ℕ) (settings : Settings) (x : Handed) (parent state store store′ : List ℕ) (fill : ℕ) where
   -- what a step writes into its row, and leaves in the state and as fill
   abbrev Left : Stepped → Stepped → Type 0
   Left s t = (s .row ≡ t .row) × (s .state ≡ t .state) × (s .fill ≡ t .fill)
 
   -- by the kind of row and its depth
   store-free : (other : Bool) (depth : ℕ)
-      → Left (pick other (record { row = noStyle; state = state; store = store; fill = fill }) (openStep code on x depth parent state store fill))
-      (pick other (record { row = noStyle; state = state; store = store′; fill = fill }) (openStep code on x depth parent state store′ fill))
+      → Left (pick other (record { row = noStyle; state = state; store = store; fill = fill }) (openStep code settings x depth parent state store fill))
+      (pick other (record { row = noStyle; state = state; store = store′; fill = fill }) (openStep code settings x depth parent state store′ fill))
   unfolding pick openStep documentStep elementStep
   store-free true depth = (refl, refl, refl)
   store-free false zero = (refl, refl, refl)
   store-free false (suc d) = (refl, refl, refl)
 
   -- none of these depends on what the text store holds, be it below its fill or beyond
-  pub step-store-free : (depth : ℕ) → (stepOn code on x depth parent state store fill .row ≡ stepOn code on x depth parent state store′ fill .row)
-      × (stepOn code on x depth parent state store fill .state ≡ stepOn code on x depth parent state store′ fill .state)
-      × (stepOn code on x depth parent state store fill .fill ≡ stepOn code on x depth parent state store′ fill .fill)
+  pub step-store-free : (depth : ℕ) → (stepOn code settings x depth parent state store fill .row ≡ stepOn code settings x depth parent state store′ fill .row)
+      × (stepOn code settings x depth parent state store fill .state ≡ stepOn code settings x depth parent state store′ fill .state)
+      × (stepOn code settings x depth parent state store fill .fill ≡ stepOn code settings x depth parent state store′ fill .fill)
   unfolding stepOn
   step-store-free depth = store-free (is (x .kind) otherKind) depth
 
@@ -52,10 +54,10 @@ filled-next store new fill h =
     let len : length (take fill store ++ new) ≡ fill + length new = length-append (take fill store) new ∙ ap (λ (n : ℕ). n + length new) (length-take-le fill store (omega arith)) in
     ap (take (fill + length new)) (sets-eq new store fill h) ∙ take-at (take fill store ++ new) (drop (fill + length new) store) (fill + length new) len
 
-module _ (code : List ℕ) (on : Bool) (x : Handed) (parent state store store′ : List ℕ) (fill : ℕ) (same : take fill store ≡ take fill store′) where
+module _ (code : List ℕ) (settings : Settings) (x : Handed) (parent state store store′ : List ℕ) (fill : ℕ) (same : take fill store ≡ take fill store′) where
   -- the step with another store
   abbrev stepFrom : Bool → ℕ → List ℕ → Stepped
-  stepFrom other depth l = pick other (record { row = noStyle; state = state; store = l; fill = fill }) (openStep code on x depth parent state l fill)
+  stepFrom other depth l = pick other (record { row = noStyle; state = state; store = l; fill = fill }) (openStep code settings x depth parent state l fill)
 
   -- by the kind of row and its depth
   texts-same : (other : Bool) (depth : ℕ) → stepFrom other depth store .fill ≤ length store → stepFrom other depth store′ .fill ≤ length store′
@@ -64,13 +66,13 @@ module _ (code : List ℕ) (on : Bool) (x : Handed) (parent state store store′
   texts-same true depth h h′ = same
   texts-same false zero h h′ = same
   texts-same false (suc d) h h′ =
-      let new : List ℕ = inlineContents on (record { name = x .name; attributes = x .attributes; place = countAt state (partPlace code d) + 1 }) in
+      let new : List ℕ = inlineContents settings (record { name = x .name; attributes = x .attributes; place = countAt state (partPlace code d) + 1 }) in
       filled-next store new fill h ∙ ap (λ (l : List ℕ). l ++ new) same ∙ sym (filled-next store′ new fill h′)
 
   -- the texts up to the fill that a step leaves depend on those up to the fill that it was given
-  pub step-texts-free : (depth : ℕ) → stepOn code on x depth parent state store fill .fill ≤ length store → stepOn code on x depth parent state store′ fill .fill ≤ length store′
-      → take (stepOn code on x depth parent state store fill .fill) (stepOn code on x depth parent state store fill .store)
-      ≡ take (stepOn code on x depth parent state store′ fill .fill) (stepOn code on x depth parent state store′ fill .store)
+  pub step-texts-free : (depth : ℕ) → stepOn code settings x depth parent state store fill .fill ≤ length store → stepOn code settings x depth parent state store′ fill .fill ≤ length store′
+      → take (stepOn code settings x depth parent state store fill .fill) (stepOn code settings x depth parent state store fill .store)
+      ≡ take (stepOn code settings x depth parent state store′ fill .fill) (stepOn code settings x depth parent state store′ fill .store)
   unfolding stepOn
   step-texts-free depth h h′ = texts-same (is (x .kind) otherKind) depth h h′
 
@@ -130,7 +132,7 @@ drop-take (suc m) n zero (x ∷ l) e = absurd (omega arith)
 drop-take (suc m) n (suc k) (x ∷ l) e = drop-take m n k l (omega arith)
 
 -- the bytes of all selectors look at no more of the parent's than there are groups
-all-groups-same : (ss : List WalkedSelector) (row : Path) (a b : List ℕ) → take (groupsCount ss) a ≡ take (groupsCount ss) b → allGroups row ss a ≡ allGroups row ss b
+all-groups-same : (ss : List (WalkedSelector Value)) (row : Path) (a b : List ℕ) → take (groupsCount ss) a ≡ take (groupsCount ss) b → allGroups row ss a ≡ allGroups row ss b
 unfolding allGroups groupsCount groupCount GroupsSame
 all-groups-same [] row a b e = refl
 all-groups-same (s ∷ ss) row a b e =
@@ -142,7 +144,7 @@ all-groups-same (s ∷ ss) row a b e =
     (all-groups-same ss row (drop (suc n) a) (drop (suc n) b) (sym (drop-take (suc n) (groupsCount ss) k a refl) ∙ ap (drop (suc n)) e ∙ drop-take (suc n) (groupsCount ss) k b refl))
 
 -- two states that agree on the used bytes of a part
-module _ (ss : List WalkedSelector) (state state′ : List ℕ) (at : ℕ) (same : part state at (used ss) ≡ part state′ at (used ss)) where
+module _ (ss : List (WalkedSelector Value)) (state state′ : List ℕ) (at : ℕ) (same : part state at (used ss) ≡ part state′ at (used ss)) where
   -- a byte of the part
   part-byte : (l : List ℕ) (j : ℕ) → j < used ss → getD (part l at (used ss)) j 0 ≡ getD l (at + j) 0
   unfolding part
@@ -183,10 +185,10 @@ module _ (ss : List WalkedSelector) (state state′ : List ℕ) (at : ℕ) (same
       ∙ sym (part-front state′ c′ at l′ n))
 
 -- ---- a step below a row of the depth d, in two states that agree on the used bytes of that row's part
-module _ (code : List ℕ) (fits : used (walked code) ≤ partWidth code) (on : Bool) (x : Handed) (d : ℕ) (parent state state′ store : List ℕ) (fill : ℕ)
+module _ (code : List ℕ) (fits : used (walked code) ≤ partWidth code) (settings : Settings) (x : Handed) (d : ℕ) (parent state state′ store : List ℕ) (fill : ℕ)
     (room : partPlace code (suc d) + partWidth code ≤ length state) (room′ : partPlace code (suc d) + partWidth code ≤ length state′)
     (same : part state (partPlace code d) (used (walked code)) ≡ part state′ (partPlace code d) (used (walked code))) where
-  abbrev ss : List WalkedSelector
+  abbrev ss : List (WalkedSelector Value)
   ss = walked code
 
   -- the element, its bytes and what the step leaves, by the state
@@ -235,10 +237,10 @@ module _ (code : List ℕ) (fits : used (walked code) ≤ partWidth code) (on : 
 
   -- what a step leaves in each
   abbrev stepIn : List ℕ → Stepped
-  stepIn l = stepOn code on x (suc d) parent l store fill
+  stepIn l = stepOn code settings x (suc d) parent l store fill
 
   -- at an element
-  step-in : (l : List ℕ) → ¬ (x .kind ≡ otherKind) → stepIn l ≡ elementStep code on (elementIn l) d parent l store fill
+  step-in : (l : List ℕ) → ¬ (x .kind ≡ otherKind) → stepIn l ≡ elementStep code settings (elementIn l) d parent l store fill
   unfolding stepOn openStep
   step-in l n = sym (pick-false _ _ _ _ (is-no _ _ n) refl)
 
@@ -250,10 +252,10 @@ module _ (code : List ℕ) (fits : used (walked code) ≤ partWidth code) (on : 
         let e = step-in state open-row in
         let e′ = step-in state′ open-row in (
           ap (λ (s : Stepped). s .row) e
-              ∙ ap₂ (λ (a : Element) (b : List ℕ). rowOf (styleBelow parent (matching ss b) on (length code + fill) a)) element-same own-bytes-same
+              ∙ ap₂ (λ (a : Element) (b : List ℕ). rowOf (styleBelow parent (matching ss b) settings (length code + fill) a)) element-same own-bytes-same
               ∙ sym (ap (λ (s : Stepped). s .row) e′),
-          ap (λ (s : Stepped). s .store) e ∙ ap (λ (a : Element). sets store fill (inlineContents on a)) element-same ∙ sym (ap (λ (s : Stepped). s .store) e′),
-          ap (λ (s : Stepped). s .fill) e ∙ ap (λ (a : Element). fill + length (inlineContents on a)) element-same ∙ sym (ap (λ (s : Stepped). s .fill) e′),
+          ap (λ (s : Stepped). s .store) e ∙ ap (λ (a : Element). sets store fill (inlineContents settings a)) element-same ∙ sym (ap (λ (s : Stepped). s .store) e′),
+          ap (λ (s : Stepped). s .fill) e ∙ ap (λ (a : Element). fill + length (inlineContents settings a)) element-same ∙ sym (ap (λ (s : Stepped). s .fill) e′),
         )
 
     -- the same used bytes of its own part, and of its parent's
@@ -279,11 +281,11 @@ module _ (code : List ℕ) (fits : used (walked code) ≤ partWidth code) (on : 
         )
 
 -- ---- the document's step, in whatever state: its own part
-pub document-part-free : (code : List ℕ) → used (walked code) ≤ partWidth code → (on : Bool) (x : Handed) → ¬ (x .kind ≡ otherKind) → (parent state store : List ℕ) (fill : ℕ)
-    → partWidth code ≤ length state → part (stepOn code on x 0 parent state store fill .state) (partPlace code 0) (used (walked code)) ≡ countBytes 0 ++ allGroups [] (walked code) []
+pub document-part-free : (code : List ℕ) → used (walked code) ≤ partWidth code → (settings : Settings) (x : Handed) → ¬ (x .kind ≡ otherKind) → (parent state store : List ℕ) (fill : ℕ)
+    → partWidth code ≤ length state → part (stepOn code settings x 0 parent state store fill .state) (partPlace code 0) (used (walked code)) ≡ countBytes 0 ++ allGroups [] (walked code) []
 unfolding stepOn openStep documentStep opened
-document-part-free code fits on x open-row parent state store fill room =
+document-part-free code fits settings x open-row parent state store fill room =
     let own : List ℕ = countBytes 0 ++ allGroups [] (walked code) [] in
     let own-length : length own ≡ used (walked code) = length-append (countBytes 0) (allGroups [] (walked code) []) ∙ ap₂ _+_ (length-count 0) (length-all-groups (walked code) [] []) ∙ omega arith in
-    let e : stepOn code on x 0 parent state store fill ≡ documentStep code state store fill = sym (pick-false _ _ _ _ (is-no _ _ open-row) refl) in
+    let e : stepOn code settings x 0 parent state store fill ≡ documentStep code state store fill = sym (pick-false _ _ _ _ (is-no _ _ open-row) refl) in
     ap (λ (s : Stepped). part (s .state) (partPlace code 0) (used (walked code))) e ∙ part-written state own (partPlace code 0) (omega (arith, zero-mul (partWidth code))) (used (walked code)) own-length

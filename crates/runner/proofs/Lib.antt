@@ -2,9 +2,9 @@ pub mod GroupLaws
 pub mod StateParts
 pub mod OpenRows
 pub mod OpenParts
+pub mod Declaring
 pub mod WalkedBack
 pub mod PartsFit
-pub mod Declaring
 pub mod StepStyle
 pub mod Steps
 pub mod RunRight

@@ -17,6 +17,7 @@ use Rattle.page.proofs.AcceptedPages.{Accepted}
 use Rattle.page.proofs.Ancestry.{top-ancestors}
 use Rattle.page.proofs.RowFacts.{one-deeper, shallow}
 use Rattle.page.proofs.Paths.{path-document, path-element, place-counts, none-yet}
+use Rattle.syntax.specs.declared.styles.Value.{Value}
 use Rattle.runner.specs.Walked.{WalkedSelector}
 use Rattle.runner.specs.Groups.{allGroups, allBehind, groupsCount}
 use Rattle.runner.specs.State.{depths, partWidth, partPlace, countWidth, countBytes, countAt, raised, groupsFrom, opened}
@@ -25,10 +26,10 @@ use Rattle.runner.proofs.StateParts.{part-kept, part-written, countLimi
 use Rattle.runner.proofs.OpenRows.{Below, weaken, children-same, child-counted, children-few, ancestors-before, parent-most, parent-no-other, line-next, parent-line}
 
 -- the bytes used of a part: the count and the groups
-abbrev pub used : List WalkedSelector → ℕ
+abbrev pub used : List (WalkedSelector Value) → ℕ
 used ss = suc (suc (groupsCount ss))
 
-module _ (code : List ℕ) (ss : List WalkedSelector) (nodes attributes text : List ℕ) where
+module _ (code : List ℕ) (ss : List (WalkedSelector Value)) (nodes attributes text : List ℕ) where
   abbrev pathAt : ℕ → Path
   pathAt row = pathOf nodes attributes text row
 
@@ -91,7 +92,7 @@ room code state d l h =
     let m : suc d * partWidth code ≤ depths * partWidth code = mul-le-mul-right (partWidth code) (omega arith) in
     omega (arith, suc-mul d (partWidth code))
 
-module _ (code : List ℕ) (ss : List WalkedSelector) (nodes attributes text : List ℕ) (u : used ss ≤ partWidth code) (ok : Accepted nodes attributes text) where
+module _ (code : List ℕ) (ss : List (WalkedSelector Value)) (nodes attributes text : List ℕ) (u : used ss ≤ partWidth code) (ok : Accepted nodes attributes text) where
   abbrev OpenAt : ℕ → List ℕ → List ℕ → Type 0
   OpenAt t state l = Open code ss nodes attributes text t state l
 

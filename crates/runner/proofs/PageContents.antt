@@ -2,7 +2,6 @@
 -- text and the attribute rows lent.
 use Prim.Native.Nat.{ℕ, zero, suc, _+_, _*_, _≤_}
 use mathlib.Core.Path.{_≡_, refl, ap}
-use mathlib.Core.Bool.{Bool}
 use mathlib.Core.List.{List, []}
 use native.Mathlib.Omega.{arith}
 use lib.ListN.{length, length-append}
@@ -18,6 +17,7 @@ use Rattle.page.proofs.Sums.{bytes-within, attributes-before-within}
 use Rattle.compiled.proofs.Written.{part-le}
 use Rattle.styles.specs.StyleCall.{inlineContents}
 use Rattle.styles.proofs.Room.{valuesOf, inline-short}
+use Rattle.styles.specs.declared.settings.Settings.{Settings}
 use Rattle.runner.specs.LeastLengths.{runTextBytes}
 use Rattle.runner.specs.Run.{Page, rowContents, contentsBefore, pageContents}
 
@@ -43,9 +43,9 @@ module _ (attributes text : List ℕ) where
         values-short k (at + 1) (start + row .nameLength + row .valueLength),
       )
 
-module _ (on : Bool) (g : Page) where
+module _ (settings : Settings) (g : Page) where
   -- the contents of a row
-  row-short : (i : ℕ) → bytesBefore (g .nodes) (g .attributes) i + length (rowContents on g i)
+  row-short : (i : ℕ) → bytesBefore (g .nodes) (g .attributes) i + length (rowContents settings g i)
       ≤ bytesBefore (g .nodes) (g .attributes) (suc i) + 2 * nodeAt (g .nodes) i .attributeCount
   unfolding rowContents bytesBefore textsEnd elementAt
   row-short i =
@@ -53,20 +53,20 @@ module _ (on : Bool) (g : Page) where
       let start : ℕ = bytesBefore (g .nodes) (g .attributes) i in
       let values = values-short (g .attributes) (g .text) (n .attributeCount) (n .firstAttribute) (start + n .nameLength) in
       let counted = attributes-counted (g .attributes) (g .text) (n .attributeCount) (n .firstAttribute) in
-      let inline = inline-short on (elementAt (g .nodes) (g .attributes) (g .text) i) in
+      let inline = inline-short settings (elementAt (g .nodes) (g .attributes) (g .text) i) in
       pick-holds
       (λ (x : List ℕ). start + length x ≤ textsEnd (g .attributes) n start + 2 * n .attributeCount)
-      (is (n .kind) elementKind) (inlineContents on (elementAt (g .nodes) (g .attributes) (g .text) i)) []
+      (is (n .kind) elementKind) (inlineContents settings (elementAt (g .nodes) (g .attributes) (g .text) i)) []
       (λ _. omega (arith, values, counted, inline)) (λ _. omega (arith, values))
 
   -- of the rows before a row
-  before-short : (i : ℕ) → length (contentsBefore on g i) ≤ bytesBefore (g .nodes) (g .attributes) i + 2 * attributesBefore (g .nodes) i
+  before-short : (i : ℕ) → length (contentsBefore settings g i) ≤ bytesBefore (g .nodes) (g .attributes) i + 2 * attributesBefore (g .nodes) i
   unfolding contentsBefore attributesBefore
   before-short zero = omega arith
-  before-short (suc i) = omega (arith, length-append (contentsBefore on g i) (rowContents on g i), row-short i, before-short i)
+  before-short (suc i) = omega (arith, length-append (contentsBefore settings g i) (rowContents settings g i), row-short i, before-short i)
 
   -- of an accepted page
-  pub contents-short : pageRefusal (g .nodes) (g .attributes) (g .text) ≡ noRefusal → length (pageContents on g) ≤ runTextBytes g
+  pub contents-short : pageRefusal (g .nodes) (g .attributes) (g .text) ≡ noRefusal → length (pageContents settings g) ≤ runTextBytes g
   unfolding pageContents
   contents-short e =
       let ok : Accepted (g .nodes) (g .attributes) (g .text) = accepted (g .nodes) (g .attributes) (g .text) e in

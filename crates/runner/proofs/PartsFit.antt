@@ -13,6 +13,7 @@ use Rattle.compiled.specs.Sheet.{CompiledSelector, headBytes, stylesBytes, sele
 use Rattle.compiled.proofs.Fits.{SheetFits}
 use Rattle.compiled.proofs.NumberBack.{number-some}
 use Rattle.compiled.proofs.ComponentBack.{component-some}
+use Rattle.syntax.specs.declared.styles.Value.{Value}
 use Rattle.runner.specs.Walked.{WalkedSelector, walked, seenSelector, toldSelector}
 use Rattle.runner.specs.Groups.{combinators, groupCount, groupsCount}
 use Rattle.runner.specs.State.{partWidth}
@@ -45,7 +46,7 @@ groups-bytes (s ∷ ss) =
     omega (arith, length-append (selectorBytes s) (textsMany selectorBytes ss), selector-bytes s, combinators-most (s .components), groups-bytes ss)
 
 -- groups are counted by the components alone
-groups-seen : (t : List ℕ) (ss : List WalkedSelector) → groupsCount (map (seenSelector t) ss) ≡ groupsCount ss
+groups-seen : (t : List ℕ) (ss : List (WalkedSelector Value)) → groupsCount (map (seenSelector t) ss) ≡ groupsCount ss
 unfolding groupsCount groupCount seenSelector
 groups-seen t [] = refl
 groups-seen t (s ∷ ss) = ap (λ (n : ℕ). suc (combinators (s .components)) + n) (groups-seen t ss)

@@ -2,7 +2,6 @@
 -- its step leaves, and so all rows.
 use Prim.Native.Nat.{ℕ, zero, suc, _+_, _*_, _≤_, _<_}
 use mathlib.Core.Path.{_≡_, refl, ap, ap₂, sym, subst, _∙_}
-use mathlib.Core.Bool.{Bool}
 use mathlib.Core.Logic.{_⊎_, inl, inr}
 use mathlib.Core.List.{List, [], _∷_, _++_}
 use native.Mathlib.Nat.{not-suc-le-zero}
@@ -12,8 +11,8 @@ use lib.Seq.{sets, length-sets, sets-eq, length-take-le, take-at, drop-at, drop-
 use Rattle.combinators.proofs.Rules.{lt-or-ge}
 use Rattle.syntax.specs.Selector.{RuleSet}
 use Rattle.syntax.specs.Stream.{part}
-use Rattle.cascade.specs.Row.{styleRowWidth, rowOf}
-use Rattle.cascade.proofs.RowBack.{row-long}
+use Rattle.cascade.specs.Row.{styleRowWidth, rowOf, styleAt}
+use Rattle.cascade.proofs.RowBack.{row-long, style-back}
 use Rattle.page.specs.Ancestors.{depthOf}
 use Rattle.page.specs.Path.{Element, Path}
 use Rattle.page.specs.PathOf.{elementAt, pathOf}
@@ -24,8 +23,14 @@ use Rattle.page.proofs.RowFacts.{document-kind, parent-kind}
 use Rattle.compiled.specs.Sheet.{encode}
 use Rattle.compiled.proofs.Fits.{SheetFits}
 use Rattle.compiled.proofs.RoundTrip.{round-trip}
-use Rattle.styles.specs.Numbered.{Rules}
-use Rattle.styles.specs.StyleCall.{inlineContents, seenStyle}
+use Rattle.styles.specs.Said.{Rules}
+use Rattle.styles.specs.Computed.{computedStyle}
+use Rattle.styles.specs.StyleCall.{inlineContents}
+use Rattle.styles.specs.Says.{Says}
+use Rattle.syntax.specs.declared.styles.Value.{Value}
+use Rattle.cascade.specs.declared.slots.Cascade.the-variants.{Crate}
+use Rattle.cascade.specs.Related.{SameStyle}
+use Rattle.styles.specs.declared.settings.Settings.{Settings}
 use Rattle.runner.specs.Walked.{WalkedSelector, walked}
 use Rattle.runner.specs.Groups.{allGroups, matching, matchingAt}
 use Rattle.runner.specs.State.{depths, partWidth, partPlace, raised, groupsFrom}
@@ -36,7 +41,7 @@ use Rattle.runner.proofs.StateParts.{part-kept, part-written}
 use Rattle.runner.proofs.OpenRows.{parent-most, kinds}
 use Rattle.runner.proofs.OpenParts.{length-raised, length-opened, Ready, document-ready, other-ready, place-right, bytes-of, element-ready}
 use Rattle.runner.proofs.PartsFit.{parts-fit}
-use Rattle.runner.proofs.StepStyle.{Styled, document-styled, styled-further, styled-below}
+use Rattle.runner.proofs.StepStyle.{RowStyled, document-styled, styled-further, styled-below}
 use Rattle.runner.proofs.Steps.{element-contents, no-contents, contents-most, other-step, document-step, element-step}
 
 -- ---- rows and stores
@@ -72,7 +77,7 @@ store-next store before new h =
     ∙ ap₂ (λ (a b : List ℕ). a ++ new ++ b) (take-at before rest (length before) refl) e
 
 -- ---- a run
-module _ (rules : Rules RuleSet) (fits : SheetFits (sheetsSelectors rules)) (on : Bool) (g : Page) (ok : Accepted (g .nodes) (g .attributes) (g .text))
+module _ (rules : Rules RuleSet) (fits : SheetFits (sheetsSelectors rules)) (settings : Settings) (g : Page) (ok : Accepted (g .nodes) (g .attributes) (g .text))
     (rows₀ state₀ store₀ : List ℕ) where
   abbrev code : List ℕ
   code = encode (sheetsSelectors rules)
@@ -91,7 +96,7 @@ module _ (rules : Rules RuleSet) (fits : SheetFits (sheetsSelectors rules)) (on 
 
   -- a style row is right where the store has these contents
   pub record RowRight (filled row : List ℕ) (i : ℕ) : Type 0 where
-    pub styled : kindAt i ≡ elementKind → Styled rules on filled row (pathAt i)
+    pub styled : kindAt i ≡ elementKind → RowStyled rules settings filled row (pathAt i)
     pub zeros : ¬ (kindAt i ≡ elementKind) → row ≡ noStyle
 
   -- before row i
@@ -100,26 +105,26 @@ module _ (rules : Rules RuleSet) (fits : SheetFits (sheetsSelectors rules)) (on 
     pub behind : drop (i * styleRowWidth) (r .rows) ≡ drop (i * styleRowWidth) rows₀
     pub state-long : length (r .state) ≡ length state₀
     pub ready : ReadyAt i (r .state)
-    pub fill : r .fill ≡ length (contentsBefore on g i)
-    pub store : r .store ≡ contentsBefore on g i ++ drop (length (contentsBefore on g i)) store₀
-    pub right : (j : ℕ) → j < i → RowRight (contentsBefore on g i) (styleRowAt (r .rows) j) j
+    pub fill : r .fill ≡ length (contentsBefore settings g i)
+    pub store : r .store ≡ contentsBefore settings g i ++ drop (length (contentsBefore settings g i)) store₀
+    pub right : (j : ℕ) → j < i → RowRight (contentsBefore settings g i) (styleRowAt (r .rows) j) j
 
   -- what the step of row i leaves
   pub record After (i : ℕ) (r : Running) (s : Stepped) : Type 0 where
     pub whole : length (s .row) ≡ styleRowWidth
-    pub right : RowRight (contentsBefore on g (suc i)) (s .row) i
+    pub right : RowRight (contentsBefore settings g (suc i)) (s .row) i
     pub state-long : length (s .state) ≡ length (r .state)
     pub ready : ReadyAt (suc i) (s .state)
-    pub fill : s .fill ≡ r .fill + length (rowContents on g i)
-    pub store : s .store ≡ sets (r .store) (r .fill) (rowContents on g i)
+    pub fill : s .fill ≡ r .fill + length (rowContents settings g i)
+    pub store : s .store ≡ sets (r .store) (r .fill) (rowContents settings g i)
 
-  module _ (rows-room : count * styleRowWidth ≤ length rows₀) (state-room : depths * partWidth code ≤ length state₀) (store-room : length (pageContents on g) ≤ length store₀) where
+  module _ (rows-room : count * styleRowWidth ≤ length rows₀) (state-room : depths * partWidth code ≤ length state₀) (store-room : length (pageContents settings g) ≤ length store₀) where
     -- rows that are right stay so where the store is filled further
-    right-further : (i j : ℕ) (row row′ : List ℕ) → row′ ≡ row → RowRight (contentsBefore on g i) row j → RowRight (contentsBefore on g (suc i)) row′ j
+    right-further : (i j : ℕ) (row row′ : List ℕ) → row′ ≡ row → RowRight (contentsBefore settings g i) row j → RowRight (contentsBefore settings g (suc i)) row′ j
     unfolding contentsBefore
     right-further i j row row′ e h =
         record {
-          styled = λ k. rw e (styled-further rules on (contentsBefore on g i) (rowContents on g i) row (pathAt j) (h .styled k));
+          styled = λ k. rw e (styled-further rules settings (contentsBefore settings g i) (rowContents settings g i) row (pathAt j) (h .styled k));
           zeros = λ k. e ∙ h .zeros k;
         }
 
@@ -128,11 +133,11 @@ module _ (rules : Rules RuleSet) (fits : SheetFits (sheetsSelectors rules)) (on 
         → Before (suc i) (record { rows = sets (r .rows) (i * styleRowWidth) (s .row); state = s .state; store = s .store; fill = s .fill })
     unfolding contentsBefore
     next i r s there b a =
-        let before : List ℕ = contentsBefore on g i in
-        let new : List ℕ = rowContents on g i in
+        let before : List ℕ = contentsBefore settings g i in
+        let new : List ℕ = rowContents settings g i in
         let rm : count * styleRowWidth ≤ length (r .rows) = omega (arith, b .long) in
         let at : i * styleRowWidth + styleRowWidth ≡ suc i * styleRowWidth = omega arith in
-        let most : length (before ++ new) ≤ length (pageContents on g) = contents-most on g (suc i) there in
+        let most : length (before ++ new) ≤ length (pageContents settings g) = contents-most settings g (suc i) there in
         let fits : length before + length new ≤ length store₀ = omega (arith, length-append before new) in
         record {
           long = length-sets (r .rows) (i * styleRowWidth) (s .row) ∙ b .long;
@@ -149,26 +154,26 @@ module _ (rules : Rules RuleSet) (fits : SheetFits (sheetsSelectors rules)) (on 
 
         -- a row before it, or its own
         by-row : count * styleRowWidth ≤ length (r .rows) → (j : ℕ) → j < suc i → (j < i) ⊎ (i ≤ j)
-            → RowRight (contentsBefore on g (suc i)) (styleRowAt (sets (r .rows) (i * styleRowWidth) (s .row)) j) j
+            → RowRight (contentsBefore settings g (suc i)) (styleRowAt (sets (r .rows) (i * styleRowWidth) (s .row)) j) j
         by-row rm j l (inl h) =
             right-further i j (styleRowAt (r .rows) j) (styleRowAt (sets (r .rows) (i * styleRowWidth) (s .row)) j) (row-kept (r .rows) (s .row) i count there rm (a .whole) j h) (b .right j h)
         by-row rm j l (inr h) =
             let e : i ≡ j = omega arith in
-            subst (λ (k : ℕ). RowRight (contentsBefore on g (suc i)) (styleRowAt (sets (r .rows) (i * styleRowWidth) (s .row)) k) k) e
-            (subst (λ (row : List ℕ). RowRight (contentsBefore on g (suc i)) row i) (sym (row-written (r .rows) (s .row) i count there rm (a .whole))) (a .right))
+            subst (λ (k : ℕ). RowRight (contentsBefore settings g (suc i)) (styleRowAt (sets (r .rows) (i * styleRowWidth) (s .row)) k) k) e
+            (subst (λ (row : List ℕ). RowRight (contentsBefore settings g (suc i)) row i) (sym (row-written (r .rows) (s .row) i count there rm (a .whole))) (a .right))
 
     -- ---- the step of each kind of row
     abbrev stepAt : ℕ → Running → Stepped
     stepAt i r =
-        stepOn code on (handedAt g i) (depthOf (g .nodes) i) (styleRowAt (r .rows) (nodeAt (g .nodes) i .parent)) (r .state) (r .store) (r .fill)
+        stepOn code settings (handedAt g i) (depthOf (g .nodes) i) (styleRowAt (r .rows) (nodeAt (g .nodes) i .parent)) (r .state) (r .store) (r .fill)
 
     -- a row without a style
     zeros-right : (filled : List ℕ) (i : ℕ) → ¬ (kindAt i ≡ elementKind) → RowRight filled noStyle i
     zeros-right filled i d = record { styled = λ k. absurd (d k); zeros = λ k. refl }
 
     -- nothing is added to the store
-    nothing-new : (i n : ℕ) → ¬ (kindAt i ≡ elementKind) → n ≡ n + length (rowContents on g i)
-    nothing-new i n d = rw (no-contents on g i d) (omega arith)
+    nothing-new : (i n : ℕ) → ¬ (kindAt i ≡ elementKind) → n ≡ n + length (rowContents settings g i)
+    nothing-new i n d = rw (no-contents settings g i d) (omega arith)
 
     -- the document
     document-after : (r : Running) → Before 0 r → After 0 r (stepAt 0 r)
@@ -176,14 +181,14 @@ module _ (rules : Rules RuleSet) (fits : SheetFits (sheetsSelectors rules)) (on 
     document-after r b =
         let no : ¬ (kindAt 0 ≡ elementKind) = λ (e : kindAt 0 ≡ elementKind). omega (arith, document-kind (g .nodes) (g .attributes) (g .text) ok) in
         let long : depths * partWidth code ≤ length (r .state) = omega (arith, b .state-long) in
-        subst (After 0 r) (sym (document-step code on g (styleRowAt (r .rows) (nodeAt (g .nodes) 0 .parent)) (r .state) (r .store) (r .fill) ok))
+        subst (After 0 r) (sym (document-step code settings g (styleRowAt (r .rows) (nodeAt (g .nodes) 0 .parent)) (r .state) (r .store) (r .fill) ok))
         (record {
           whole = refl;
-          right = zeros-right (contentsBefore on g 1) 0 no;
+          right = zeros-right (contentsBefore settings g 1) 0 no;
           state-long = length-opened (r .state) (partPlace code 0) (allGroups [] (walked code) []);
           ready = document-ready code (walked code) (g .nodes) (g .attributes) (g .text) (parts-fit (sheetsSelectors rules) fits) ok (r .state) long;
           fill = nothing-new 0 (r .fill) no;
-          store = ap (λ (x : List ℕ). sets (r .store) (r .fill) x) (sym (no-contents on g 0 no));
+          store = ap (λ (x : List ℕ). sets (r .store) (r .fill) x) (sym (no-contents settings g 0 no));
         })
 
     module _ (i : ℕ) (there : suc i < count) (r : Running) (b : Before (suc i) r) where
@@ -198,28 +203,28 @@ module _ (rules : Rules RuleSet) (fits : SheetFits (sheetsSelectors rules)) (on 
       other-after : kindAt (suc i) ≡ otherKind → After (suc i) r (stepAt (suc i) r)
       other-after e =
           let no : ¬ (kindAt (suc i) ≡ elementKind) = λ (z : kindAt (suc i) ≡ elementKind). omega (arith, e, z) in
-          subst (After (suc i) r) (sym (other-step code on g (styleRowAt (r .rows) p) (r .state) (r .store) (r .fill) (suc i) e))
+          subst (After (suc i) r) (sym (other-step code settings g (styleRowAt (r .rows) p) (r .state) (r .store) (r .fill) (suc i) e))
           (record {
             whole = refl;
-            right = zeros-right (contentsBefore on g (suc (suc i))) (suc i) no;
+            right = zeros-right (contentsBefore settings g (suc (suc i))) (suc i) no;
             state-long = refl;
             ready = other-ready code (walked code) (g .nodes) (g .attributes) (g .text) (parts-fit (sheetsSelectors rules) fits) ok i there (r .state) long (b .ready) e;
             fill = nothing-new (suc i) (r .fill) no;
-            store = ap (λ (x : List ℕ). sets (r .store) (r .fill) x) (sym (no-contents on g (suc i) no));
+            store = ap (λ (x : List ℕ). sets (r .store) (r .fill) x) (sym (no-contents settings g (suc i) no));
           })
 
       -- the parent's row is the computed style of its path, or the zeros of the document
-      parent-styled : Styled rules on (contentsBefore on g (suc i)) (styleRowAt (r .rows) p) (pathAt p)
+      parent-styled : RowStyled rules settings (contentsBefore settings g (suc i)) (styleRowAt (r .rows) p) (pathAt p)
       parent-styled = go (parent-kind (g .nodes) (g .attributes) (g .text) ok (suc i) there (omega arith))
         where
-          here : RowRight (contentsBefore on g (suc i)) (styleRowAt (r .rows) p) p
+          here : RowRight (contentsBefore settings g (suc i)) (styleRowAt (r .rows) p) p
           here = b .right p (omega (arith, parent-most (g .nodes) (g .attributes) (g .text) ok i there))
 
-          go : (p ≡ 0) ⊎ (kindAt p ≡ elementKind) → Styled rules on (contentsBefore on g (suc i)) (styleRowAt (r .rows) p) (pathAt p)
+          go : (p ≡ 0) ⊎ (kindAt p ≡ elementKind) → RowStyled rules settings (contentsBefore settings g (suc i)) (styleRowAt (r .rows) p) (pathAt p)
           go (inl e) =
               let no : ¬ (kindAt p ≡ elementKind) = λ (k : kindAt p ≡ elementKind). (let z : kindAt 0 ≡ elementKind = rw e at k in omega (arith, z, document-kind (g .nodes) (g .attributes) (g .text) ok)) in
               let top : pathAt p ≡ [] = ap pathAt e ∙ path-document (g .nodes) (g .attributes) (g .text) ok in
-              rw (here .zeros no, top) (document-styled rules on (contentsBefore on g (suc i)))
+              rw (here .zeros no, top) (document-styled rules settings (contentsBefore settings g (suc i)))
           go (inr e) = here .styled e
 
       module _ (element : kindAt (suc i) ≡ elementKind) where
@@ -230,7 +235,7 @@ module _ (rules : Rules RuleSet) (fits : SheetFits (sheetsSelectors rules)) (on 
         parent = styleRowAt (r .rows) p
 
         abbrev filled : List ℕ
-        filled = contentsBefore on g (suc i)
+        filled = contentsBefore settings g (suc i)
 
         abbrev bytes : List ℕ
         bytes = allGroups (e ∷ []) (walked code) (groupsFrom (r .state) (partPlace code (depthOf (g .nodes) p)))
@@ -247,21 +252,21 @@ module _ (rules : Rules RuleSet) (fits : SheetFits (sheetsSelectors rules)) (on 
             ∙ ap (λ (x : Path). matchingAt x (walked code)) path-here
 
         -- the row, by the path
-        row-here : rowOf (styleBelow parent (matching (walked code) bytes) on (length code + r .fill) e) ≡ rowOf (styleBelow parent (matchingAt (e ∷ pathAt p) (walked code)) on (length code + length filled) e)
-        row-here = ap₂ (λ (ss : List WalkedSelector) (n : ℕ). rowOf (styleBelow parent ss on (length code + n) e)) matching-here (b .fill)
+        row-here : rowOf (styleBelow parent (matching (walked code) bytes) settings (length code + r .fill) e) ≡ rowOf (styleBelow parent (matchingAt (e ∷ pathAt p) (walked code)) settings (length code + length filled) e)
+        row-here = ap₂ (λ (ss : List (WalkedSelector Value)) (n : ℕ). rowOf (styleBelow parent ss settings (length code + n) e)) matching-here (b .fill)
 
         -- which is the computed style
-        below : Styled rules on (filled ++ inlineContents on e) (rowOf (styleBelow parent (matchingAt (e ∷ pathAt p) (walked code)) on (length code + length filled) e)) (e ∷ pathAt p)
-        below = styled-below rules on fits filled e (pathAt p) parent parent-styled
+        below : RowStyled rules settings (filled ++ inlineContents settings e) (rowOf (styleBelow parent (matchingAt (e ∷ pathAt p) (walked code)) settings (length code + length filled) e)) (e ∷ pathAt p)
+        below = styled-below rules settings fits filled e (pathAt p) parent parent-styled
 
         -- an element
         element-after : After (suc i) r (stepAt (suc i) r)
         unfolding elementStep contentsBefore
         element-after =
             let place = place-right code (walked code) (g .nodes) (g .attributes) (g .text) (parts-fit (sheetsSelectors rules) fits) ok i there (r .state) long (b .ready) element in
-            let new : rowContents on g (suc i) ≡ inlineContents on e = element-contents on g (suc i) element in
+            let new : rowContents settings g (suc i) ≡ inlineContents settings e = element-contents settings g (suc i) element in
             let at : ℕ = partPlace code (depthOf (g .nodes) p) in
-            subst (After (suc i) r) (sym (element-step code on g parent (r .state) (r .store) (r .fill) ok i there element place))
+            subst (After (suc i) r) (sym (element-step code settings g parent (r .state) (r .store) (r .fill) ok i there element place))
             (record {
               whole = ap length (row-here ∙ below .1) ∙ row-long (below .0) (below .2);
               right = record { styled = λ k. rw (row-here, new, path-here) below; zeros = λ d. absurd (d element) };
@@ -282,12 +287,12 @@ module _ (rules : Rules RuleSet) (fits : SheetFits (sheetsSelectors rules)) (on 
         go (inr e) = element-after i there r b e
 
     -- all that follow
-    run-after : (k i : ℕ) (r : Running) → i + k ≡ count → Before i r → Before count (runFrom code on g k i r)
+    run-after : (k i : ℕ) (r : Running) → i + k ≡ count → Before i r → Before count (runFrom code settings g k i r)
     unfolding runFrom runStep
     run-after zero i r e b = let z : i ≡ count = omega arith in subst (λ (n : ℕ). Before n r) z b
     run-after (suc k) i r e b =
         let there : i < count = omega arith in
-        run-after k (suc i) (runStep code on g i r) (omega arith) (next i r (stepAt i r) there b (step-after i there r b))
+        run-after k (suc i) (runStep code settings g i r) (omega arith) (next i r (stepAt i r) there b (step-after i there r b))
 
     -- nothing is asked of what the run finds
     at-start : Before 0 (record { rows = rows₀; state = state₀; store = store₀; fill = 0 })
@@ -304,16 +309,17 @@ module _ (rules : Rules RuleSet) (fits : SheetFits (sheetsSelectors rules)) (on 
         }
 
     -- the run
-    pub run-right : AllRows rules on g code rows₀ store₀ (runOf code on g rows₀ state₀ store₀)
+    pub run-right : AllRows rules settings g code rows₀ store₀ (runOf code settings g rows₀ state₀ store₀)
     unfolding runOf pageContents
     run-right =
-        let r : Running = runFrom code on g count 0 (record { rows = rows₀; state = state₀; store = store₀; fill = 0 }) in
+        let r : Running = runFrom code settings g count 0 (record { rows = rows₀; state = state₀; store = store₀; fill = 0 }) in
         let b : Before count r = run-after count 0 (record { rows = rows₀; state = state₀; store = store₀; fill = 0 }) (omega arith) at-start in
         record {
           sheet = round-trip (sheetsSelectors rules) fits;
           element-rows = λ i l k.
               let s = b .right i l .styled k in
-              (s .0, s .1, ap (λ (t : List ℕ). seenStyle (code ++ t) (s .0)) (b .store) ∙ s .3 (drop (length (contentsBefore on g count)) store₀));
+              let back : styleAt (styleRowAt (r .rows) i) ≡ s .0 = ap styleAt (s .1) ∙ style-back (s .0) (s .2) in
+              rw (back, b .store) (s .3 (drop (length (contentsBefore settings g count)) store₀));
           other-rows = λ i l d. b .right i l .zeros d;
           rows-long = b .long;
           rows-behind = b .behind;

@@ -1,117 +1,133 @@
--- The style row of a step: where the parent's row is the computed style of its path, contents read in the compiled bytes and the text store so far, the step
--- writes the computed style of the element's.
+-- The style row of a step: where the parent's row says the computed style of its path, contents read in the compiled bytes and the texts so far, the step
+-- writes a row that says the computed style of the element's.
 use Prim.Native.Nat.{ℕ, _+_}
-use mathlib.Core.Path.{_≡_, refl, ap, ap₂, sym, _∙_}
-use mathlib.Core.Bool.{Bool, false}
-use mathlib.Core.List.{List, [], _∷_, _++_, map, map-append, foldl, append-assoc}
+use mathlib.Core.Path.{_≡_, refl, ap, sym, subst, _∙_}
+use mathlib.Core.Bool.{false}
+use mathlib.Core.List.{List, [], _∷_, _++_, map, foldl, append-assoc}
+use native.Mathlib.Omega.{arith}
 use lib.ListN.{length, drop, length-append}
 use lib.Seq.{drop-at}
 use Rattle.syntax.specs.Layout.{flag}
 use Rattle.syntax.specs.Selector.{RuleSet}
-use Rattle.syntax.specs.Style.{agentOrigin, userOrigin, authorOrigin}
-use Rattle.syntax.proofs.Streams.{Held}
-use Rattle.cascade.specs.Record.{ComputedStyle, Formed, emptyRecord, emptyStyle, Declared, mergeComputedStyle, inherit, fromRule, fromAttribute, crateDeclared, crateCascade}
+use Rattle.syntax.specs.Style.{agentOrigin, userOrigin, authorOrigin, Style}
+use Rattle.syntax.specs.declared.styles.Value.{Value}
+use Rattle.cascade.specs.declared.slots.Cascade.the-variants.{Crate}
+use Rattle.cascade.specs.Record.{ComputedStyle, Formed, emptyRecord, emptyStyle, Declared, mergeBy, inherit, inheritBy, fromRule, fromAttribute, crateDeclared, declaredBy, cascadeBy}
+use Rattle.cascade.specs.Related.{Each, SameStyle}
 use Rattle.cascade.specs.Row.{rowOf, styleAt, recordNumbers, slotsNumbers, slotNumbers}
-use Rattle.cascade.specs.Slot.{maybeUpdate, emptySlot}
-use Rattle.cascade.specs.Specificity.{inlineSpecificity, noSpecificity, specificityOf}
+use Rattle.cascade.specs.Slot.{updateBy}
+use Rattle.cascade.specs.Specificity.{inlineSpecificity}
 use Rattle.cascade.proofs.Cascading.{inherit-formed, merges-formed}
+use Rattle.cascade.proofs.Relating.{each-append, each-map, SameAttribute, SameDeclared, attribute-declared, inherit-same, merges-same, empty-same}
 use Rattle.cascade.proofs.RowBack.{style-back, view-formed, empty-formed}
 use Rattle.page.specs.Path.{Element, Path}
 use Rattle.compiled.specs.Sheet.{encode}
 use Rattle.compiled.proofs.Fits.{SheetFits}
-use Rattle.styles.specs.Numbered.{toldRules, Rules}
-use Rattle.styles.specs.Computed.{rulesSay, inlineSays, cascaded, sourcesFrom, toldSheets, sourcesAlong, computedStyle}
-use Rattle.styles.specs.StyleCall.{inlineContents, inlinePlaced, seenStyle}
-use Rattle.styles.specs.Seen.{seenDeclared}
-use Rattle.styles.proofs.Merges.{crate-blind, merges-seen, inherit-seen, empty-seen}
-use Rattle.styles.proofs.Placed.{inline-declared-seen}
-use Rattle.runner.specs.Walked.{walked}
+use Rattle.styles.specs.declared.settings.Settings.{Settings}
+use Rattle.styles.specs.Said.{Rules, rulesSay, sourcesFrom, meantRule, meantRules, countedAttributes, attributesSay}
+use Rattle.styles.specs.Computed.{cascaded, sourcesAlong, computedStyle}
+use Rattle.styles.specs.StyleCall.{inlineContents, placedAttributes}
+use Rattle.styles.specs.Says.{Says}
+use Rattle.styles.proofs.Lying.{Lies}
+use Rattle.styles.proofs.Placed.{attributes-placed}
+use Rattle.runner.specs.Walked.{WalkedSelector, walked, meantSelector}
 use Rattle.runner.specs.Groups.{matchingAt}
-use Rattle.runner.specs.Run.{noStyle, declaredBy, styleBelow}
+use Rattle.runner.specs.Run.{noStyle, selectorsDeclare, styleBelow}
 use Rattle.runner.specs.Demand.{sheetsSelectors}
-use Rattle.runner.proofs.WalkedBack.{walked-told}
-use Rattle.runner.proofs.Declaring.{declared-seen, matching-seen, selectors-declare}
+use Rattle.runner.proofs.WalkedBack.{walked-said}
+use Rattle.runner.proofs.Declaring.{SameSelector, declared-alike, matching-alike, selectors-declare}
 
 -- the row of the empty style
 pub empty-row : noStyle ≡ rowOf emptyStyle
-unfolding rowOf emptyStyle emptyRecord recordNumbers slotsNumbers slotNumbers emptySlot noSpecificity specificityOf flag
+unfolding rowOf emptyStyle emptyRecord recordNumbers slotsNumbers slotNumbers flag
 empty-row = refl
 
-module _ (rules : Rules RuleSet) (on : Bool) where
+module _ (rules : Rules RuleSet) (settings : Settings) where
   abbrev code : List ℕ
   code = encode (sheetsSelectors rules)
 
-  -- a row is that of the computed style at a path: its contents are read in the compiled bytes and in what the text store has so far, whatever follows
-  abbrev pub Styled : List ℕ → List ℕ → Path → Type 0
-  Styled filled row p =
-      (s : ComputedStyle) × (row ≡ rowOf s) × Formed s × ((more : List ℕ) → seenStyle (code ++ (filled ++ more)) s ≡ computedStyle rules on p)
+  -- a row says the computed style at a path: its contents are read in the compiled bytes and in what the text store has so far, whatever follows
+  abbrev pub RowStyled : List ℕ → List ℕ → Path → Type 0
+  RowStyled filled row p =
+      (s : ComputedStyle Value) × (row ≡ rowOf s) × Formed s × ((more : List ℕ) → SameStyle (Says (code ++ (filled ++ more))) s (computedStyle Crate rules settings p))
 
   -- the document's, which has none
-  pub document-styled : (filled : List ℕ) → Styled filled noStyle []
+  pub document-styled : (filled : List ℕ) → RowStyled filled noStyle []
   unfolding computedStyle sourcesAlong cascaded
-  document-styled filled = (emptyStyle, empty-row, empty-formed, λ more. empty-seen (code ++ (filled ++ more)))
+  document-styled filled = (emptyStyle, empty-row, empty-formed, λ more. empty-same (Says (code ++ (filled ++ more))))
 
   -- it stays so where the store is filled further
-  pub styled-further : (filled new row : List ℕ) (p : Path) → Styled filled row p → Styled (filled ++ new) row p
+  pub styled-further : (filled new row : List ℕ) (p : Path) → RowStyled filled row p → RowStyled (filled ++ new) row p
   styled-further filled new row p h = (
     h .0,
     h .1,
     h .2,
-    λ more. ap (λ (t : List ℕ). seenStyle (code ++ t) (h .0)) (append-assoc filled new more) ∙ h .3 (new ++ more),
+    λ more. subst (λ (t : List ℕ). SameStyle (Says (code ++ t)) (h .0) (computedStyle Crate rules settings p)) (sym (append-assoc filled new more)) (h .3 (new ++ more)),
   )
 
   module _ (fits : SheetFits (sheetsSelectors rules)) (filled : List ℕ) (e : Element) (up : Path) where
     abbrev new : List ℕ
-    new = inlineContents on e
+    new = inlineContents settings e
 
-    -- what is declared for the element, its inline contents behind what the store has
-    abbrev declared : List Declared
-    declared =
-        declaredBy (matchingAt (e ∷ up) (walked code))
-        ++ map (fromAttribute false inlineSpecificity) (inlinePlaced on (length code + length filled) e)
+    abbrev counts : ℕ
+    counts = length code + length filled
 
-    -- the inline contents lie there
-    contents-there : (more : List ℕ) → Held (code ++ ((filled ++ new) ++ more)) (length code + length filled) new
+    -- the inline contents lie behind the compiled bytes and what the store has
+    contents-there : (more : List ℕ) → Lies (code ++ ((filled ++ new) ++ more)) counts new
     contents-there more =
         record {
-          more = more;
-          held =
-              ap (drop (length code + length filled)) (ap (λ (x : List ℕ). code ++ x) (append-assoc filled new more) ∙ sym (append-assoc code filled (new ++ more)))
-              ∙ drop-at (code ++ filled) (new ++ more) (length code + length filled) (length-append code filled);
+          within = omega (arith, length-append code ((filled ++ new) ++ more), length-append (filled ++ new) more, length-append filled new);
+          there = record {
+            more = more;
+            held =
+                ap (drop counts) (ap (λ (x : List ℕ). code ++ x) (append-assoc filled new more) ∙ sym (append-assoc code filled (new ++ more)))
+                ∙ drop-at (code ++ filled) (new ++ more) counts (length-append code filled);
+          };
         }
 
-    -- so all that is declared is, seen there, what the sheets and the attributes say
-    declared-right : (more : List ℕ) → map (seenDeclared (code ++ ((filled ++ new) ++ more))) declared
-        ≡ crateDeclared (sourcesFrom (toldSheets rules) (inlineSays on e) (e ∷ up))
-    unfolding crateDeclared sourcesFrom toldSheets
+    -- what is declared for the element, its inline contents there
+    abbrev declared : List (Declared Value)
+    declared =
+        selectorsDeclare (matchingAt (e ∷ up) (walked code)) ++ map (fromAttribute false inlineSpecificity) (placedAttributes counts (countedAttributes settings e))
+
+    -- the same with the styles themselves is what the sheets and the attributes say
+    meant-declared : selectorsDeclare (matchingAt (e ∷ up) (map meantSelector (sheetsSelectors rules))) ++ map (fromAttribute false inlineSpecificity) (attributesSay (countedAttributes settings e))
+        ≡ declaredBy Crate (sourcesFrom (meantRules rules) (attributesSay (countedAttributes settings e)) (e ∷ up))
+    unfolding declaredBy crateDeclared sourcesFrom meantRules
+    meant-declared =
+        let a : List (Declared Style) = map (fromRule agentOrigin) (rulesSay (e ∷ up) (map meantRule (rules .agent))) in
+        let u : List (Declared Style) = map (fromRule userOrigin) (rulesSay (e ∷ up) (map meantRule (rules .user))) in
+        let w : List (Declared Style) = map (fromRule authorOrigin) (rulesSay (e ∷ up) (map meantRule (rules .author))) in
+        let i : List (Declared Style) = map (fromAttribute false inlineSpecificity) (attributesSay (countedAttributes settings e)) in
+        let rest : (a ++ (u ++ w)) ++ i ≡ a ++ (u ++ (w ++ i)) = simp append-assoc in
+        ap (λ (x : List (Declared Style)). x ++ i) (selectors-declare (e ∷ up) (rules .agent) (rules .user) (rules .author)) ∙ rest
+
+    -- so all that is declared says what the sheets and the attributes say
+    declared-right : (more : List ℕ)
+        → Each (SameDeclared (Says (code ++ ((filled ++ new) ++ more)))) declared (declaredBy Crate (sourcesFrom (meantRules rules) (attributesSay (countedAttributes settings e)) (e ∷ up)))
     declared-right more =
         let t : List ℕ = code ++ ((filled ++ new) ++ more) in
-        let a : List Declared = map (fromRule agentOrigin) (rulesSay (e ∷ up) (toldRules (rules .agent))) in
-        let u : List Declared = map (fromRule userOrigin) (rulesSay (e ∷ up) (toldRules (rules .user))) in
-        let w : List Declared = map (fromRule authorOrigin) (rulesSay (e ∷ up) (toldRules (rules .author))) in
-        let i : List Declared = map (fromAttribute false inlineSpecificity) (inlineSays on e) in
-        let rest : (a ++ (u ++ w)) ++ i ≡ a ++ (u ++ (w ++ i)) = simp append-assoc in
-        map-append (seenDeclared t) (declaredBy (matchingAt (e ∷ up) (walked code))) (map (fromAttribute false inlineSpecificity) (inlinePlaced on (length code + length filled) e))
-        ∙ ap₂ _++_
-        (declared-seen t (matchingAt (e ∷ up) (walked code))
-        ∙ ap declaredBy (matching-seen t (e ∷ up) (walked code) ∙ ap (matchingAt (e ∷ up)) (walked-told (sheetsSelectors rules) fits ((filled ++ new) ++ more)))
-        ∙ selectors-declare (e ∷ up) (rules .agent) (rules .user) (rules .author))
-        (inline-declared-seen t on (length code + length filled) e (contents-there more))
-        ∙ rest
+        subst (Each (SameDeclared (Says t)) declared) meant-declared
+        (each-append (SameDeclared (Says t))
+        (declared-alike (Says t) (matching-alike (Says t) (e ∷ up) (walked-said (sheetsSelectors rules) fits ((filled ++ new) ++ more))))
+        (each-map (SameAttribute (Says t)) (SameDeclared (Says t)) (fromAttribute false inlineSpecificity) (fromAttribute false inlineSpecificity) (λ a b. attribute-declared (Says t) false false inlineSpecificity a b refl)
+        (by-contents t (contents-there more))))
+      where
+        by-contents : (t : List ℕ) → Lies t counts new → Each (SameAttribute (Says t)) (placedAttributes counts (countedAttributes settings e)) (attributesSay (countedAttributes settings e))
+        by-contents t h = attributes-placed t (countedAttributes settings e) counts (unfold inlineContents in h)
 
     -- the row of the step
-    pub styled-below : (row : List ℕ) → Styled filled row up
-        → Styled (filled ++ new) (rowOf (styleBelow row (matchingAt (e ∷ up) (walked code)) on (length code + length filled) e)) (e ∷ up)
-    unfolding styled-further styleBelow computedStyle sourcesAlong cascaded crateCascade mergeComputedStyle
+    pub styled-below : (row : List ℕ) → RowStyled filled row up
+        → RowStyled (filled ++ new) (rowOf (styleBelow row (matchingAt (e ∷ up) (walked code)) settings counts e)) (e ∷ up)
+    unfolding styled-further styleBelow computedStyle sourcesAlong cascaded cascadeBy
     styled-below row h =
         let parent : styleAt row ≡ h .0 = ap styleAt (h .1) ∙ style-back (h .0) (h .2) in
-        let s : ComputedStyle = foldl mergeComputedStyle (inherit (styleAt row)) declared in (
+        let s : ComputedStyle Value = foldl (mergeBy (updateBy Crate)) (inheritBy Crate (styleAt row)) declared in (
           s,
           refl,
-          merges-formed maybeUpdate declared (inherit (styleAt row)) (inherit-formed (styleAt row) (view-formed row)),
+          merges-formed (updateBy Crate) declared (inheritBy Crate (styleAt row)) (unfold inheritBy in inherit-formed (styleAt row) (view-formed row)),
           λ more.
               let t : List ℕ = code ++ ((filled ++ new) ++ more) in
-              let above : seenStyle t (styleAt row) ≡ computedStyle rules on up = ap (seenStyle t) parent ∙ styled-further filled new row up h .3 more in
-              sym (merges-seen maybeUpdate crate-blind t declared (inherit (styleAt row)))
-              ∙ ap₂ (foldl mergeComputedStyle) (sym (inherit-seen t (styleAt row)) ∙ ap inherit above) (declared-right more),
+              let above : SameStyle (Says t) (styleAt row) (computedStyle Crate rules settings up) = rw parent (styled-further filled new row up h .3 more) in
+              merges-same (Says t) Crate (declared-right more) (inheritBy Crate (styleAt row)) (inheritBy Crate (computedStyle Crate rules settings up)) (inherit-same (Says t) Crate (styleAt row) (computedStyle Crate rules settings up) above),
         )

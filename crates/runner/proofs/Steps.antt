@@ -1,7 +1,6 @@
 -- What a step is at each kind of row of an accepted page, and which contents a row has.
 use Prim.Native.Nat.{ℕ, zero, suc, _+_, _-_, _≤_, _<_}
 use mathlib.Core.Path.{_≡_, refl, sym}
-use mathlib.Core.Bool.{Bool}
 use mathlib.Core.List.{List, []}
 use native.Mathlib.Omega.{arith}
 use lib.ListN.{length, length-append}
@@ -13,33 +12,34 @@ use Rattle.page.proofs.AcceptedPages.{Accepted}
 use Rattle.page.proofs.Ancestry.{depth-most}
 use Rattle.page.proofs.RowFacts.{document-kind, one-deeper}
 use Rattle.styles.specs.StyleCall.{inlineContents}
+use Rattle.styles.specs.declared.settings.Settings.{Settings}
 use Rattle.runner.specs.State.{partPlace, countAt}
 use Rattle.runner.specs.Run.{Stepped, noStyle, documentStep, elementStep, openStep, stepOn, Page, handedAt, rowContents, contentsBefore, pageContents}
 
 -- ---- contents
-module _ (on : Bool) (g : Page) where
+module _ (settings : Settings) (g : Page) where
   -- of an element
-  pub element-contents : (i : ℕ) → nodeAt (g .nodes) i .kind ≡ elementKind → rowContents on g i ≡ inlineContents on (elementAt (g .nodes) (g .attributes) (g .text) i)
+  pub element-contents : (i : ℕ) → nodeAt (g .nodes) i .kind ≡ elementKind → rowContents settings g i ≡ inlineContents settings (elementAt (g .nodes) (g .attributes) (g .text) i)
   unfolding rowContents
   element-contents i e = sym (pick-true _ _ _ _ (is-yes _ _ e) refl)
 
   -- of another row there are none
-  pub no-contents : (i : ℕ) → ¬ (nodeAt (g .nodes) i .kind ≡ elementKind) → rowContents on g i ≡ []
+  pub no-contents : (i : ℕ) → ¬ (nodeAt (g .nodes) i .kind ≡ elementKind) → rowContents settings g i ≡ []
   unfolding rowContents
   no-contents i d = sym (pick-false _ _ _ _ (is-no _ _ d) refl)
 
   -- those before a row are among those before a later one
-  grown : (k i : ℕ) → length (contentsBefore on g i) ≤ length (contentsBefore on g (k + i))
+  grown : (k i : ℕ) → length (contentsBefore settings g i) ≤ length (contentsBefore settings g (k + i))
   grown zero i = let e : 0 + i ≡ i = omega arith in rw e (omega arith)
   grown (suc k) i =
       let e : suc k + i ≡ suc (k + i) = omega arith in
       rw e (omega (arith, length-before (k + i), grown k i))
     where
-      length-before : (j : ℕ) → length (contentsBefore on g (suc j)) ≡ length (contentsBefore on g j) + length (rowContents on g j)
-      length-before j = unfold contentsBefore in length-append (contentsBefore on g j) (rowContents on g j)
+      length-before : (j : ℕ) → length (contentsBefore settings g (suc j)) ≡ length (contentsBefore settings g j) + length (rowContents settings g j)
+      length-before j = unfold contentsBefore in length-append (contentsBefore settings g j) (rowContents settings g j)
 
   -- so they are among those of the page
-  pub contents-most : (i : ℕ) → i ≤ nodeCount (g .nodes) → length (contentsBefore on g i) ≤ length (pageContents on g)
+  pub contents-most : (i : ℕ) → i ≤ nodeCount (g .nodes) → length (contentsBefore settings g i) ≤ length (pageContents settings g)
   unfolding pageContents
   contents-most i h =
       let k : ℕ = nodeCount (g .nodes) - i in
@@ -47,9 +47,9 @@ module _ (on : Bool) (g : Page) where
       rw e at (grown k i)
 
 -- ---- steps
-module _ (code : List ℕ) (on : Bool) (g : Page) (parent state store : List ℕ) (fill : ℕ) where
+module _ (code : List ℕ) (settings : Settings) (g : Page) (parent state store : List ℕ) (fill : ℕ) where
   abbrev stepAt : ℕ → Stepped
-  stepAt i = stepOn code on (handedAt g i) (depthOf (g .nodes) i) parent state store fill
+  stepAt i = stepOn code settings (handedAt g i) (depthOf (g .nodes) i) parent state store fill
 
   -- of other content
   pub other-step : (i : ℕ) → nodeAt (g .nodes) i .kind ≡ otherKind → stepAt i ≡ record { row = noStyle; state = state; store = store; fill = fill }
@@ -68,7 +68,7 @@ module _ (code : List ℕ) (on : Bool) (g : Page) (parent state store : List ℕ
     -- of an element, where its parent's part gives its place
     pub element-step : (i : ℕ) → suc i < nodeCount (g .nodes) → nodeAt (g .nodes) (suc i) .kind ≡ elementKind
         → countAt state (partPlace code (depthOf (g .nodes) (nodeAt (g .nodes) (suc i) .parent))) + 1 ≡ placeOf (g .nodes) (suc i)
-        → stepAt (suc i) ≡ elementStep code on (elementAt (g .nodes) (g .attributes) (g .text) (suc i)) (depthOf (g .nodes) (nodeAt (g .nodes) (suc i) .parent)) parent state store fill
+        → stepAt (suc i) ≡ elementStep code settings (elementAt (g .nodes) (g .attributes) (g .text) (suc i)) (depthOf (g .nodes) (nodeAt (g .nodes) (suc i) .parent)) parent state store fill
     unfolding stepOn handedAt openStep elementAt
     element-step i there e place =
         rw (one-deeper (g .nodes) (g .attributes) (g .text) ok (suc i) there (omega arith), ← place)

@@ -1,75 +1,77 @@
 -- The pass over the bytes of a sheet meets the selectors that the sheet was made of, and the contents of their styles by places where their texts lie.
 use Prim.Native.Nat.{ℕ, _+_, _≤_, _<_}
 use mathlib.Core.Path.{_≡_, refl, ap, sym, _∙_}
-use mathlib.Core.Bool.{Bool}
 use mathlib.Core.List.{List, [], _∷_, _++_, map, append-assoc}
 use native.Mathlib.Nat.{add-zero}
 use native.Mathlib.Omega.{arith}
-use lib.ListN.{length, getD, drop, length-append}
-use lib.Seq.{drop-append-le}
-use Rattle.syntax.specs.Layout.{flag, styleValue, styleSecond, styleText, styleRowOf, styleRow}
+use lib.ListN.{length, length-append}
+use Rattle.syntax.specs.Layout.{flag, styleSlotOf, styleTextOf, styleText, numbersFrom}
 use Rattle.syntax.specs.RuleLayout.{pseudoNumber}
 use Rattle.syntax.specs.Stream.{textsMany}
 use Rattle.syntax.specs.Style as style
 use Rattle.syntax.specs.Style.{agentOrigin, Style, StyleDecl}
 use Rattle.syntax.proofs.Streams.{Held, held-left, held-right, All}
-use Rattle.cascade.proofs.RowLaws.{flag-back}
+use Rattle.syntax.specs.declared.styles.Value.{Value}
+use Rattle.cascade.specs.Record.{Styled}
+use Rattle.cascade.specs.Related.{Each, none, next}
+use Rattle.cascade.proofs.Relating.{SameStyled}
 use Rattle.compiled.specs.Decoded.{Decoded, read, onDecoded, andThen, mapped, counted}
 use Rattle.compiled.specs.Number.{numberLimit, numberBytes, numberAt}
 use Rattle.compiled.specs.Component.{componentBytes, componentAt}
-use Rattle.compiled.specs.Style.{styleSlotOf, styleBytes, styleNumbers, styleNumbersAt}
+use Rattle.compiled.specs.Style.{styleBody, styleBytes, styleNumbersAt}
+use Rattle.compiled.specs.Text.{textBytes}
 use Rattle.compiled.specs.Sheet.{CompiledSelector, headBytes, stylesBytes, selectorBytes, encode, headAt}
 use Rattle.compiled.proofs.Fits.{ComponentFits, StyleFits, SelectorFits, NotFalling, SheetFits}
 use Rattle.compiled.proofs.Following.{held-within, then-read, mapped-read, ends-at, counted-back}
 use Rattle.compiled.proofs.NumberBack.{number-back}
 use Rattle.compiled.proofs.ComponentBack.{component-back}
-use Rattle.compiled.proofs.StyleBack.{place, text-there, numbers-back}
+use Rattle.compiled.proofs.StyleBack.{style-some, place, text-there, numbers-back}
+use Rattle.compiled.proofs.TextBack.{text-length}
 use Rattle.compiled.proofs.RoundTrip.{head-back, whole}
-use Rattle.styles.specs.Numbered.{numbered, told, toldAll}
-use Rattle.styles.specs.Seen.{seenNumbered}
-use Rattle.styles.proofs.Placed.{numbered-seen}
-use Rattle.runner.specs.Walked.{WalkedSelector, walkedStyle, walkedStylesAt, walkedPartsAt, walkedSelectorAt, walkedSelectorsAt, walked, seenSelector, toldSelector}
-
--- what lies in a text lies there too where more follows it
-pub held-more : (t more xs : List ℕ) (f : ℕ) → Held t f xs → Held (t ++ more) f xs
-held-more t more [] f h = record { more = drop f (t ++ more); held = refl }
-held-more t more (x ∷ xs) f h =
-    let l = held-within t f (x ∷ xs) h (omega arith) in
-    record {
-      more = h .more ++ more;
-      held = drop-append-le f t more (omega arith) ∙ ap (λ (l : List ℕ). l ++ more) (h .held) ∙ append-assoc (x ∷ xs) (h .more) more;
-    }
-
--- the numbers read of a style are those of its row
-numbers-are : (i : Bool) (f : ℕ) (s : Style)
-    → walkedStyle (styleNumbers (flag i) (styleSlotOf s) (getD (styleRowOf (flag i) f s) styleValue 0) (getD (styleRowOf (flag i) f s) styleSecond 0))
-    ≡ numbered f (record { style = s; important = i })
-unfolding walkedStyle styleNumbers styleSlotOf numbered styleRow styleRowOf
-numbers-are i f (style.colour c) = rw (flag-back i)
-numbers-are i f (style.background c) = rw (flag-back i)
-numbers-are i f style.displayNone = rw (flag-back i)
-numbers-are i f (style.whiteSpace w) = rw (flag-back i)
-numbers-are i f (style.content x) = rw (flag-back i)
+use Rattle.styles.specs.Said.{meant}
+use Rattle.styles.specs.StyleCall.{inNumbers}
+use Rattle.styles.specs.Says.{Says}
+use Rattle.styles.proofs.Lying.{Lies, lies-more}
+use Rattle.styles.proofs.Placed.{style-says}
+use Rattle.runner.specs.Walked.{WalkedSelector, walkedStylesAt, walkedPartsAt, walkedSelectorAt, walkedSelectorsAt, walked, meantSelector}
+use Rattle.runner.proofs.Declaring.{SameSelector}
 
 module _ (t : List ℕ) where
-  -- a value that is read to the end of its bytes, and that says in t, whatever follows, what is to be said
-  abbrev Says : {A B : Type 0} → Decoded A → ℕ → (List ℕ → A → B) → B → Type 0
-  Says {A} {B} d n seen b = (a : A) × (d ≡ read n a) × ((more : List ℕ) → seen (t ++ more) a ≡ b)
+  -- a value that is read to the end of its bytes, and of which P holds in t, whatever follows
+  abbrev Reads : {A : Type 0} → Decoded A → ℕ → (List ℕ → A → Type 0) → Type 0
+  Reads {A} d n P = (a : A) × (d ≡ read n a) × ((more : List ℕ) → P (t ++ more) a)
+
+  -- the text of a content lies behind its length
+  content-lies : (d : StyleDecl) (i : ℕ) (h : Held t i (styleBytes d)) (x : List ℕ) → d .style ≡ style.content x → Lies t (place t d i h) x
+  content-lies d i h x e =
+      let own : styleText d ≡ x = unfold styleText in unfold styleTextOf in rw e in
+      let body : length (styleBody (d .style)) ≡ length (textBytes x) = unfold styleBody in rw e in
+      let size : length (styleTextOf (d .style)) ≡ length x = unfold styleTextOf in rw e in
+      record {
+        within = omega (arith, held-within t i (styleBytes d) h (style-some d), body, text-length x, rw (← size) at numbers (length x), bytes-long d);
+        there = rw own at text-there t d i h;
+      }
+    where
+      numbers : (n : ℕ) → length (numberBytes n) ≡ length (numberBytes n)
+      numbers n = refl
+
+      bytes-long : (d : StyleDecl) → length (styleBytes d) ≡ length (numberBytes (flag (d .important))) + (length (numberBytes (styleSlotOf (d .style))) + length (styleBody (d .style)))
+      bytes-long d = unfold styleBytes in (length-append (numberBytes (flag (d .important))) (numberBytes (styleSlotOf (d .style)) ++ styleBody (d .style)) ∙ ap (λ (n : ℕ). length (numberBytes (flag (d .important))) + n) (length-append (numberBytes (styleSlotOf (d .style))) (styleBody (d .style))))
 
   -- a style
   style-walked : (d : StyleDecl) (i : ℕ) → StyleFits d → Held t i (styleBytes d)
-      → Says (mapped walkedStyle (styleNumbersAt t i)) (i + length (styleBytes d)) seenNumbered (told d)
+      → Reads (mapped inNumbers (styleNumbersAt t i)) (i + length (styleBytes d)) (λ u x. SameStyled (Says u) x (meant d))
   style-walked d i f h = (
-    numbered (place t d i h) d,
-    mapped-read walkedStyle (styleNumbersAt t i) _ _ (numbers-back t d i h f) ∙ rw (numbers-are (d .important) (place t d i h) (d .style)),
-    λ more. numbered-seen (t ++ more) (place t d i h) d (held-more t more (styleText d) (place t d i h) (text-there t d i h)),
+    inNumbers (numbersFrom (place t d i h) d),
+    mapped-read inNumbers (styleNumbersAt t i) _ _ (numbers-back t d i h f),
+    λ more. style-says (t ++ more) (place t d i h) d (λ x e. lies-more t more (place t d i h) x (content-lies d i h x e)),
   )
 
   -- many, one behind the other
   styles-walked : (ds : List StyleDecl) (i : ℕ) → All StyleFits ds → Held t i (textsMany styleBytes ds)
-      → Says (counted (λ m. mapped walkedStyle (styleNumbersAt t m)) (length ds) i) (i + length (textsMany styleBytes ds)) (λ u. map (seenNumbered u)) (toldAll ds)
-  unfolding counted textsMany toldAll
-  styles-walked [] i f h = ([], ends-at [] i (i + 0) (sym (add-zero i)), λ more. refl)
+      → Reads (counted (λ m. mapped inNumbers (styleNumbersAt t m)) (length ds) i) (i + length (textsMany styleBytes ds)) (λ u xs. Each (SameStyled (Says u)) xs (map meant ds))
+  unfolding counted textsMany
+  styles-walked [] i f h = ([], ends-at [] i (i + 0) (sym (add-zero i)), λ more. none)
   styles-walked (d ∷ ds) i f h =
       let a : List ℕ = styleBytes d in
       let b : List ℕ = textsMany styleBytes ds in
@@ -77,15 +79,15 @@ module _ (t : List ℕ) where
       let rest = styles-walked ds (i + length a) (f .1) (held-right t i a b h) in
       let e : i + length a + length b ≡ i + length (a ++ b) = omega (arith, length-append a b) in (
         one .0 ∷ rest .0,
-        then-read (mapped walkedStyle (styleNumbersAt t i)) (λ n x. mapped (λ r. x ∷ r) (counted (λ m. mapped walkedStyle (styleNumbersAt t m)) (length ds) n)) _ (one .0) (one .1)
+        then-read (mapped inNumbers (styleNumbersAt t i)) (λ n x. mapped (λ r. x ∷ r) (counted (λ m. mapped inNumbers (styleNumbersAt t m)) (length ds) n)) _ (one .0) (one .1)
             ∙ mapped-read (λ r. one .0 ∷ r) _ _ (rest .0) (rest .1)
             ∙ ends-at _ _ _ e,
-        λ more. rw (one .2 more, rest .2 more),
+        λ more. next (one .2 more) (rest .2 more),
       )
 
   -- with their count
   counted-walked : (ds : List StyleDecl) (i : ℕ) → length ds < numberLimit → All StyleFits ds → Held t i (stylesBytes ds)
-      → Says (walkedStylesAt t i) (i + length (stylesBytes ds)) (λ u. map (seenNumbered u)) (toldAll ds)
+      → Reads (walkedStylesAt t i) (i + length (stylesBytes ds)) (λ u xs. Each (SameStyled (Says u)) xs (map meant ds))
   unfolding walkedStylesAt stylesBytes
   counted-walked ds i l f h =
       let a : List ℕ = numberBytes (length ds) in
@@ -93,7 +95,7 @@ module _ (t : List ℕ) where
       let all = styles-walked ds (i + length a) f (held-right t i a b h) in
       let e : i + length a + length b ≡ i + length (a ++ b) = omega (arith, length-append a b) in (
         all .0,
-        then-read (numberAt t i) (λ n count. counted (λ m. mapped walkedStyle (styleNumbersAt t m)) count n) _ (length ds) (number-back t i (length ds) l (held-left t i a b h))
+        then-read (numberAt t i) (λ n count. counted (λ m. mapped inNumbers (styleNumbersAt t m)) count n) _ (length ds) (number-back t i (length ds) l (held-left t i a b h))
             ∙ all .1
             ∙ ends-at _ _ _ e,
         all .2,
@@ -101,9 +103,9 @@ module _ (t : List ℕ) where
 
   -- a selector, behind one of an origin that is not above its own
   selector-walked : (s : CompiledSelector) (least i : ℕ) → SelectorFits s → least ≤ s .origin → Held t i (selectorBytes s)
-      → (w : WalkedSelector) × (walkedSelectorAt t least i ≡ read (i + length (selectorBytes s)) w) × (w .origin ≡ s .origin)
-      × ((more : List ℕ) → seenSelector (t ++ more) w ≡ toldSelector s)
-  unfolding walkedSelectorAt walkedPartsAt selectorBytes seenSelector toldSelector
+      → (w : WalkedSelector Value) × (walkedSelectorAt t least i ≡ read (i + length (selectorBytes s)) w) × (w .origin ≡ s .origin)
+      × ((more : List ℕ) → SameSelector (Says (t ++ more)) w (meantSelector s))
+  unfolding walkedSelectorAt walkedPartsAt selectorBytes meantSelector
   selector-walked s least i f l h =
       let a : List ℕ = headBytes (s .origin) (pseudoNumber (s .pseudo)) (length (s .components)) in
       let b : List ℕ = textsMany componentBytes (s .components) in
@@ -119,14 +121,14 @@ module _ (t : List ℕ) where
             ∙ mapped-read _ (walkedStylesAt t (i + length a + length b)) _ (all .0) (all .1)
             ∙ ends-at _ _ _ e,
         refl,
-        λ more. rw (all .2 more),
+        λ more. record { origins = refl; pseudos = refl; components-same = refl; styles-same = all .2 more },
       )
 
   -- selectors whose origins do not fall
   selectors-walked : (ss : List CompiledSelector) (least i : ℕ) → All SelectorFits ss → NotFalling least ss → Held t i (textsMany selectorBytes ss)
-      → Says (walkedSelectorsAt (length ss) t least i) (i + length (textsMany selectorBytes ss)) (λ u. map (seenSelector u)) (map toldSelector ss)
+      → Reads (walkedSelectorsAt (length ss) t least i) (i + length (textsMany selectorBytes ss)) (λ u ws. Each (SameSelector (Says u)) ws (map meantSelector ss))
   unfolding walkedSelectorsAt textsMany
-  selectors-walked [] least i f o h = ([], ends-at [] i (i + 0) (sym (add-zero i)), λ more. refl)
+  selectors-walked [] least i f o h = ([], ends-at [] i (i + 0) (sym (add-zero i)), λ more. none)
   selectors-walked (s ∷ ss) least i f o h =
       let a : List ℕ = selectorBytes s in
       let b : List ℕ = textsMany selectorBytes ss in
@@ -137,13 +139,13 @@ module _ (t : List ℕ) where
         then-read (walkedSelectorAt t least i) (λ n w. mapped (λ r. w ∷ r) (walkedSelectorsAt (length ss) t (w .origin) n)) _ (one .0) (one .1)
             ∙ mapped-read (λ r. one .0 ∷ r) _ _ (rest .0) (rw (one .2) (rest .1))
             ∙ ends-at _ _ _ e,
-        λ more. rw (one .3 more, rest .2 more),
+        λ more. next (one .3 more) (rest .2 more),
       )
 
 -- the selectors that are met in the bytes of a sheet say, in these bytes and whatever follows them, what the sheet's selectors say
-pub walked-told : (ss : List CompiledSelector) → SheetFits ss → (more : List ℕ) → map (seenSelector (encode ss ++ more)) (walked (encode ss)) ≡ map toldSelector ss
+pub walked-said : (ss : List CompiledSelector) → SheetFits ss → (more : List ℕ) → Each (SameSelector (Says (encode ss ++ more))) (walked (encode ss)) (map meantSelector ss)
 unfolding walked encode onDecoded
-walked-told ss f more =
+walked-said ss f more =
     let a : List ℕ = numberBytes (length ss) in
     let b : List ℕ = textsMany selectorBytes ss in
     let t : List ℕ = a ++ b in
@@ -151,4 +153,4 @@ walked-told ss f more =
     let e : andThen (numberAt t 0) (λ n count. walkedSelectorsAt count t agentOrigin n) ≡ read (0 + length a + length b) (all .0) =
     then-read (numberAt t 0) (λ n count. walkedSelectorsAt count t agentOrigin n) _ (length ss) (number-back t 0 (length ss) (f .count) (held-left t 0 a b (whole t)))
     ∙ all .1 in
-    ap (λ (d : Decoded (List WalkedSelector)). map (seenSelector (t ++ more)) (onDecoded d (λ _ ws. ws) (λ _. []))) e ∙ all .2 more
+    rw e (all .2 more)

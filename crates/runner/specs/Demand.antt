@@ -1,37 +1,38 @@
 -- Demand 3 in one record: what a run of the bytes of three sheets down a page leaves, all rows together.
 use Prim.Native.Nat.{ℕ, _*_, _<_}
 use mathlib.Core.Path.{_≡_}
-use mathlib.Core.Bool.{Bool}
 use mathlib.Core.List.{List, _++_}
 use lib.ListN.{length, drop}
 use Rattle.syntax.specs.Selector.{RuleSet}
-use Rattle.cascade.specs.Record.{ComputedStyle}
-use Rattle.cascade.specs.Row.{styleRowWidth, rowOf}
+use Rattle.cascade.specs.declared.slots.Cascade.the-variants.{Crate}
+use Rattle.cascade.specs.Related.{SameStyle}
+use Rattle.cascade.specs.Row.{styleRowWidth, styleAt}
 use Rattle.page.specs.PathOf.{pathOf}
 use Rattle.page.specs.Rows.{nodeCount, nodeAt, elementKind}
 use Rattle.compiled.specs.Decoded.{read}
 use Rattle.compiled.specs.Sheet.{CompiledSelector, decode}
 use Rattle.compiler.specs.Selectors.{selectorsOf}
-use Rattle.styles.specs.Numbered.{Rules}
+use Rattle.styles.specs.declared.settings.Settings.{Settings}
+use Rattle.styles.specs.Said.{Rules}
 use Rattle.styles.specs.Computed.{computedStyle}
-use Rattle.styles.specs.StyleCall.{seenStyle}
+use Rattle.styles.specs.Says.{Says}
 use Rattle.runner.specs.Run.{noStyle, Page, Running, styleRowAt, pageContents}
 
 -- the selectors that three sheets are compiled to
 abbrev pub sheetsSelectors : Rules RuleSet → List CompiledSelector
 sheetsSelectors rules = selectorsOf (rules .agent) (rules .user) (rules .author)
 
--- the style row of each element is that of its computed style, by the sheets, the switch and its path, where a content is the text that it names "in the
+-- the style row of each element says its computed style, by the sheets, the settings and its path, where a content is the text that it names "in the
 -- compiled bytes followed by that store"; "rows of other nodes, are zeros". `rows` and `store` are what the run was lent, `r` is what it leaves.
-pub record AllRows (rules : Rules RuleSet) (on : Bool) (g : Page) (code rows store : List ℕ) (r : Running) : Type 0 where
+pub record AllRows (rules : Rules RuleSet) (settings : Settings) (g : Page) (code rows store : List ℕ) (r : Running) : Type 0 where
   -- the bytes are the sheet
   pub sheet : decode code ≡ read (length code) (sheetsSelectors rules)
   pub element-rows : (i : ℕ) → i < nodeCount (g .nodes) → nodeAt (g .nodes) i .kind ≡ elementKind
-      → (s : ComputedStyle) × (styleRowAt (r .rows) i ≡ rowOf s) × (seenStyle (code ++ r .store) s ≡ computedStyle rules on (pathOf (g .nodes) (g .attributes) (g .text) i))
+      → SameStyle (Says (code ++ r .store)) (styleAt (styleRowAt (r .rows) i)) (computedStyle Crate rules settings (pathOf (g .nodes) (g .attributes) (g .text) i))
   pub other-rows : (i : ℕ) → i < nodeCount (g .nodes) → ¬ (nodeAt (g .nodes) i .kind ≡ elementKind) → styleRowAt (r .rows) i ≡ noStyle
   -- nothing else is written into the rows
   pub rows-long : length (r .rows) ≡ length rows
   pub rows-behind : drop (nodeCount (g .nodes) * styleRowWidth) (r .rows) ≡ drop (nodeCount (g .nodes) * styleRowWidth) rows
   -- the store holds the inline contents of the page, and what it held behind them
-  pub filled : r .fill ≡ length (pageContents on g)
-  pub stored : r .store ≡ pageContents on g ++ drop (length (pageContents on g)) store
+  pub filled : r .fill ≡ length (pageContents settings g)
+  pub stored : r .store ≡ pageContents settings g ++ drop (length (pageContents settings g)) store

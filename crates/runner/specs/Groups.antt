@@ -10,6 +10,7 @@ use Rattle.syntax.specs.Layout.{flag}
 use Rattle.syntax.specs.Selector.{Component, star, class, element, hash, child, descendant, nth, attribute, attributeEqual}
 use Rattle.page.specs.Path.{Path}
 use Rattle.matching.specs.Matches.{step, matches}
+use Rattle.syntax.specs.declared.styles.Value.{Value}
 use Rattle.runner.specs.Walked.{WalkedSelector}
 
 -- what the lower bit of a byte says, and what the upper one
@@ -65,16 +66,16 @@ unfoldable pub combinators : List Component → ℕ
 combinators [] = 0
 combinators (c ∷ cs) = onComponent c (λ _. suc (combinators cs)) (λ _. combinators cs)
 
-unfoldable pub groupCount : WalkedSelector → ℕ
+unfoldable pub groupCount : WalkedSelector Value → ℕ
 groupCount s = suc (combinators (s .components))
 
 -- the bytes of all selectors, from the parent's, where the first group of each has no byte to look at
-unfoldable pub allGroups : Path → List WalkedSelector → List ℕ → List ℕ
+unfoldable pub allGroups : Path → List (WalkedSelector Value) → List ℕ → List ℕ
 allGroups row [] above = []
 allGroups row (s ∷ ss) above = groups row true false (s .components) (drop 1 above) ++ allGroups row ss (drop (groupCount s) above)
 
 -- the selectors that match, by the first byte of each
-unfoldable pub matching : List WalkedSelector → List ℕ → List WalkedSelector
+unfoldable pub matching : List (WalkedSelector Value) → List ℕ → List (WalkedSelector Value)
 matching [] bytes = []
 matching (s ∷ ss) bytes = pick (matchesIn (getD bytes 0 0)) (s ∷ []) [] ++ matching ss (drop (groupCount s) bytes)
 
@@ -86,16 +87,16 @@ behind [] p = []
 behind (c ∷ cs) p = onComponent c (λ _. pack (matches cs p) (step c (matches cs) p) ∷ behind cs p) (λ _. behind cs p)
 
 -- the bytes of all selectors
-unfoldable pub allBehind : List WalkedSelector → Path → List ℕ
+unfoldable pub allBehind : List (WalkedSelector Value) → Path → List ℕ
 allBehind [] p = []
 allBehind (s ∷ ss) p = (pack (matches (s .components) p) false ∷ behind (s .components) p) ++ allBehind ss p
 
 -- the selectors that match
-unfoldable pub matchingAt : Path → List WalkedSelector → List WalkedSelector
+unfoldable pub matchingAt : {A : Type 0} → Path → List (WalkedSelector A) → List (WalkedSelector A)
 matchingAt p [] = []
 matchingAt p (s ∷ ss) = pick (matches (s .components) p) (s ∷ []) [] ++ matchingAt p ss
 
 -- how many bytes all selectors have
-unfoldable pub groupsCount : List WalkedSelector → ℕ
+unfoldable pub groupsCount : List (WalkedSelector Value) → ℕ
 groupsCount [] = 0
 groupsCount (s ∷ ss) = groupCount s + groupsCount ss

@@ -73,18 +73,25 @@ module _ {A B : Type 0} (R : A → B → Type 0) where
     sources-same x y us vs h k = record { agents = rules-same (h .agents); users = rules-same (h .users); authors = rules-same (h .authors); attributes = k }
 
 module _ (t : List ℕ) where
-  -- ---- a style in numbers, whose text lies at f
-  pub value-says : (f : ℕ) (s : Style) → Lies t f (styleTextOf s) → Says t (valueFrom f s) s
-  unfolding Says valueFrom styleTextOf
+  -- ---- a style in numbers, whose text lies at f if it is a content
+  pub value-says : (f : ℕ) (s : Style) → ((x : List ℕ) → s ≡ style.content x → Lies t f x) → Says t (valueFrom f s) s
+  unfolding Says valueFrom
   value-says f (style.colour c) h = refl
   value-says f (style.background c) h = refl
   value-says f style.displayNone h = refl
   value-says f (style.whiteSpace w) h = refl
-  value-says f (style.content x) h = record { long = refl; within = h .within; named = held-part t f x (h .there) }
+  value-says f (style.content x) h = let l = h x refl in record { long = refl; within = l .within; named = held-part t f x (l .there) }
 
-  pub style-placed : (f : ℕ) (d : StyleDecl) → Lies t f (styleText d) → SameStyled (Says t) (inNumbers (numbersFrom f d)) (meant d)
-  unfolding inNumbers numbersFrom meant styleText
-  style-placed f d h = record { slots = refl; importances = refl; values = value-says f (d .style) h }
+  pub style-says : (f : ℕ) (d : StyleDecl) → ((x : List ℕ) → d .style ≡ style.content x → Lies t f x) → SameStyled (Says t) (inNumbers (numbersFrom f d)) (meant d)
+  unfolding inNumbers numbersFrom meant
+  style-says f d h = record { slots = refl; importances = refl; values = value-says f (d .style) h }
+
+  content-text : (d : StyleDecl) (x : List ℕ) → d .style ≡ style.content x → styleText d ≡ x
+  unfolding styleText styleTextOf
+  content-text d x e = rw e
+
+  style-placed : (f : ℕ) (d : StyleDecl) → Lies t f (styleText d) → SameStyled (Says t) (inNumbers (numbersFrom f d)) (meant d)
+  style-placed f d h = style-says f d (λ x e. rw (content-text d x e) at h)
 
   -- many, whose texts lie end to end
   pub styles-placed : (ds : List StyleDecl) (f : ℕ) → Lies t f (styleTexts ds) → Each (SameStyled (Says t)) (placedStyles f ds) (map meant ds)
