@@ -10,6 +10,9 @@ const LENGTHS: [usize; 4] = [KILOBYTE, 4 * KILOBYTE, 16 * KILOBYTE, 32 * KILOBYT
 // Turns for each sheet, and bytes that are read in one turn, so that a turn is long enough to be timed.
 const TURNS: usize = 41;
 const TURN_BYTES: usize = 256 * KILOBYTE;
+// The same for unclosed comments, whose bytes take a thousand times as long.
+const UNCLOSED_TURNS: usize = 9;
+const UNCLOSED_TURN_BYTES: usize = 32 * KILOBYTE;
 
 // ---- sheets
 
@@ -24,9 +27,14 @@ fn repeated(rules: &str, length: usize) -> String {
     rules.repeat(length / rules.len())
 }
 
-// A value that opens comments and closes none: each `/*` is searched for its end through all the rest.
-fn unclosed(length: usize) -> String {
-    format!("p{{a:{}", "/*a".repeat((length - 4) / 3))
+// What opens a comment that nothing closes: before a name, behind a hash, a sign and a digit, each of which looks for a comment before it reads on, and
+// behind a name.
+const UNCLOSED: [&str; 5] = ["/*a", "#/*", "+/*", "1/*", "a/*"];
+const VALUE: &str = "p{a:";
+
+// A value of such comments: each `/*` is searched for its end through all the rest.
+fn unclosed(opening: &str, length: usize) -> String {
+    VALUE.to_owned() + &repeated(opening, length - VALUE.len())
 }
 
 // ---- measuring
@@ -51,10 +59,10 @@ struct Measured {
 }
 
 // Both take turns; the ratio is the median of the turns' ratios.
-fn measure(sheet: &str, turns: usize) -> Measured {
+fn measure(sheet: &str, turns: usize, turn_bytes: usize) -> Measured {
     let mut stores = Stores::new(sheet.len(), 0);
     assert_eq!(stores.read_sheet(sheet.as_bytes()).count, count_rules(sheet), "both read the same rules");
-    let times = (TURN_BYTES / sheet.len()).max(1);
+    let times = (turn_bytes / sheet.len()).max(1);
     let (mut this, mut html2text, mut ratios) = (vec![], vec![], vec![]);
     for _ in 0..turns {
         let a = nanoseconds(times, || {
@@ -76,7 +84,7 @@ fn table_of_ratios() {
         for length in LENGTHS {
             let sheet = repeated(rules, length);
             assert_eq!(Stores::new(sheet.len(), 0).read_sheet(sheet.as_bytes()).stop, sheet.len(), "{name} are read whole");
-            let m = measure(&sheet, TURNS);
+            let m = measure(&sheet, TURNS, TURN_BYTES);
             let bytes = sheet.len() as f64;
             println!("| {name} | {} | {:.1} | {:.1} | {:.2} |", sheet.len(), m.this / bytes, m.html2text / bytes, m.ratio);
         }
@@ -84,11 +92,13 @@ fn table_of_ratios() {
 }
 
 fn table_of_unclosed_comments() {
-    println!("\n| unclosed comments, bytes | this, ms | html2text, ms | ratio |\n|---|---|---|---|");
-    for length in LENGTHS {
-        let sheet = unclosed(length);
-        let m = measure(&sheet, 9);
-        println!("| {} | {:.2} | {:.2} | {:.2} |", sheet.len(), m.this / 1e6, m.html2text / 1e6, m.ratio);
+    println!("\n| unclosed comments | bytes | this, ms | html2text, ms | ratio |\n|---|---|---|---|---|");
+    for opening in UNCLOSED {
+        for length in LENGTHS {
+            let sheet = unclosed(opening, length);
+            let m = measure(&sheet, UNCLOSED_TURNS, UNCLOSED_TURN_BYTES);
+            println!("| `{opening}` | {} | {:.2} | {:.2} | {:.2} |", sheet.len(), m.this / 1e6, m.html2text / 1e6, m.ratio);
+        }
     }
 }
 
@@ -96,7 +106,7 @@ fn table_of_unclosed_comments() {
 fn clearing() {
     println!();
     for length in LENGTHS {
-        let m = measure(&"+".repeat(length), TURNS);
+        let m = measure(&"+".repeat(length), TURNS, TURN_BYTES);
         println!(
             "a sheet of {length} bytes that stops at once: {:.0} ns, {:.1} a byte, to clear the stores (html2text: {:.0} ns)",
             m.this,
