@@ -2,7 +2,7 @@
 # Measures matching a selector against html2text 0.17.4 and prints tables for the README, and the machine's load, for others may work on it.
 #
 #     bash tools/crate/build.sh FOLDER       once: the crate
-#     rt staticlib engine                    once: this engine (another archive: ENGINE=PATH)
+#     rt staticlib engine; rt staticlib comparison        once: this engine, and what only the comparison asks
 #     bash tools/bench-match/run.sh
 set -euo pipefail
 cd "$(dirname "$0")/../../target/crate"

@@ -65,7 +65,7 @@ typedef struct {
     size_t place;
 } comparison_bytes_result;
 
-/* Whether bytes are a compiled sheet to their last byte, however many they are. Refuses 9. */
+/* Whether bytes are a compiled sheet to their last byte. Refuses 1 (over 65,536 bytes), 9. */
 comparison_bytes_result comparison_check_bytes(const uint8_t *bytes, size_t bytes_length);
 
 #ifdef __cplusplus

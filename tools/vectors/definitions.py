@@ -27,42 +27,51 @@ CASES_A_FILE = 50
 
 # How a vector is asked, over the definitions.
 ASKED = """-- How a vector is asked.
-use Prim.Native.Nat.{ℕ}
+use Prim.Native.Nat.{ℕ, suc}
 use mathlib.Core.Bool.{Bool, true, false}
-use mathlib.Core.List.{List, [], _++_, map}
+use mathlib.Core.List.{List, [], _∷_, _++_, map}
 use lib.ListN.{replicate}
 use Rattle.combinators.specs.Choice.{and}
+use Rattle.combinators.specs.LeastLengths.{textLeast}
+use Rattle.combinators.specs.Refusal.{noRefusal}
+use Rattle.combinators.specs.declared.refusals.Refusal.{Refusal}
+use Rattle.syntax.specs.Layout.{styleOf}
 use Rattle.syntax.specs.Selector.{RuleSet}
+use Rattle.syntax.specs.Style.{Style}
+use Rattle.syntax.specs.declared.styles.Value.{Value}
 use Rattle.sheets.specs.Outcome.{onOutcome}
 use Rattle.sheets.specs.Sheet.{sheetOf}
-use Rattle.sheets.specs.SheetAnswer.{textLeast}
-use Rattle.cascade.specs.declared.slots.Slot.{Slot}
-use Rattle.cascade.specs.Record.{ComputedStyle}
+use Rattle.cascade.specs.declared.slots.Cascade.the-variants.{Crate}
+use Rattle.cascade.specs.Record.{Record, ComputedStyle}
 use Rattle.cascade.specs.Row.{styleAt}
+use Rattle.cascade.specs.Slot.{Slot, empty, held}
 use Rattle.page.specs.PathOf.{pathOf}
-use Rattle.page.specs.Accepted.{Refusal, noRefusal, pageRefusal}
+use Rattle.page.specs.Accepted.{pageRefusal}
 use Rattle.compiled.specs.Sheet.{encode}
 use Rattle.compiler.specs.Selectors.{selectorsOf}
-use Rattle.styles.specs.Numbered.{Rules}
 use Rattle.styles.specs.Computed.{computedStyle}
-use Rattle.styles.specs.StyleCall.{seenStyle}
+use Rattle.styles.specs.Said.{Rules}
+use Rattle.styles.specs.declared.settings.Settings.{Settings}
 use Rattle.runner.specs.LeastLengths.{runTextBytes, stateLeast, rowsLeast}
 use Rattle.runner.specs.Run.{Page, Running, runOf, styleRowAt}
 
 pub record Answer : Type 0 where
   pub read : Bool
   pub page : Refusal
-  pub styles : List ComputedStyle
+  pub styles : List (ComputedStyle Style)
 
-unfoldable pub accepted : List ComputedStyle → Answer
+unfoldable pub accepted : List (ComputedStyle Style) → Answer
 accepted l = record { read = true; page = noRefusal; styles = l }
 
-abbrev pub unfilled : Slot
-unfilled = record { filled = false; origin = 0; spec = record { inline = false; id = 0; class = 0; typ = 0 }; important = false; value = 0; second = 0 }
+abbrev pub unfilled : Slot Style
+unfilled = empty
 
-abbrev pub filled : ℕ → Bool → ℕ → ℕ → ℕ → Bool → ℕ → ℕ → Slot
-filled o i id class type important value second =
-    record { filled = true; origin = o; spec = record { inline = i; id = id; class = class; typ = type }; important = important; value = value; second = second }
+abbrev pub filled : ℕ → Bool → ℕ → ℕ → ℕ → Bool → Style → Slot Style
+filled o i id class type important value =
+    held (record { weight = record { important = important; origin = o; spec = record { inline = i; id = id; class = class; typ = type } }; value = value })
+
+abbrev pub settings : Bool → Settings
+settings on = record { «document_styles» = on }
 
 unfoldable pub isRead : List ℕ → Bool
 isRead s = onOutcome (sheetOf s) (λ n rs. true) false (λ p. false)
@@ -70,23 +79,38 @@ isRead s = onOutcome (sheetOf s) (λ n rs. true) false (λ p. false)
 unfoldable pub rulesOf : List ℕ → List RuleSet
 rulesOf s = onOutcome (sheetOf s) (λ n rs. rs) [] (λ p. [])
 
-unfoldable pub answer : List ℕ → List ℕ → List ℕ → Page → List ComputedStyle → Answer
+unfoldable pub answer : List ℕ → List ℕ → List ℕ → Page → List (ComputedStyle Style) → Answer
 answer agent user author g l =
     record { read = and (isRead agent) (and (isRead user) (isRead author)); page = pageRefusal (g .nodes) (g .attributes) (g .text); styles = l }
 
 unfoldable pub style : List ℕ → List ℕ → List ℕ → Page → Bool → List ℕ → Answer
 style agent user author g on elements =
     let rules : Rules RuleSet = record { agent = rulesOf agent; user = rulesOf user; author = rulesOf author } in
-    answer agent user author g (map (λ i. computedStyle rules on (pathOf (g .nodes) (g .attributes) (g .text) i)) elements)
+    answer agent user author g (map (λ i. computedStyle Crate rules (settings on) (pathOf (g .nodes) (g .attributes) (g .text) i)) elements)
 
-unfoldable pub seen : List ℕ → Running → List ℕ → List ComputedStyle
-seen code r elements = map (λ i. seenStyle (code ++ r .store) (styleAt (styleRowAt (r .rows) i))) elements
+-- a row's style, read in the text that its contents lie in
+unfoldable pub slotSeen : List ℕ → ℕ → Slot Value → Slot Style
+slotSeen t k empty = empty
+slotSeen t k (held c) = held (record { weight = c .weight; value = styleOf t k (c .value) })
+
+unfoldable pub slotsSeen : List ℕ → ℕ → List (Slot Value) → List (Slot Style)
+slotsSeen t k [] = []
+slotsSeen t k (s ∷ ss) = slotSeen t k s ∷ slotsSeen t (suc k) ss
+
+unfoldable pub recordSeen : List ℕ → Record Value → Record Style
+recordSeen t p = record { present = p .present; slots = slotsSeen t 0 (p .slots) }
+
+unfoldable pub styleSeen : List ℕ → ComputedStyle Value → ComputedStyle Style
+styleSeen t s = record { main = recordSeen t (s .main); before = recordSeen t (s .before); after = recordSeen t (s .after) }
+
+unfoldable pub seen : List ℕ → Running → List ℕ → List (ComputedStyle Style)
+seen code r elements = map (λ i. styleSeen (code ++ r .store) (styleAt (styleRowAt (r .rows) i))) elements
 
 unfoldable pub ran : List ℕ → Page → Bool → Running
 ran code g on =
-    runOf code on g (replicate (rowsLeast g) 255) (replicate (stateLeast code) 255) (replicate (textLeast (runTextBytes g)) 255)
+    runOf code (settings on) g (replicate (rowsLeast g) 255) (replicate (stateLeast code) 255) (replicate (textLeast (runTextBytes g)) 255)
 
-unfoldable pub seenInRun : List ℕ → Page → Bool → List ℕ → List ComputedStyle
+unfoldable pub seenInRun : List ℕ → Page → Bool → List ℕ → List (ComputedStyle Style)
 seenInRun code g on elements = seen code (ran code g on) elements
 
 unfoldable pub run : List ℕ → List ℕ → List ℕ → Page → Bool → List ℕ → Answer
@@ -153,16 +177,29 @@ def flag(b):
     return ["false", "true"][b]
 
 
-def slot_of(slot):
+def colour(n):
+    return f"(record {{ red = {n >> 16}; green = {n >> 8 & 255}; blue = {n & 255} }})"
+
+
+# what a slot holds, by its number
+VALUES = [
+    lambda v: f"style.colour {colour(v)}",
+    lambda v: f"style.background {colour(v)}",
+    lambda v: "style.displayNone",
+    lambda v: "style.whiteSpace " + ["declaration.normal", "declaration.pre", "declaration.preWrap"][v],
+    lambda v: f"style.content {numbers(v)}",
+]
+
+
+def slot_of(number, slot):
     if slot is None:
         return "asked.unfilled"
     (origin, inline, ids, classes, types, important), value = slot
-    value, second = (int.from_bytes(value, "little"), len(value)) if isinstance(value, bytes) else (value, 0)
-    return f"asked.filled {origin} {flag(inline)} {ids} {classes} {types} {flag(important)} {value} {second}"
+    return f"asked.filled {origin} {flag(inline)} {ids} {classes} {types} {flag(important)} ({VALUES[number](value)})"
 
 
 def record_of(present, slots):
-    return f"record {{ present = {flag(present)}; slots = {items(map(slot_of, slots))} }}"
+    return f"record {{ present = {flag(present)}; slots = {items(slot_of(k, s) for k, s in enumerate(slots))} }}"
 
 
 def style_of(records):
@@ -225,7 +262,8 @@ def main(folder, question, first=0, count=sys.maxsize):
     for at in range(0, len(vectors), CASES_A_FILE):
         modules.append(f"Held{at}")
         cases = [case(v, question, unfolding) for v in vectors[at:at + CASES_A_FILE]]
-        head = "use mathlib.Core.Bool.{true, false}\nuse mathlib.Core.List.{[], _∷_}\nuse mathlib.Core.Path.{_≡_, refl}"
+        head = ("use mathlib.Core.Bool.{true, false}\nuse mathlib.Core.List.{[], _∷_}\nuse mathlib.Core.Path.{_≡_, refl}\n"
+                "use Rattle.syntax.specs.Style as style\nuse Rattle.syntax.specs.Declaration as declaration")
         (held / "specs" / f"Held{at}.antt").write_text(f"-- Vectors.\n{head}\n{uses}\n\n" + "\n".join(cases))
     (held / "specs" / "Lib.antt").write_text("".join(f"pub mod {m}\n" for m in modules))
     print(f"{len(vectors)} vectors, {sum(len(v['elements']) for v in vectors)} elements")

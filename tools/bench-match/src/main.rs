@@ -1,7 +1,7 @@
-//! Matching a selector: this engine's `hicsolmab_matches`, as `rt staticlib engine` builds it, against html2text's `do_matches`, both built for release,
+//! Matching a selector: this engine's `comparison_matches`, as `rt staticlib comparison` builds it, against html2text's `do_matches`, both built for release,
 //! on the same pages, turn by turn in one run. Prints tables for the README; tools/bench-match/run.sh builds and runs it.
 //!
-//! `hicsolmab_matches` checks the page at each call, and tells the specificity too. So each turn also asks for a selector without components, and what that
+//! `comparison_matches` checks the page at each call, and tells the specificity too. So each turn also asks for a selector without components, and what that
 //! takes (the check and the call itself) is subtracted; and so is the specificity, which is what a selector that fails at its first test takes more with all
 //! its components than with one. Nothing is subtracted from html2text's time. To keep the check small beside the rest, the page is lent up to the row that
 //! is asked, and a selector without combinators is asked for many times over in one call: its components are repeated.
