@@ -46,7 +46,7 @@ textAnswer (fault p) = text.Fault p
 
 -- it ends where what was read ends
 unfoldable pub textWithin : ℕ → TextAnswer → Type 0
-textWithin len (text.Text n start size) = (n ≤ len) × (start + size ≡ n)
+textWithin len (text.Text next start size) = (next ≤ len) × (start + size ≡ next)
 textWithin len (text.Fault p) = Unit
 
 -- ---- what is only passed over
@@ -67,10 +67,11 @@ componentAnswer (fault p) = component.Fault p
 
 -- it ends within the bytes, and so do its texts
 unfoldable pub componentWithin : ℕ → ComponentAnswer → Type 0
-componentWithin len (component.Mark n kind) = n ≤ len
-componentWithin len (component.Name n kind start size) = (n ≤ len) × (start + size ≤ len)
-componentWithin len (component.Numbers n a b) = n ≤ len
-componentWithin len (component.Names n a b start size) = (n ≤ len) × (a + b ≤ len) × (start + size ≤ len)
+componentWithin len (component.Mark next kind) = next ≤ len
+componentWithin len (component.Name next kind start size) = (next ≤ len) × (start + size ≤ len)
+componentWithin len (component.Numbers next first second) = next ≤ len
+componentWithin len (component.Names next start size secondStart secondSize) =
+    (next ≤ len) × (start + size ≤ len) × (secondStart + secondSize ≤ len)
 componentWithin len (component.Fault p) = Unit
 
 -- ---- styles
@@ -93,7 +94,7 @@ headAnswer (read n h) = head.Head n (h .origin) (h .pseudo) (h .count)
 headAnswer (fault p) = head.Fault p
 
 unfoldable pub headWithin : ℕ → HeadAnswer → Type 0
-headWithin len (head.Head n origin pseudo count) = n ≤ len
+headWithin len (head.Head next origin pseudo count) = next ≤ len
 headWithin len (head.Fault p) = Unit
 
 -- ---- a selector that is passed over, with its origin

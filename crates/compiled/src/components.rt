@@ -34,9 +34,24 @@ ghost use Rattle.compiled.specs.Answer.{placeAnswer, componentAnswer, co
 // fault.
 pub enum ComponentAnswer {
     Mark(usize, u32),
-    Name(usize, u32, usize, usize),
-    Numbers(usize, u32, u32),
-    Names(usize, usize, usize, usize, usize),
+    Name {
+        next: usize,
+        kind: u32,
+        start: usize,
+        size: usize,
+    },
+    Numbers {
+        next: usize,
+        first: u32,
+        second: u32,
+    },
+    Names {
+        next: usize,
+        start: usize,
+        size: usize,
+        second_start: usize,
+        second_size: usize,
+    },
     Fault(usize),
 }
 
@@ -58,8 +73,13 @@ fn read_name(s: &[u8], at: usize, kind: u32) -> ComponentAnswer
     ensures { λ r. ⌜ r ≡ componentAnswer (nameAt (now (s .entry)) kind at) ⌝ }
 {
     match read_text(s, at) {
-        TextAnswer::Text(next, start, size) => {
-            return ComponentAnswer::Name(next, kind, start, size);
+        TextAnswer::Text { next, start, size } => {
+            return ComponentAnswer::Name {
+                next,
+                kind,
+                start,
+                size,
+            };
         }
         TextAnswer::Fault(place) => {
             return ComponentAnswer::Fault(place);
@@ -73,7 +93,11 @@ fn read_second_number(s: &[u8], at: usize, a: u32) -> ComponentAnswer
 {
     match read_number(s, at) {
         NumberAnswer::Number(next, b) => {
-            return ComponentAnswer::Numbers(next, a, b);
+            return ComponentAnswer::Numbers {
+                next,
+                first: a,
+                second: b,
+            };
         }
         NumberAnswer::Fault(place) => {
             return ComponentAnswer::Fault(place);
@@ -100,8 +124,18 @@ fn read_second_name(s: &[u8], at: usize, start: usize, size: usize) -> Component
     ensures { λ r. ⌜ r ≡ componentAnswer (secondNameAt (now (s .entry)) (record { start = start; size = size }) at) ⌝ }
 {
     match read_text(s, at) {
-        TextAnswer::Text(next, second, second_size) => {
-            return ComponentAnswer::Names(next, start, size, second, second_size);
+        TextAnswer::Text {
+            next,
+            start: second,
+            size: second_size,
+        } => {
+            return ComponentAnswer::Names {
+                next,
+                start,
+                size,
+                second_start: second,
+                second_size,
+            };
         }
         TextAnswer::Fault(place) => {
             return ComponentAnswer::Fault(place);
@@ -114,7 +148,7 @@ fn read_names(s: &[u8], at: usize) -> ComponentAnswer
     ensures { λ r. ⌜ r ≡ componentAnswer (namesAt (now (s .entry)) at) ⌝ }
 {
     match read_text(s, at) {
-        TextAnswer::Text(next, start, size) => {
+        TextAnswer::Text { next, start, size } => {
             return read_second_name(s, next, start, size);
         }
         TextAnswer::Fault(place) => {
@@ -162,13 +196,13 @@ pub fn skip_component(s: &[u8], at: usize) -> PlaceAnswer
         ComponentAnswer::Mark(next, _) => {
             return PlaceAnswer::At(next);
         }
-        ComponentAnswer::Name(next, _, _, _) => {
+        ComponentAnswer::Name { next, .. } => {
             return PlaceAnswer::At(next);
         }
-        ComponentAnswer::Numbers(next, _, _) => {
+        ComponentAnswer::Numbers { next, .. } => {
             return PlaceAnswer::At(next);
         }
-        ComponentAnswer::Names(next, _, _, _, _) => {
+        ComponentAnswer::Names { next, .. } => {
             return PlaceAnswer::At(next);
         }
         ComponentAnswer::Fault(place) => {

@@ -25,7 +25,12 @@ ghost use Rattle.compiled.specs.Answer.{placeAnswer, headAnswer, headWit
 // The place behind the numbers before a selector's components: its origin, its pseudo element and how many components it has. Or the place of the
 // fault.
 pub enum HeadAnswer {
-    Head(usize, u32, u32, u32),
+    Head {
+        next: usize,
+        origin: u32,
+        pseudo: u32,
+        count: u32,
+    },
     Fault(usize),
 }
 
@@ -61,7 +66,12 @@ fn read_count(s: &[u8], at: usize, origin: u32, pseudo: u32) -> HeadAnswer
 {
     match read_number(s, at) {
         NumberAnswer::Number(next, count) => {
-            return HeadAnswer::Head(next, origin, pseudo, count);
+            return HeadAnswer::Head {
+                next,
+                origin,
+                pseudo,
+                count,
+            };
         }
         NumberAnswer::Fault(place) => {
             return HeadAnswer::Fault(place);
@@ -119,7 +129,12 @@ pub fn skip_selector(s: &[u8], at: usize, least: u32) -> SelectorAnswer
     ensures { λ r. ⌜ r ≡ selectorAnswer (selectorAt (now (s .entry)) least at) ⌝ }
 {
     match read_head(s, at, least) {
-        HeadAnswer::Head(next, origin, _, count) => match skip_parts(s, next, count) {
+        HeadAnswer::Head {
+            next,
+            origin,
+            count,
+            ..
+        } => match skip_parts(s, next, count) {
             PlaceAnswer::At(end) => {
                 return SelectorAnswer::Selector(end, origin);
             }

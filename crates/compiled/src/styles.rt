@@ -56,7 +56,7 @@ fn read_content(s: &[u8], at: usize) -> ValueAnswer
     ensures { λ r. ⌜ r ≡ valueAnswer (contentAt (now (s .entry)) at) ⌝ }
 {
     match read_text(s, at) {
-        TextAnswer::Text(next, start, size) => {
+        TextAnswer::Text { next, start, size } => {
             return ValueAnswer::Value(
                 next,
                 Value {

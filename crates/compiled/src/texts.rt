@@ -15,7 +15,11 @@ ghost use Rattle.compiled.specs.Answer.{textAnswer, textWithin};
 
 // The place behind a text, where it starts and how long it is; or the place of the fault.
 pub enum TextAnswer {
-    Text(usize, usize, usize),
+    Text {
+        next: usize,
+        start: usize,
+        size: usize,
+    },
     Fault(usize),
 }
 
@@ -28,7 +32,11 @@ pub fn read_text(s: &[u8], at: usize) -> TextAnswer
         NumberAnswer::Number(start, count) => {
             let size = count as usize;
             if size <= s.len() - start {
-                return TextAnswer::Text(start + size, start, size);
+                return TextAnswer::Text {
+                    next: start + size,
+                    start,
+                    size,
+                };
             }
             return TextAnswer::Fault(at);
         }

@@ -99,7 +99,12 @@ pub fn parse_color_attribute(
             wipe_bytes(store, fill, text);
             return ColourAnswer::NoColour;
         }
-        ValueAnswer::Value(_, count, text, important) => {
+        ValueAnswer::Value {
+            count,
+            text,
+            important,
+            ..
+        } => {
             let colour = parse_color(tokens, unmarked(count, important), store);
             wipe_work(tokens, brackets, count);
             wipe_bytes(store, fill, text);

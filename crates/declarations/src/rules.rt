@@ -146,7 +146,12 @@ fn parse_declared(
             wipe_bytes(store, fill, length + text);
             return DeclarationAnswer::NoDeclaration;
         }
-        ValueAnswer::Value(n, count, text, important) => {
+        ValueAnswer::Value {
+            taken: n,
+            count,
+            text,
+            important,
+        } => {
             let start = at + skip_optional_whitespace(s);
             let kept = put_declared(
                 names,

@@ -20,7 +20,11 @@ pub const AUTHOR_TEXT: usize = 2;
 
 // Of one sheet: how many rules, the numbers that they take and the bytes of their texts; or the byte where the crate panics.
 pub enum RulesRead {
-    Rules(usize, usize, usize),
+    Rules {
+        count: usize,
+        numbers: usize,
+        bytes: usize,
+    },
     Panic(usize),
 }
 
@@ -64,11 +68,24 @@ fn read_behind(
     ensures { λ r. ⌜ RulesBounds (now (s .entry)) r ⌝ }
 {
     match parse_stylesheet(s, &mut rules[place..], tokens, brackets, &mut texts[fill..]) {
-        Reading::Reads(_, count, numbers, text) => {
-            return RulesRead::Rules(count, numbers, text);
+        Reading::Reads {
+            count,
+            numbers,
+            text,
+            ..
+        } => {
+            return RulesRead::Rules {
+                count,
+                numbers,
+                bytes: text,
+            };
         }
         Reading::Fails => {
-            return RulesRead::Rules(0, 0, 0);
+            return RulesRead::Rules {
+                count: 0,
+                numbers: 0,
+                bytes: 0,
+            };
         }
         Reading::Panics(p) => {
             return RulesRead::Panic(p);
@@ -106,13 +123,21 @@ pub fn read_sheets(
         RulesRead::Panic(p) => {
             return SheetsRead::Panic(AGENT_TEXT, p);
         }
-        RulesRead::Rules(agents, numbers, bytes) => {
+        RulesRead::Rules {
+            count: agents,
+            numbers,
+            bytes,
+        } => {
             match read_behind(user, rules, numbers, tokens, brackets, texts, bytes) {
                 RulesRead::Panic(p) => {
                     forget(rules, numbers, texts, bytes);
                     return SheetsRead::Panic(USER_TEXT, p);
                 }
-                RulesRead::Rules(users, more, longer) => {
+                RulesRead::Rules {
+                    count: users,
+                    numbers: more,
+                    bytes: longer,
+                } => {
                     let place = numbers + more;
                     let fill = bytes + longer;
                     match read_behind(author, rules, place, tokens, brackets, texts, fill) {
@@ -120,7 +145,11 @@ pub fn read_sheets(
                             forget(rules, place, texts, fill);
                             return SheetsRead::Panic(AUTHOR_TEXT, p);
                         }
-                        RulesRead::Rules(authors, _, last) => {
+                        RulesRead::Rules {
+                            count: authors,
+                            bytes: last,
+                            ..
+                        } => {
                             let end = fill + last;
                             let agent_rules = SheetRules {
                                 count: agents,

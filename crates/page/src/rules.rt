@@ -38,7 +38,11 @@ enum Totals {
 
 // The same with the row's depth.
 enum RowAnswer {
-    Right(usize, usize, usize),
+    Right {
+        depth: usize,
+        first: usize,
+        start: usize,
+    },
     Wrong,
 }
 
@@ -187,14 +191,22 @@ fn check_row(
 {
     if row == 0 {
         if is_document(nodes) {
-            return RowAnswer::Right(0, 0, 0);
+            return RowAnswer::Right {
+                depth: 0,
+                first: 0,
+                start: 0,
+            };
         }
         return RowAnswer::Wrong;
     }
     match check_parent(nodes, row, depth) {
         Climb::Reached(own) => match check_kind(nodes, attributes, row, first, start) {
             Totals::Behind(next, end) => {
-                return RowAnswer::Right(own, next, end);
+                return RowAnswer::Right {
+                    depth: own,
+                    first: next,
+                    start: end,
+                };
             }
             Totals::Against => {
                 return RowAnswer::Wrong;
@@ -217,7 +229,11 @@ pub fn first_bad_row(nodes: &[u32], attributes: &[u32]) -> usize
     let mut start = 0;
     while row < rows {
         match check_row(nodes, attributes, row, depth, first, start) {
-            RowAnswer::Right(own, next, end) => {
+            RowAnswer::Right {
+                depth: own,
+                first: next,
+                start: end,
+            } => {
                 depth = own;
                 first = next;
                 start = end;

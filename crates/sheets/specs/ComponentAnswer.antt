@@ -102,29 +102,29 @@ equalStore o name fill store = onOutcome o (λ n v. sets store (fill + name) v) 
 
 -- where an answer stops reading
 unfoldable pub componentPlace : ComponentAnswer → ℕ
-componentPlace (Component n k a b) = n
+componentPlace (Component taken kind first second) = taken
 componentPlace NoComponent = 0
 componentPlace (Panic p) = p
 
 -- the bytes that it takes at least
 unfoldable pub leastTaken : ComponentAnswer → ℕ
-leastTaken (Component n k a b) = 1
+leastTaken (Component taken kind first second) = 1
 leastTaken NoComponent = 0
 leastTaken (Panic p) = 0
 
 -- the bytes of its texts: none where the numbers are a and b of an+b
 unfoldable pub textLengthBy : ComponentAnswer → ℕ
-textLengthBy (Component n k a b) = textLength k a b
+textLengthBy (Component taken kind first second) = textLength kind first second
 textLengthBy NoComponent = 0
 textLengthBy (Panic p) = 0
 
 unfoldable pub firstNumber : ComponentAnswer → ℕ
-firstNumber (Component n k a b) = a
+firstNumber (Component taken kind first second) = first
 firstNumber NoComponent = 0
 firstNumber (Panic p) = 0
 
 unfoldable pub secondNumber : ComponentAnswer → ℕ
-secondNumber (Component n k a b) = b
+secondNumber (Component taken kind first second) = second
 secondNumber NoComponent = 0
 secondNumber (Panic p) = 0
 

@@ -66,17 +66,17 @@ greatestSigned = 4294967294
 
 -- where an answer stops reading
 unfoldable pub nthPlace : NthAnswer → ℕ
-nthPlace (Nth n a b) = n
+nthPlace (Nth taken a b) = taken
 nthPlace NoNth = 0
 nthPlace (Panic p) = p
 
 unfoldable pub nthFirst : NthAnswer → ℕ
-nthFirst (Nth n a b) = a
+nthFirst (Nth taken a b) = a
 nthFirst NoNth = 0
 nthFirst (Panic p) = 0
 
 unfoldable pub nthSecond : NthAnswer → ℕ
-nthSecond (Nth n a b) = b
+nthSecond (Nth taken a b) = b
 nthSecond NoNth = 0
 nthSecond (Panic p) = 0
 

@@ -35,27 +35,27 @@ pub record RowRoom (k : ℕ) (s rules : List ℕ) (place : ℕ) : Type 0 where
 
 -- ---- bounds
 unfoldable pub takenBy : Reading → ℕ
-takenBy (Reads n c m x) = n
+takenBy (Reads taken count numbers text) = taken
 takenBy Fails = 0
 takenBy (Panics p) = 0
 
 unfoldable pub countBy : Reading → ℕ
-countBy (Reads n c m x) = c
+countBy (Reads taken count numbers text) = count
 countBy Fails = 0
 countBy (Panics p) = 0
 
 unfoldable pub numbersBy : Reading → ℕ
-numbersBy (Reads n c m x) = m
+numbersBy (Reads taken count numbers text) = numbers
 numbersBy Fails = 0
 numbersBy (Panics p) = 0
 
 unfoldable pub textBy : Reading → ℕ
-textBy (Reads n c m x) = x
+textBy (Reads taken count numbers text) = text
 textBy Fails = 0
 textBy (Panics p) = 0
 
 unfoldable pub placeBy : Reading → ℕ
-placeBy (Reads n c m x) = 0
+placeBy (Reads taken count numbers text) = 0
 placeBy Fails = 0
 placeBy (Panics p) = p
 
@@ -70,6 +70,6 @@ pub record Bounds (w e : ℕ) (s : List ℕ) (r : Reading) : Type 0 where
 
 -- a reading takes a byte or more
 unfoldable pub Progress : Reading → Type 0
-Progress (Reads n c m x) = 1 ≤ n
+Progress (Reads taken count numbers text) = 1 ≤ taken
 Progress Fails = Unit
 Progress (Panics p) = Unit

@@ -70,12 +70,12 @@ pub record BlockSize (s : List ℕ) (n stop count numbers text : ℕ) : Type 0 w
   pub short : n + 2 + text ≤ stop
 
 unfoldable pub BlockBounds : List ℕ → ℕ → Reading → Type 0
-BlockBounds s n (Reads e c m x) = BlockSize s n e c m x
+BlockBounds s n (Reads taken count numbers text) = BlockSize s n taken count numbers text
 BlockBounds s n Fails = Unit
 BlockBounds s n (Panics p) = p ≤ length s
 
 -- of a statement that goes on at n: nothing is kept of it
 unfoldable pub EndBounds : List ℕ → ℕ → Reading → Type 0
-EndBounds s n (Reads e c m x) = (n ≤ e) × (e ≤ length s) × (c ≡ 0) × (m ≡ 0) × (x ≡ 0)
+EndBounds s n (Reads taken count numbers text) = (n ≤ taken) × (taken ≤ length s) × (count ≡ 0) × (numbers ≡ 0) × (text ≡ 0)
 EndBounds s n Fails = Unit
 EndBounds s n (Panics p) = p ≤ length s

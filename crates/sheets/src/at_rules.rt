@@ -35,12 +35,21 @@ fn parse_statement_end(
     ensures { λ r. ⌜ EndBounds (now (s .entry)) n r ⌝ }
 {
     match parse_to_end_of_statement(&s[n..], true, tokens, brackets, store, fill) {
-        StatementAnswer::Statement(m, count, text) => {
+        StatementAnswer::Statement {
+            taken: m,
+            count,
+            text,
+        } => {
             wipe_work(tokens, brackets, count);
             wipe_bytes(store, fill, text);
-            return Reading::Reads(n + m, 0, 0, 0);
+            return Reading::Reads {
+                taken: n + m,
+                count: 0,
+                numbers: 0,
+                text: 0,
+            };
         }
-        StatementAnswer::Unbalanced(_, count, text) => {
+        StatementAnswer::Unbalanced { count, text, .. } => {
             wipe_work(tokens, brackets, count);
             wipe_bytes(store, fill, text);
             return Reading::Fails;

@@ -120,7 +120,12 @@ fn parse_attr_equal(
     }
     match parse_attr_value(&s[at + 1..], store, fill + name) {
         Name::Text(n, size) => {
-            return ComponentAnswer::Component(at + 1 + n, ATTRIBUTE_EQUAL, name, size);
+            return ComponentAnswer::Component {
+                taken: at + 1 + n,
+                kind: ATTRIBUTE_EQUAL,
+                first: name,
+                second: size,
+            };
         }
         Name::NoName => {
             wipe_bytes(store, fill, name);
@@ -140,7 +145,12 @@ pub fn parse_attr(s: &[u8], store: &mut [u8], fill: usize) -> ComponentAnswer
             Name::Text(n, name) => {
                 let at = 1 + n;
                 if byte_is(s, at, b']') {
-                    return ComponentAnswer::Component(at + 1, ATTRIBUTE, name, 0);
+                    return ComponentAnswer::Component {
+                        taken: at + 1,
+                        kind: ATTRIBUTE,
+                        first: name,
+                        second: 0,
+                    };
                 }
                 if byte_is(s, at, b'=') {
                     return parse_attr_equal(s, at, name, store, fill);

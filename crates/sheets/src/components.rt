@@ -34,7 +34,12 @@ ghost use Rattle.sheets.specs.Stores.{Clean};
 
 // The bytes taken and the columns of a component's row: its kind and two numbers; or the byte where the crate panics.
 pub enum ComponentAnswer {
-    Component(usize, u32, usize, usize),
+    Component {
+        taken: usize,
+        kind: u32,
+        first: usize,
+        second: usize,
+    },
     NoComponent,
     Panic(usize),
 }
@@ -57,15 +62,30 @@ fn parse_mark(s: &[u8]) -> ComponentAnswer
 {
     let child = mark_taken(s, b'>');
     if child > 0 {
-        return ComponentAnswer::Component(child, CHILD, 0, 0);
+        return ComponentAnswer::Component {
+            taken: child,
+            kind: CHILD,
+            first: 0,
+            second: 0,
+        };
     }
     let star = mark_taken(s, b'*');
     if star > 0 {
-        return ComponentAnswer::Component(star, STAR, 0, 0);
+        return ComponentAnswer::Component {
+            taken: star,
+            kind: STAR,
+            first: 0,
+            second: 0,
+        };
     }
     let blank = skip_optional_whitespace(s);
     if blank > 0 {
-        return ComponentAnswer::Component(blank, DESCENDANT, 0, 0);
+        return ComponentAnswer::Component {
+            taken: blank,
+            kind: DESCENDANT,
+            first: 0,
+            second: 0,
+        };
     }
     ComponentAnswer::NoComponent
 }
@@ -78,7 +98,12 @@ pub fn parse_class(s: &[u8], store: &mut [u8], fill: usize) -> ComponentAnswer
     if byte_is(s, 0, b'.') {
         match parse_ident(&s[1..], store, fill) {
             Name::Text(n, length) => {
-                return ComponentAnswer::Component(1 + n, CLASS, length, 0);
+                return ComponentAnswer::Component {
+                    taken: 1 + n,
+                    kind: CLASS,
+                    first: length,
+                    second: 0,
+                };
             }
             Name::NoName => {
                 return ComponentAnswer::NoComponent;
@@ -96,7 +121,12 @@ pub fn parse_hash(s: &[u8], store: &mut [u8], fill: usize) -> ComponentAnswer
     if byte_is(s, 0, b'#') {
         match parse_identstring(&s[1..], store, fill) {
             Name::Text(n, length) => {
-                return ComponentAnswer::Component(1 + n, HASH, length, 0);
+                return ComponentAnswer::Component {
+                    taken: 1 + n,
+                    kind: HASH,
+                    first: length,
+                    second: 0,
+                };
             }
             Name::NoName => {
                 return ComponentAnswer::NoComponent;
@@ -113,7 +143,12 @@ pub fn parse_element(s: &[u8], store: &mut [u8], fill: usize) -> ComponentAnswer
 {
     match parse_ident(s, store, fill) {
         Name::Text(n, length) => {
-            return ComponentAnswer::Component(n, ELEMENT, length, 0);
+            return ComponentAnswer::Component {
+                taken: n,
+                kind: ELEMENT,
+                first: length,
+                second: 0,
+            };
         }
         Name::NoName => {
             return ComponentAnswer::NoComponent;
@@ -154,8 +189,13 @@ pub fn parse_pseudo_class(s: &[u8], store: &mut [u8], fill: usize) -> ComponentA
             return ComponentAnswer::NoComponent;
         }
         match parse_nth_child_args(&s[1 + n..]) {
-            NthAnswer::Nth(k, a, b) => {
-                return ComponentAnswer::Component(1 + n + k, NTH, a as usize, b as usize);
+            NthAnswer::Nth { taken: k, a, b } => {
+                return ComponentAnswer::Component {
+                    taken: 1 + n + k,
+                    kind: NTH,
+                    first: a as usize,
+                    second: b as usize,
+                };
             }
             NthAnswer::NoNth => {
                 return ComponentAnswer::NoComponent;

@@ -17,7 +17,7 @@ ghost use Rattle.sheets.specs.NthAnswer.{nthAnswer, convertedAnswer, int
 
 // The bytes taken, a and b; or the byte where the crate panics.
 pub enum NthAnswer {
-    Nth(usize, u32, u32),
+    Nth { taken: usize, a: u32, b: u32 },
     NoNth,
     Panic(usize),
 }
@@ -112,7 +112,11 @@ fn both_of(s: &[u8]) -> NthAnswer
         let NumberAnswer::Number(b) = other else {
             return NthAnswer::Panic(at + second.sign);
         };
-        return NthAnswer::Nth(at + second.taken, a, b);
+        return NthAnswer::Nth {
+            taken: at + second.taken,
+            a,
+            b,
+        };
     }
     NthAnswer::NoNth
 }
@@ -127,7 +131,11 @@ fn just_a(s: &[u8]) -> NthAnswer
         let NumberAnswer::Number(a) = value else {
             return NthAnswer::Panic(first.sign);
         };
-        return NthAnswer::Nth(first.taken + 1, a, ZERO);
+        return NthAnswer::Nth {
+            taken: first.taken + 1,
+            a,
+            b: ZERO,
+        };
     }
     NthAnswer::NoNth
 }
@@ -144,7 +152,11 @@ fn just_b(s: &[u8]) -> NthAnswer
     let NumberAnswer::Number(b) = value else {
         return NthAnswer::Panic(second.sign);
     };
-    NthAnswer::Nth(second.taken, ZERO, b)
+    NthAnswer::Nth {
+        taken: second.taken,
+        a: ZERO,
+        b,
+    }
 }
 
 // `even`, `odd`, or an+b in one of its forms, in the crate's order.
@@ -152,10 +164,18 @@ fn parse_nth(s: &[u8]) -> NthAnswer
     ensures { λ r. ⌜ r ≡ nthAnswer (nthOf (now (s .entry))) ⌝ }
 {
     if starts_with(s, &EVEN) {
-        return NthAnswer::Nth(EVEN.len(), TWO, ZERO);
+        return NthAnswer::Nth {
+            taken: EVEN.len(),
+            a: TWO,
+            b: ZERO,
+        };
     }
     if starts_with(s, &ODD) {
-        return NthAnswer::Nth(ODD.len(), TWO, ONE);
+        return NthAnswer::Nth {
+            taken: ODD.len(),
+            a: TWO,
+            b: ONE,
+        };
     }
     let both = both_of(s);
     let NthAnswer::NoNth = both else {
@@ -176,10 +196,14 @@ pub fn parse_nth_child_args(s: &[u8]) -> NthAnswer
     if byte_is(s, 0, b'(') {
         let start = skip_from(s, 1);
         match parse_nth(&s[start..]) {
-            NthAnswer::Nth(n, a, b) => {
+            NthAnswer::Nth { taken: n, a, b } => {
                 let end = skip_from(s, start + n);
                 if byte_is(s, end, b')') {
-                    return NthAnswer::Nth(end + 1, a, b);
+                    return NthAnswer::Nth {
+                        taken: end + 1,
+                        a,
+                        b,
+                    };
                 }
                 return NthAnswer::NoNth;
             }

@@ -83,7 +83,12 @@ fn parse_block(
         let numbers = DECLARATION_WIDTH * read.count;
         let f = before_end(s, d + read.taken);
         if byte_is(s, f, b'}') {
-            return Reading::Reads(skip_from(s, f + 1), read.count, numbers, read.text);
+            return Reading::Reads {
+                taken: skip_from(s, f + 1),
+                count: read.count,
+                numbers,
+                text: read.text,
+            };
         }
         wipe_numbers(rules, place, numbers);
         wipe_bytes(store, fill, read.text);
@@ -119,7 +124,12 @@ pub fn parse_ruleset(
         Reading::Panics(p) => {
             return Reading::Panics(w + p);
         }
-        Reading::Reads(n, selectors, numbers, text) => {
+        Reading::Reads {
+            taken: n,
+            count: selectors,
+            numbers,
+            text,
+        } => {
             let behind = place + RULE_HEAD + numbers;
             match parse_block(
                 s,
@@ -132,9 +142,19 @@ pub fn parse_ruleset(
                 store,
                 fill + text,
             ) {
-                Reading::Reads(end, declarations, more, kept) => {
+                Reading::Reads {
+                    taken: end,
+                    count: declarations,
+                    numbers: more,
+                    text: kept,
+                } => {
                     put_rule_head(at + w, selectors, declarations, rules, place);
-                    return Reading::Reads(end, 1, RULE_HEAD + numbers + more, text + kept);
+                    return Reading::Reads {
+                        taken: end,
+                        count: 1,
+                        numbers: RULE_HEAD + numbers + more,
+                        text: text + kept,
+                    };
                 }
                 Reading::Fails => {
                     wipe_numbers(rules, place + RULE_HEAD, numbers);

@@ -37,14 +37,24 @@ fn more_selectors(
             let w = skip_from(s, taken + 1);
             match parse_selector(&s[w..], rules, place + numbers, store, fill + text) {
                 Reading::Fails => {
-                    return Reading::Reads(taken, count, numbers, text);
+                    return Reading::Reads {
+                        taken,
+                        count,
+                        numbers,
+                        text,
+                    };
                 }
                 Reading::Panics(p) => {
                     wipe_numbers(rules, place, numbers);
                     wipe_bytes(store, fill, text);
                     return Reading::Panics(w + p);
                 }
-                Reading::Reads(n, _, row, more) => {
+                Reading::Reads {
+                    taken: n,
+                    numbers: row,
+                    text: more,
+                    ..
+                } => {
                     taken = w + n;
                     count += 1;
                     numbers += row;
@@ -52,7 +62,12 @@ fn more_selectors(
                 }
             }
         } else {
-            return Reading::Reads(taken, count, numbers, text);
+            return Reading::Reads {
+                taken,
+                count,
+                numbers,
+                text,
+            };
         }
     }
 }
@@ -74,12 +89,22 @@ pub fn parse_selectors(
 {
     match parse_selector(s, rules, place, store, fill) {
         Reading::Fails => {
-            return Reading::Reads(0, 0, 0, 0);
+            return Reading::Reads {
+                taken: 0,
+                count: 0,
+                numbers: 0,
+                text: 0,
+            };
         }
         Reading::Panics(p) => {
             return Reading::Panics(p);
         }
-        Reading::Reads(n, _, row, text) => {
+        Reading::Reads {
+            taken: n,
+            numbers: row,
+            text,
+            ..
+        } => {
             match more_selectors(&s[n..], rules, place + row, store, fill + text) {
                 Reading::Fails => {
                     wipe_numbers(rules, place, row);
@@ -91,8 +116,18 @@ pub fn parse_selectors(
                     wipe_bytes(store, fill, text);
                     return Reading::Panics(n + p);
                 }
-                Reading::Reads(m, count, numbers, more) => {
-                    return Reading::Reads(n + m, count + 1, row + numbers, text + more);
+                Reading::Reads {
+                    taken: m,
+                    count,
+                    numbers,
+                    text: more,
+                } => {
+                    return Reading::Reads {
+                        taken: n + m,
+                        count: count + 1,
+                        numbers: row + numbers,
+                        text: text + more,
+                    };
                 }
             }
         }

@@ -77,7 +77,12 @@ pub fn parse_components(
     loop {
         let at = fill + text;
         match parse_simple_selector_component(&s[taken..], store, at) {
-            ComponentAnswer::Component(n, kind, first, second) => {
+            ComponentAnswer::Component {
+                taken: n,
+                kind,
+                first,
+                second,
+            } => {
                 put_component(kind, first, second, at, rules, place + numbers);
                 taken += n;
                 count += 1;
@@ -85,7 +90,12 @@ pub fn parse_components(
                 text += text_length(kind, first, second);
             }
             ComponentAnswer::NoComponent => {
-                return Reading::Reads(taken, count, numbers, text);
+                return Reading::Reads {
+                    taken,
+                    count,
+                    numbers,
+                    text,
+                };
             }
             ComponentAnswer::Panic(p) => {
                 wipe_numbers(rules, place, numbers);
@@ -104,8 +114,18 @@ fn parse_first(s: &[u8], store: &mut [u8], fill: usize) -> ComponentAnswer
     ensures { λ r. ⌜ ComponentBounds (now (s .entry)) r ⌝ }
 {
     match parse_element(s, store, fill) {
-        ComponentAnswer::Component(n, kind, first, second) => {
-            return ComponentAnswer::Component(n, kind, first, second);
+        ComponentAnswer::Component {
+            taken: n,
+            kind,
+            first,
+            second,
+        } => {
+            return ComponentAnswer::Component {
+                taken: n,
+                kind,
+                first,
+                second,
+            };
         }
         ComponentAnswer::Panic(p) => {
             return ComponentAnswer::Panic(p);
@@ -162,7 +182,12 @@ fn parse_body(s: &[u8], rules: &mut [u32], place: usize, store: &mut [u8], fill:
         ComponentAnswer::Panic(p) => {
             return Reading::Panics(p);
         }
-        ComponentAnswer::Component(n, kind, first, second) => {
+        ComponentAnswer::Component {
+            taken: n,
+            kind,
+            first,
+            second,
+        } => {
             let text = text_length(kind, first, second);
             let kept = kept_first(kind);
             let row = COMPONENT_WIDTH * kept;
@@ -175,9 +200,19 @@ fn parse_body(s: &[u8], rules: &mut [u32], place: usize, store: &mut [u8], fill:
                     wipe_bytes(store, fill, text);
                     return Reading::Panics(n + p);
                 }
-                Reading::Reads(m, count, numbers, more) => {
+                Reading::Reads {
+                    taken: m,
+                    count,
+                    numbers,
+                    text: more,
+                } => {
                     put_first(kept, kind, first, second, fill, rules, place);
-                    return Reading::Reads(n + m, kept + count, row + numbers, text + more);
+                    return Reading::Reads {
+                        taken: n + m,
+                        count: kept + count,
+                        numbers: row + numbers,
+                        text: text + more,
+                    };
                 }
             }
         }
@@ -245,16 +280,21 @@ pub fn parse_selector(
         Reading::Panics(p) => {
             return Reading::Panics(p);
         }
-        Reading::Reads(n, count, _, text) => {
+        Reading::Reads {
+            taken: n,
+            count,
+            text,
+            ..
+        } => {
             let kept = drop_blank(rules, place + SELECTOR_HEAD, count);
             let pseudo = parse_pseudo_element(&s[n..]);
             put_selector_head(kept, pseudo.pseudo, rules, place);
-            return Reading::Reads(
-                n + pseudo.taken,
-                1,
-                SELECTOR_HEAD + COMPONENT_WIDTH * kept,
+            return Reading::Reads {
+                taken: n + pseudo.taken,
+                count: 1,
+                numbers: SELECTOR_HEAD + COMPONENT_WIDTH * kept,
                 text,
-            );
+            };
         }
     }
 }

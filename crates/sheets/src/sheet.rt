@@ -54,7 +54,12 @@ fn read_text(
 {
     clear_stores(rules, tokens, brackets, texts);
     match parse_stylesheet(s, rules, tokens, brackets, texts) {
-        Reading::Reads(stop, count, numbers, bytes) => {
+        Reading::Reads {
+            taken: stop,
+            count,
+            numbers,
+            text: bytes,
+        } => {
             return SheetAnswer::Sheet {
                 count,
                 stop,

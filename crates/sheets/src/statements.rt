@@ -33,8 +33,18 @@ pub fn parse_statement(
     ensures { λ r. ⌜ Progress r ⌝ }
 {
     match parse_ruleset(s, at, rules, place, tokens, brackets, store, fill) {
-        Reading::Reads(n, count, numbers, text) => {
-            return Reading::Reads(n, count, numbers, text);
+        Reading::Reads {
+            taken: n,
+            count,
+            numbers,
+            text,
+        } => {
+            return Reading::Reads {
+                taken: n,
+                count,
+                numbers,
+                text,
+            };
         }
         Reading::Panics(p) => {
             return Reading::Panics(p);
@@ -76,14 +86,24 @@ pub fn parse_stylesheet(
             store,
             text,
         ) {
-            Reading::Reads(n, more, row, kept) => {
+            Reading::Reads {
+                taken: n,
+                count: more,
+                numbers: row,
+                text: kept,
+            } => {
                 taken += n;
                 count += more;
                 numbers += row;
                 text += kept;
             }
             Reading::Fails => {
-                return Reading::Reads(taken, count, numbers, text);
+                return Reading::Reads {
+                    taken,
+                    count,
+                    numbers,
+                    text,
+                };
             }
             Reading::Panics(p) => {
                 wipe_numbers(rules, 0, numbers);
@@ -92,5 +112,10 @@ pub fn parse_stylesheet(
             }
         }
     }
-    Reading::Reads(taken, count, numbers, text)
+    Reading::Reads {
+        taken,
+        count,
+        numbers,
+        text,
+    }
 }

@@ -179,16 +179,16 @@ pub record Room (n fill : ℕ) (tokens brackets store : List ℕ) : Type 0 where
 
 -- the numbers of an answer
 unfoldable pub takenBy : StatementAnswer → ℕ
-takenBy (answer.Statement n k t) = n
-takenBy (answer.Unbalanced n k t) = n
+takenBy (answer.Statement taken count text) = taken
+takenBy (answer.Unbalanced taken count text) = taken
 
 unfoldable pub countBy : StatementAnswer → ℕ
-countBy (answer.Statement n k t) = k
-countBy (answer.Unbalanced n k t) = k
+countBy (answer.Statement taken count text) = count
+countBy (answer.Unbalanced taken count text) = count
 
 unfoldable pub textBy : StatementAnswer → ℕ
-textBy (answer.Statement n k t) = t
-textBy (answer.Unbalanced n k t) = t
+textBy (answer.Statement taken count text) = text
+textBy (answer.Unbalanced taken count text) = text
 
 -- how many bytes longer the texts of n bytes can be: two where they end the text with a backslash
 unfoldable pub slack : List ℕ → ℕ → ℕ

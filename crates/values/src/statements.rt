@@ -21,14 +21,27 @@ ghost use Rattle.values.specs.View.{Counted, tokensAt};
 
 // The bytes taken, the tokens and the bytes of text of a statement; or of what stands before a closing bracket that is wrong.
 pub enum StatementAnswer {
-    Statement(usize, usize, usize),
-    Unbalanced(usize, usize, usize),
+    Statement {
+        taken: usize,
+        count: usize,
+        text: usize,
+    },
+    Unbalanced {
+        taken: usize,
+        count: usize,
+        text: usize,
+    },
 }
 
 // A value: the bytes taken, its tokens and their bytes of text, and whether it ends in the mark `!important`; or the tokens and the
 // bytes of text before a closing bracket that is wrong.
 pub enum ValueAnswer {
-    Value(usize, usize, usize, bool),
+    Value {
+        taken: usize,
+        count: usize,
+        text: usize,
+        important: bool,
+    },
     NoValue(usize, usize),
 }
 
@@ -169,21 +182,25 @@ pub fn parse_to_end_of_statement(
         let at = fill + text;
         match parse_token(&s[taken..], store, at) {
             Lexed::Nothing => {
-                return StatementAnswer::Statement(taken, count, text);
+                return StatementAnswer::Statement { taken, count, text };
             }
             Lexed::At(start, n, k) => {
                 let byte = taken + start;
                 let length = text_length(k);
                 match step_at(k, include_semicolon, brackets, depth) {
                     Step::Before => {
-                        return StatementAnswer::Statement(taken, count, text);
+                        return StatementAnswer::Statement { taken, count, text };
                     }
                     Step::Wrong => {
-                        return StatementAnswer::Unbalanced(taken, count, text);
+                        return StatementAnswer::Unbalanced { taken, count, text };
                     }
                     Step::Behind => {
                         put_token(k, byte, at, rows, place);
-                        return StatementAnswer::Statement(taken + n, count + 1, text + length);
+                        return StatementAnswer::Statement {
+                            taken: taken + n,
+                            count: count + 1,
+                            text: text + length,
+                        };
                     }
                     Step::Next(d) => {
                         place = put_token(k, byte, at, rows, place);
@@ -235,11 +252,16 @@ pub fn parse_value(
         ≡ valueLeft (statementOf false (now (s .entry))) (now (rows .entry)) (now (brackets .entry)) (now (store .entry)) fill ⌝ }
 {
     match parse_to_end_of_statement(s, false, rows, brackets, store, fill) {
-        StatementAnswer::Statement(taken, count, text) => {
+        StatementAnswer::Statement { taken, count, text } => {
             let important = is_important(rows, count, store);
-            return ValueAnswer::Value(taken, count, text, important);
+            return ValueAnswer::Value {
+                taken,
+                count,
+                text,
+                important,
+            };
         }
-        StatementAnswer::Unbalanced(_, count, text) => {
+        StatementAnswer::Unbalanced { count, text, .. } => {
             return ValueAnswer::NoValue(count, text);
         }
     }
