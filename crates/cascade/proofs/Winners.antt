@@ -6,9 +6,11 @@ use mathlib.Core.Logic.{_⊎_, inl, inr, ⊎-elim}
 use Prim.Native.Nat.{suc}
 use native.Mathlib.Omega.{arith}
 use lib.ListN.{length, length-append}
+use Rattle.combinators.specs.All.{All}
 use Rattle.combinators.proofs.Rules.{never, pick-true, pick-false}
+use Rattle.combinators.proofs.AllLaws.{all-append, all-weaker}
 use Rattle.cascade.specs.declared.slots.Weight.{Weight}
-use Rattle.cascade.specs.Slot.{Candidate, Slot, empty, held, rankOf, Weaker, by-rank, by-specificity, weaker, All, none, more, Winner, Won, heldInBook, bookUpdate, inheritedCandidate, inheritedSlot}
+use Rattle.cascade.specs.Slot.{Candidate, Slot, empty, held, rankOf, Weaker, by-rank, by-specificity, weaker, Winner, Won, heldInBook, bookUpdate, inheritedCandidate, inheritedSlot}
 use Rattle.cascade.proofs.Orders.{then-lower, then-equal, then-true, then-trans, then-trans-not, less-trans, less-trans-not, less-says, less-said}
 
 -- ---- the test is the order
@@ -61,15 +63,6 @@ decide : (t : Bool) → (t ≡ true) ⊎ (t ≡ false)
 decide true = inl refl
 decide false = inr refl
 
--- ---- lists of which something holds
-all-append : {A : Type 0} {P : A → Type 0} {l m : List A} → All P l → All P m → All P (l ++ m)
-all-append none q = q
-all-append (more p ps) q = more p (all-append ps q)
-
-all-map : {A : Type 0} {P Q : A → Type 0} → ((x : A) → P x → Q x) → {l : List A} → All P l → All Q l
-all-map f none = none
-all-map f (more {x} p ps) = more (f x p) (all-map f ps)
-
 module _ {A : Type 0} where
   -- ---- one update: the candidate is taken unless it is the weaker
   module _ (w x : Candidate A) where
@@ -88,11 +81,18 @@ module _ {A : Type 0} where
   moved : (s t : Slot A) (l m : List (Candidate A)) → s ≡ t → l ≡ m → Won t l → Won s m
   moved s t l m e f h = subst (λ r. Won r m) (sym e) (subst (Won t) f h)
 
+  -- w does not lose to y, and y loses to w
+  abbrev StaysAgainst : Candidate A → Candidate A → Type 0
+  StaysAgainst w y = ¬ (Weaker (w .weight) (y .weight))
+
+  abbrev LosesTo : Candidate A → Candidate A → Type 0
+  LosesTo w y = Weaker (y .weight) (w .weight)
+
   abbrev Unbeaten : Candidate A → List (Candidate A) → Type 0
-  Unbeaten w l = All (λ y. ¬ (Weaker (w .weight) (y .weight))) l
+  Unbeaten w l = All (StaysAgainst w) l
 
   abbrev Beats : Candidate A → List (Candidate A) → Type 0
-  Beats w l = All (λ y. Weaker (y .weight) (w .weight)) l
+  Beats w l = All (LosesTo w) l
 
   -- w is ahead of b before it and of a behind it, and xs are to come
   go : (xs : List (Candidate A)) (w : Candidate A) (b a : List (Candidate A)) → Unbeaten w b → Beats w a → Won (foldl bookUpdate (held w) xs) ((b ++ (w ∷ a)) ++ xs)
@@ -101,17 +101,20 @@ module _ {A : Type 0} where
   go (x ∷ xs) w b a hb ha = ⊎-elim (kept (go xs w b (a ++ (x ∷ [])))) (taken (go xs x (b ++ (w ∷ a)) [])) (decide (weaker (x .weight) (w .weight)))
     where
       kept : (Unbeaten w b → Beats w (a ++ (x ∷ [])) → Won (foldl bookUpdate (held w) xs) ((b ++ (w ∷ (a ++ (x ∷ [])))) ++ xs)) → weaker (x .weight) (w .weight) ≡ true → Won (foldl bookUpdate (bookUpdate (held w) x) xs) ((b ++ (w ∷ a)) ++ (x ∷ xs))
-      kept f e = moved _ _ _ _ (ap (λ s. foldl bookUpdate s xs) (update-keeps w x e)) (simp append-assoc) (f hb (all-append ha (more (weaker-says (x .weight) (w .weight) e) none)))
+      kept f e = moved _ _ _ _ (ap (λ s. foldl bookUpdate s xs) (update-keeps w x e)) (simp append-assoc) (f hb (all-append (LosesTo w) a (x ∷ []) ha (weaker-says (x .weight) (w .weight) e, tt)))
 
       taken : (Unbeaten x (b ++ (w ∷ a)) → Beats x [] → Won (foldl bookUpdate (held x) xs) (((b ++ (w ∷ a)) ++ (x ∷ [])) ++ xs)) → weaker (x .weight) (w .weight) ≡ false → Won (foldl bookUpdate (bookUpdate (held w) x) xs) ((b ++ (w ∷ a)) ++ (x ∷ xs))
       taken f e =
           let n : ¬ (Weaker (x .weight) (w .weight)) = weaker-denies (x .weight) (w .weight) e in
           moved _ _ _ _ (ap (λ s. foldl bookUpdate s xs) (update-takes w x e)) (append-assoc (b ++ (w ∷ a)) (x ∷ []) xs)
-          (f (all-append (all-map (λ y p. stays-unbeaten (x .weight) (w .weight) (y .weight) n p) hb) (more n (all-map (λ y p. stays-above (x .weight) (w .weight) (y .weight) n p) ha))) none)
+          (f
+          (all-append (StaysAgainst x) b (w ∷ a) (all-weaker (StaysAgainst w) (StaysAgainst x) (λ y p. stays-unbeaten (x .weight) (w .weight) (y .weight) n p) b hb)
+          (n, all-weaker (LosesTo w) (StaysAgainst x) (λ y p. stays-above (x .weight) (w .weight) (y .weight) n p) a ha))
+          tt)
 
   -- from a slot that holds the first candidate
   pub won-from : (x : Candidate A) (xs : List (Candidate A)) → Won (foldl bookUpdate (held x) xs) (x ∷ xs)
-  won-from x xs = go xs x [] [] none none
+  won-from x xs = go xs x [] [] tt tt
 
   -- from a slot that holds nothing
   pub won : (x : Candidate A) (xs : List (Candidate A)) → Won (foldl bookUpdate empty (x ∷ xs)) (x ∷ xs)
@@ -124,15 +127,9 @@ module _ {A : Type 0} where
   won-inherited c xs = won-from (inheritedCandidate c) xs
 
   -- ---- there is one winner only
-  all-head : {P : Candidate A → Type 0} {x : Candidate A} {xs : List (Candidate A)} → All P (x ∷ xs) → P x
-  all-head (more p ps) = p
-
-  all-tail : {P : Candidate A → Type 0} {x : Candidate A} {xs : List (Candidate A)} → All P (x ∷ xs) → All P xs
-  all-tail (more p ps) = ps
-
-  all-at : {P : Candidate A → Type 0} (b : List (Candidate A)) (w : Candidate A) (a : List (Candidate A)) → All P (b ++ (w ∷ a)) → P w
-  all-at [] w a p = all-head p
-  all-at (x ∷ b) w a p = all-at b w a (all-tail p)
+  all-at : (P : Candidate A → Type 0) (b : List (Candidate A)) (w : Candidate A) (a : List (Candidate A)) → All P (b ++ (w ∷ a)) → P w
+  all-at P [] w a p = p .0
+  all-at P (x ∷ b) w a p = all-at P b w a (p .1)
 
   abbrev firstOr : Candidate A → List (Candidate A) → Candidate A
   firstOr d [] = d
@@ -149,13 +146,13 @@ module _ {A : Type 0} where
   same-place [] (y ∷ b₂) w₁ w₂ a₁ a₂ e p q r s =
       let f : w₁ ≡ y = ap (firstOr w₁) e in
       let l : a₁ ≡ b₂ ++ (w₂ ∷ a₂) = ap behindFirst e in
-      absurd (all-head r (subst (λ v. Weaker (w₂ .weight) (v .weight)) f (all-at b₂ w₂ a₂ (subst (All (λ v. Weaker (v .weight) (w₁ .weight))) l q))))
+      absurd (r .0 (subst (λ v. Weaker (w₂ .weight) (v .weight)) f (all-at (LosesTo w₁) b₂ w₂ a₂ (subst (All (LosesTo w₁)) l q))))
   same-place (x ∷ b₁) [] w₁ w₂ a₁ a₂ e p q r s =
       let f : w₂ ≡ x = sym (ap (firstOr w₂) e) in
       let l : a₂ ≡ b₁ ++ (w₁ ∷ a₁) = sym (ap behindFirst e) in
-      absurd (all-head p (subst (λ v. Weaker (w₁ .weight) (v .weight)) f (all-at b₁ w₁ a₁ (subst (All (λ v. Weaker (v .weight) (w₂ .weight))) l s))))
+      absurd (p .0 (subst (λ v. Weaker (w₁ .weight) (v .weight)) f (all-at (LosesTo w₂) b₁ w₁ a₁ (subst (All (LosesTo w₂)) l s))))
   same-place (x ∷ b₁) (y ∷ b₂) w₁ w₂ a₁ a₂ e p q r s =
-      let g = same-place b₁ b₂ w₁ w₂ a₁ a₂ (ap behindFirst e) (all-tail p) q (all-tail r) s in
+      let g = same-place b₁ b₂ w₁ w₂ a₁ a₂ (ap behindFirst e) (p .1) q (r .1) s in
       (ap suc (g .0), g .1)
 
   -- two winners of a list are one, at one place

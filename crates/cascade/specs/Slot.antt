@@ -5,6 +5,7 @@ use mathlib.Core.Bool.{Bool, true, false}
 use mathlib.Core.List.{List, [], _∷_, _++_}
 use Prim.Native.Nat.{ℕ, _<_}
 use lib.Dec.{ltb}
+use Rattle.combinators.specs.All.{All}
 use Rattle.combinators.specs.Choice.{pick, or, and, is}
 use Rattle.syntax.specs.Style.{agentOrigin, userOrigin, authorOrigin}
 use Rattle.syntax.specs.declared.styles.Value.{Value}
@@ -80,11 +81,6 @@ pub data Weaker (x y : Weight) : Type 0 where
 -- the same as a test
 unfoldable pub weaker : Weight → Weight → Bool
 weaker x y = lessThen (rankOf x) (rankOf y) (less (x .spec) (y .spec))
-
--- all of a list
-pub data All {A : Type 0} (P : A → Type 0) : List A → Type 0 where
-  none : All P []
-  more : {x : A} {xs : List A} → P x → All P xs → All P (x ∷ xs)
 
 -- the winner of a list in order of appearance, the last of the strongest: it stands in the list, it loses to none before it, and it beats all behind it
 pub record Winner {A : Type 0} (w : Candidate A) (l : List (Candidate A)) : Type 0 where

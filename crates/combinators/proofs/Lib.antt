@@ -3,6 +3,8 @@ pub mod Lists
 pub mod Repeats
 pub mod Repeating
 pub mod Words
+pub mod Parts
+pub mod AllLaws
 pub mod Emitted
 pub mod Cleared
 pub mod Wiped

@@ -1,15 +1,15 @@
--- One step of `startsWith` at an index of both lists, and what a true answer says.
-use mathlib.Core.Path.{_≡_, refl, ap, _∙_}
+-- One step of `startsWith` at an index of both lists, and what a true answer says; texts that are the same.
+use mathlib.Core.Path.{_≡_, refl, sym, ap, _∙_}
 use mathlib.Core.List.{List, [], _∷_, _++_}
 use mathlib.Core.Bool.{true, false}
-use Prim.Native.Nat.{ℕ, _+_, _<_, _≤_}
+use Prim.Native.Nat.{ℕ, suc, _+_, _<_, _≤_}
 use native.Mathlib.Numerals.{add-one}
 use native.Mathlib.Omega.{arith}
 use lib.ListN.{length, getD, drop, drop-of-length-le}
 use lib.Seq.{drop-cons}
 use Rattle.combinators.specs.Choice.{and, is}
-use Rattle.combinators.specs.Word.{startsWith}
-use Rattle.combinators.proofs.Rules.{never, and-true, is-true, is-yes, is-no}
+use Rattle.combinators.specs.Word.{startsWith, sameText}
+use Rattle.combinators.proofs.Rules.{never, and-both, and-right, and-true, is-true, is-yes, is-no}
 
 module _ (w s : List ℕ) (i : ℕ) where
   -- all of the word is read
@@ -48,3 +48,37 @@ starts-is (x ∷ w) [] e = never e
 starts-is (x ∷ w) (y ∷ s) e =
     let p = and-true (is y x) (startsWith w s) e in
     ap (λ b. b ∷ s) (is-true y x (p .0)) ∙ ap (λ l. x ∷ l) (starts-is w s (p .1))
+
+-- ---- two texts
+
+-- texts of one length are the same where one begins with the other
+pub same-starts : (s t : List ℕ) → length s ≡ length t → startsWith t s ≡ sameText s t
+unfolding sameText startsWith
+same-starts [] [] e = refl
+same-starts [] (y ∷ t) e = absurd (omega arith)
+same-starts (x ∷ s) [] e = absurd (omega arith)
+same-starts (x ∷ s) (y ∷ t) e = rw (same-starts s t (omega arith))
+
+-- texts of two lengths are not
+pub same-lengths : (s t : List ℕ) → ¬ (length s ≡ length t) → false ≡ sameText s t
+unfolding sameText
+same-lengths [] [] d = absurd (d refl)
+same-lengths [] (y ∷ t) d = refl
+same-lengths (x ∷ s) [] d = refl
+same-lengths (x ∷ s) (y ∷ t) d = sym (and-right (is x y) (sameText s t) (sym (same-lengths s t (λ e. d (ap suc e)))))
+
+-- texts are the same bytes only where they are equal
+pub same-is : (s t : List ℕ) → sameText s t ≡ true → s ≡ t
+unfolding sameText
+same-is [] [] e = refl
+same-is [] (y ∷ t) e = never e
+same-is (x ∷ s) [] e = never e
+same-is (x ∷ s) (y ∷ t) e =
+    let p = and-true (is x y) (sameText s t) e in
+    ap (λ b. b ∷ s) (is-true x y (p .0)) ∙ ap (λ l. y ∷ l) (same-is s t (p .1))
+
+-- and every text is the same as itself
+pub same-self : (s : List ℕ) → sameText s s ≡ true
+unfolding sameText
+same-self [] = refl
+same-self (x ∷ s) = and-both _ _ (is-yes x x refl) (same-self s)

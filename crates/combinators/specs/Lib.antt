@@ -3,6 +3,8 @@ pub mod Ascii
 pub mod Parsed
 pub mod Repeat
 pub mod Word
+pub mod Part
+pub mod All
 pub mod Store
 pub mod Refusal
 pub mod LeastLengths

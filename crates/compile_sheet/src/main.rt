@@ -11,6 +11,7 @@ use combinators::refusals::PANIC;
 use combinators::refusals::Refusal;
 use combinators::refusals::TOO_LONG;
 use combinators::refusals::refused;
+use combinators::texts::part_of;
 use compiler::answers::numbers_of;
 use compiler::compile::compile;
 use compiler::writing::COMPILED_LIMIT;
@@ -18,7 +19,6 @@ use hexadecimal::PAIR_WIDTH;
 use hexadecimal::emit_line;
 use libc::STDIN_FILENO;
 use libc::STDOUT_FILENO;
-use syntax::texts::part_of;
 
 // The bytes that the sheet may have here, and one byte more, to see whether the input goes on.
 const LONGEST: usize = 1024;

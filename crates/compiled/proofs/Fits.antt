@@ -3,11 +3,11 @@ use Prim.Native.Nat.{ℕ, _≤_, _<_}
 use mathlib.Core.List.{List, [], _∷_}
 use lib.IntN.{ℤ, pos, negsuc}
 use lib.ListN.{length}
+use Rattle.combinators.specs.All.{All}
 use Rattle.syntax.specs.Layout.{styleText}
 use Rattle.syntax.specs.Selector.{Component, star, class, element, hash, child, descendant, nth, attribute, attributeEqual}
 use Rattle.syntax.specs.Style.{agentOrigin, authorOrigin, StyleDecl}
 use Rattle.syntax.proofs.Back as back
-use Rattle.syntax.proofs.Streams.{All}
 use Rattle.compiled.specs.Number.{numberLimit}
 use Rattle.compiled.specs.Sheet.{CompiledSelector}
 

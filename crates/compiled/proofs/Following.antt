@@ -5,9 +5,10 @@ use Prim.Native.Nat.{ℕ, suc, _+_, _-_, _≤_, _<_}
 use native.Mathlib.Nat.{add-zero}
 use native.Mathlib.Omega.{arith}
 use lib.ListN.{length, getD, length-drop, length-append}
+use Rattle.combinators.specs.All.{All}
 use Rattle.combinators.proofs.Lists.{first}
 use Rattle.syntax.specs.Stream.{textsMany}
-use Rattle.syntax.proofs.Streams.{Held, held-left, held-right, All}
+use Rattle.syntax.proofs.Streams.{Held, held-left, held-right}
 use Rattle.compiled.specs.Decoded.{Decoded, read, fault, andThen, mapped, counted}
 
 -- ---- bytes at a place

@@ -6,12 +6,13 @@ use native.Mathlib.Nat.{add-zero}
 use native.Mathlib.Omega.{arith}
 use lib.ListN.{length, length-append}
 use Rattle.combinators.specs.Choice.{pick, is}
+use Rattle.combinators.specs.All.{All}
 use Rattle.combinators.proofs.Rules.{pick-true, is-yes}
 use Rattle.syntax.specs.RuleLayout.{pseudoNumber, pseudoFrom}
 use Rattle.syntax.specs.Selector.{PseudoElement, none, before, after}
 use Rattle.syntax.specs.Stream.{textsMany}
 use Rattle.syntax.specs.Style.{agentOrigin, authorOrigin, StyleDecl}
-use Rattle.syntax.proofs.Streams.{Held, held-left, held-right, All}
+use Rattle.syntax.proofs.Streams.{Held, held-left, held-right}
 use Rattle.compiled.specs.Decoded.{read, counted}
 use Rattle.compiled.specs.Number.{numberLimit, numberBytes, numberAt, rangedAt}
 use Rattle.compiled.specs.Component.{componentBytes, componentAt}

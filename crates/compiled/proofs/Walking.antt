@@ -6,12 +6,12 @@ use Prim.Native.Nat.{ℕ, zero, suc, _+_, _≤_}
 use native.Mathlib.Omega.{arith}
 use lib.ListN.{length}
 use Rattle.combinators.specs.Choice.{is}
+use Rattle.combinators.specs.Part.{part}
 use Rattle.combinators.proofs.Rules.{pick-holds, is-true}
 use Rattle.syntax.specs.Layout.{styleIn}
 use Rattle.syntax.specs.RuleLayout.{pseudoFrom}
 use Rattle.syntax.specs.Selector.{Component, nth, attributeEqual}
 use Rattle.syntax.specs.Signed.{signedOf}
-use Rattle.syntax.specs.Stream.{part}
 use Rattle.syntax.specs.Style.{agentOrigin}
 use Rattle.syntax.specs.declared.styles.StyleNumbers.{StyleNumbers}
 use Rattle.compiled.specs.Decoded.{Decoded, read, fault, andThen, mapped, counted}

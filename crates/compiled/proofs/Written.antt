@@ -7,12 +7,12 @@ use native.Mathlib.Omega.{arith}
 use lib.ListN.{length, drop, length-take}
 use Rattle.combinators.specs.Choice.{pick, or, is}
 use Rattle.combinators.specs.Store.{Store, emits}
+use Rattle.combinators.specs.Part.{part}
 use Rattle.combinators.proofs.Emitted.{then}
 use Rattle.combinators.proofs.Rules.{never, pick-true, pick-false, either, is-yes, is-no, is-true}
 use Rattle.syntax.specs.Layout.{flag, colourNumber, colourOf, whiteSpaceNumber, whiteSpaceOf, colourSlot, backgroundSlot, displaySlot, whiteSpaceSlot, contentSlot, styleSlotOf, styleOf, styleIn}
 use Rattle.syntax.specs.RuleLayout.{starKind, classKind, elementKind, hashKind, childKind, descendantKind, nthKind, attributeKind, attributeEqualKind, componentKind, componentFrom}
 use Rattle.syntax.specs.Selector.{attributeEqual}
-use Rattle.syntax.specs.Stream.{part}
 use Rattle.syntax.specs.Style as style
 use Rattle.syntax.specs.Style.{Style}
 use Rattle.syntax.specs.declared.styles.Value.{Value}

@@ -6,8 +6,9 @@ use mathlib.Core.Bool.{false}
 use mathlib.Core.List.{List, [], _∷_, _++_}
 use lib.ListN.{length}
 use Rattle.combinators.specs.Choice.{pick, or, and, is, within}
+use Rattle.combinators.specs.Part.{part}
 use Rattle.syntax.specs.Selector.{Component, element, PseudoElement, none, after}
-use Rattle.syntax.specs.Stream.{part, textsMany}
+use Rattle.syntax.specs.Stream.{textsMany}
 use Rattle.syntax.specs.Layout.{flag, flagOf, colourNumber, colourOf, styleSlotOf, styleOf, styleIn}
 use Rattle.syntax.specs.RuleLayout.{componentKind, pseudoNumber, pseudoFrom}
 use Rattle.syntax.specs.Style as style

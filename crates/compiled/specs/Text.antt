@@ -5,7 +5,7 @@ use mathlib.Core.List.{List, [], _∷_, _++_}
 use lib.Dec.{leb}
 use lib.ListN.{length}
 use Rattle.combinators.specs.Choice.{pick}
-use Rattle.syntax.specs.Stream.{part}
+use Rattle.combinators.specs.Part.{part}
 use Rattle.compiled.specs.Decoded.{Decoded, read, fault, andThen, mapped}
 use Rattle.compiled.specs.Number.{groupBytes, numberBytes, limited, groupsAt, numberAt}
 

@@ -7,7 +7,9 @@ use native.Mathlib.Omega.{arith}
 use lib.IntN.{ℤ, pos, negsuc}
 use lib.ListN.{length, length-append, length-map}
 use Rattle.combinators.specs.Choice.{pick, and}
+use Rattle.combinators.specs.All.{All}
 use Rattle.combinators.proofs.Rules.{pick-holds}
+use Rattle.combinators.proofs.AllLaws.{all-append, all-reverse, all-weaker, all-both}
 use Rattle.syntax.specs.Declaration.{Decl, color, backgroundColor, height, maxHeight, overflow, overflowY, display, whiteSpace, content, unknown, Declaration}
 use Rattle.syntax.specs.Layout.{declarationWidth, declText, declarationText, declarationTexts, styleTextOf, styleText}
 use Rattle.syntax.specs.RuleLayout.{componentText, componentTexts, selectorHead, selectorText, selectorTexts, ruleText, ruleRows, ruleTexts}
@@ -19,14 +21,13 @@ use Rattle.syntax.specs.Style.{agentOrigin, userOrigin, authorOrigin, StyleDecl
 use Rattle.syntax.proofs.Back as back
 use Rattle.syntax.proofs.Back.{DeclarationsFit}
 use Rattle.syntax.proofs.RowSizes.{length-rules}
-use Rattle.syntax.proofs.Streams.{All}
 use Rattle.declarations.specs.Styles.{one, styleOf, hidesOverflow, zeroHeight, anyDecl, ownStyles, stylesOf}
 use Rattle.declarations.proofs.StyleAttribute.{styles-fit}
 use Rattle.sheets.specs.Outcome.{reads}
 use Rattle.sheets.specs.Rules.{ruleWidth}
 use Rattle.sheets.specs.Sheet.{sheetOf}
 use Rattle.sheets.specs.SheetAnswer.{sheetLimit}
-use Rattle.sheets.proofs.AllLaws.{all-append, all-reverse, all-weaker, all-both, each-size, each-text}
+use Rattle.sheets.proofs.AllLaws.{each-size, each-text}
 use Rattle.sheets.proofs.SheetBounds.{sheet-keeps}
 use Rattle.sheets.proofs.NthRange.{InRange, NthInRange, SelectorInRange, RuleInRange, sheet-range}
 use Rattle.compiled.specs.Decoded.{read}

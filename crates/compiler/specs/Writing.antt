@@ -5,10 +5,11 @@ use mathlib.Core.Path.{_≡_, refl}
 use mathlib.Core.List.{List, [], _∷_}
 use lib.ListN.{length}
 use Rattle.combinators.specs.Choice.{pick, or, and, is}
+use Rattle.combinators.specs.Part.{part}
 use Rattle.syntax.specs.Layout.{flag, flagOf, colourNumber, colourOf, colorKind, heightKind, declOf, readDeclaration, styleSlotOf}
 use Rattle.syntax.specs.RuleLayout.{elementKind, componentKind, componentFrom, readComponent, pseudoNumber, pseudoFrom, readSelector, readRule, rulesAt}
 use Rattle.syntax.specs.Selector.{Selector, RuleSet}
-use Rattle.syntax.specs.Stream.{readMany, textsMany, part}
+use Rattle.syntax.specs.Stream.{readMany, textsMany}
 use Rattle.syntax.specs.Style.{StyleDecl, authorOrigin}
 use Rattle.declarations.specs.Styles.{one, styleOf, hidesOverflow, zeroHeight, anyDecl, ownStyles, stylesOf}
 use Rattle.sheets.specs.Stores.{Zeros}

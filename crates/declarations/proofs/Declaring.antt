@@ -12,6 +12,7 @@ use lib.Seq.{sets, length-sets}
 use Rattle.combinators.specs.Choice.{pick, or, is}
 use Rattle.combinators.specs.Parsed.{Parsed, ok, err, onParsed}
 use Rattle.combinators.specs.Store.{wiped}
+use Rattle.combinators.specs.Part.{part}
 use Rattle.combinators.proofs.Lists.{rest}
 use Rattle.combinators.proofs.Rules.{pick-holds, lt-or-ge}
 use Rattle.combinators.proofs.Wiped.{wiped-none, wiped-over}
@@ -22,7 +23,7 @@ use Rattle.lexer.specs.Whitespace.{skipWhitespace}
 use Rattle.lexer.proofs.Comments.{skip-le}
 use Rattle.syntax.specs.Declaration.{Decl, color, backgroundColor, height, maxHeight, overflow, overflowY, display, whiteSpace, content, unknown, Declaration}
 use Rattle.syntax.specs.Layout.{flag, declText, declarationText, declRow, declarationRow, declarationRows, declarationTexts}
-use Rattle.syntax.specs.Stream.{textsMany, rowsMany, part}
+use Rattle.syntax.specs.Stream.{textsMany, rowsMany}
 use Rattle.syntax.proofs.Streams.{Held, held-part, sets-held}
 use Rattle.values.specs.Value.{Statement, statementOf, tokensOf, isImportant, withoutMark, valueFrom, valueOf}
 use Rattle.values.specs.Layout.{rowsOf, textsOf, bracketsAfter, left, ValueLeft, valueAnswer, valueLeft, Room}

@@ -6,7 +6,7 @@ use native.Mathlib.Nat.{add-zero}
 use native.Mathlib.Omega.{arith}
 use lib.ListN.{length, getD, set, take, drop, length-set}
 use lib.Seq.{sets, drop-cons, drop-set-lt}
-use Rattle.syntax.specs.Stream.{part}
+use Rattle.combinators.specs.Part.{part}
 use Rattle.declarations.specs.Moved.{Downward}
 
 -- the store where i bytes were moved

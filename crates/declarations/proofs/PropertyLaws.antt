@@ -2,34 +2,23 @@
 use mathlib.Core.Path.{_≡_, refl, sym, ap, _∙_}
 use mathlib.Core.Bool.{Bool, true, false}
 use mathlib.Core.List.{List}
-use Prim.Native.Nat.{ℕ, _+_, _-_, _≤_, _<_}
+use Prim.Native.Nat.{ℕ, _+_, _≤_, _<_}
 use native.Mathlib.Omega.{arith}
-use lib.ListN.{length, getD, take, drop, length-drop}
+use lib.ListN.{length, getD, drop}
 use Rattle.combinators.specs.Ascii as ascii
 use Rattle.combinators.specs.Choice.{pick, is}
 use Rattle.combinators.specs.Parsed.{Parsed, ok, err, onParsed}
-use Rattle.combinators.proofs.Lists.{rest, byte-there}
+use Rattle.combinators.proofs.Lists.{byte-there}
 use Rattle.lexer.specs.Name.{identOf, nameAnswer, nameText}
 use Rattle.lexer.specs.Whitespace.{skipWhitespace}
 use Rattle.lexer.specs.declared.names.Name.{Name}
 use Rattle.lexer.specs.declared.names.Name.the-variants as code
 use Rattle.lexer.proofs.Bounds.{Fits, bound-two, bound-short}
-use Rattle.lexer.proofs.Comments.{skip-le}
+use Rattle.lexer.proofs.Comments.{skip-from-le}
 use Rattle.lexer.proofs.IdentBounds.{ident-fits}
 use Rattle.declarations.specs.Rules.{colonBehind, propertyOf}
 use Rattle.declarations.specs.Leaving.{propertyAnswer}
 use Rattle.declarations.specs.declared.rules.Property.the-variants as property
-
--- ---- `skip_from`
-module _ (s : List ℕ) (at : ℕ) where
-  pub skipped-from : {w : ℕ} → w ≡ skipWhitespace (take (length s - at) (drop at s)) → at + w ≡ at + skipWhitespace (drop at s)
-  skipped-from e = ap (λ x. at + x) (e ∙ ap skipWhitespace (rest s at))
-
-  pub skip-from-le : at ≤ length s → at + skipWhitespace (drop at s) ≤ length s
-  skip-from-le h = omega (arith, skip-le (drop at s), length-drop at s)
-
-  pub skipped-le : at ≤ length s → {w : ℕ} → w ≡ skipWhitespace (take (length s - at) (drop at s)) → at + w ≤ length s
-  skipped-le h e = omega (arith, skipped-from e, skip-from-le h)
 
 -- ---- what the answer of `parse_ident` says
 pub record Named (p : Parsed (List ℕ)) (n m : ℕ) : Type 0 where

@@ -8,10 +8,11 @@ use lib.ListN.{length, drop, length-take}
 use lib.Seq.{sets}
 use Rattle.combinators.specs.Choice.{pick, is}
 use Rattle.combinators.specs.Store.{wiped}
+use Rattle.combinators.specs.Part.{part}
 use Rattle.lexer.specs.Token.{Token, textOf}
 use Rattle.syntax.specs.Declaration.{Decl, color, backgroundColor, height, maxHeight, overflow, overflowY, display, whiteSpace, content, unknown}
 use Rattle.syntax.specs.Layout.{flag, declText}
-use Rattle.syntax.specs.Stream.{textsMany, part}
+use Rattle.syntax.specs.Stream.{textsMany}
 use Rattle.values.specs.Property.{declOf}
 use Rattle.values.specs.View.{tokensAt}
 use Rattle.values.specs.DeclAnswer.{declOfNumbers, declAnswer}

@@ -8,11 +8,11 @@ use lib.ListN.{length, drop, replicate, length-replicate, length-drop}
 use lib.Seq.{sets, length-take-le}
 use Rattle.combinators.specs.Choice.{pick}
 use Rattle.combinators.specs.Store.{emits, wiped}
+use Rattle.combinators.specs.Part.{part}
 use Rattle.combinators.proofs.Emitted.{then, sets-emitted}
 use Rattle.combinators.proofs.Rules.{is-yes, is-no}
 use Rattle.combinators.proofs.Wiped.{sets-over, wiped-apart, wiped-add}
 use Rattle.syntax.specs.Layout.{unknownKind}
-use Rattle.syntax.specs.Stream.{part}
 use Rattle.values.specs.DeclAnswer.{declOfNumbers}
 use Rattle.values.specs.declared.properties.Decl as declared
 use Rattle.declarations.specs.Moved.{Downward}

@@ -14,6 +14,7 @@ use Rattle.combinators.specs.Store.{wiped}
 use Rattle.combinators.proofs.Lists.{byte-there}
 use Rattle.combinators.proofs.Rules.{pick-holds, lt-or-ge}
 use Rattle.combinators.proofs.Wiped.{wiped-over, length-wiped}
+use Rattle.combinators.proofs.AllLaws.{all-append}
 use Rattle.lexer.specs.TokenRow.{tokenWidth}
 use Rattle.lexer.specs.Whitespace.{skipWhitespace}
 use Rattle.lexer.proofs.Comments.{skip-le}
@@ -21,7 +22,7 @@ use Rattle.syntax.specs.Declaration.{Decl, color, backgroundColor, height, maxH
 use Rattle.syntax.specs.Layout.{declarationWidth, declarationText, declarationRows, declarationTexts, styleRows, styleTexts, stylesAt}
 use Rattle.syntax.specs.Stream.{textsMany}
 use Rattle.syntax.specs.Style as style
-use Rattle.syntax.proofs.Streams.{All, sets-drop}
+use Rattle.syntax.proofs.Streams.{sets-drop}
 use Rattle.syntax.proofs.RowSizes.{length-declarations, length-styles}
 use Rattle.syntax.proofs.Back.{DeclFits, StyleFits, DeclarationsFit, StylesFit, styles-written}
 use Rattle.values.specs.Value.{valueOf}
@@ -189,11 +190,6 @@ declarations-count s = let b = bounded false s in omega (arith, b .count, b .wit
 
 -- ---- styles fit their rows
 
--- what holds of two lists holds of both
-all-both : {A : Type 0} (P : A → Type 0) (xs ys : List A) → All P xs → All P ys → All P (xs ++ ys)
-all-both P [] ys p q = q
-all-both P (x ∷ xs) ys p q = (p .0, all-both P xs ys (p .1) q)
-
 -- the style that a declaration asks for
 own-fits : (i : Bool) (d : Decl) → DeclFits d → StylesFit (styleOf i d)
 unfolding DeclFits StyleFits styleOf one pick
@@ -214,13 +210,13 @@ all-own-fit : (ds : List Declaration) → DeclarationsFit ds → StylesFit (ownS
 unfolding ownStyles
 all-own-fit [] h = tt
 all-own-fit (d ∷ ds) h =
-    all-both (λ d. StyleFits (d .style)) (styleOf (d .important) (d .decl)) (ownStyles ds) (own-fits (d .important) (d .decl) (h .0)) (all-own-fit ds (h .1))
+    all-append (λ d. StyleFits (d .style)) (styleOf (d .important) (d .decl)) (ownStyles ds) (own-fits (d .important) (d .decl) (h .0)) (all-own-fit ds (h .1))
 
 -- and the one that is added
 pub styles-fit : (ds : List Declaration) → DeclarationsFit ds → StylesFit (stylesOf ds)
 unfolding stylesOf one StyleFits
 styles-fit ds h =
-    all-both (λ d. StyleFits (d .style)) (ownStyles ds) _ (all-own-fit ds h) (pick-holds StylesFit _ _ _ (λ _. (tt, tt)) (λ _. tt))
+    all-append (λ d. StyleFits (d .style)) (ownStyles ds) _ (all-own-fit ds h) (pick-holds StylesFit _ _ _ (λ _. (tt, tt)) (λ _. tt))
 
 -- of every attribute
 pub attribute-fits : (s : List ℕ) → StylesFit (styleAttribute s)

@@ -7,6 +7,7 @@ use native.Mathlib.Nat.{add-zero}
 use native.Mathlib.Omega.{arith}
 use lib.ListN.{length, drop, length-append}
 use Rattle.combinators.specs.Choice.{pick, or, and, is}
+use Rattle.combinators.specs.All.{All}
 use Rattle.combinators.proofs.Rules.{pick-holds, is-true}
 use Rattle.syntax.specs.Declaration.{Overflow, visible, hidden, scroll, auto, Decl, color, backgroundColor, height, maxHeight, overflow, overflowY, display, whiteSpace, content, unknown, Declaration}
 use Rattle.syntax.specs.Layout as layout
@@ -18,7 +19,6 @@ use Rattle.syntax.specs.declared.styles.Value.{Value}
 use Rattle.syntax.specs.declared.styles.StyleNumbers.{StyleNumbers}
 use Rattle.syntax.proofs.Back.{flag-back, row-numbers-back, row-numbers-rest}
 use Rattle.syntax.proofs.RowSizes.{length-style}
-use Rattle.syntax.proofs.Streams.{All}
 use Rattle.declarations.specs.Styles.{one, styleOf, hides, hidesOverflow, zeroHeight, anyDecl, ownStyles, stylesOf}
 use Rattle.declarations.specs.StyleNumbers.{noValue, addedStyle, styleFor, ownNumbers, declaredValue, ownNumbersAt, rowOfOwn, ownRow, hasValue, zeroRow, hiddenRow, ownRows, anyRow, styleNumbers, styleCount}
 use Rattle.declarations.specs.declared.styles.OwnStyle.{OwnStyle}

@@ -13,7 +13,7 @@ use Rattle.combinators.specs.Repeat.{many}
 use Rattle.combinators.proofs.Rules.{never, pick-true, pick-false, pick-holds, either, or-none, and-both, and-left, and-right, and-true, is-no, is-true, within-past, lt-or-ge}
 use Rattle.combinators.proofs.Lists.{rest, front-two}
 use Rattle.combinators.proofs.Repeats.{many-stop}
-use Rattle.unicode.specs.Trim.{whiteTaken}
+use Rattle.unicode.specs.Trim.{whiteTaken, trimmedStart}
 use Rattle.unicode.specs.Utf8.{scalarOf}
 use Rattle.unicode.specs.WhiteSpace.{whiteSpace, member, isWhiteSpace}
 use Rattle.unicode.specs.declared.utf8.Scalar.the-variants.{Value}
@@ -27,7 +27,7 @@ use Rattle.values.specs.ColourAnswer.{colourAnswer}
 use Rattle.values.specs.declared.colours.ColourAnswer.{ColourAnswer}
 use Rattle.values.specs.declared.colours.ColourAnswer.the-variants.{NoColour}
 use Rattle.values.proofs.ColourLaws.{no-colour, bad-read, no-plus}
-use Rattle.declarations.specs.Attribute.{trimmedStart, allWhite, trimmedEnd, trimmed, pairs, faultyColour}
+use Rattle.declarations.specs.Attribute.{allWhite, trimmedEnd, trimmed, pairs, faultyColour}
 use Rattle.declarations.proofs.PairLaws.{first-missing, second-missing, third-missing, short, long}
 
 -- ---- bytes that no pair has

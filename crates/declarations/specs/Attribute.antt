@@ -9,7 +9,7 @@ use Rattle.combinators.specs.Choice.{pick, or, and, is, within}
 use Rattle.combinators.specs.Parsed.{onParsed}
 use Rattle.combinators.specs.Repeat.{many, took}
 use Rattle.unicode.specs.Literal.{text}
-use Rattle.unicode.specs.Trim.{whiteOf, whiteTaken}
+use Rattle.unicode.specs.Trim.{whiteOf, whiteTaken, trimmedStart}
 use Rattle.unicode.specs.Utf8.{utf8, continuation, isContinuation, leadOf, two, three, scalarTail, scalarBy, scalarOf}
 use Rattle.unicode.specs.WhiteSpace.{isWhiteSpace, member}
 use Rattle.lexer.specs.Name.{isHexDigit, hexDigit}
@@ -28,19 +28,16 @@ use Rattle.declarations.specs.Styles.{stylesOf}
 unfoldable pub styleAttribute : List ℕ → List StyleDecl
 styleAttribute s = stylesOf (declarationsOf s .declarations)
 
--- `str::trim`: the White_Space at the start
-unfoldable pub trimmedStart : List ℕ → List ℕ
-trimmedStart s = drop (many whiteTaken 0 0 s) s
-
 -- characters of White_Space to the end of the text, or none
 unfoldable pub allWhite : List ℕ → Bool
 allWhite s = is (many whiteTaken 0 0 s) (length s)
 
--- and that at the end: what is left is the shortest text with nothing but White_Space behind it
+-- without the White_Space at the end: what is left is the shortest text with nothing but White_Space behind it
 unfoldable pub trimmedEnd : List ℕ → List ℕ
 trimmedEnd [] = []
 trimmedEnd (x ∷ r) = pick (allWhite (x ∷ r)) [] (x ∷ trimmedEnd r)
 
+-- `str::trim`
 unfoldable pub trimmed : List ℕ → List ℕ
 trimmed s = trimmedEnd (trimmedStart s)
 

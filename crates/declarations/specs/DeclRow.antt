@@ -4,9 +4,9 @@ use mathlib.Core.Bool.{Bool}
 use mathlib.Core.List.{List, [], _∷_}
 use lib.ListN.{length}
 use Rattle.combinators.specs.Choice.{pick, or, is}
+use Rattle.combinators.specs.Part.{part}
 use Rattle.syntax.specs.Declaration.{Decl, color, backgroundColor, height, maxHeight, overflow, overflowY, display, whiteSpace, content, unknown}
 use Rattle.syntax.specs.Layout.{contentKind, unknownKind}
-use Rattle.syntax.specs.Stream.{part}
 use Rattle.values.specs.DeclAnswer.{declOfNumbers}
 use Rattle.values.specs.declared.properties.Decl as declared
 

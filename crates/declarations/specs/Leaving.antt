@@ -10,12 +10,13 @@ use Rattle.combinators.specs.Ascii as ascii
 use Rattle.combinators.specs.Choice.{pick, is}
 use Rattle.combinators.specs.Parsed.{Parsed, ok, onParsed}
 use Rattle.combinators.specs.Store.{wiped, most}
+use Rattle.combinators.specs.Part.{part}
 use Rattle.lexer.specs.Name.{identOf, nameText}
 use Rattle.lexer.specs.TokenRow.{tokenWidth}
 use Rattle.lexer.specs.Whitespace.{skipWhitespace}
 use Rattle.lexer.specs.Token.{textOf}
 use Rattle.syntax.specs.Declaration.{Declaration}
-use Rattle.syntax.specs.Stream.{textsMany, part}
+use Rattle.syntax.specs.Stream.{textsMany}
 use Rattle.syntax.specs.Layout.{declarationWidth, flag, declarationText, declarationRows, declarationTexts, styleWidth, styleRows, styleTexts}
 use Rattle.syntax.specs.Style.{StyleDecl}
 use Rattle.values.specs.Value.{statementOf}

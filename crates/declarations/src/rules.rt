@@ -6,24 +6,24 @@ use crate::rows::put_declaration;
 use combinators::bytes::byte_is;
 use combinators::stores::wipe_bytes;
 use combinators::stores::wipe_numbers;
+use combinators::texts::part_of;
 use lexer::names::Name;
 use lexer::names::parse_ident;
 use lexer::rows::TOKEN_WIDTH;
+use lexer::whitespace::skip_from;
 use lexer::whitespace::skip_optional_whitespace;
 use syntax::rows::DECLARATION_WIDTH;
-use syntax::texts::part_of;
 use values::properties::decl_of;
 use values::statements::ValueAnswer;
 use values::statements::parse_value;
 ghost use mathlib.Core.Path.{_≡_};
-ghost use Prim.Native.Nat.{_+_, _-_, _*_, _^_, _≤_, _<_};
-ghost use lib.ListN.{length, drop};
+ghost use Prim.Native.Nat.{_+_, _-_, _*_, _^_, _<_};
+ghost use lib.ListN.{length};
 ghost use lib.Seq.{sets};
 ghost use Rattle.combinators.specs.Choice.{pick};
 ghost use Rattle.combinators.specs.Store.{wiped};
 ghost use Rattle.lexer.specs.Name.{identOf, nameText};
 ghost use Rattle.lexer.specs.TokenRow.{tokenWidth};
-ghost use Rattle.lexer.specs.Whitespace.{skipWhitespace};
 ghost use Rattle.declarations.specs.Leaving.{propertyAnswer, PutRoom, Put, PropertyRead, RulesRoom, MoreRoom, MoreRead, declarationLeft, moreLeft, rulesLeft};
 
 // Where the value of a property starts, and the length of its name; or the length of a name that no ':' follows.
@@ -43,15 +43,6 @@ pub struct RulesRead {
     pub taken: usize,
     pub count: usize,
     pub text: usize,
-}
-
-// The place behind white space and comments that stand from `at` on.
-pub fn skip_from(s: &[u8], at: usize) -> usize
-    requires { ⌜ at ≤ length (now s) ⌝ }
-    ensures { λ r. ⌜ r ≡ at + skipWhitespace (drop at (now (s .entry))) ⌝ }
-    ensures { λ r. ⌜ r ≤ length (now (s .entry)) ⌝ }
-{
-    at + skip_optional_whitespace(&s[at..])
 }
 
 // Reads a property's name and all up to its value; the name goes to the store from `fill` on.

@@ -1,7 +1,7 @@
 // Texts moved within the store.
 ghost use mathlib.Core.Path.{_≡_};
 ghost use lib.Seq.{sets};
-ghost use Rattle.syntax.specs.Stream.{part};
+ghost use Rattle.combinators.specs.Part.{part};
 ghost use Rattle.declarations.specs.Moved.{Downward};
 
 // Moves the `n` bytes from `from` on down to `to`.

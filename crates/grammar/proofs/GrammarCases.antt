@@ -6,6 +6,7 @@ use native.Mathlib.Omega.{arith}
 use lib.IntN.{pos, negsuc}
 use Rattle.combinators.specs.Ascii as ascii
 use Rattle.combinators.specs.Choice.{pick, or, and, is, within}
+use Rattle.combinators.specs.Word.{sameText}
 use Rattle.unicode.specs.Literal.{text}
 use Rattle.unicode.specs.Utf8.{utf8, continuation}
 use Rattle.lexer.specs.Name.{lower}
@@ -18,7 +19,7 @@ use Rattle.values.specs.Colour.{numeral}
 use Rattle.syntax.specs.Declaration.{unknown}
 use Rattle.syntax.specs.Selector as syntax
 use Rattle.values.specs.Property.{declOf}
-use Rattle.values.specs.Words.{same, foundOr, lookup, onFound}
+use Rattle.values.specs.Words.{foundOr, lookup, onFound}
 use Rattle.sheets.specs.Outcome.{reads}
 use Rattle.sheets.specs.Selector.{signed, selectorOf}
 use Rattle.sheets.specs.Sheet.{sheetOf}
@@ -107,5 +108,5 @@ test-rules : sheetOf (text " a , *{a:b; b:a;} b{ }")
       start = 1;
     }
     ∷ record { selectors = record { components = syntax.element (text "b") ∷ []; pseudo = syntax.none } ∷ []; declarations = []; start = 18 } ∷ [])
-unfolding first second wordA wordB a b writtenRules writtenRule writtenSelectors writtenChosen writtenOthers writtenBlock writtenEnd writtenNexts writtenNext writtenDeclared written writtenCompound writtenSimples meansRules meansRule meansOthers meansBlock meansNexts meansDeclared meaning inOrder meansCompound declOf lookup foundOr onFound same and is text utf8 continuation pick
+unfolding first second wordA wordB a b writtenRules writtenRule writtenSelectors writtenChosen writtenOthers writtenBlock writtenEnd writtenNexts writtenNext writtenDeclared written writtenCompound writtenSimples meansRules meansRule meansOthers meansBlock meansNexts meansDeclared meaning inOrder meansCompound declOf lookup foundOr onFound sameText and is text utf8 continuation pick
 test-rules = rules-read blank first (second ∷ [])

@@ -13,7 +13,7 @@ use Rattle.combinators.specs.Ascii as ascii
 use Rattle.combinators.specs.Choice.{pick, or, and, is, within}
 use Rattle.combinators.specs.Parsed.{ok, onParsed}
 use Rattle.combinators.specs.Repeat.{many, took}
-use Rattle.combinators.specs.Word.{startsWith}
+use Rattle.combinators.specs.Word.{startsWith, sameText}
 use Rattle.combinators.proofs.Repeats.{many-stop}
 use Rattle.combinators.proofs.Lists.{first}
 use Rattle.combinators.proofs.Rules.{is-no}
@@ -26,7 +26,6 @@ use Rattle.lexer.proofs.SyntaxName.{Each, none, more, started, identStart, iden
 use Rattle.lexer.proofs.SyntaxWhitespace.{skips-blank}
 use Rattle.syntax.specs.Selector.{Component, nth}
 use Rattle.values.specs.Colour.{numeral}
-use Rattle.values.specs.Words.{same}
 use Rattle.sheets.specs.Outcome as outcome
 use Rattle.sheets.specs.Outcome.{Outcome, reads, fails, onOutcome, orElse}
 use Rattle.sheets.specs.Selector.{Nth, isMinus, isSign, signTaken, signed, greatest, digitsWorth, converted, bothOf, justA, justB, worded, nthOf, nthArgsOf, nthChildArgs, pseudoClassOf}
@@ -440,5 +439,5 @@ child-name l =
 -- so the pseudo class is read where its argument is
 pub pseudo-by : (l : List ℕ) (n : ℕ) (c : Component) → nthChildArgs (ascii.leftParenthesis ∷ l) ≡ reads n c
     → pseudoClassOf (ascii.colon ∷ (text "nth-child" ++ (ascii.leftParenthesis ∷ l))) ≡ reads (10 + n) c
-unfolding pseudoClassOf onParsed outcome.behind onOutcome same text utf8 continuation pick and is
+unfolding pseudoClassOf onParsed outcome.behind onOutcome sameText text utf8 continuation pick and is
 pseudo-by l n c e = rw (child-name l, e)

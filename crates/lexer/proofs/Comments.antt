@@ -6,12 +6,12 @@ use mathlib.Core.Logic.{_⊎_, inl, inr, ⊎-elim}
 use Prim.Native.Nat.{ℕ, suc, _+_, _-_, _<_, _≤_, zero-le}
 use native.Mathlib.Numerals.{add-one}
 use native.Mathlib.Omega.{arith}
-use lib.ListN.{length, getD, drop, drop-of-length-le, length-drop, List·getD-eq-default}
+use lib.ListN.{length, getD, take, drop, drop-of-length-le, length-drop, List·getD-eq-default}
 use lib.Seq.{drop-cons}
 use Rattle.combinators.specs.Choice.{and, or, pick, is}
 use Rattle.combinators.specs.Ascii.{asterisk, solidus, space}
 use Rattle.combinators.proofs.Rules.{is-yes, is-no, is-false, lt-or-ge, pick-true, pick-false, and-both, and-left, and-right, and-true, or-none, pick-holds}
-use Rattle.combinators.proofs.Lists.{test-there, byte-there, next}
+use Rattle.combinators.proofs.Lists.{test-there, byte-there, next, rest}
 use Rattle.combinators.proofs.Repeats.{many-le}
 use Rattle.lexer.specs.Whitespace.{commentEnd, commentOf, isWhitespace, whitespaceItem, skipWhitespace}
 
@@ -153,3 +153,14 @@ item-le s = pick-holds (λ n. n ≤ length s) _ _ _ (λ e. test-there isWhitespa
 pub skip-le : (s : List ℕ) → skipWhitespace s ≤ length s
 unfolding skipWhitespace
 skip-le s = omega (arith, many-le whitespaceItem s 0 0)
+
+-- ---- `skip_from`
+module _ (s : List ℕ) (at : ℕ) where
+  pub skipped-from : {w : ℕ} → w ≡ skipWhitespace (take (length s - at) (drop at s)) → at + w ≡ at + skipWhitespace (drop at s)
+  skipped-from e = ap (λ x. at + x) (e ∙ ap skipWhitespace (rest s at))
+
+  pub skip-from-le : at ≤ length s → at + skipWhitespace (drop at s) ≤ length s
+  skip-from-le h = omega (arith, skip-le (drop at s), length-drop at s)
+
+  pub skipped-le : at ≤ length s → {w : ℕ} → w ≡ skipWhitespace (take (length s - at) (drop at s)) → at + w ≤ length s
+  skipped-le h e = omega (arith, skipped-from e, skip-from-le h)

@@ -3,8 +3,8 @@ use combinators::bytes::byte_is;
 use combinators::bytes::peek;
 use combinators::bytes::same;
 ghost use mathlib.Core.Path.{_≡_};
-ghost use Prim.Native.Nat.{_≤_};
-ghost use lib.ListN.{length};
+ghost use Prim.Native.Nat.{_+_, _≤_};
+ghost use lib.ListN.{length, drop};
 ghost use Rattle.combinators.specs.Ascii.{asterisk};
 ghost use Rattle.combinators.specs.Choice.{pick, is};
 ghost use Rattle.lexer.specs.Whitespace.{commentEnd, commentOf, isWhitespace, whitespaceItem, skipWhitespace};
@@ -99,4 +99,13 @@ pub fn skip_optional_whitespace(s: &[u8]) -> usize
         i += n;
     }
     i
+}
+
+// The place behind white space and comments that stand from `at` on.
+pub fn skip_from(s: &[u8], at: usize) -> usize
+    requires { ⌜ at ≤ length (now s) ⌝ }
+    ensures { λ r. ⌜ r ≡ at + skipWhitespace (drop at (now (s .entry))) ⌝ }
+    ensures { λ r. ⌜ r ≤ length (now (s .entry)) ⌝ }
+{
+    at + skip_optional_whitespace(&s[at..])
 }

@@ -5,6 +5,7 @@ use mathlib.Core.List.{List, [], _∷_}
 use mathlib.Core.Path.{_≡_, refl, sym, ap, ap₂, _∙_}
 use native.Mathlib.Omega.{arith}
 use Rattle.combinators.specs.Choice.{pick, or, and}
+use Rattle.combinators.specs.Word.{sameText}
 use Rattle.combinators.proofs.Rules.{pick-true, pick-false, or-left, or-gives, and-gives, and-gives-false}
 use Rattle.unicode.specs.Literal.{text}
 use Rattle.unicode.specs.Utf8.{utf8}
@@ -13,7 +14,7 @@ use Rattle.page.specs.PathOf.{attributesFrom}
 use Rattle.page.specs.Rows.{attributeName, attributeValue}
 use Rattle.matching.specs.Matches.{anyAttribute, isNamed, isClass, isId, firstIs}
 use Rattle.matching.specs.Rows.{attributeOf}
-use Rattle.matching.specs.Texts.{sameText, hasWord}
+use Rattle.matching.specs.Texts.{hasWord}
 
 -- ---- one attribute: n is its name, v its value
 module _ (attributes names : List ℕ) (row : ℕ) where

@@ -7,10 +7,11 @@ use native.Mathlib.Omega.{arith}
 use lib.ListN.{length, getD, drop, List·getD-eq-default}
 use lib.Seq.{drop-drop, getD-drop}
 use Rattle.combinators.specs.Choice.{pick, is}
+use Rattle.combinators.specs.Part.{part}
 use Rattle.combinators.proofs.Rules.{is-true, pick-holds}
 use Rattle.syntax.specs.RuleLayout.{starKind, classKind, elementKind, hashKind, childKind, descendantKind, nthKind, attributeKind, componentWidth, componentKindAt, componentTextAt, componentFirstAt, componentSecondAt, componentFrom, readComponent}
 use Rattle.syntax.specs.Selector.{Component, star, class, element, hash, child, descendant, nth, attribute, attributeEqual}
-use Rattle.syntax.specs.Stream.{Read, readMany, part}
+use Rattle.syntax.specs.Stream.{Read, readMany}
 use Rattle.cascade.specs.Specificity.{specificityOf, noSpecificity, sum, SumFits}
 use Rattle.cascade.specs.declared.specificity.Specificity.{Specificity}
 use Rattle.matching.specs.Rows.{componentNumber, componentAt, componentsAt, firstText, secondText}

@@ -4,11 +4,12 @@ use mathlib.Core.Bool.{Bool, true, false}
 use mathlib.Core.List.{List, [], _∷_}
 use mathlib.Core.Path.{_≡_, refl, sym, ap, _∙_}
 use Rattle.combinators.specs.Choice.{pick, and, is}
+use Rattle.combinators.specs.Part.{part}
+use Rattle.combinators.specs.Word.{sameText}
 use Rattle.combinators.proofs.Rules.{pick-holds, pick-true, pick-false, is-true, is-yes, is-no}
 use Rattle.syntax.specs.RuleLayout.{starKind, classKind, elementKind, hashKind, childKind, descendantKind, nthKind, attributeKind, componentKindAt, componentFirstAt, componentSecondAt, componentFrom}
 use Rattle.syntax.specs.Selector.{Component, star, class, element, hash, child, descendant, nth, attribute, attributeEqual}
 use Rattle.syntax.specs.Signed.{signedOf}
-use Rattle.syntax.specs.Stream.{part}
 use Rattle.page.specs.Ancestors.{placeOf}
 use Rattle.page.specs.Path.{Element, Path}
 use Rattle.page.specs.PathOf.{attributesFrom, elementAt}
@@ -17,7 +18,6 @@ use Rattle.matching.specs.Matches.{hasClass, hasId, hasAttribute, attrib
 use Rattle.matching.specs.Nth.{nthMatches}
 use Rattle.matching.specs.Rows.{componentNumber, firstText, secondText, attributesPass, elementPasses}
 use Rattle.matching.specs.Recursion.{byCombinator, resultStep}
-use Rattle.matching.specs.Texts.{sameText}
 use Rattle.matching.specs.declared.matcher.SelectorMatch.{SelectorMatch}
 use Rattle.matching.specs.declared.matcher.SelectorMatch.the-variants.{FailsLocally}
 

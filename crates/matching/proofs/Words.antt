@@ -1,56 +1,22 @@
--- Texts that are the same, and a loop over the words of a text that White_Space parts.
+-- A loop over the words of a text that White_Space parts.
 use Prim.Native.Nat.{ℕ, zero, suc, _+_, _-_, _≤_, _<_}
 use mathlib.Core.Bool.{Bool, true, false}
-use mathlib.Core.List.{List, [], _∷_, _++_, append-nil}
+use mathlib.Core.List.{List, []}
 use mathlib.Core.Path.{_≡_, refl, sym, ap, _∙_}
 use native.Mathlib.Omega.{arith}
 use lib.ListN.{length, take, drop, drop-of-length-le}
 use lib.Seq.{drop-drop}
-use Rattle.combinators.specs.Choice.{pick, or, and, is}
+use Rattle.combinators.specs.Choice.{pick, or, is}
 use Rattle.combinators.specs.Repeat.{many}
-use Rattle.combinators.specs.Word.{startsWith}
+use Rattle.combinators.specs.Word.{sameText}
 use Rattle.combinators.proofs.Lists.{rest}
-use Rattle.combinators.proofs.Rules.{is-true, is-yes, is-no, pick-true, pick-false, or-left, and-both, and-true, and-gives, and-gives-false}
-use Rattle.combinators.proofs.Words.{starts-is}
-use Rattle.unicode.specs.Trim.{whiteTaken, wordTaken}
-use Rattle.matching.specs.Texts.{sameText, trimmed, wordLength, wordAmong, hasWord}
-
--- ---- the same bytes
-module _ (s t : List ℕ) where
-  -- texts of one length
-  pub same-length : length s ≡ length t → (r : Bool) → r ≡ startsWith t s → r ≡ sameText s t
-  unfolding sameText
-  same-length e r p = and-gives _ _ r (is-yes _ _ e) p
-
-  -- texts of different lengths
-  pub other-length : ¬ (length s ≡ length t) → false ≡ sameText s t
-  unfolding sameText
-  other-length d = and-gives-false _ _ (is-no _ _ d)
-
-  -- texts are the same bytes only where they are equal
-  pub same-is : sameText s t ≡ true → s ≡ t
-  unfolding sameText
-  same-is e =
-      let p = and-true (is (length s) (length t)) (startsWith t s) e in
-      let l : length s ≡ length t = is-true (length s) (length t) (p .0) in
-      let h : length s ≤ length t = omega arith in
-      starts-is t s (p .1) ∙ ap (λ (r : List ℕ). t ++ r) (drop-of-length-le s h) ∙ append-nil t
-
--- and every text is the same as itself
-starts-self : (s : List ℕ) → startsWith s s ≡ true
-unfolding startsWith
-starts-self [] = refl
-starts-self (x ∷ s) = and-both _ _ (is-yes x x refl) (starts-self s)
-
-pub same-self : (s : List ℕ) → sameText s s ≡ true
-unfolding sameText
-same-self s = and-both _ _ (is-yes _ _ refl) (starts-self s)
-
--- ---- words
+use Rattle.combinators.proofs.Rules.{is-yes, is-no, pick-true, pick-false, or-left}
+use Rattle.unicode.specs.Trim.{whiteTaken, wordTaken, trimmedStart}
+use Rattle.matching.specs.Texts.{wordLength, wordAmong, hasWord}
 
 -- an empty text has no words
 none-left : (k : ℕ) (w : List ℕ) → wordAmong k w [] ≡ false
-unfolding wordAmong trimmed wordLength many pick is
+unfolding wordAmong trimmedStart wordLength many pick is
 none-left zero w = refl
 none-left (suc k) w = refl
 
@@ -73,8 +39,8 @@ split-end w s i v h = sym (ap (wordAmong (v .words) w) (drop-of-length-le s h) �
 module _ (w s : List ℕ) (i : ℕ) (v : Splitting w s i) (inside : i < length s)
     (a : ℕ) (white : a ≡ many whiteTaken 0 0 (take (length s - i) (drop i s)))
     (n : ℕ) (word : n ≡ many wordTaken 0 0 (take (length s - (i + a)) (drop (i + a) s))) where
-  front : trimmed (drop i s) ≡ drop (i + a) s
-  unfolding trimmed
+  front : trimmedStart (drop i s) ≡ drop (i + a) s
+  unfolding trimmedStart
   front = ap (λ k. drop k (drop i s)) (ap (many whiteTaken 0 0) (sym (rest s i)) ∙ sym white) ∙ drop-drop a i s
 
   long : wordLength (drop (i + a) s) ≡ n

@@ -7,15 +7,15 @@ use mathlib.Core.Path.{_≡_, refl}
 use lib.IntN.{pos, negsuc}
 use Rattle.combinators.specs.Choice.{pick, or, and, is, within}
 use Rattle.combinators.specs.Repeat.{many, took}
-use Rattle.combinators.specs.Word.{startsWith}
+use Rattle.combinators.specs.Word.{sameText}
 use Rattle.unicode.specs.Literal.{text}
-use Rattle.unicode.specs.Trim.{whiteOf, whiteTaken, wordOf, wordTaken}
+use Rattle.unicode.specs.Trim.{whiteOf, whiteTaken, wordOf, wordTaken, trimmedStart}
 use Rattle.unicode.specs.Utf8.{utf8, continuation, isContinuation, leadOf, two, three, scalarTail, scalarBy, scalarOf}
 use Rattle.unicode.specs.WhiteSpace.{isWhiteSpace, member}
 use Rattle.syntax.specs.Selector.{Component, star, class, element, hash, child, descendant, nth, attribute, attributeEqual}
 use Rattle.page.specs.Path.{Attribute, Element, Path}
 use Rattle.matching.specs.Nth.{isZero, nthMatches}
-use Rattle.matching.specs.Texts.{sameText, trimmed, wordLength, wordAmong, hasWord}
+use Rattle.matching.specs.Texts.{wordLength, wordAmong, hasWord}
 
 -- ---- an element by itself
 
@@ -105,7 +105,7 @@ test-structure : (matches (star ∷ element (text "div") ∷ []) (named (text "d
     × (matches (element (text "p") ∷ descendant ∷ star ∷ []) (named (text "p") ∷ []) ≡ true)
     × (matches (element (text "p") ∷ descendant ∷ element (text "div") ∷ []) (named (text "p") ∷ named (text "b") ∷ named (text "div") ∷ []) ≡ true)
     × (matches (element (text "p") ∷ child ∷ element (text "div") ∷ []) (named (text "p") ∷ named (text "b") ∷ named (text "div") ∷ []) ≡ false)
-unfolding matches step here onParent onAncestors nameIs sameText startsWith named text utf8 pick or and is
+unfolding matches step here onParent onAncestors nameIs sameText named text utf8 pick or and is
 test-structure = (refl, refl, refl, refl, refl, refl)
 
 -- a class `Foo` is not matched by `.Foo`, which is read as `.foo`; classes are parted by U+0085 and U+3000, not by U+200B
@@ -113,7 +113,7 @@ test-class : (matches (class (text "foo") ∷ []) (having (text "class") (text "
     × (matches (class (text "b") ∷ []) (having (text "class") (text "a\u{85}b") ∷ []) ≡ true)
     × (matches (class (text "a") ∷ []) (having (text "class") (text "a\u{3000}b") ∷ []) ≡ true)
     × (matches (class (text "b") ∷ []) (having (text "class") (text "a\u{200b}b") ∷ []) ≡ false) × (matches (class (text "b") ∷ []) [] ≡ false)
-unfolding matches step here hasClass isClass isNamed anyAttribute having hasWord wordAmong trimmed wordLength sameText startsWith many took wordTaken wordOf whiteTaken whiteOf text utf8 continuation isContinuation leadOf two three scalarTail scalarBy scalarOf isWhiteSpace member pick or and is within
+unfolding matches step here hasClass isClass isNamed anyAttribute having hasWord wordAmong trimmedStart wordLength sameText many took wordTaken wordOf whiteTaken whiteOf text utf8 continuation isContinuation leadOf two three scalarTail scalarBy scalarOf isWhiteSpace member pick or and is within
 test-class = (refl, refl, refl, refl, refl)
 
 -- of two attributes of a name the first decides, of two ids either does; nth-child fails on the document
@@ -125,5 +125,5 @@ test-attributes : (matches (attributeEqual (text "k") (text "a") ∷ []) (twice 
     × (matches (attributeEqual (text "k") (text "b") ∷ []) (twice (text "k") ∷ []) ≡ false) × (matches (attribute (text "k") ∷ []) (twice (text "k") ∷ []) ≡ true)
     × (matches (hash (text "b") ∷ []) (twice (text "id") ∷ []) ≡ true) × (matches (nth (negsuc 0) (pos 3) ∷ []) (twice (text "k") ∷ []) ≡ false)
     × (matches (nth (pos 0) (pos 4) ∷ []) (twice (text "k") ∷ []) ≡ true) × (matches (nth (pos 1) (pos 0) ∷ []) [] ≡ false)
-unfolding matches step here hasId isId isNamed hasAttribute attributeIs firstIs anyAttribute twice nthMatches isZero sameText startsWith text utf8 pick or and is
+unfolding matches step here hasId isId isNamed hasAttribute attributeIs firstIs anyAttribute twice nthMatches isZero sameText text utf8 pick or and is
 test-attributes = (refl, refl, refl, refl, refl, refl, refl)

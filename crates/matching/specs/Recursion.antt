@@ -6,13 +6,12 @@ use mathlib.Core.List.{List, [], _∷_}
 use mathlib.Core.Path.{_≡_, refl}
 use lib.ListN.{replicate}
 use Rattle.combinators.specs.Choice.{pick, or, and, is}
-use Rattle.combinators.specs.Word.{startsWith}
+use Rattle.combinators.specs.Word.{sameText}
 use Rattle.unicode.specs.Literal.{text}
 use Rattle.unicode.specs.Utf8.{utf8}
 use Rattle.syntax.specs.Selector.{Component, star, class, element, hash, child, descendant, nth, attribute, attributeEqual}
 use Rattle.page.specs.Path.{Element, Path}
 use Rattle.matching.specs.Matches.{nameIs, here, onAncestors, step, matches}
-use Rattle.matching.specs.Texts.{sameText}
 use Rattle.matching.specs.declared.matcher.SelectorMatch.{SelectorMatch}
 use Rattle.matching.specs.declared.matcher.SelectorMatch.the-variants.{Matches, FailsLocally, FailsCompletely}
 
@@ -115,10 +114,10 @@ test-results : (matchRecursively (element (text "a") ∷ child ∷ element (text
     × (matchRecursively (descendants 0) (nested 1) ≡ FailsLocally)
     × (matchRecursively (element (text "a") ∷ child ∷ element (text "b") ∷ []) (nested 2) ≡ FailsLocally)
     × (matchRecursively (descendants 2) (nested 8) ≡ FailsCompletely)
-unfolding matchRecursively resultStep byCombinator resultOnParent resultOnAncestors orElse matches step here nameIs sameText startsWith named nested descendants text utf8 pick and is
+unfolding matchRecursively resultStep byCombinator resultOnParent resultOnAncestors orElse matches step here nameIs sameText named nested descendants text utf8 pick and is
 test-results = (refl, refl, refl, refl)
 
 -- `b a a a a a a a` on 64 nested `a`: each row is asked once, and so is the document
 test-calls : calls (descendants 7) (nested 64) ≡ 65
-unfolding calls callsStep callsOnAncestors callsElse matchRecursively resultStep byCombinator resultOnParent resultOnAncestors orElse matches step here nameIs sameText startsWith named nested descendants text utf8 pick and is
+unfolding calls callsStep callsOnAncestors callsElse matchRecursively resultStep byCombinator resultOnParent resultOnAncestors orElse matches step here nameIs sameText named nested descendants text utf8 pick and is
 test-calls = refl

@@ -6,10 +6,11 @@ use mathlib.Core.List.{List, [], _∷_, reverse}
 use mathlib.Core.Path.{_≡_, refl}
 use lib.ListN.{getD}
 use Rattle.combinators.specs.Choice.{pick, is}
+use Rattle.combinators.specs.Part.{part}
 use Rattle.syntax.specs.RuleLayout.{componentWidth, componentKindAt, componentTextAt, componentFirstAt, componentSecondAt, componentFrom, readComponent, classKind, elementKind, hashKind, childKind, descendantKind, nthKind, attributeKind}
 use Rattle.syntax.specs.Selector.{Component, class, child, element}
 use Rattle.syntax.specs.Signed.{signedOf}
-use Rattle.syntax.specs.Stream.{readMany, part}
+use Rattle.syntax.specs.Stream.{readMany}
 use Rattle.page.specs.Ancestors.{elementChildren}
 use Rattle.page.specs.Path.{Attribute, Element}
 use Rattle.page.specs.Rows as page

@@ -1,4 +1,4 @@
--- Texts of a page: the same bytes, and the words that White_Space parts (`str::split_whitespace`).
+-- Texts of a page: the words that White_Space parts (`str::split_whitespace`).
 use Prim.Native.Nat.{ℕ, zero, suc}
 use mathlib.Core.Bool.{Bool, true, false}
 use mathlib.Core.List.{List, []}
@@ -6,20 +6,13 @@ use mathlib.Core.Path.{_≡_, refl}
 use lib.ListN.{length, take, drop}
 use Rattle.combinators.specs.Choice.{pick, or, and, is, within}
 use Rattle.combinators.specs.Repeat.{many, took}
-use Rattle.combinators.specs.Word.{startsWith}
+use Rattle.combinators.specs.Word.{sameText}
 use Rattle.unicode.specs.Literal.{text}
-use Rattle.unicode.specs.Trim.{whiteOf, whiteTaken, wordOf, wordTaken}
+use Rattle.unicode.specs.Trim.{whiteOf, whiteTaken, trimmedStart, wordOf, wordTaken}
 use Rattle.unicode.specs.Utf8.{utf8, continuation, isContinuation, leadOf, two, three, scalarTail, scalarBy, scalarOf}
 use Rattle.unicode.specs.WhiteSpace.{isWhiteSpace, member}
 
--- two texts are the same bytes
-unfoldable pub sameText : List ℕ → List ℕ → Bool
-sameText s t = and (is (length s) (length t)) (startsWith t s)
-
--- a text without the White_Space that it begins with, and the bytes of the word that is then in front
-unfoldable pub trimmed : List ℕ → List ℕ
-trimmed s = drop (many whiteTaken 0 0 s) s
-
+-- the bytes of the word that a text begins with
 unfoldable pub wordLength : List ℕ → ℕ
 wordLength s = many wordTaken 0 0 s
 
@@ -27,7 +20,7 @@ wordLength s = many wordTaken 0 0 s
 unfoldable pub wordAmong : ℕ → List ℕ → List ℕ → Bool
 wordAmong zero w s = false
 wordAmong (suc k) w s =
-    let t = trimmed s in
+    let t = trimmedStart s in
     let n = wordLength t in
     pick (is n 0) false (or (sameText (take n t) w) (wordAmong k w (drop n t)))
 
@@ -38,5 +31,5 @@ hasWord w s = wordAmong (length s) w s
 -- U+0085 and U+3000 part words, U+200B does not; the empty text is no word
 test-words : (hasWord (text "b") (text " a\u{85}b") ≡ true) × (hasWord (text "a") (text "a\u{3000}b") ≡ true)
     × (hasWord (text "a") (text "a\u{200b}b") ≡ false) × (hasWord (text "a\u{200b}b") (text "c a\u{200b}b\t") ≡ true) × (hasWord [] (text " a ") ≡ false)
-unfolding hasWord wordAmong trimmed wordLength sameText startsWith many took wordTaken wordOf whiteTaken whiteOf text utf8 continuation isContinuation leadOf two three scalarTail scalarBy scalarOf isWhiteSpace member pick or and is within
+unfolding hasWord wordAmong trimmedStart wordLength sameText many took wordTaken wordOf whiteTaken whiteOf text utf8 continuation isContinuation leadOf two three scalarTail scalarBy scalarOf isWhiteSpace member pick or and is within
 test-words = (refl, refl, refl, refl, refl)

@@ -1,6 +1,7 @@
 // The components of a selector in rows, in reading order. A number that is not there reads as 0.
 use cascade::specificity::Specificity;
 use combinators::stores::number_at;
+use combinators::texts::part_of;
 use syntax::rows::CHILD;
 use syntax::rows::COMPONENT_FIRST;
 use syntax::rows::COMPONENT_KIND;
@@ -11,7 +12,6 @@ use syntax::rows::DESCENDANT;
 use syntax::rows::ELEMENT;
 use syntax::rows::HASH;
 use syntax::rows::STAR;
-use syntax::texts::part_of;
 ghost use mathlib.Core.Path.{_≡_};
 ghost use mathlib.Core.List.{List};
 ghost use Prim.Native.Nat.{ℕ};

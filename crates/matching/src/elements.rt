@@ -1,7 +1,7 @@
 // What a simple selector asks of an element: its name, and `count` attributes from row `at` on. Names and values asked for are texts, whether rule
 // rows or compiled bytes name them.
 use crate::texts::has_word;
-use crate::texts::same_text;
+use combinators::texts::same_text;
 use page::rows::attribute_name;
 use page::rows::attribute_value;
 use syntax::rows::ATTRIBUTE;

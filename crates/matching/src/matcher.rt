@@ -7,7 +7,7 @@ use crate::components::second_text;
 use crate::elements::attributes_pass;
 use crate::nth::nth;
 use crate::nth::signed_of;
-use crate::texts::same_text;
+use combinators::texts::same_text;
 use page::ancestors::element_children;
 use page::ancestors::place_among;
 use page::rows::NODE_WIDTH;

@@ -1,7 +1,7 @@
-// Texts: the same bytes, and words parted by White_Space.
+// The words of a text, parted by White_Space.
 use combinators::bytes::between;
 use combinators::bytes::peek;
-use combinators::bytes::starts_with;
+use combinators::texts::same_text;
 use unicode::trim::trim_start;
 use unicode::trim::word_end;
 ghost use mathlib.Core.Path.{_≡_};
@@ -10,17 +10,7 @@ ghost use lib.ListN.{length};
 ghost use Rattle.combinators.specs.Choice.{within};
 ghost use Rattle.combinators.specs.Repeat.{many};
 ghost use Rattle.unicode.specs.Trim.{whiteTaken, wordTaken};
-ghost use Rattle.matching.specs.Texts.{sameText, hasWord};
-
-// Whether `s` and `t` are the same bytes.
-pub fn same_text(s: &[u8], t: &[u8]) -> bool
-    ensures { λ r. ⌜ r ≡ sameText (now (s .entry)) (now (t .entry)) ⌝ }
-{
-    if s.len() == t.len() {
-        return starts_with(s, t);
-    }
-    false
-}
+ghost use Rattle.matching.specs.Texts.{hasWord};
 
 const SPACE: u8 = 0x20;
 

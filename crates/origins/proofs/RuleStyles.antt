@@ -7,6 +7,7 @@ use native.Mathlib.Omega.{arith}
 use lib.ListN.{length, take, drop, getD, length-append}
 use lib.Seq.{sets, getD-drop}
 use Rattle.combinators.proofs.Lists.{rest}
+use Rattle.combinators.proofs.AllLaws.{all-weaker}
 use Rattle.syntax.specs.Layout.{readDeclaration, declarationsAt, declarationRows, declarationTexts, styleWidth, stylesAt}
 use Rattle.syntax.specs.RuleLayout.{ruleDeclarations, readRule, selectorRows, selectorTexts, ruleText, ruleRow, ruleRows, ruleTexts}
 use Rattle.syntax.specs.RuleSize.{ruleSize}
@@ -14,7 +15,7 @@ use Rattle.syntax.specs.Selector.{RuleSet}
 use Rattle.syntax.specs.Stream.{rowsMany, textsMany}
 use Rattle.syntax.proofs.RowSizes.{length-declarations, length-rules}
 use Rattle.syntax.proofs.RuleRows.{selectors-back, rule-back, RulesFit}
-use Rattle.syntax.proofs.Streams.{Held, held-left, held-right, All}
+use Rattle.syntax.proofs.Streams.{Held, held-left, held-right}
 use Rattle.declarations.specs.Styles.{stylesOf}
 use Rattle.declarations.specs.StyleNumbers.{styleNumbers, styleCount, StylesRoom}
 use Rattle.declarations.proofs.StyleLaws.{reads-styles, count-styles, styles-few}
@@ -22,7 +23,8 @@ use Rattle.sheets.specs.Outcome.{reads}
 use Rattle.sheets.specs.Rules.{ruleWidth}
 use Rattle.sheets.specs.Sheet.{sheetOf}
 use Rattle.combinators.specs.LeastLengths.{numberLeast}
-use Rattle.sheets.proofs.AllLaws.{all-weaker, each-size}
+use Rattle.combinators.specs.All.{All}
+use Rattle.sheets.proofs.AllLaws.{each-size}
 use Rattle.sheets.proofs.SheetBounds.{sheet-keeps}
 use Rattle.origins.specs.Rules.{selectorsRead, ruleStyles, RuleRoom, EachRoom}
 use Rattle.origins.proofs.WalkLaws.{many-length}

@@ -6,12 +6,12 @@ use native.Mathlib.Omega.{arith}
 use lib.ListN.{length, drop, replicate, length-append}
 use lib.Seq.{sets, drop-at}
 use Rattle.combinators.specs.Store.{cleared}
+use Rattle.combinators.specs.All.{All}
 use Rattle.combinators.proofs.Cleared.{cleared-is, length-cleared}
 use Rattle.syntax.specs.Layout.{styleWidth}
 use Rattle.syntax.specs.RuleLayout.{ruleRows, ruleTexts}
 use Rattle.syntax.specs.Selector.{RuleSet}
 use Rattle.syntax.proofs.RuleRows.{RulesFit, rules-back}
-use Rattle.syntax.proofs.Streams.{All}
 use Rattle.sheets.specs.Outcome.{Outcome, reads, fails, panics, onOutcome}
 use Rattle.sheets.specs.Sheet.{sheetOf}
 use Rattle.sheets.specs.SheetAnswer.{padded}

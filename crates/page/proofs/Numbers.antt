@@ -4,7 +4,7 @@ use mathlib.Core.List.{List}
 use Prim.Native.Nat.{ℕ, _+_, _*_, _≤_}
 use native.Mathlib.Omega.{arith}
 use lib.ListN.{length, getD, List·getD-eq-default}
-use Rattle.syntax.specs.Stream.{part}
+use Rattle.combinators.specs.Part.{part}
 use Rattle.page.specs.Rows.{nodeWidth, nodeNumber, nodeAt, nameOf, attributeWidth, attributeNumber, attributeAt, attributeName, attributeValue}
 
 module _ (rows : List ℕ) (row column r : ℕ) where

@@ -9,9 +9,9 @@ use native.Mathlib.Nat.{not-suc-le-zero}
 use borrow.Author.Tests.{leb-true}
 use lib.ListN.{length}
 use Rattle.combinators.specs.Choice.{pick, and, is}
+use Rattle.combinators.specs.Part.{part}
 use Rattle.combinators.proofs.Rules.{and-true, either, is-true}
 use Rattle.unicode.specs.Utf8.{valid}
-use Rattle.syntax.specs.Stream.{part}
 use Rattle.page.specs.Rows.{nodeCount, nodeAt, documentKind, elementKind, otherKind, attributeRows, attributeAt, nameOf, attributeName, attributeValue}
 use Rattle.page.specs.Ancestors.{lineOf, depthOf, member}
 use Rattle.page.specs.Accepted.{attributesBefore, bytesBefore, endsInZeros, isDocument, isParent, parentRight, depthLimit, elementFollows, kindRight, rowRight, textRight, attributeTextRight, attributeTextsRight, textsRight}

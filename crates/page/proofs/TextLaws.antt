@@ -7,8 +7,8 @@ use native.Mathlib.Omega.{arith}
 use borrow.Author.Tests.{le-leb, lt-leb}
 use lib.ListN.{length}
 use Rattle.combinators.specs.Choice.{and}
+use Rattle.combinators.specs.Part.{part}
 use Rattle.combinators.proofs.Rules.{and-gives, and-gives-false}
-use Rattle.syntax.specs.Stream.{part}
 use Rattle.unicode.specs.Utf8.{valid}
 use Rattle.page.specs.Rows.{nodeAt, nodeCount, attributeAt}
 use Rattle.page.specs.Accepted.{textRight, attributeTextRight, attributeTextsRight, textsRight, firstBadText}

@@ -7,7 +7,7 @@ use lib.ListN.{length}
 use Rattle.combinators.specs.Choice.{pick, or, and, is}
 use Rattle.combinators.specs.Refusal.{noRefusal, refused, refusedAt, tooLarge, badRow, badText}
 use Rattle.combinators.specs.declared.refusals.Refusal.{Refusal}
-use Rattle.syntax.specs.Stream.{part}
+use Rattle.combinators.specs.Part.{part}
 use Rattle.unicode.specs.Utf8.{valid}
 use Rattle.page.specs.Rows.{nodeWidth, nodeCount, NodeRow, nodeAt, documentKind, elementKind, otherKind, attributeWidth, attributeRows, attributeAt}
 use Rattle.page.specs.Ancestors.{lineOf, depthOf, member}

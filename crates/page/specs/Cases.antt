@@ -5,7 +5,7 @@ use mathlib.Core.Path.{_≡_, refl}
 use Rattle.combinators.specs.Choice.{pick, or, and, is, within}
 use Rattle.combinators.specs.Refusal.{noRefusal, refused, refusedAt, tooLarge, badRow, badText}
 use Rattle.combinators.specs.Repeat.{many, took}
-use Rattle.syntax.specs.Stream.{part}
+use Rattle.combinators.specs.Part.{part}
 use Rattle.unicode.specs.Utf8.{valid, scalarTaken, takenOf, scalarOf, scalarBy, scalarTail, leadOf, isContinuation, two}
 use Rattle.page.specs.Rows.{elementKind, otherKind, nodeNumber, attributeNumber, nameOf, attributeName, attributeValue}
 use Rattle.page.specs.Ancestors.{ancestorsFrom, ancestorsOf, depthOf, member, isElementChild, elementChildren, placeOf}

@@ -4,7 +4,7 @@ use Prim.Native.Nat.{ℕ, _+_, _*_, _/_}
 use mathlib.Core.List.{List, [], _∷_}
 use mathlib.Core.Path.{_≡_, refl}
 use lib.ListN.{length, getD}
-use Rattle.syntax.specs.Stream.{part}
+use Rattle.combinators.specs.Part.{part}
 
 -- ---- a node: kind, parent's row, name start, name length, first attribute, attribute count
 abbrev pub nodeWidth : ℕ

@@ -1,6 +1,6 @@
 // The rows of a page: a node's numbers and an attribute's, and the texts that they name. A number that is not there reads as 0.
 use combinators::stores::number_at;
-use syntax::texts::part_of;
+use combinators::texts::part_of;
 ghost use mathlib.Core.Path.{_≡_};
 ghost use Prim.Native.Nat.{_<_};
 ghost use Rattle.page.specs.Rows.{numberBound, nodeNumber, nodeAt, nodeCount, attributeNumber, attributeAt, attributeRows, nameOf, attributeName, attributeValue};

@@ -8,7 +8,7 @@ use crate::rows::name_start;
 use crate::rows::node_count;
 use crate::rows::value_length;
 use crate::rows::value_start;
-use syntax::texts::part_of;
+use combinators::texts::part_of;
 use unicode::utf8::is_valid;
 ghost use mathlib.Core.Path.{_≡_};
 ghost use Prim.Native.Nat.{_<_};

@@ -6,8 +6,8 @@ use crate::stream::number_at;
 use crate::stream::text_at;
 use combinators::bytes::peek;
 use combinators::bytes::wide;
+use combinators::texts::part_of;
 use std::num::wrapping_add_usize;
-use syntax::texts::part_of;
 
 // Beyond a content anything may stand; or one value throughout, of which the vector has the number one higher.
 const ANYTHING: u32 = 0;

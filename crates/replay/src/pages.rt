@@ -10,6 +10,7 @@ use crate::calls::THIRD;
 use crate::content::piece;
 use crate::stream::argument;
 use combinators::stores::emit_number;
+use combinators::texts::part_of;
 use comparison::bytes::comparison_check_bytes;
 use comparison::matches::MatchResult;
 use comparison::matches::comparison_matches;
@@ -17,7 +18,6 @@ use engine::pages::hicsolmab_check_page;
 use engine::sheet::hicsolmab_read_sheet;
 use page::rows::NODE_WIDTH;
 use std::num::wrapping_add_usize;
-use syntax::texts::part_of;
 
 pub fn ask_bytes(s: &[u8], arguments: usize, input: &[u8]) -> [usize; RESULTS] {
     let came = comparison_check_bytes(part_of(input, 0, argument(s, arguments, FIRST)));

@@ -4,12 +4,12 @@ use crate::calls::RESULTS;
 use crate::calls::SECOND;
 use crate::calls::THIRD;
 use crate::stream::argument;
+use combinators::texts::part_of;
 use comparison::attributes::comparison_color_attribute;
 use comparison::attributes::comparison_style_attribute;
 use engine::compile::hicsolmab_compile;
 use engine::sheet::hicsolmab_read_sheet;
 use std::num::wrapping_add_usize;
-use syntax::texts::part_of;
 
 pub fn ask_sheet(
     s: &[u8],

@@ -9,9 +9,9 @@ use native.Mathlib.Nat.{suc-mul, zero-mul}
 use lib.ListN.{length, getD, take, drop, length-append}
 use lib.Seq.{sets, sets-eq, length-take-le, take-at, getD-drop, getD-take, take-nil, take-take}
 use Rattle.combinators.specs.Choice.{pick, and, is}
+use Rattle.combinators.specs.Part.{part}
 use Rattle.combinators.proofs.Rules.{pick-false, is-no}
 use Rattle.syntax.specs.Selector.{Component}
-use Rattle.syntax.specs.Stream.{part}
 use Rattle.cascade.specs.Row.{rowOf}
 use Rattle.page.specs.Path.{Element, Path}
 use Rattle.page.specs.Rows.{otherKind}

@@ -7,7 +7,7 @@ use native.Mathlib.Omega.{arith}
 use native.Mathlib.Nat.{suc-mul, mul-le-mul-right}
 use lib.ListN.{length, drop, length-append}
 use lib.Seq.{sets, length-sets}
-use Rattle.syntax.specs.Stream.{part}
+use Rattle.combinators.specs.Part.{part}
 use Rattle.page.specs.Path.{Element, Path}
 use Rattle.page.specs.Rows.{nodeCount, nodeAt, elementKind, otherKind}
 use Rattle.page.specs.Ancestors.{ancestorsOf, lineOf, depthOf, elementChildren, placeOf}

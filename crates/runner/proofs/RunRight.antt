@@ -8,9 +8,9 @@ use native.Mathlib.Nat.{not-suc-le-zero}
 use native.Mathlib.Omega.{arith}
 use lib.ListN.{length, take, drop, length-append, length-drop}
 use lib.Seq.{sets, length-sets, sets-eq, length-take-le, take-at, drop-at, drop-drop, drop-append-add}
+use Rattle.combinators.specs.Part.{part}
 use Rattle.combinators.proofs.Rules.{lt-or-ge}
 use Rattle.syntax.specs.Selector.{RuleSet}
-use Rattle.syntax.specs.Stream.{part}
 use Rattle.cascade.specs.Row.{styleRowWidth, rowOf, styleAt}
 use Rattle.cascade.proofs.RowBack.{row-long, style-back}
 use Rattle.page.specs.Ancestors.{depthOf}

@@ -5,7 +5,7 @@ use mathlib.Core.List.{List, [], _∷_, _++_, append-assoc}
 use native.Mathlib.Omega.{arith}
 use lib.ListN.{length, getD, take, drop, set, length-drop, take-append-drop}
 use lib.Seq.{sets, sets-eq, drop-set-lt, drop-append-le, take-append-le, take-at, drop-at, length-take-le, drop-drop, take-nil, take-append-add, getD-drop}
-use Rattle.syntax.specs.Stream.{part}
+use Rattle.combinators.specs.Part.{part}
 use Rattle.runner.specs.State.{countWidth, byteLimit, countBytes, countAt, raised, groupsFrom}
 
 -- what lies in the first of two lists

@@ -5,12 +5,13 @@ use mathlib.Core.List.{List, [], _∷_, _++_, map, append-assoc}
 use native.Mathlib.Nat.{add-zero}
 use native.Mathlib.Omega.{arith}
 use lib.ListN.{length, length-append}
+use Rattle.combinators.specs.All.{All}
 use Rattle.syntax.specs.Layout.{flag, styleSlotOf, styleTextOf, styleText, numbersFrom}
 use Rattle.syntax.specs.RuleLayout.{pseudoNumber}
 use Rattle.syntax.specs.Stream.{textsMany}
 use Rattle.syntax.specs.Style as style
 use Rattle.syntax.specs.Style.{agentOrigin, Style, StyleDecl}
-use Rattle.syntax.proofs.Streams.{Held, held-left, held-right, All}
+use Rattle.syntax.proofs.Streams.{Held, held-left, held-right}
 use Rattle.syntax.specs.declared.styles.Value.{Value}
 use Rattle.cascade.specs.Record.{Styled}
 use Rattle.cascade.specs.Related.{Each, none, next}

@@ -1,40 +1,13 @@
--- Lists whose values all keep to something, sums over lists, and what holds of all that an outcome may have read.
-use mathlib.Core.Path.{_≡_, refl, sym, subst}
-use mathlib.Core.List.{List, [], _∷_, _++_, map, reverse, reverse-cons}
+-- Sums over lists and what they say of all values, and what holds of all that an outcome may have read.
+use mathlib.Core.Path.{_≡_, refl, subst}
+use mathlib.Core.List.{List, [], _∷_, _++_, map}
 use Prim.Native.Nat.{ℕ, _+_, _≤_}
 use native.Mathlib.Omega.{arith}
 use lib.ListN.{length, length-append}
+use Rattle.combinators.specs.All.{All}
 use Rattle.syntax.specs.RuleSize.{sizes}
 use Rattle.syntax.specs.Stream.{textsMany}
-use Rattle.syntax.proofs.Streams.{All}
 use Rattle.sheets.specs.Outcome.{Outcome, reads, fails, panics, onOutcome, behind, orElse}
-
--- ---- lists
--- what holds of the values of two lists holds of both lists' values
-pub all-append : {A : Type 0} (P : A → Type 0) (xs ys : List A) → All P xs → All P ys → All P (xs ++ ys)
-all-append P [] ys p q = q
-all-append P (x ∷ xs) ys p q = (p .0, all-append P xs ys (p .1) q)
-
--- the other way round
-pub all-reverse : {A : Type 0} (P : A → Type 0) (xs : List A) → All P xs → All P (reverse xs)
-all-reverse P [] p = tt
-all-reverse P (x ∷ xs) p =
-    subst (All P) (sym (reverse-cons x xs)) (all-append P (reverse xs) (x ∷ []) (all-reverse P xs (p .1)) (p .0, tt))
-
--- of their images
-pub all-map : {A B : Type 0} (P : A → Type 0) (Q : B → Type 0) (f : A → B) → ((a : A) → P a → Q (f a)) → (xs : List A) → All P xs → All Q (map f xs)
-all-map P Q f h [] p = tt
-all-map P Q f h (x ∷ xs) p = (h x (p .0), all-map P Q f h xs (p .1))
-
--- what follows from it
-pub all-weaker : {A : Type 0} (P Q : A → Type 0) → ((a : A) → P a → Q a) → (xs : List A) → All P xs → All Q xs
-all-weaker P Q h [] p = tt
-all-weaker P Q h (x ∷ xs) p = (h x (p .0), all-weaker P Q h xs (p .1))
-
--- two things at once
-pub all-both : {A : Type 0} (P Q R : A → Type 0) → ((a : A) → P a → Q a → R a) → (xs : List A) → All P xs → All Q xs → All R xs
-all-both P Q R h [] p q = tt
-all-both P Q R h (x ∷ xs) p q = (h x (p .0) (q .0), all-both P Q R h xs (p .1) (q .1))
 
 -- ---- sums
 -- no size is above the sum of all

@@ -17,14 +17,13 @@ use Rattle.combinators.proofs.Wiped.{most-left, most-right}
 use Rattle.lexer.specs.Name.{identOf}
 use Rattle.lexer.specs.Whitespace.{skipWhitespace}
 use Rattle.lexer.proofs.Bounds.{Bound, short, lone, Fits, fits-behind, bound-two, bound-short}
-use Rattle.lexer.proofs.Comments.{skip-le}
+use Rattle.lexer.proofs.Comments.{skip-le, skip-from-le}
 use Rattle.lexer.proofs.IdentBounds.{NameKeeps, ident-keeps, identstring-keeps, ident-fits}
 use Rattle.lexer.proofs.TokenBounds.{on-holds}
 use Rattle.syntax.specs.RuleLayout.{nthKind, componentKind, componentFirst, componentSecond, componentText}
 use Rattle.syntax.specs.Selector.{Component, star, class, element, hash, child, descendant, nth, attribute, attributeEqual}
 use Rattle.syntax.specs.Signed.{signedNumber}
 use Rattle.values.specs.Layout.{slack}
-use Rattle.declarations.proofs.PropertyLaws.{skip-from-le}
 use Rattle.values.proofs.Turns.{slack-here}
 use Rattle.sheets.specs.Outcome.{Outcome, reads, fails, panics, onOutcome, parsed, orElse}
 use Rattle.sheets.specs.Selector as selector

@@ -4,15 +4,15 @@ use mathlib.Core.List.{List}
 use Prim.Native.Nat.{ℕ, _≤_, _<_}
 use native.Mathlib.Omega.{arith}
 use lib.IntN.{ℤ, pos, negsuc}
+use Rattle.combinators.specs.All.{All}
+use Rattle.combinators.proofs.AllLaws.{all-weaker}
 use Rattle.syntax.specs.Selector.{Component, star, class, element, hash, child, descendant, nth, attribute, attributeEqual, Selector, RuleSet}
 use Rattle.syntax.specs.Signed.{signedNumber}
 use Rattle.syntax.proofs.RuleRows.{RulesFit}
-use Rattle.syntax.proofs.Streams.{All}
 use Rattle.sheets.specs.NthAnswer.{greatestSigned}
 use Rattle.sheets.specs.Outcome.{reads}
 use Rattle.sheets.specs.Selector.{greatest}
 use Rattle.sheets.specs.Sheet.{sheetOf}
-use Rattle.sheets.proofs.AllLaws.{all-weaker}
 use Rattle.sheets.proofs.ComponentKeeps.{Small}
 use Rattle.sheets.proofs.SheetBounds.{RuleSmall, sheet-keeps}
 

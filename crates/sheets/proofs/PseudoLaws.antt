@@ -11,6 +11,8 @@ use Rattle.combinators.specs.Ascii as ascii
 use Rattle.combinators.specs.Choice.{pick, is}
 use Rattle.combinators.specs.Parsed.{Parsed, ok, err, onParsed}
 use Rattle.combinators.specs.Store.{wiped}
+use Rattle.combinators.specs.Part.{part}
+use Rattle.combinators.specs.Word.{sameText}
 use Rattle.combinators.proofs.Lists.{rest, byte-there}
 use Rattle.combinators.proofs.Rules.{pick-true, pick-false, pick-holds, told}
 use Rattle.unicode.specs.Literal.{text}
@@ -25,9 +27,7 @@ use Rattle.lexer.proofs.TokenBounds.{on-holds}
 use Rattle.syntax.specs.Selector as syntax
 use Rattle.syntax.specs.RuleLayout.{nthKind, componentKind, componentFirst, componentSecond, componentText}
 use Rattle.syntax.specs.Signed.{signedNumber}
-use Rattle.syntax.specs.Stream.{part}
 use Rattle.syntax.proofs.Streams.{held-part, sets-held}
-use Rattle.values.specs.Words.{same}
 use Rattle.declarations.proofs.PropertyLaws.{Named, named-from, unnamed-from}
 use Rattle.sheets.specs.Outcome.{Outcome, reads, fails, panics, onOutcome, behind}
 use Rattle.sheets.specs.Selector as selector
@@ -66,12 +66,12 @@ module _ (s : List ℕ) where
   name-none e = rw e
 
   -- `nth-child`
-  name-known : (n : ℕ) (b : List ℕ) → identOf s ≡ ok n b → same b (text "nth-child") ≡ true → n ≡ nthChildName s
+  name-known : (n : ℕ) (b : List ℕ) → identOf s ≡ ok n b → sameText b (text "nth-child") ≡ true → n ≡ nthChildName s
   unfolding nthChildName onParsed pick
   name-known n b e t = rw (e, t)
 
   -- another
-  name-other : (n : ℕ) (b : List ℕ) → identOf s ≡ ok n b → same b (text "nth-child") ≡ false → 0 ≡ nthChildName s
+  name-other : (n : ℕ) (b : List ℕ) → identOf s ≡ ok n b → sameText b (text "nth-child") ≡ false → 0 ≡ nthChildName s
   unfolding nthChildName onParsed pick
   name-other n b e t = rw (e, t)
 
@@ -102,10 +102,10 @@ module _ (s st z : List ℕ) (fill : ℕ) (x : Name) (w : idents.Named (identOf 
     named-part = read-back st z (name .name) fill m stored (name .long) there
 
     -- it is compared and wiped
-    module _ (v : List ℕ) (ev : v ≡ part z fill m) (k : Bool) (ek : k ≡ same v (0x6e ∷ 0x74 ∷ 0x68 ∷ 0x2d ∷ 0x63 ∷ 0x68 ∷ 0x69 ∷ 0x6c ∷ 0x64 ∷ []))
+    module _ (v : List ℕ) (ev : v ≡ part z fill m) (k : Bool) (ek : k ≡ sameText v (0x6e ∷ 0x74 ∷ 0x68 ∷ 0x2d ∷ 0x63 ∷ 0x68 ∷ 0x69 ∷ 0x6c ∷ 0x64 ∷ []))
         (y : List ℕ) (ey : y ≡ wiped fill m z) where
       -- the code's test is the definition's
-      test : k ≡ same (name .name) (text "nth-child")
+      test : k ≡ sameText (name .name) (text "nth-child")
       test = ek ∙ rw (ev ∙ named-part, nth-child-bytes)
 
       -- the store is as it was
@@ -129,11 +129,11 @@ colon-there s t et e = let l = byte-there s 0 ascii.colon (omega arith) (told _ 
 record Known (s : List ℕ) (k : ℕ) : Type 0 where
   name : List ℕ
   reading : identOf s ≡ ok k name
-  same-name : same name (text "nth-child") ≡ true
+  same-name : sameText name (text "nth-child") ≡ true
 
 module _ (s : List ℕ) (k : ℕ) (ek : k ≡ nthChildName s) where
   -- by the name that was read
-  known-by : (n : ℕ) (b : List ℕ) → identOf s ≡ ok n b → (t : Bool) → same b (text "nth-child") ≡ t → ¬ (k ≡ 0) → Known s k
+  known-by : (n : ℕ) (b : List ℕ) → identOf s ≡ ok n b → (t : Bool) → sameText b (text "nth-child") ≡ t → ¬ (k ≡ 0) → Known s k
   known-by n b e true q d = let l : k ≡ n = ek ∙ sym (name-known s n b e q) in record { name = b; reading = rw l e; same-name = q }
   known-by n b e false q d = absurd (d (ek ∙ sym (name-other s n b e q)))
 
@@ -146,16 +146,16 @@ module _ (s : List ℕ) (k : ℕ) (ek : k ≡ nthChildName s) where
       go err e = absurd (d (ek ∙ sym (name-none s e)))
 
   -- it was not, so nothing f makes of it is read
-  other-by : (f : ℕ → List ℕ → Outcome syntax.Component) (n : ℕ) (b : List ℕ) → identOf s ≡ ok n b → k ≡ 0 → (t : Bool) → same b (text "nth-child") ≡ t
-      → pick (same b (text "nth-child")) (f n b) fails ≡ fails
+  other-by : (f : ℕ → List ℕ → Outcome syntax.Component) (n : ℕ) (b : List ℕ) → identOf s ≡ ok n b → k ≡ 0 → (t : Bool) → sameText b (text "nth-child") ≡ t
+      → pick (sameText b (text "nth-child")) (f n b) fails ≡ fails
   other-by f n b e z true q = absurd (let g = ident-fits s n b e in let l : k ≡ n = ek ∙ sym (name-known s n b e q) in omega (arith, g .some))
   other-by f n b e z false q = sym (pick-false _ _ _ _ q refl)
 
   -- all of it
-  other : (f : ℕ → List ℕ → Outcome syntax.Component) → k ≡ 0 → onParsed (identOf s) (λ n b. pick (same b (text "nth-child")) (f n b) fails) fails ≡ fails
+  other : (f : ℕ → List ℕ → Outcome syntax.Component) → k ≡ 0 → onParsed (identOf s) (λ n b. pick (sameText b (text "nth-child")) (f n b) fails) fails ≡ fails
   other f z = go (identOf s) refl
     where
-      go : (p : Parsed (List ℕ)) → identOf s ≡ p → onParsed p (λ n b. pick (same b (text "nth-child")) (f n b) fails) fails ≡ fails
+      go : (p : Parsed (List ℕ)) → identOf s ≡ p → onParsed p (λ n b. pick (sameText b (text "nth-child")) (f n b) fails) fails ≡ fails
       go (ok n b) e = unfold onParsed in other-by f n b e z _ refl
       go err e = unfold onParsed in refl
 

@@ -9,9 +9,11 @@ use lib.ListN.{length, getD, drop, length-append, length-drop, length-reverse}
 use Rattle.combinators.specs.Ascii as ascii
 use Rattle.combinators.specs.Choice.{is}
 use Rattle.combinators.specs.Word.{startsWith}
+use Rattle.combinators.specs.All.{All}
 use Rattle.combinators.proofs.Lists.{byte-there}
 use Rattle.combinators.proofs.Rules.{pick-holds, lt-or-ge, is-false}
 use Rattle.combinators.proofs.Words.{starts-le}
+use Rattle.combinators.proofs.AllLaws.{all-reverse}
 use Rattle.unicode.specs.Literal.{text}
 use Rattle.lexer.specs.Name.{identOf}
 use Rattle.lexer.specs.Whitespace.{skipWhitespace}
@@ -23,11 +25,10 @@ use Rattle.syntax.specs.RuleLayout.{componentWidth, componentText, componentTex
 use Rattle.syntax.specs.RuleSize.{sizes, selectorSize}
 use Rattle.syntax.specs.Selector.{Component, element, PseudoElement, Selector}
 use Rattle.syntax.specs.Stream.{textsMany}
-use Rattle.syntax.proofs.Streams.{All}
 use Rattle.sheets.specs.Outcome.{Outcome, reads, fails, panics}
 use Rattle.sheets.specs.Selector.{componentOf, componentsOf, componentsFrom, someOf, withElementOf, withoutElementOf, bodyOf, isDescendant, withoutBlank, withoutFirst, pseudoOf, pseudoTaken, selectorOf}
 use Rattle.sheets.specs.Sheet.{moreSelectors, moreFrom, selectorsOf}
-use Rattle.sheets.proofs.AllLaws.{all-reverse, Where, where-behind, where-then, where-else}
+use Rattle.sheets.proofs.AllLaws.{Where, where-behind, where-then, where-else}
 use Rattle.sheets.proofs.ComponentKeeps.{Small, ComponentKeeps, component-keeps}
 use Rattle.sheets.proofs.BodyLaws.{without-first}
 use Rattle.sheets.proofs.Bodies.{kept-texts}

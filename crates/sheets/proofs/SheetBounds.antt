@@ -8,12 +8,15 @@ use native.Mathlib.Omega.{arith}
 use lib.ListN.{length, getD, drop, length-append, length-drop, length-map}
 use Rattle.combinators.specs.Ascii as ascii
 use Rattle.combinators.specs.Choice.{is}
+use Rattle.combinators.specs.All.{All}
 use Rattle.combinators.proofs.Lists.{byte-there}
 use Rattle.combinators.proofs.Rules.{pick-holds}
+use Rattle.combinators.proofs.AllLaws.{all-append, all-map}
 use Rattle.lexer.specs.Name.{identOf}
 use Rattle.lexer.specs.Whitespace.{skipWhitespace}
 use Rattle.lexer.proofs.IdentBounds.{ident-fits}
 use Rattle.lexer.proofs.TokenBounds.{on-holds}
+use Rattle.lexer.proofs.Comments.{skip-from-le}
 use Rattle.syntax.specs.Declaration.{Declaration}
 use Rattle.syntax.specs.Layout.{declarationText, declarationTexts}
 use Rattle.syntax.specs.RuleLayout.{selectorHead, selectorTexts, ruleRow, ruleText, ruleRows, ruleTexts}
@@ -23,16 +26,15 @@ use Rattle.syntax.specs.Stream.{textsMany}
 use Rattle.syntax.proofs.Back.{DeclarationsFit}
 use Rattle.syntax.proofs.RowSizes.{length-rules}
 use Rattle.syntax.proofs.RuleRows.{RulesFit}
-use Rattle.syntax.proofs.Streams.{All, texts-append}
+use Rattle.syntax.proofs.Streams.{texts-append}
 use Rattle.values.proofs.Sizes.{statement-sized}
 use Rattle.declarations.specs.Leaving.{kept, rulesOf}
 use Rattle.declarations.specs.Rules.{Rules, startsAt, declarationsOf}
-use Rattle.declarations.proofs.PropertyLaws.{skip-from-le}
 use Rattle.declarations.proofs.StyleAttribute.{bounded}
 use Rattle.sheets.specs.Outcome.{reads, fails}
 use Rattle.sheets.specs.Rules.{ruleWidth}
 use Rattle.sheets.specs.Sheet.{spaced, selectorsOf, beforeEnd, blockOf, rulesetOf, statementEnd, atRuleOf, statementsOf, movedBy, sheetFrom, sheetOf}
-use Rattle.sheets.proofs.AllLaws.{all-append, all-map, sizes-append, sizes-map, texts-map, Where, where-read, where-behind, where-then, where-else}
+use Rattle.sheets.proofs.AllLaws.{sizes-append, sizes-map, texts-map, Where, where-read, where-behind, where-then, where-else}
 use Rattle.sheets.proofs.BlockLaws.{named-same, end-behind}
 use Rattle.sheets.proofs.ComponentKeeps.{Small}
 use Rattle.sheets.proofs.SelectorBounds.{SelectorsKeep, selectors-keep}

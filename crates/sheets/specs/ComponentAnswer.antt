@@ -10,6 +10,7 @@ use Rattle.combinators.specs.Choice.{pick, is}
 use Rattle.combinators.specs.Parsed as parsed
 use Rattle.combinators.specs.Parsed.{Parsed, ok, err, onParsed}
 use Rattle.combinators.specs.Store.{wiped, most}
+use Rattle.combinators.specs.Word.{sameText}
 use Rattle.unicode.specs.Literal.{text}
 use Rattle.unicode.specs.Utf8.{utf8}
 use Rattle.lexer.specs.Name.{identOf}
@@ -20,7 +21,6 @@ use Rattle.syntax.specs.Selector as syntax
 use Rattle.syntax.specs.Selector.{child, star}
 use Rattle.syntax.specs.RuleLayout.{nthKind, classKind, attributeEqualKind, componentKind, componentFirst, componentSecond, componentText}
 use Rattle.values.specs.Layout.{slack}
-use Rattle.values.specs.Words.{same}
 use Rattle.sheets.specs.Outcome as outcome
 use Rattle.sheets.specs.Outcome.{Outcome, reads, panics, onOutcome, orElse}
 use Rattle.sheets.specs.Selector.{quotedOf, marked, blankOf, classOf, attrOf, hashOf, pseudoClassOf}
@@ -58,7 +58,7 @@ markTaken t mark =
 
 -- the bytes of the name `nth-child`, behind white space and comments; 0 where another name or none is there
 unfoldable pub nthChildName : List ℕ → ℕ
-nthChildName t = onParsed (identOf t) (λ n name. pick (same name (text "nth-child")) n 0) 0
+nthChildName t = onParsed (identOf t) (λ n name. pick (sameText name (text "nth-child")) n 0) 0
 
 -- ---- the parts of `parse_attr`
 

@@ -8,7 +8,7 @@ use lib.ListN.{length, getD, take, drop}
 use Rattle.combinators.specs.Ascii as ascii
 use Rattle.combinators.specs.Choice.{pick, or, and, is}
 use Rattle.combinators.specs.Parsed.{Parsed, ok, err, onParsed}
-use Rattle.combinators.specs.Word.{startsWith}
+use Rattle.combinators.specs.Word.{startsWith, sameText}
 use Rattle.unicode.specs.Literal.{text}
 use Rattle.lexer.specs.Name.{identOf, identstringOf, hexDigit}
 use Rattle.lexer.specs.Number.{digits}
@@ -17,7 +17,7 @@ use Rattle.lexer.specs.TokenRow.{stringKind}
 use Rattle.lexer.specs.Whitespace.{skipWhitespace}
 use Rattle.syntax.specs.Selector.{Component, star, class, element, hash, child, descendant, nth, attribute, attributeEqual, PseudoElement, none, before, after, Selector}
 use Rattle.values.specs.Colour.{numeral}
-use Rattle.values.specs.Words.{same, isKind}
+use Rattle.values.specs.Words.{isKind}
 use Rattle.sheets.specs.Outcome.{Outcome, reads, fails, panics, onOutcome, behind, parsed, orElse}
 
 -- ---- components
@@ -131,7 +131,7 @@ nthChildArgs t = behind 0 (nthArgsOf t) (λ x. nth (x .a) (x .b))
 unfoldable pub pseudoClassOf : List ℕ → Outcome Component
 pseudoClassOf t =
     pick (is (getD t 0 0) ascii.colon)
-    (onParsed (identOf (drop 1 t)) (λ n name. pick (same name (text "nth-child")) (behind (1 + n) (nthChildArgs (drop (1 + n) t)) (λ c. c)) fails) fails)
+    (onParsed (identOf (drop 1 t)) (λ n name. pick (sameText name (text "nth-child")) (behind (1 + n) (nthChildArgs (drop (1 + n) t)) (λ c. c)) fails) fails)
     fails
 
 -- `>` and `*`, with white space or none on both sides

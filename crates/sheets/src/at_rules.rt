@@ -2,10 +2,10 @@
 use crate::readings::Reading;
 use combinators::bytes::byte_is;
 use combinators::stores::wipe_bytes;
-use declarations::rules::skip_from;
 use declarations::rules::wipe_work;
 use lexer::names::Name;
 use lexer::names::parse_ident;
+use lexer::whitespace::skip_from;
 use lexer::whitespace::skip_optional_whitespace;
 use values::statements::StatementAnswer;
 use values::statements::parse_to_end_of_statement;

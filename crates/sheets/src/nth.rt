@@ -2,9 +2,9 @@
 // as -2v-1.
 use combinators::bytes::byte_is;
 use combinators::bytes::starts_with;
-use declarations::rules::skip_from;
 use lexer::numbers::parse_integer;
 use lexer::numbers::parse_sign;
+use lexer::whitespace::skip_from;
 use values::colours::DECIMAL;
 use values::colours::NumberAnswer;
 use values::colours::digits_in;

@@ -6,7 +6,7 @@ use combinators::bytes::byte_is;
 use combinators::stores::wipe_bytes;
 use combinators::stores::wipe_numbers;
 use declarations::rules::parse_rules;
-use declarations::rules::skip_from;
+use lexer::whitespace::skip_from;
 use lexer::whitespace::skip_optional_whitespace;
 use syntax::rows::DECLARATION_WIDTH;
 use syntax::rows::RULE_HEAD;

@@ -5,7 +5,7 @@ use crate::selectors::parse_selector;
 use combinators::bytes::byte_is;
 use combinators::stores::wipe_bytes;
 use combinators::stores::wipe_numbers;
-use declarations::rules::skip_from;
+use lexer::whitespace::skip_from;
 ghost use mathlib.Core.Path.{_≡_};
 ghost use lib.ListN.{length};
 ghost use lib.Seq.{sets};

@@ -4,6 +4,7 @@ use crate::writing::print_colour;
 use crate::writing::print_name;
 use crate::writing::print_quoted;
 use combinators::stores::number_at;
+use combinators::texts::part_of;
 use syntax::rows::BACKGROUND_COLOR;
 use syntax::rows::COLOR;
 use syntax::rows::CONTENT;
@@ -27,7 +28,6 @@ use syntax::rows::WHITE_SPACE;
 use syntax::rows::WHITE_SPACE_NORMAL;
 use syntax::rows::WHITE_SPACE_PRE;
 use syntax::rows::WHITE_SPACE_PRE_WRAP;
-use syntax::texts::part_of;
 use syntax::walk::forward;
 
 fn print_property(kind: u32) {

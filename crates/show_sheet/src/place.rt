@@ -5,7 +5,7 @@ use crate::writing::is_visible;
 use crate::writing::print;
 use crate::writing::print_number;
 use crate::writing::print_text;
-use syntax::texts::part_of;
+use combinators::texts::part_of;
 ghost use Prim.Native.Nat.{_≤_};
 ghost use lib.ListN.{length};
 

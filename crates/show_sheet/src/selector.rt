@@ -4,6 +4,7 @@ use crate::writing::print_name;
 use crate::writing::print_number;
 use crate::writing::print_quoted;
 use combinators::stores::number_at;
+use combinators::texts::part_of;
 use syntax::rows::ATTRIBUTE;
 use syntax::rows::ATTRIBUTE_EQUAL;
 use syntax::rows::CHILD;
@@ -23,7 +24,6 @@ use syntax::rows::SELECTOR_COMPONENTS;
 use syntax::rows::SELECTOR_HEAD;
 use syntax::rows::SELECTOR_PSEUDO;
 use syntax::rows::STAR;
-use syntax::texts::part_of;
 use syntax::walk::forward;
 
 // The size of a number with a sign, which is stored as 2v, or as -2v-1 where it is negative.

@@ -4,8 +4,8 @@ use Prim.Native.Nat.{ℕ, _+_, _≤_}
 use mathlib.Core.Path.{_≡_}
 use mathlib.Core.List.{List}
 use lib.ListN.{length}
+use Rattle.combinators.specs.Part.{part}
 use Rattle.syntax.specs.Layout.{valueFrom}
-use Rattle.syntax.specs.Stream.{part}
 use Rattle.syntax.specs.Style as style
 use Rattle.syntax.specs.Style.{Style}
 use Rattle.syntax.specs.declared.styles.Value.{Value}

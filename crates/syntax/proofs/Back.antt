@@ -7,13 +7,14 @@ use native.Mathlib.Omega.{arith}
 use lib.ListN.{length, drop}
 use lib.Seq.{sets}
 use Rattle.combinators.specs.Choice.{pick, is}
+use Rattle.combinators.specs.All.{All}
 use Rattle.syntax.specs.Declaration.{Colour, Overflow, visible, hidden, scroll, auto, WhiteSpace, normal, pre, preWrap, Decl, color, backgroundColor, height, maxHeight, overflow, overflowY, display, whiteSpace, content, unknown, Declaration}
 use Rattle.syntax.specs.Layout.{flag, flagOf, overflowNumber, overflowOf, whiteSpaceNumber, whiteSpaceOf, colourNumber, colourOf, declText, declarationText, declRow, declarationRow, declOf, readDeclaration, declarationRows, declarationTexts, declarationsAt, styleWidth, styleTextOf, styleText, styleSlotOf, valueFrom, numbersFrom, valueNumbers, rowOfNumbers, styleRow, numbersAt, styleOf, styleIn, readStyle, styleRows, styleTexts, stylesAt}
 use Rattle.syntax.specs.declared.styles.StyleNumbers.{StyleNumbers}
 use Rattle.syntax.specs.Stream.{Read, readMany, textsMany}
 use Rattle.syntax.specs.Style as style
 use Rattle.syntax.specs.Style.{Style, StyleDecl}
-use Rattle.syntax.proofs.Streams.{Held, held-part, All, many-back, sets-drop, sets-held}
+use Rattle.syntax.proofs.Streams.{Held, held-part, many-back, sets-drop, sets-held}
 
 -- ---- flags and words
 pub flag-back : (b : Bool) → flagOf (flag b) ≡ b

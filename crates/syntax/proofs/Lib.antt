@@ -1,4 +1,4 @@
-pub mod Parts
+pub mod StyleRead
 pub mod Streams
 pub mod Back
 pub mod SignedBack

@@ -6,13 +6,14 @@ use native.Mathlib.Omega.{arith}
 use lib.ListN.{length, drop, length-reverse}
 use lib.Seq.{sets}
 use Rattle.combinators.specs.Choice.{pick, is}
+use Rattle.combinators.specs.All.{All}
 use Rattle.syntax.specs.Layout.{declarationRows, declarationTexts}
 use Rattle.syntax.specs.RuleLayout.{componentKind, componentFirst, componentSecond, componentText, componentRow, componentFrom, readComponent, componentRows, componentTexts, pseudoNumber, pseudoFrom, selectorText, selectorRow, readSelector, selectorRows, selectorTexts, ruleText, ruleRow, readRule, ruleRows, ruleTexts, rulesAt}
 use Rattle.syntax.specs.Selector.{Component, star, class, element, hash, child, descendant, nth, attribute, attributeEqual, PseudoElement, none, before, after, Selector, RuleSet}
 use Rattle.syntax.specs.Stream.{Read, readMany, textsMany}
 use Rattle.syntax.proofs.Back.{DeclarationsFit, declarations-read}
 use Rattle.syntax.proofs.SignedBack.{signed-back}
-use Rattle.syntax.proofs.Streams.{Held, held-left, held-right, held-part, All, many-back, sets-drop, sets-held}
+use Rattle.syntax.proofs.Streams.{Held, held-left, held-right, held-part, many-back, sets-drop, sets-held}
 
 -- the number of a pseudo element
 pseudo-back : (p : PseudoElement) → pseudoFrom (pseudoNumber p) ≡ p

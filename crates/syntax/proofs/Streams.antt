@@ -6,7 +6,9 @@ use native.Mathlib.Nat.{add-zero}
 use native.Mathlib.Omega.{arith}
 use lib.ListN.{length, take, drop, length-append}
 use lib.Seq.{sets, sets-eq, length-take-le, drop-at, take-append-seam, drop-append-seam, drop-drop}
-use Rattle.syntax.specs.Stream.{Read, readMany, textsMany, rowsMany, part}
+use Rattle.combinators.specs.All.{All}
+use Rattle.combinators.specs.Part.{part}
+use Rattle.syntax.specs.Stream.{Read, readMany, textsMany, rowsMany}
 
 -- the store has xs from f on
 pub record Held (store : List ℕ) (f : ℕ) (xs : List ℕ) : Type 0 where
@@ -29,11 +31,6 @@ module _ (store : List ℕ) (f : ℕ) (xs ys : List ℕ) (h : Held store f (xs +
 pub held-part : (store : List ℕ) (f : ℕ) (xs : List ℕ) → Held store f xs → part store f (length xs) ≡ xs
 unfolding part
 held-part store f xs h = ap (take (length xs)) (h .held) ∙ take-append-seam xs (h .more)
-
--- P holds of every value of a list
-abbrev pub All : {A : Type 0} → (A → Type 0) → List A → Type 0
-All P [] = Unit
-All P (a ∷ xs) = P a × All P xs
 
 -- where a value that P holds of is read from its row as v of it, its text ending at m or before, so is a list of them
 module _ {A B : Type 0} (store : List ℕ) (w : ℕ → A → List ℕ) (x : A → List ℕ) (u : List ℕ → Read B) (v : A → B) (P : A → Type 0) (m : ℕ)

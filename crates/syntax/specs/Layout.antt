@@ -5,8 +5,9 @@ use mathlib.Core.Bool.{Bool, true, false}
 use mathlib.Core.List.{List, [], _∷_}
 use lib.ListN.{length, getD, drop}
 use Rattle.combinators.specs.Choice.{pick, is}
+use Rattle.combinators.specs.Part.{part}
 use Rattle.syntax.specs.Declaration.{Colour, Overflow, visible, hidden, scroll, auto, WhiteSpace, normal, pre, preWrap, Decl, color, backgroundColor, height, maxHeight, overflow, overflowY, display, whiteSpace, content, unknown, Declaration}
-use Rattle.syntax.specs.Stream.{Read, readMany, textsMany, rowsMany, part}
+use Rattle.syntax.specs.Stream.{Read, readMany, textsMany, rowsMany}
 use Rattle.syntax.specs.Style as style
 use Rattle.syntax.specs.Style.{Style, StyleDecl}
 use Rattle.syntax.specs.declared.styles.Value.{Value}

@@ -7,11 +7,12 @@ use mathlib.Core.List.{List, [], _∷_, _++_, reverse}
 use lib.IntN.{ℤ, pos, negsuc}
 use lib.ListN.{length, getD, drop, take}
 use Rattle.combinators.specs.Choice.{pick, is}
+use Rattle.combinators.specs.Part.{part}
 use Rattle.syntax.specs.Declaration.{Declaration, unknown}
 use Rattle.syntax.specs.Layout.{flag, flagOf, declText, declarationText, declRow, declarationRow, declOf, declarationRows, declarationTexts, readDeclaration, unknownKind}
 use Rattle.syntax.specs.Selector.{Component, star, class, element, hash, child, descendant, nth, attribute, attributeEqual, PseudoElement, none, before, after, Selector, RuleSet}
 use Rattle.syntax.specs.Signed.{signedNumber, signedOf}
-use Rattle.syntax.specs.Stream.{Read, readMany, textsMany, rowsMany, part}
+use Rattle.syntax.specs.Stream.{Read, readMany, textsMany, rowsMany}
 
 -- ---- components: kind, where its texts start, two numbers. The kinds are those of the compiled sheet.
 abbrev pub starKind : ℕ

@@ -3,7 +3,7 @@
 use Prim.Native.Nat.{ℕ, zero, suc, _+_}
 use mathlib.Core.List.{List, [], _∷_, _++_}
 use lib.Dec.{ltb}
-use lib.ListN.{length, take, drop}
+use lib.ListN.{length}
 use Rattle.combinators.specs.Choice.{pick}
 
 pub record Read (A : Type 0) : Type 0 where
@@ -27,10 +27,6 @@ module _ {A : Type 0} where
   unfoldable pub rowsMany : (ℕ → A → List ℕ) → (A → List ℕ) → ℕ → List A → List ℕ
   rowsMany w x f [] = []
   rowsMany w x f (a ∷ xs) = w f a ++ rowsMany w x (f + length (x a)) xs
-
--- n bytes of the store from a on
-unfoldable pub part : List ℕ → ℕ → ℕ → List ℕ
-part store a n = take n (drop a store)
 
 -- a place in n numbers, or their end where it lies behind
 unfoldable pub reached : ℕ → ℕ → ℕ

@@ -2,7 +2,7 @@
 use Prim.Native.Nat.{ℕ}
 use mathlib.Core.List.{List, [], _∷_}
 use mathlib.Core.Path.{_≡_, refl}
-use lib.ListN.{length}
+use lib.ListN.{length, drop}
 use Rattle.combinators.specs.Choice.{pick, or, and, is, within}
 use Rattle.combinators.specs.Repeat.{many, took}
 use Rattle.unicode.specs.Literal.{text}
@@ -18,6 +18,10 @@ whiteOf NoScalar = 0
 
 unfoldable pub whiteTaken : List ℕ → ℕ
 whiteTaken s = whiteOf (scalarOf s)
+
+-- a text without the White_Space that it begins with
+unfoldable pub trimmedStart : List ℕ → List ℕ
+trimmedStart s = drop (many whiteTaken 0 0 s) s
 
 -- one character that is no White_Space; a byte that begins no well-formed character counts as one
 unfoldable pub wordOf : Scalar → ℕ

@@ -7,11 +7,12 @@ use native.Mathlib.Omega.{arith}
 use borrow.Author.Tests.{ltb-true}
 use lib.Dec.{ltb}
 use Rattle.combinators.specs.Choice.{pick, and}
+use Rattle.combinators.specs.Word.{sameText}
 use Rattle.combinators.proofs.Rules.{pick-holds, and-true}
 use Rattle.lexer.specs.Token.{Token, textOf}
 use Rattle.syntax.specs.Declaration.{Colour}
 use Rattle.syntax.proofs.Back.{OfBytes}
-use Rattle.values.specs.Words.{same, Entry, Found, found, missing, lookup, onFound}
+use Rattle.values.specs.Words.{Entry, Found, found, missing, lookup, onFound}
 use Rattle.values.specs.Colour.{rgb, colours, parseU8, parseHex, threeDigits, sixDigits, hashColour, threeNumbers, rgbColour, oneToken, colourOf, behindComma, backgroundOf}
 use Rattle.values.specs.ColourAnswer.{numberAnswer}
 use Rattle.values.proofs.ColourLaws.{byte-le}
@@ -70,7 +71,7 @@ unfolding lookup allSmall
 table-bytes w [] e = none
 table-bytes w (r ∷ es) e =
     let p = and-true (small (r .means)) (allSmall es) e in
-    or-holds Bytes (same w (r .word)) (r .means) (lookup w es) (one (r .means) (small-bytes (r .means) (p .0))) (table-bytes w es (p .1))
+    or-holds Bytes (sameText w (r .word)) (r .means) (lookup w es) (one (r .means) (small-bytes (r .means) (p .0))) (table-bytes w es (p .1))
 
 -- the seventeen names do
 names-small : allSmall colours ≡ true

@@ -8,6 +8,7 @@ use native.Mathlib.Omega.{arith}
 use lib.ListN.{length, take, drop, drop-of-length-le}
 use lib.Seq.{drop-drop}
 use Rattle.combinators.specs.Choice.{pick, and}
+use Rattle.combinators.specs.Word.{sameText}
 use Rattle.combinators.proofs.Lists.{rest}
 use Rattle.combinators.proofs.Rules.{pick-true, pick-false, pick-holds, and-gives, and-gives-false, and-true, told}
 use Rattle.unicode.specs.Literal.{text}
@@ -16,7 +17,7 @@ use Rattle.lexer.specs.Token.{Token, textOf}
 use Rattle.lexer.specs.TokenRow.{tokenWidth, identKind, functionKind, hashKind, numberKind, commaKind, closeRoundKind}
 use Rattle.syntax.specs.Declaration.{Colour}
 use Rattle.syntax.specs.Stream.{readMany}
-use Rattle.values.specs.Words.{same, Found, missing, lookup, isKind}
+use Rattle.values.specs.Words.{Found, missing, lookup, isKind}
 use Rattle.values.specs.Colour.{colours, hashColour, threeNumbers, rgbColour, oneToken, colourOf, behindComma, backgroundOf}
 use Rattle.values.specs.ColourAnswer.{colourAnswer}
 use Rattle.values.specs.ColourRows.{kindAt, rgbCount, rgbName, numberBefore, rgbKinds, rgbHere, lastPart}
@@ -115,7 +116,7 @@ rgb-bytes = refl
 
 module _ (rows store : List ℕ) (r : Bool) (er : r ≡ kindAt rows 0 functionKind) where
   -- a function's name decides
-  pub name-there : r ≡ true → (s w : List ℕ) → s ≡ firstText rows store 0 → w ≡ text "rgb" → (x : Bool) → x ≡ same s w
+  pub name-there : r ≡ true → (s w : List ℕ) → s ≡ firstText rows store 0 → w ≡ text "rgb" → (x : Bool) → x ≡ sameText s w
       → x ≡ rgbName rows store
   unfolding rgbName
   name-there h s w es ew x ex = and-gives _ _ _ (told _ _ _ er h) (ex ∙ rw (es, ew))
@@ -180,11 +181,11 @@ module _ (rows store : List ℕ) where
       (more (4 * tokenWidth) 2 _ (more (5 * tokenWidth) 1 _ (more (6 * tokenWidth) 0 _ (tokens-none _ store)))))))
 
   -- the test of the name, on the token
-  name-test : and (isKind functionKind (nth 0)) (same (textOf (nth 0)) (text "rgb")) ≡ rgbName rows store
+  name-test : and (isKind functionKind (nth 0)) (sameText (textOf (nth 0)) (text "rgb")) ≡ rgbName rows store
   unfolding rgbName
   name-test =
       rw (here-kind rows store 0 functionKind (function-text .kind))
-      (and-where _ _ _ (λ e. ap (λ s. same s (text "rgb")) (here-text rows store 0 functionKind function-text e)))
+      (and-where _ _ _ (λ e. ap (λ s. sameText s (text "rgb")) (here-text rows store 0 functionKind function-text e)))
 
   -- the kind of the token number i
   nth-kind : (i n : ℕ) → Kind n → isKind n (nth i) ≡ kindAt rows (i * tokenWidth) n

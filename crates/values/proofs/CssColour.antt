@@ -8,6 +8,8 @@ use lib.ListN.{length}
 use Rattle.combinators.specs.Ascii.{plusSign}
 use Rattle.combinators.specs.Choice as choice
 use Rattle.combinators.specs.Choice.{pick, is}
+use Rattle.combinators.specs.Word.{sameText}
+use Rattle.combinators.specs.All.{All}
 use Rattle.combinators.proofs.Rules.{is-no, and-both, and-true, never}
 use Rattle.unicode.specs.Literal.{text}
 use Rattle.unicode.specs.Utf8.{utf8, continuation}
@@ -16,8 +18,7 @@ use Rattle.lexer.specs.Number.{isDigit}
 use Rattle.lexer.specs.Token.{function, number, comma, closeRound, coded, textOf}
 use Rattle.lexer.specs.TokenRow.{columnsOf}
 use Rattle.lexer.proofs.Escapes.{digit-le}
-use Rattle.syntax.proofs.Streams.{All}
-use Rattle.values.specs.Words.{same, kindOf, isKind, Entry, found, foundOr, lookup, onFound}
+use Rattle.values.specs.Words.{kindOf, isKind, Entry, found, foundOr, lookup, onFound}
 use Rattle.values.specs.Colour.{rgb, colours, allOf, numeral, withoutPlus, digitsIn, parseU8, parseHex, threeDigits, sixDigits, hashColour, threeNumbers, rgbColour, colourOf}
 use Rattle.values.proofs.ColourLaws.{number-read}
 
@@ -107,7 +108,7 @@ document =
 
 -- each name is the colour that the document gives, and there are no others
 pub named : All (λ (e : Entry (List ℕ)). lookup (e .word) colours ≡ hashColour (e .means)) document × (length colours ≡ length document)
-unfolding lookup foundOr same rgb hashColour sixDigits onFound parseHex digitsIn withoutPlus numeral allOf isHexDigit hexDigit text utf8 continuation choice.pick choice.and choice.or choice.is choice.within
+unfolding lookup foundOr sameText rgb hashColour sixDigits onFound parseHex digitsIn withoutPlus numeral allOf isHexDigit hexDigit text utf8 continuation choice.pick choice.and choice.or choice.is choice.within
 named = ((refl, (refl, (refl, (refl, (refl, (refl, (refl, (refl, (refl, (refl, (refl, (refl, (refl, (refl, (refl, (refl, (refl, tt))))))))))))))))), refl)
 
 -- ---- rgb() of three integers
@@ -128,5 +129,5 @@ integer-read (x ∷ t) v h =
 -- three integers in brackets, parted by commas, are red, green and blue
 pub functional : (r g b : List ℕ) (x y z : ℕ) → Integer r x → Integer g y → Integer b z
     → colourOf (function (text "rgb") ∷ number r ∷ comma ∷ number g ∷ comma ∷ number b ∷ closeRound ∷ []) ≡ found (rgb x y z)
-unfolding colourOf rgbColour threeNumbers onFound isKind kindOf columnsOf coded textOf same text utf8 continuation pick choice.and choice.is
+unfolding colourOf rgbColour threeNumbers onFound isKind kindOf columnsOf coded textOf sameText text utf8 continuation pick choice.and choice.is
 functional r g b x y z hr hg hb = rw (integer-read r x hr, integer-read g y hg, integer-read b z hb)

@@ -7,6 +7,7 @@ use native.Mathlib.Omega.{arith}
 use lib.Dec.{ltb, leb·zero, leb·suc-suc}
 use lib.ListN.{length, getD, take, drop, drop-of-length-le}
 use Rattle.combinators.specs.Choice.{pick, is}
+use Rattle.combinators.specs.Word.{sameText}
 use Rattle.combinators.proofs.Lists.{rest}
 use Rattle.combinators.proofs.Rules.{pick-true, pick-false, told}
 use Rattle.decimal.specs.Decimal.{roundsToZero}
@@ -18,7 +19,7 @@ use Rattle.lexer.specs.Token.{Token, textOf}
 use Rattle.lexer.specs.TokenRow.{tokenWidth, kindColumn, numberKind, dimensionKind}
 use Rattle.values.specs.declared.heights.HeightAnswer.{HeightAnswer}
 use Rattle.values.specs.declared.heights.HeightAnswer.the-variants.{Height, NoHeight}
-use Rattle.values.specs.Words.{same, Found, found, missing, onFound, isKind, unitOf, placeOf}
+use Rattle.values.specs.Words.{Found, found, missing, onFound, isKind, unitOf, placeOf}
 use Rattle.values.specs.View.{tokenHere, firstText, secondText, tokensAt}
 use Rattle.values.specs.Property.{unsignedZero, numberZero, units, anyOf, heightOf}
 use Rattle.values.specs.ValueAnswer.{heightAnswer}
@@ -76,7 +77,7 @@ number-zero negative n = sym (zero-test negative (integerOf n) (fractionOf n))
 pub any-place : (w : List ℕ) (xs : List (List ℕ)) → anyOf w xs ≡ ltb (placeOf w xs) (length xs)
 unfolding anyOf placeOf pick
 any-place w [] = refl
-any-place w (x ∷ xs) = ap (pick (same w x) true) (any-place w xs) ∙ go (same w x) (placeOf w xs) (length xs)
+any-place w (x ∷ xs) = ap (pick (sameText w x) true) (any-place w xs) ∙ go (sameText w x) (placeOf w xs) (length xs)
   where
     go : (t : Bool) (p n : ℕ) → pick t true (ltb p n) ≡ ltb (pick t 0 (suc p)) (suc n)
     go true p n = sym (leb·suc-suc 0 n ∙ leb·zero n)

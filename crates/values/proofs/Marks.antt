@@ -7,10 +7,11 @@ use native.Mathlib.Omega.{arith}
 use lib.ListN.{getD, drop}
 use Rattle.combinators.specs.Ascii.{exclamationMark}
 use Rattle.combinators.specs.Choice.{is}
+use Rattle.combinators.specs.Word.{sameText}
 use Rattle.combinators.proofs.Rules.{and-both, and-left, and-right, and-gives, is-yes, is-no, told}
 use Rattle.unicode.specs.Literal.{text}
 use Rattle.lexer.specs.TokenRow.{tokenWidth, kindColumn, firstColumn, identKind, delimKind}
-use Rattle.values.specs.Words.{same, firstOf, isWord, isDelim}
+use Rattle.values.specs.Words.{firstOf, isWord, isDelim}
 use Rattle.values.specs.Value.{isMark, isImportant}
 use Rattle.values.specs.View.{tokenHere, firstText, tokensAt}
 use Rattle.values.proofs.TokenViews.{kind-told, here-text, here-delim, tokens-here, tokens-none, ident-text, delim-kind}
@@ -69,7 +70,7 @@ module _ (rows store : List ℕ) where
           mark-no-name f = sym (mark-is ∙ and-right _ _ (and-left _ _ (kind-told rows store (m + tokenWidth) identKind (ident-text .kind) i false ei f)))
 
           -- with this text
-          pub mark-name : i ≡ true → (r : Bool) (v : List ℕ) → v ≡ firstText rows store (m + tokenWidth) → r ≡ same v (text "important")
+          pub mark-name : i ≡ true → (r : Bool) (v : List ℕ) → v ≡ firstText rows store (m + tokenWidth) → r ≡ sameText v (text "important")
               → r ≡ isImportant (tokensAt rows store n)
           unfolding isMark isDelim isWord
           mark-name f r v ev er =

@@ -7,12 +7,13 @@ use native.Mathlib.Omega.{arith}
 use lib.ListN.{getD, drop}
 use lib.Seq.{getD-drop, drop-drop, take-append-seam, drop-append-seam}
 use Rattle.combinators.specs.Choice.{pick, is}
+use Rattle.combinators.specs.Part.{part}
 use Rattle.combinators.proofs.Rules.{pick-holds, is-yes, is-true, same-test, told}
 use Rattle.lexer.specs.Token.{coded, textOf}
 use Rattle.lexer.specs.TokenRow.{tokenWidth, kindColumn, startColumn, firstColumn, secondColumn, identKind, functionKind, hashKind, stringKind, badStringKind, delimKind, numberKind, dimensionKind, percentageKind, cdoKind, cdcKind, colonKind, semicolonKind, commaKind, openSquareKind, closeSquareKind, openRoundKind, closeRoundKind, openBraceKind, closeBraceKind, columnsOf, markFrom, tokenFrom, tokenIn}
 use Rattle.lexer.specs.declared.tokens.Token as lexer
 use Rattle.lexer.specs.declared.tokens.Token.the-variants as code
-use Rattle.syntax.specs.Stream.{readMany, part}
+use Rattle.syntax.specs.Stream.{readMany}
 use Rattle.values.specs.Words.{kindOf, firstOf, numberOf, unitOf, isKind}
 use Rattle.values.specs.View.{tokenWith, readToken, tokenHere, firstText, secondText, tokensAt}
 

@@ -8,11 +8,12 @@ use lib.ListN.{length, take, drop, replicate, set, length-replicate}
 use lib.Seq.{sets, take-nil, take-set-le}
 use Rattle.combinators.specs.Choice.{pick}
 use Rattle.combinators.specs.Store.{wiped}
+use Rattle.combinators.specs.Part.{part}
 use Rattle.combinators.proofs.Rules.{pick-holds}
 use Rattle.combinators.proofs.Wiped.{sets-apart, wiped-over, wiped-add}
 use Rattle.lexer.specs.Token.{Token, textOf}
 use Rattle.lexer.specs.TokenRow.{tokenWidth}
-use Rattle.syntax.specs.Stream.{textsMany, part}
+use Rattle.syntax.specs.Stream.{textsMany}
 use Rattle.values.specs.Value.{Placed, Bracket, opens, closes, ends, none, bracketOf, isMark, isImportant, withoutMark, tokensOf}
 use Rattle.values.specs.Layout.{pushed, depth, textsOf, bracketsAfter}
 use Rattle.values.specs.View.{tokensAt}

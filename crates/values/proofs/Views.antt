@@ -7,6 +7,8 @@ use native.Mathlib.Omega.{arith}
 use lib.ListN.{length, getD, drop, length-append}
 use lib.Seq.{sets}
 use Rattle.combinators.specs.Parsed.{ok}
+use Rattle.combinators.specs.Part.{part}
+use Rattle.combinators.specs.All.{All}
 use Rattle.unicode.proofs.Scalars.{by-scalar}
 use Rattle.lexer.specs.Token.{Token, ident, function, hash, string, badString, delim, number, dimension, percentage, cdo, cdc, colon, semicolon, comma, openSquare, closeSquare, openRound, closeRound, openBrace, closeBrace, tokenOf, coded, textOf}
 use Rattle.lexer.specs.TokenRow.{tokenWidth, columnsOf, word, rowOf, tokenRow}
@@ -14,8 +16,8 @@ use Rattle.lexer.specs.declared.tokens.Token as lexer
 use Rattle.lexer.proofs.Delimiters.{delim-scalar}
 use Rattle.lexer.proofs.TokenBounds.{on-holds}
 use Rattle.lexer.proofs.TokenRows.{word-same, row-back}
-use Rattle.syntax.specs.Stream.{Read, part}
-use Rattle.syntax.proofs.Streams.{Held, held-left, held-right, held-part, All, many-back, sets-drop, sets-held}
+use Rattle.syntax.specs.Stream.{Read}
+use Rattle.syntax.proofs.Streams.{Held, held-left, held-right, held-part, many-back, sets-drop, sets-held}
 use Rattle.values.specs.Value.{Placed, bracketOf, Step, next, before, behind, wrong, stepOf, Statement, stop, cons, onStep, scan, statementOf, tokensOf}
 use Rattle.values.specs.Layout.{placedRow, placedText, rowsOf, textsOf, left}
 use Rattle.values.specs.View.{tokenWith, readToken, tokensAt}

@@ -10,28 +10,10 @@ use lib.Dec.{leb}
 use lib.ListN.{length, getD, take, drop, length-drop, drop-of-length-le}
 use lib.Seq.{drop-cons, drop-drop, take-all, take-at, drop-at}
 use Rattle.combinators.specs.Choice.{pick, is}
-use Rattle.combinators.specs.Word.{startsWith}
-use Rattle.combinators.proofs.Rules.{pick-true, pick-false, by-order, and-right, told}
-use Rattle.syntax.proofs.Streams.{All}
-use Rattle.values.specs.Words.{same, Entry, Found, found, missing, foundOr, lookup, onFound, rowAt, split, placeOf}
-
--- ---- two texts
-
--- texts of one length are the same where one begins with the other
-pub same-starts : (s w : List ℕ) → length s ≡ length w → startsWith w s ≡ same s w
-unfolding same startsWith
-same-starts [] [] e = refl
-same-starts [] (y ∷ w) e = absurd (omega arith)
-same-starts (x ∷ s) [] e = absurd (omega arith)
-same-starts (x ∷ s) (y ∷ w) e = rw (same-starts s w (omega arith))
-
--- texts of two lengths are not
-pub same-lengths : (s w : List ℕ) → ¬ (length s ≡ length w) → false ≡ same s w
-unfolding same
-same-lengths [] [] d = absurd (d refl)
-same-lengths [] (y ∷ w) d = refl
-same-lengths (x ∷ s) [] d = refl
-same-lengths (x ∷ s) (y ∷ w) d = sym (and-right (is x y) (same s w) (sym (same-lengths s w (λ e. d (ap suc e)))))
+use Rattle.combinators.specs.Word.{sameText}
+use Rattle.combinators.specs.All.{All}
+use Rattle.combinators.proofs.Rules.{pick-true, pick-false, by-order, told}
+use Rattle.values.specs.Words.{Entry, Found, found, missing, foundOr, lookup, onFound, rowAt, split, placeOf}
 
 -- ---- a length n, clipped to the m bytes that are left
 module _ (n m : ℕ) where
@@ -62,7 +44,7 @@ placing-begin s joined lengths = record { left = sym (zero-add _); inside = omeg
 
 -- one word and the rest
 place-first : (s joined : List ℕ) (n : ℕ) (ns : List ℕ)
-    → placeOf s (split joined (n ∷ ns)) ≡ pick (same s (take n joined)) 0 (suc (placeOf s (split (drop n joined) ns)))
+    → placeOf s (split joined (n ∷ ns)) ≡ pick (sameText s (take n joined)) 0 (suc (placeOf s (split (drop n joined) ns)))
 unfolding placeOf split
 place-first s joined n ns = refl
 
@@ -81,7 +63,7 @@ module _ (s joined lengths : List ℕ) (at i : ℕ) (c : Placing s joined length
 
     -- it is the word that is looked for, or one behind it is
     turn : placeOf s (split joined lengths)
-        ≡ i + pick (same s (take (at + k - at) (drop at joined))) 0 (suc (placeOf s (split (drop (at + k) joined) (drop (i + 1) lengths))))
+        ≡ i + pick (sameText s (take (at + k - at) (drop at joined))) 0 (suc (placeOf s (split (drop (at + k) joined) (drop (i + 1) lengths))))
     turn =
         let n = getD lengths i 0 in
         let d : at + k - at ≡ k = omega arith in
@@ -91,7 +73,7 @@ module _ (s joined lengths : List ℕ) (at i : ℕ) (c : Placing s joined length
         in
         c .left ∙ rw (drop-cons lengths i 0 h, d, t, r, add-one i) (ap (λ x. i + x) (place-first s (drop at joined) n (drop (suc i) lengths)))
 
-    module _ (r : Bool) (er : r ≡ same s (take (at + k - at) (drop at joined))) where
+    module _ (r : Bool) (er : r ≡ sameText s (take (at + k - at) (drop at joined))) where
       -- it is
       pub placing-hit : r ≡ true → i ≡ placeOf s (split joined lengths)
       placing-hit p = sym (turn ∙ ap (λ x. i + x) (sym (pick-true _ _ _ _ (told _ _ _ er p) refl)) ∙ add-zero i)
@@ -122,7 +104,7 @@ or-holds P false a x h m = m
 pub lookup-holds : {A : Type 0} (P : Found A → Type 0) (w : List ℕ) (es : List (Entry A)) → All (λ e. P (found (e .means))) es → P missing → P (lookup w es)
 unfolding lookup
 lookup-holds P w [] h m = m
-lookup-holds P w (e ∷ es) h m = or-holds P (same w (e .word)) (e .means) (lookup w es) (h .0) (lookup-holds P w es (h .1) m)
+lookup-holds P w (e ∷ es) h m = or-holds P (sameText w (e .word)) (e .means) (lookup w es) (h .0) (lookup-holds P w es (h .1) m)
 
 -- ---- tables
 
@@ -150,7 +132,7 @@ pub lookup-place : {A : Type 0} (w : List ℕ) (es : List (Entry A)) → lookup 
 unfolding lookup rowAt placeOf wordsOf
 lookup-place w [] = refl
 lookup-place w (e ∷ es) =
-    ap (foundOr (same w (e .word)) (e .means)) (lookup-place w es) ∙ row-first (same w (e .word)) e es (placeOf w (wordsOf es))
+    ap (foundOr (sameText w (e .word)) (e .means)) (lookup-place w es) ∙ row-first (sameText w (e .word)) e es (placeOf w (wordsOf es))
 
 -- a table as the code has it: its words joined, their lengths, and what they stand for as the numbers that f gives
 unfoldable pub joinedOf : {A : Type 0} → List (Entry A) → List ℕ

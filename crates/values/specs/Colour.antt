@@ -6,13 +6,14 @@ use lib.Dec.{leb}
 use lib.ListN.{length, getD, drop}
 use Rattle.combinators.specs.Ascii.{plusSign}
 use Rattle.combinators.specs.Choice.{pick, and, is}
+use Rattle.combinators.specs.Word.{sameText}
 use Rattle.unicode.specs.Literal.{text}
 use Rattle.lexer.specs.Name.{isHexDigit, hexDigit}
 use Rattle.lexer.specs.Number.{isDigit}
 use Rattle.lexer.specs.Token.{Token, textOf}
 use Rattle.lexer.specs.TokenRow.{identKind, functionKind, hashKind, numberKind, commaKind, closeRoundKind}
 use Rattle.syntax.specs.Declaration.{Colour}
-use Rattle.values.specs.Words.{same, Entry, Found, found, missing, lookup, onFound, isKind}
+use Rattle.values.specs.Words.{Entry, Found, found, missing, lookup, onFound, isKind}
 
 unfoldable pub rgb : ℕ → ℕ → ℕ → Colour
 rgb r g b = record { red = r; green = g; blue = b }
@@ -105,7 +106,7 @@ oneToken k =
 unfoldable pub colourOf : List Token → Found Colour
 colourOf [] = missing
 colourOf (k ∷ []) = oneToken k
-colourOf (k ∷ a ∷ r) = pick (and (isKind functionKind k) (same (textOf k) (text "rgb"))) (rgbColour (a ∷ r)) missing
+colourOf (k ∷ a ∷ r) = pick (and (isKind functionKind k) (sameText (textOf k) (text "rgb"))) (rgbColour (a ∷ r)) missing
 
 -- `parse_background_color`: what stands behind the last comma
 unfoldable pub behindComma : List Token → List Token → List Token

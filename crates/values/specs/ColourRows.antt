@@ -4,10 +4,11 @@ use mathlib.Core.Bool.{Bool}
 use mathlib.Core.List.{List}
 use lib.ListN.{getD}
 use Rattle.combinators.specs.Choice.{pick, and, is}
+use Rattle.combinators.specs.Word.{sameText}
 use Rattle.unicode.specs.Literal.{text}
 use Rattle.lexer.specs.TokenRow.{tokenWidth, kindColumn, functionKind, numberKind, commaKind, closeRoundKind}
 use Rattle.syntax.specs.Declaration.{Colour}
-use Rattle.values.specs.Words.{Found, same}
+use Rattle.values.specs.Words.{Found}
 use Rattle.values.specs.Colour.{threeNumbers}
 use Rattle.values.specs.View.{firstText}
 
@@ -21,7 +22,7 @@ rgbCount = 7
 
 -- the first token is `rgb(`
 unfoldable pub rgbName : List ℕ → List ℕ → Bool
-rgbName rows store = and (kindAt rows 0 functionKind) (same (firstText rows store 0) (text "rgb"))
+rgbName rows store = and (kindAt rows 0 functionKind) (sameText (firstText rows store 0) (text "rgb"))
 
 -- a number stands at p and a token of the kind n at q
 unfoldable pub numberBefore : List ℕ → ℕ → ℕ → ℕ → Bool

@@ -5,6 +5,7 @@ use mathlib.Core.Bool.{Bool, true, false}
 use mathlib.Core.List.{List, [], _∷_, _++_}
 use lib.ListN.{take, drop}
 use Rattle.combinators.specs.Choice.{pick}
+use Rattle.combinators.specs.Word.{sameText}
 use Rattle.decimal.specs.Decimal.{roundsToZero}
 use Rattle.unicode.specs.Literal.{text}
 use Rattle.lexer.specs.Number.{digits, sign}
@@ -12,7 +13,7 @@ use Rattle.lexer.specs.Token.{Token, textOf}
 use Rattle.lexer.specs.TokenRow.{identKind, stringKind, numberKind, dimensionKind}
 use Rattle.lexer.specs.Whitespace.{skipWhitespace}
 use Rattle.syntax.specs.Declaration.{Overflow, visible, hidden, scroll, auto, WhiteSpace, normal, pre, preWrap, Decl, color, backgroundColor, height, maxHeight, overflow, overflowY, display, whiteSpace, content, unknown}
-use Rattle.values.specs.Words.{same, Entry, Found, found, missing, lookup, onFound, isKind, numberOf, unitOf}
+use Rattle.values.specs.Words.{Entry, Found, found, missing, lookup, onFound, isKind, numberOf, unitOf}
 use Rattle.values.specs.Colour.{colourOf, backgroundOf}
 
 -- ---- heights
@@ -31,7 +32,7 @@ units = text "in" ∷ text "cm" ∷ text "mm" ∷ text "pt" ∷ text "pc" ∷ te
 
 unfoldable pub anyOf : List ℕ → List (List ℕ) → Bool
 anyOf w [] = false
-anyOf w (x ∷ xs) = pick (same w x) true (anyOf w xs)
+anyOf w (x ∷ xs) = pick (sameText w x) true (anyOf w xs)
 
 -- a dimension with one of the units; or a number that is zero
 unfoldable pub heightOf : List Token → Found Bool

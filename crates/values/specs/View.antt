@@ -4,11 +4,12 @@ use mathlib.Core.List.{List, [], _∷_}
 use mathlib.Core.Path.{_≡_, refl}
 use lib.ListN.{length, getD, drop}
 use Rattle.combinators.specs.Choice.{pick, is}
+use Rattle.combinators.specs.Part.{part}
 use Rattle.lexer.specs.Token.{Token, ident, function, hash, string, badString, delim, number, dimension, percentage, cdo, cdc, colon, semicolon, comma, openSquare, closeSquare, openRound, closeRound, openBrace, closeBrace}
 use Rattle.lexer.specs.TokenRow.{tokenWidth, startColumn, firstColumn, secondColumn, dimensionKind, delimKind, tokenFrom, tokenIn}
 use Rattle.lexer.specs.declared.tokens.Token as lexer
 use Rattle.lexer.specs.declared.tokens.Token.the-variants as code
-use Rattle.syntax.specs.Stream.{Read, readMany, part}
+use Rattle.syntax.specs.Stream.{Read, readMany}
 
 -- the token whose texts start at s in the store; a unit lies behind its number
 unfoldable pub tokenWith : List ℕ → ℕ → lexer.Token → Token

@@ -4,15 +4,9 @@ use mathlib.Core.Bool.{Bool, true, false}
 use mathlib.Core.List.{List, [], _∷_}
 use lib.ListN.{take, drop}
 use Rattle.combinators.specs.Choice.{pick, and, is}
+use Rattle.combinators.specs.Word.{sameText}
 use Rattle.lexer.specs.Token.{Token, coded, textOf}
 use Rattle.lexer.specs.TokenRow.{columnsOf, identKind, delimKind}
-
--- two texts are the same bytes
-unfoldable pub same : List ℕ → List ℕ → Bool
-same [] [] = true
-same [] (y ∷ t) = false
-same (x ∷ s) [] = false
-same (x ∷ s) (y ∷ t) = and (is x y) (same s t)
 
 -- ---- what a token is, by its kind
 
@@ -35,7 +29,7 @@ isKind n k = is (kindOf k) n
 
 -- the name w
 unfoldable pub isWord : List ℕ → Token → Bool
-isWord w k = and (isKind identKind k) (same (textOf k) w)
+isWord w k = and (isKind identKind k) (sameText (textOf k) w)
 
 -- the delimiter c
 unfoldable pub isDelim : ℕ → Token → Bool
@@ -59,7 +53,7 @@ foundOr false a r = r
 
 unfoldable pub lookup : {A : Type 0} → List ℕ → List (Entry A) → Found A
 lookup w [] = missing
-lookup w (e ∷ es) = foundOr (same w (e .word)) (e .means) (lookup w es)
+lookup w (e ∷ es) = foundOr (sameText w (e .word)) (e .means) (lookup w es)
 
 unfoldable pub onFound : {A B : Type 0} → Found A → (A → B) → B → B
 onFound (found a) f b = f a
@@ -80,4 +74,4 @@ split joined (n ∷ ns) = take n joined ∷ split (drop n joined) ns
 -- the place of a word in a list, which is the list's length where it is not there
 unfoldable pub placeOf : List ℕ → List (List ℕ) → ℕ
 placeOf w [] = 0
-placeOf w (x ∷ xs) = pick (same w x) 0 (suc (placeOf w xs))
+placeOf w (x ∷ xs) = pick (sameText w x) 0 (suc (placeOf w xs))

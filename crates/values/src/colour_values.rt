@@ -5,7 +5,7 @@ use crate::colours::named_colour;
 use crate::colours::rgb_colour;
 use crate::tokens::is_kind;
 use crate::tokens::text_at;
-use crate::words::same_text;
+use combinators::texts::same_text;
 use lexer::rows::CLOSE_ROUND;
 use lexer::rows::COMMA;
 use lexer::rows::FUNCTION;

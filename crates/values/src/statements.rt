@@ -2,7 +2,7 @@
 use crate::tokens::is_kind;
 use crate::tokens::place_at;
 use crate::tokens::text_at;
-use crate::words::same_text;
+use combinators::texts::same_text;
 use lexer::rows::DELIM;
 use lexer::rows::IDENT;
 use lexer::rows::TOKEN_FIRST;

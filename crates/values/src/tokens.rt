@@ -1,9 +1,9 @@
 // What token rows say.
 use combinators::stores::number_at;
+use combinators::texts::part_of;
 use lexer::rows::TOKEN_FIRST;
 use lexer::rows::TOKEN_KIND;
 use lexer::rows::TOKEN_START;
-use syntax::texts::part_of;
 ghost use mathlib.Core.Path.{_≡_};
 ghost use Prim.Native.Nat.{_+_};
 ghost use lib.ListN.{getD};

@@ -1,19 +1,9 @@
 // Fixed words, compared byte by byte. A table of words is data: the words joined, and their lengths.
-use combinators::bytes::starts_with;
+use combinators::texts::same_text;
 ghost use mathlib.Core.Path.{_≡_};
 ghost use lib.Dec.{leb};
 ghost use Rattle.combinators.specs.Choice.{pick};
-ghost use Rattle.values.specs.Words.{same, split, placeOf};
-
-// Whether `s` and `w` are the same bytes.
-pub fn same_text(s: &[u8], w: &[u8]) -> bool
-    ensures { λ r. ⌜ r ≡ same (now (s .entry)) (now (w .entry)) ⌝ }
-{
-    if s.len() == w.len() {
-        return starts_with(s, w);
-    }
-    false
-}
+ghost use Rattle.values.specs.Words.{split, placeOf};
 
 // The length `n`, or `most` where `n` is more.
 fn clipped(n: u8, most: usize) -> usize

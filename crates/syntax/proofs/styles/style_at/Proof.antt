@@ -1,6 +1,6 @@
 use Rattle.combinators.specs.Choice.{is}
 use Rattle.syntax.specs.Layout.{flagOf}
-use Rattle.syntax.proofs.Parts.{row-read}
+use Rattle.syntax.proofs.StyleRead.{row-read}
 use borrow.Author.Needs.{needs}
 use Rattle.syntax.proofs.styles.style_at.Statement.{statement}
 use Rattle.syntax.proofs.styles.style_at.Tie as tie

@@ -1,7 +1,7 @@
-use Rattle.declarations.proofs.PropertyLaws as laws
+use Rattle.lexer.proofs.Comments as laws
 use borrow.Author.Needs.{needs}
-use Rattle.declarations.proofs.rules.skip_from.Statement.{statement}
-use Rattle.declarations.proofs.rules.skip_from.Tie as tie
+use Rattle.lexer.proofs.whitespace.skip_from.Statement.{statement}
+use Rattle.lexer.proofs.whitespace.skip_from.Tie as tie
 
 sub-skip-optional-whitespace : tie.Need-sub-skip-optional-whitespace
 sub-skip-optional-whitespace c = search needs

@@ -1,7 +1,7 @@
-use Rattle.syntax.proofs.Parts as laws
+use Rattle.combinators.proofs.Parts as laws
 use borrow.Author.Needs.{needs}
-use Rattle.syntax.proofs.texts.part_of.Statement.{statement}
-use Rattle.syntax.proofs.texts.part_of.Tie as tie
+use Rattle.combinators.proofs.texts.part_of.Statement.{statement}
+use Rattle.combinators.proofs.texts.part_of.Tie as tie
 
 slice-aggregate-result : tie.Need-slice-aggregate-result
 slice-aggregate-result c = search needs

@@ -1,8 +1,8 @@
 use mathlib.Core.Path.{_∙_}
-use Rattle.values.proofs.WordLaws as laws
+use Rattle.combinators.proofs.Words as laws
 use borrow.Author.Needs.{needs}
-use Rattle.values.proofs.words.same_text.Statement.{statement}
-use Rattle.values.proofs.words.same_text.Tie as tie
+use Rattle.combinators.proofs.texts.same_text.Statement.{statement}
+use Rattle.combinators.proofs.texts.same_text.Tie as tie
 
 starts-with-requires : tie.Need-starts-with-requires
 starts-with-requires c κs = search needs

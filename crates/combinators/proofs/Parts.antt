@@ -1,12 +1,11 @@
--- The returns of `part_of` and of `style_at`.
+-- The returns of `part_of`.
 use mathlib.Core.Path.{_≡_, ap, sym, _∙_}
 use mathlib.Core.List.{List}
 use Prim.Native.Nat.{ℕ, _+_, _-_, _<_}
 use native.Mathlib.Omega.{arith}
-use lib.ListN.{length, getD, take, drop, length-drop, drop-of-length-le}
-use lib.Seq.{take-all, take-nil, getD-drop}
-use Rattle.syntax.specs.Layout.{flagOf, styleSlot, styleImportant, styleNumber, styleSecond, numbersAt}
-use Rattle.syntax.specs.Stream.{part}
+use lib.ListN.{length, take, drop, length-drop, drop-of-length-le}
+use lib.Seq.{take-all, take-nil}
+use Rattle.combinators.specs.Part.{part}
 
 module _ (store : List ℕ) (start n : ℕ) where
   -- the start lies past the end
@@ -25,10 +24,3 @@ module _ (store : List ℕ) (start n : ℕ) where
   pub part-whole : take (start + n - start) (drop start store) ≡ part store start n
   unfolding part
   part-whole = let d : start + n - start ≡ n = omega arith in rw d
-
--- the row of a style is read number by number
-pub row-read : (rows : List ℕ) (at n m k i : ℕ) → n ≡ getD rows (at + styleNumber) 0 → m ≡ getD rows (at + styleSecond) 0 → k ≡ getD rows (at + styleSlot) 0
-    → i ≡ getD rows (at + styleImportant) 0 → record { slot = k; important = flagOf i; value = record { number = n; second = m } } ≡ numbersAt (drop at rows)
-unfolding numbersAt
-row-read rows at n m k i en em ek ei =
-    rw (en, em, ek, ei, getD-drop at rows styleNumber 0, getD-drop at rows styleSecond 0, getD-drop at rows styleSlot 0, getD-drop at rows styleImportant 0)
