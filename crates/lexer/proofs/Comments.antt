@@ -2,15 +2,14 @@
 use mathlib.Core.Path.{_≡_, refl, ap, sym, _∙_}
 use mathlib.Core.List.{List, [], _∷_}
 use mathlib.Core.Bool.{Bool, true, false}
-use mathlib.Core.Logic.{_⊎_, inl, inr, ⊎-elim}
 use Prim.Native.Nat.{ℕ, suc, _+_, _-_, _<_, _≤_, zero-le}
 use native.Mathlib.Numerals.{add-one}
 use native.Mathlib.Omega.{arith}
-use lib.ListN.{length, getD, take, drop, drop-of-length-le, length-drop, List·getD-eq-default}
+use lib.ListN.{length, getD, take, drop, drop-of-length-le, length-drop}
 use lib.Seq.{drop-cons}
 use Rattle.combinators.specs.Choice.{and, or, pick, is}
 use Rattle.combinators.specs.Ascii.{asterisk, solidus, space}
-use Rattle.combinators.proofs.Rules.{is-yes, is-no, is-false, lt-or-ge, pick-true, pick-false, and-both, and-left, and-right, and-true, or-none, pick-holds}
+use Rattle.combinators.proofs.Rules.{is-yes, is-no, and-both, and-left, and-right, and-true, or-none, pick-holds}
 use Rattle.combinators.proofs.Lists.{test-there, byte-there, next, rest}
 use Rattle.combinators.proofs.Repeats.{many-le}
 use Rattle.lexer.specs.Whitespace.{commentEnd, commentOf, isWhitespace, whitespaceItem, skipWhitespace}
@@ -55,54 +54,6 @@ module _ (s : List ℕ) (i : ℕ) (c : Seeking s i) where
   -- no asterisk stands there
   pub seek-past : i < length s → ¬ (getD s i 0 ≡ asterisk) → Seeking s (i + 1)
   seek-past l a = on l (and-left _ _ (is-no _ _ a))
-
--- ---- the same two bytes at a time: i is the second of them
-pub record Looking (s : List ℕ) (i : ℕ) : Type 0 where
-  pub some : 1 ≤ i
-  pub before : Seeking s (i - 1)
-
--- at the start
-pub look-begin : (s : List ℕ) → Looking s 1
-look-begin s = record { some = omega arith; before = seek-begin s }
-
-module _ (s : List ℕ) (i : ℕ) (c : Looking s i) where
-  second : i - 1 + 1 ≡ i
-  second = omega (arith, c .some)
-
-  -- a "*/" ends there
-  pub look-found : i < length s → getD s i 0 ≡ solidus → getD s (i - 1) 0 ≡ asterisk → i + 3 ≡ commentEnd 2 s
-  look-found l b a =
-      let e = seek-found s (i - 1) (c .before) (omega arith) a (rw second (is-yes _ _ b)) in
-      omega (arith, e, c .some)
-
-  -- none does
-  passed : i < length s → (¬ (getD s i 0 ≡ solidus)) ⊎ (¬ (getD s (i - 1) 0 ≡ asterisk)) → Seeking s i
-  passed l (inl n) = rw second at (seek-other s (i - 1) (c .before) (omega arith) (rw second (is-no _ _ n)))
-  passed l (inr n) = rw second at (seek-past s (i - 1) (c .before) (omega arith) n)
-
-  -- a '*' may begin one, any other byte may not
-  pub look-on : i < length s → (¬ (getD s i 0 ≡ solidus)) ⊎ (¬ (getD s (i - 1) 0 ≡ asterisk)) → (r : ℕ) → r ≡ pick (is (getD s i 0) asterisk) 1 2 → Looking s (i + r)
-  look-on l n r e = go (is (getD s i 0) asterisk) refl
-    where
-      go : (t : Bool) → is (getD s i 0) asterisk ≡ t → Looking s (i + r)
-      go true q =
-          let z : r ≡ 1 = e ∙ sym (pick-true _ _ _ _ q refl) in
-          let y : i ≡ i + r - 1 = omega arith in
-          record { some = omega (arith, c .some); before = rw y at (passed l n) }
-      go false q =
-          let z : r ≡ 2 = e ∙ sym (pick-false _ _ _ _ q refl) in
-          let y : i + 1 ≡ i + r - 1 = omega arith in
-          record { some = omega (arith, c .some); before = rw y at (seek-past s i (passed l n) l (is-false _ _ q)) }
-
-  -- the text is at its end
-  pub look-end : length s ≤ i → 0 ≡ commentEnd 2 s
-  look-end h = ⊎-elim last (λ (k : length s ≤ i - 1). seek-end s (i - 1) (c .before) k) (lt-or-ge (i - 1) (length s))
-    where
-      none : is (getD s (i - 1 + 1) 0) solidus ≡ false
-      none = rw (second, List·getD-eq-default s 0 h) (is-no 0 solidus (λ e. omega arith))
-
-      last : i - 1 < length s → 0 ≡ commentEnd 2 s
-      last k = seek-end s (i - 1 + 1) (seek-other s (i - 1) (c .before) k none) (omega (arith, second))
 
 -- ---- what is read lies within the text
 -- the end of a comment does, where j bytes stand before

@@ -5,37 +5,22 @@ use combinators::bytes::same;
 ghost use mathlib.Core.Path.{_≡_};
 ghost use Prim.Native.Nat.{_+_, _≤_};
 ghost use lib.ListN.{length, drop};
-ghost use Rattle.combinators.specs.Ascii.{asterisk};
-ghost use Rattle.combinators.specs.Choice.{pick, is};
 ghost use Rattle.lexer.specs.Whitespace.{commentEnd, commentOf, isWhitespace, whitespaceItem, skipWhitespace};
 
 const FORM_FEED: u8 = 0x0c;
 
-// How far the search for "*/" goes on behind a byte: a '*' may begin it, any other may not.
-fn stride(b: u8) -> usize
-    ensures { λ r. ⌜ r ≡ pick (is b asterisk) 1 2 ⌝ }
-    ensures { λ r. ⌜ (1 ≤ r) × (r ≤ 2) ⌝ }
-{
-    if b == b'*' {
-        return 1;
-    }
-    2
-}
-
-// Where the comment ends of which `s` is what follows "/*", those two bytes counted; 0 where it does not end. Of two bytes the second is looked at
-// first, so that most are passed two at a time.
+// Where the comment ends of which `s` is what follows "/*", those two bytes counted; 0 where it does not end.
 fn comment_end(s: &[u8]) -> usize
     ensures { λ r. ⌜ r ≡ commentEnd 2 (now (s .entry)) ⌝ }
 {
-    let mut i = 1;
+    let mut i = 0;
     while i < s.len() {
-        let b = s[i];
-        if b == b'/' {
-            if s[i - 1] == b'*' {
-                return i + 3; // "/*", i - 1 bytes, and "*/"
+        if s[i] == b'*' {
+            if byte_is(s, i + 1, b'/') {
+                return i + 4; // "/*", i bytes, and "*/"
             }
         }
-        i += stride(b);
+        i += 1;
     }
     0
 }
