@@ -17,7 +17,8 @@ use Rattle.page.proofs.AcceptedPages.{Accepted, accepted}
 use Rattle.page.proofs.Sums.{bytes-within, attributes-before-within}
 use Rattle.compiled.proofs.Written.{part-le}
 use Rattle.styles.specs.StyleCall.{inlineContents}
-use Rattle.styles.proofs.Room.{valuesOf, inline-short}
+use Rattle.styles.specs.Room.{valuesOf}
+use Rattle.styles.proofs.Room.{inline-short}
 use Rattle.styles.specs.declared.settings.Settings.{Settings}
 use Rattle.runner.specs.LeastLengths.{runTextBytes}
 use Rattle.runner.specs.Run.{Page, rowContents, contentsBefore, pageContents}

@@ -2,3 +2,4 @@ pub mod Lying
 pub mod Placed
 pub mod Called
 pub mod Room
+pub mod Merging

@@ -23,6 +23,7 @@ use Rattle.page.specs.Path.{Attribute, Element, Path}
 use Rattle.matching.specs.Matches.{isNamed}
 use Rattle.styles.specs.declared.settings.Settings.{Settings}
 use Rattle.styles.specs.Said.{colourStyles, attributeStyles, countedAttributes}
+use Rattle.styles.specs.Room.{valuesOf, valuesAlong, attributesAlong}
 use Rattle.styles.specs.StyleCall.{attributeContents, attributesContents, inlineContents, pathContents}
 
 -- those of a `style` attribute
@@ -55,18 +56,6 @@ attribute-short a =
     (λ _. pick-holds (short a) (isNamed (text "color") a) _ _ (λ _. omega (arith, colour-short style.colour (colourAttribute (a .value)) (λ x. unfold styleTextOf in refl)))
     (λ _. pick-holds (short a) (isNamed (text "bgcolor") a) _ _ (λ _. omega (arith, colour-short style.background (colourAttribute (a .value)) (λ x. unfold styleTextOf in refl)))
     (λ _. no-styles a)))
-
--- ---- the bytes of the values of attributes, and of those of a path
-unfoldable pub valuesOf : List Attribute → ℕ
-valuesOf xs = length (textsMany (λ (a : Attribute). a .value) xs)
-
-unfoldable pub valuesAlong : Path → ℕ
-valuesAlong [] = 0
-valuesAlong (e ∷ up) = valuesOf (e .attributes) + valuesAlong up
-
-unfoldable pub attributesAlong : Path → ℕ
-attributesAlong [] = 0
-attributesAlong (e ∷ up) = length (e .attributes) + attributesAlong up
 
 -- of many attributes
 pub attributes-short : (xs : List Attribute) → length (attributesContents xs) ≤ valuesOf xs + 2 * length xs

@@ -2,3 +2,5 @@ pub mod Said
 pub mod Computed
 pub mod StyleCall
 pub mod Says
+pub mod Merged
+pub mod Room
