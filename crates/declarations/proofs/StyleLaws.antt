@@ -325,7 +325,7 @@ module _ {A : Type 0} (x : A → List ℕ) where
 -- ---- one declaration
 
 -- the numbers behind its row
-row-behind : (i s f : ℕ) (d : Decl) (t : List ℕ) → drop declarationWidth (declRow i s f d ++ t) ≡ t
+pub row-behind : (i s f : ℕ) (d : Decl) (t : List ℕ) → drop declarationWidth (declRow i s f d ++ t) ≡ t
 unfolding declRow
 row-behind i s f (color c) t = refl
 row-behind i s f (backgroundColor c) t = refl
@@ -344,7 +344,7 @@ unfolding rowOfOwn rowsMany styleRow
 one-row x f d e = ap rowOfNumbers e ∙ sym (append-nil _)
 
 -- the row of its style
-own-row : (i : Bool) (s f : ℕ) (d : Decl) (t : List ℕ) → ownRow (declRow (flag i) s f d ++ t) ≡ rowsMany styleRow styleText f (styleOf i d)
+pub own-row : (i : Bool) (s f : ℕ) (d : Decl) (t : List ℕ) → ownRow (declRow (flag i) s f d ++ t) ≡ rowsMany styleRow styleText f (styleOf i d)
 unfolding ownRow ownNumbersAt declaredValue ownNumbers declRow numbersFrom styleSlotOf valueFrom styleOf one flag flagOf rowOfOwn rowsMany pick is
 own-row i s f (color c) t = one-row _ f _ (rw (flag-back i))
 own-row i s f (backgroundColor c) t = one-row _ f _ (rw (flag-back i))
@@ -374,7 +374,7 @@ own-text i (content b) u = append-nil b
 own-text i (unknown b) u = sym u
 
 -- whether it sets a height to zero
-zero-row : (i s f : ℕ) (d : Decl) (t : List ℕ) → zeroRow (declRow i s f d ++ t) ≡ zeroHeight d
+pub zero-row : (i s f : ℕ) (d : Decl) (t : List ℕ) → zeroRow (declRow i s f d ++ t) ≡ zeroHeight d
 unfolding zeroRow hasValue declRow zeroHeight flag flagOf and or is
 zero-row i s f (color c) t = refl
 zero-row i s f (backgroundColor c) t = refl
@@ -398,7 +398,7 @@ hides-word scroll = refl
 hides-word auto = refl
 
 -- whether it hides what overflows
-hidden-row : (i s f : ℕ) (d : Decl) (t : List ℕ) → hiddenRow (declRow i s f d ++ t) ≡ hidesOverflow d
+pub hidden-row : (i s f : ℕ) (d : Decl) (t : List ℕ) → hiddenRow (declRow i s f d ++ t) ≡ hidesOverflow d
 unfolding hiddenRow hasValue declRow hidesOverflow and or is
 hidden-row i s f (color c) t = refl
 hidden-row i s f (backgroundColor c) t = refl
@@ -430,7 +430,7 @@ own-rows-only (d ∷ ds) f t u =
 
 -- a test of one of them
 module _ (p : List ℕ → Bool) (q : Decl → Bool) (h : (i s f : ℕ) (d : Decl) (t : List ℕ) → p (declRow i s f d ++ t) ≡ q d) where
-  any-declared : (ds : List Declaration) (f : ℕ) (t : List ℕ) → anyRow p (length ds) (declarationRows f ds ++ t) ≡ anyDecl q ds
+  pub any-declared : (ds : List Declaration) (f : ℕ) (t : List ℕ) → anyRow p (length ds) (declarationRows f ds ++ t) ≡ anyDecl q ds
   unfolding anyRow anyDecl declarationRows declarationRow rowsMany
   any-declared [] f t = refl
   any-declared (d ∷ ds) f t =

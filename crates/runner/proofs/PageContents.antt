@@ -18,32 +18,10 @@ use Rattle.page.proofs.Sums.{bytes-within, attributes-before-within}
 use Rattle.compiled.proofs.Written.{part-le}
 use Rattle.styles.specs.StyleCall.{inlineContents}
 use Rattle.styles.specs.Room.{valuesOf}
-use Rattle.styles.proofs.Room.{inline-short}
+use Rattle.styles.proofs.Room.{inline-short, attributes-counted, values-short}
 use Rattle.styles.specs.declared.settings.Settings.{Settings}
 use Rattle.runner.specs.LeastLengths.{runTextBytes}
 use Rattle.runner.specs.Run.{Page, rowContents, contentsBefore, pageContents}
-
-module _ (attributes text : List ℕ) where
-  -- as many attributes as were asked for
-  attributes-counted : (k at : ℕ) → length (attributesFrom attributes text k at) ≡ k
-  unfolding attributesFrom
-  attributes-counted zero at = refl
-  attributes-counted (suc k) at = ap suc (attributes-counted k (at + 1))
-
-  -- the values of attribute rows are no longer than the texts of these rows
-  values-short : (k at start : ℕ) → start + valuesOf (attributesFrom attributes text k at) ≤ attributesEnd attributes k at start
-  unfolding valuesOf attributesFrom attributesEnd textsMany attributeValue
-  values-short zero at start = omega arith
-  values-short (suc k) at start =
-      let row = attributeAt attributes at in
-      let v : List ℕ = attributeValue attributes text at in
-      let others : List ℕ = textsMany (λ (a : Attribute). a .value) (attributesFrom attributes text k (at + 1)) in
-      omega (
-        arith,
-        length-append v others,
-        part-le text (row .valueStart) (row .valueLength),
-        values-short k (at + 1) (start + row .nameLength + row .valueLength),
-      )
 
 module _ (settings : Settings) (g : Page) where
   -- the contents of a row

@@ -21,7 +21,7 @@ use Rattle.page.specs.Path.{Element, Path}
 use Rattle.styles.specs.declared.settings.Settings.{Settings}
 use Rattle.styles.specs.Said.{Rules, sourcesFrom, meantRules, countedAttributes, attributesSay}
 use Rattle.styles.specs.Computed.{cascaded, sourcesAlong, computedStyle}
-use Rattle.styles.specs.StyleCall.{sheetsContents, inlineContents, pathContents, placedSheets, placedAttributes, placedAlong, callStore, callRow}
+use Rattle.styles.specs.StyleCall.{sheetsContents, inlineContents, pathContents, placedSheets, placedAttributes, placedFrom, placedAlong, callStore, callRow}
 use Rattle.styles.specs.Says.{Says}
 use Rattle.styles.proofs.Lying.{Lies, lies-left, lies-right, lies-at, lies-first}
 use Rattle.styles.proofs.Placed.{sources-same, sheets-placed, attributes-placed}
@@ -54,7 +54,7 @@ module _ (t : List ℕ) (c : Cascade) (rules : Rules RuleSet) (settings : Settin
 
   -- the style in numbers says the computed style
   pub along-same : (p : Path) → Lies t (length (sheetsContents rules)) (pathContents settings p) → SameStyle (Says t) (cascaded c (placedAlong rules settings p)) (cascaded c (sourcesAlong rules settings p))
-  unfolding cascaded placedAlong sourcesAlong pathContents
+  unfolding cascaded placedAlong placedFrom sourcesAlong pathContents
   along-same [] h = empty-same (Says t)
   along-same (e ∷ up) h =
       let n = length (sheetsContents rules) in

@@ -2,10 +2,11 @@
 use mathlib.Core.Path.{_≡_, refl, ap, sym, _∙_}
 use mathlib.Core.Bool.{Bool, true, false}
 use mathlib.Core.List.{List, [], _∷_}
-use Prim.Native.Nat.{ℕ, _+_, _*_, _≤_}
+use Prim.Native.Nat.{ℕ, zero, suc, _+_, _-_, _*_, _≤_}
 use native.Mathlib.Omega.{arith}
-use lib.ListN.{length, length-append}
+use lib.ListN.{length, drop, length-append, length-take}
 use Rattle.combinators.specs.Choice.{pick}
+use Rattle.combinators.specs.Part.{part}
 use Rattle.combinators.proofs.Rules.{pick-holds}
 use Rattle.unicode.specs.Literal.{text}
 use Rattle.syntax.specs.Declaration.{Colour}
@@ -19,8 +20,14 @@ use Rattle.declarations.specs.Leaving.{rulesOf}
 use Rattle.declarations.specs.Rules.{declarationsOf}
 use Rattle.declarations.proofs.StyleAttribute.{nameless, styles-kept, bounded}
 use Rattle.declarations.proofs.StyleLaws.{own-texts}
+use Rattle.page.specs.Accepted.{attributesBefore, attributesEnd, textsEnd, bytesBefore}
 use Rattle.page.specs.Path.{Attribute, Element, Path}
+use Rattle.page.specs.PathOf.{attributesFrom, elementAt, pathOf}
+use Rattle.page.specs.Rows.{nodeAt, attributeAt, attributeValue}
 use Rattle.matching.specs.Matches.{isNamed}
+use Rattle.matching.specs.Rows.{Rooted}
+use Rattle.matching.specs.Rows.Rooted.{document, below}
+use Rattle.matching.proofs.PathLaws.{top-path, some-element-path}
 use Rattle.styles.specs.declared.settings.Settings.{Settings}
 use Rattle.styles.specs.Said.{colourStyles, attributeStyles, countedAttributes}
 use Rattle.styles.specs.Room.{valuesOf, valuesAlong, attributesAlong}
@@ -87,3 +94,71 @@ pub path-short : (settings : Settings) (p : Path) → length (pathContents setti
 unfolding pathContents valuesAlong attributesAlong
 path-short settings [] = omega arith
 path-short settings (e ∷ up) = omega (arith, length-append (pathContents settings up) (inlineContents settings e), path-short settings up, inline-short settings e)
+
+-- ---- the attributes of an element of a page
+-- a part is no longer than was asked for
+part-le : (t : List ℕ) (start size : ℕ) → length (part t start size) ≤ size
+unfolding part
+part-le t start size = omega (arith, length-take size (drop start t))
+
+module _ (attributes text : List ℕ) where
+  -- as many attributes as were asked for
+  pub attributes-counted : (k at : ℕ) → length (attributesFrom attributes text k at) ≡ k
+  unfolding attributesFrom
+  attributes-counted zero at = refl
+  attributes-counted (suc k) at = ap suc (attributes-counted k (at + 1))
+
+  -- the values of attribute rows are no longer than the texts of these rows
+  pub values-short : (k at start : ℕ) → start + valuesOf (attributesFrom attributes text k at) ≤ attributesEnd attributes k at start
+  unfolding valuesOf attributesFrom attributesEnd textsMany attributeValue
+  values-short zero at start = omega arith
+  values-short (suc k) at start =
+      let row = attributeAt attributes at in
+      let v : List ℕ = attributeValue attributes text at in
+      let others : List ℕ = textsMany (λ (a : Attribute). a .value) (attributesFrom attributes text k (at + 1)) in
+      omega (
+        arith,
+        length-append v others,
+        part-le text (row .valueStart) (row .valueLength),
+        values-short k (at + 1) (start + row .nameLength + row .valueLength),
+      )
+
+-- ---- the path of a row: its values and its attributes are no more than those of the rows up to it
+module _ (nodes attributes text : List ℕ) where
+  -- an element's own
+  own-values : (row : ℕ) → bytesBefore nodes attributes row + valuesOf (elementAt nodes attributes text row .attributes) ≤ bytesBefore nodes attributes (suc row)
+  unfolding bytesBefore textsEnd elementAt
+  own-values row =
+      let n = nodeAt nodes row in
+      omega (arith, values-short attributes text (n .attributeCount) (n .firstAttribute) (bytesBefore nodes attributes row + n .nameLength))
+
+  own-attributes : (row : ℕ) → attributesBefore nodes row + length (elementAt nodes attributes text row .attributes) ≤ attributesBefore nodes (suc row)
+  unfolding attributesBefore elementAt
+  own-attributes row = let n = nodeAt nodes row in omega (arith, attributes-counted attributes text (n .attributeCount) (n .firstAttribute))
+
+  -- the totals grow
+  bytes-grow : (m k : ℕ) → bytesBefore nodes attributes m ≤ bytesBefore nodes attributes (k + m)
+  bytes-grow m zero = let e : 0 + m ≡ m = omega arith in rw e (omega arith)
+  bytes-grow m (suc k) = let e : suc k + m ≡ suc (k + m) = omega arith in rw e (omega (arith, own-values (k + m), bytes-grow m k))
+
+  attributes-grow : (m k : ℕ) → attributesBefore nodes m ≤ attributesBefore nodes (k + m)
+  attributes-grow m zero = let e : 0 + m ≡ m = omega arith in rw e (omega arith)
+  attributes-grow m (suc k) = let e : suc k + m ≡ suc (k + m) = omega arith in rw e (omega (arith, own-attributes (k + m), attributes-grow m k))
+
+  pub path-values : (row : ℕ) → Rooted nodes row → valuesAlong (pathOf nodes attributes text row) ≤ bytesBefore nodes attributes (suc row)
+  unfolding valuesAlong
+  path-values row (document d) = rw (top-path nodes attributes text 0 (document d) refl) (omega arith)
+  path-values row (below k l n r) =
+      let p = nodeAt nodes row .parent in
+      let e : row - suc p + suc p ≡ row = omega arith in
+      rw (some-element-path nodes attributes text row (below k l n r) k)
+      (omega (arith, own-values row, path-values p r, rw e at (bytes-grow (suc p) (row - suc p))))
+
+  pub path-attributes : (row : ℕ) → Rooted nodes row → attributesAlong (pathOf nodes attributes text row) ≤ attributesBefore nodes (suc row)
+  unfolding attributesAlong
+  path-attributes row (document d) = rw (top-path nodes attributes text 0 (document d) refl) (omega arith)
+  path-attributes row (below k l n r) =
+      let p = nodeAt nodes row .parent in
+      let e : row - suc p + suc p ≡ row = omega arith in
+      rw (some-element-path nodes attributes text row (below k l n r) k)
+      (omega (arith, own-attributes row, path-attributes p r, rw e at (attributes-grow (suc p) (row - suc p))))

@@ -66,12 +66,15 @@ unfoldable pub placedAttributes : ℕ → List Attribute → List (AttributeStyl
 placedAttributes f [] = []
 placedAttributes f (a ∷ others) = attributeSays (placedStyles f) a ++ placedAttributes (f + length (attributeContents a)) others
 
--- ---- what is said of each element of a path, contents by their place
+-- ---- what is said of each element of a path, contents by their place: those of the sheets before `from`, those of the path from there on
+unfoldable pub placedFrom : Rules (StyledRule Value) → ℕ → Settings → Path → List (Sources Value)
+placedFrom rules from settings [] = []
+placedFrom rules from settings (e ∷ up) =
+    let inline = from + length (pathContents settings up) in
+    sourcesFrom rules (placedAttributes inline (countedAttributes settings e)) (e ∷ up) ∷ placedFrom rules from settings up
+
 unfoldable pub placedAlong : Rules RuleSet → Settings → Path → List (Sources Value)
-placedAlong rules settings [] = []
-placedAlong rules settings (e ∷ up) =
-    let from = length (sheetsContents rules) + length (pathContents settings up) in
-    sourcesFrom (placedSheets rules) (placedAttributes from (countedAttributes settings e)) (e ∷ up) ∷ placedAlong rules settings up
+placedAlong rules settings p = placedFrom (placedSheets rules) (length (sheetsContents rules)) settings p
 
 -- ---- the store and the row of a style call
 unfoldable pub callStore : Rules RuleSet → Settings → Path → List ℕ
