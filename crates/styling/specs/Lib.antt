@@ -1,3 +1,4 @@
 pub mod Deciding
 pub mod Placing
+pub mod Path
 pub mod StyleAnswer

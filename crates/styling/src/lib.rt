@@ -1,3 +1,6 @@
 // The style call: the computed style of one element, from three sheets and a page, in the crate's cascade or in the book order.
 pub mod rows; // rows.rt: style rows, written
+pub mod styled; // styled.rt: three sheets whose styles are made
+mod stub; // stub
+pub mod path; // path.rt: the style of an element, down its path
 pub mod style; // style.rt: the entry points

@@ -1,0 +1,36 @@
+-- The text that is lent is the sheet's, so its rules are those that are kept.
+use Rattle.styling.specs.Placing.{sheetText}
+use Rattle.styling.specs.Path.{keptSheet}
+use borrow.Author.Needs.{needs}
+use Rattle.styling.proofs.path.merge_sheet.Statement.{statement}
+use Rattle.styling.proofs.path.merge_sheet.Tie as tie
+
+sub-merge-rules : tie.Need-sub-merge-rules
+sub-merge-rules c = search needs
+
+part-merge-rules-start : tie.Need-part-merge-rules-start
+part-merge-rules-start c = search needs
+
+part-merge-rules-end : tie.Need-part-merge-rules-end
+part-merge-rules-end c = search needs
+
+merge-rules-requires : tie.Need-merge-rules-requires
+merge-rules-requires c κs = search needs
+
+same-length : tie.Need-same-length
+same-length c = search needs
+
+returns : tie.Need-returns
+unfolding keptSheet sheetText
+returns c = c .before .before .merge-rules .ensures
+
+pub merge-sheet-spec : {M : Type 1} → statement M
+merge-sheet-spec =
+    tie.close
+    (tie.spec
+    sub-merge-rules
+    part-merge-rules-start
+    part-merge-rules-end
+    merge-rules-requires
+    same-length
+    returns)
