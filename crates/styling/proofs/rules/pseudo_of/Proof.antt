@@ -1,5 +1,4 @@
 use Rattle.styling.proofs.RulesMerging as laws
-use borrow.Author.Needs.{needs}
 use Rattle.styling.proofs.rules.pseudo_of.Statement.{statement}
 use Rattle.styling.proofs.rules.pseudo_of.Tie as tie
 
