@@ -1,4 +1,4 @@
--- A row into which declarations are merged one after the other, and what rules say of an element, merged selector by selector and rule by rule.
+-- A row into which declarations are merged one after the other, and the returns and turns of the functions that merge what rules say of an element.
 use mathlib.Core.Path.{_≡_, refl, sym, ap, _∙_}
 use mathlib.Core.Bool.{Bool, true, false}
 use mathlib.Core.List.{List, [], _∷_, _++_, map, map-append}
@@ -15,12 +15,11 @@ use Rattle.syntax.specs.Selector.{Selector}
 use Rattle.syntax.specs.Stream.{readMany}
 use Rattle.syntax.specs.declared.styles.StyleNumbers.{StyleNumbers}
 use Rattle.syntax.specs.declared.styles.Value.{Value}
-use Rattle.origins.specs.Rules.{selectorsRead}
 use Rattle.origins.proofs.WalkLaws.{many-rest, declaration-rest, Passing, passing-more, passing-done}
 use Rattle.cascade.specs.declared.slots.Cascade.{Cascade}
 use Rattle.cascade.specs.declared.specificity.Specificity.{Specificity}
-use Rattle.cascade.specs.Record.{Styled, RuleStyle, Declared, fromRule}
-use Rattle.cascade.specs.Row.{styleRowWidth, RowRoom, Merged}
+use Rattle.cascade.specs.Record.{mainRecord, beforeRecord, afterRecord, Styled, RuleStyle, Declared, fromRule}
+use Rattle.cascade.specs.Row.{RowRoom, Merged}
 use Rattle.page.specs.Path.{Path}
 use Rattle.matching.specs.Matches.{matches}
 use Rattle.matching.specs.Rows.{componentsAt}
@@ -35,6 +34,10 @@ use Rattle.styling.specs.Placing.{keptHead, keptCount, readStyled, readK
 -- what has the length of a row with room has room
 pub room-kept : (row z : List ℕ) → length z ≡ length row → RowRoom row → RowRoom z
 room-kept row z e r = record { room = omega (arith, e, r .room) }
+
+-- a row into which declarations are merged keeps its room
+pub room-merged : (c : Cascade) (row z : List ℕ) (ds : List (Declared Value)) → z ≡ mergedRow c row ds → RowRoom row → RowRoom z
+room-merged c row z ds e r = room-kept row z (ap length e ∙ merged-long c ds row) r
 
 module _ (c : Cascade) (row₀ : List ℕ) (all : List (Declared Value)) where
   -- what is left to merge is what was to be merged, and the row has its length and room for a style
@@ -51,11 +54,10 @@ module _ (c : Cascade) (row₀ : List ℕ) (all : List (Declared Value)) where
     -- some are merged
     pub merging-more : (ds behind : List (Declared Value)) → others ≡ ds ++ behind → (z : List ℕ) → z ≡ mergedRow c row ds → Merging z behind
     merging-more ds behind e z ez =
-        let k : length z ≡ length row = ap length ez ∙ merged-long c ds row in
         record {
           left = ap (λ (x : List ℕ). mergedRow c x behind) ez ∙ sym (merged-append c row ds behind) ∙ sym (ap (mergedRow c row) e) ∙ m .left;
-          long = k ∙ m .long;
-          room = room-kept row z k (m .room);
+          long = ap length ez ∙ merged-long c ds row ∙ m .long;
+          room = room-merged c row z ds ez (m .room);
         }
 
     -- all are merged
@@ -64,17 +66,17 @@ module _ (c : Cascade) (row₀ : List ℕ) (all : List (Declared Value)) where
 
 -- ---- pseudo elements
 -- none is the main record
-pub main-named : (n : ℕ) → n ≡ 0 → 0 ≡ pseudoNumber (pseudoFrom n)
+pub main-named : (n : ℕ) → n ≡ 0 → mainRecord ≡ pseudoNumber (pseudoFrom n)
 unfolding pseudoNumber pseudoFrom
 main-named n e = ap pseudoNumber (pick-true _ _ _ _ (is-yes n 0 e) refl)
 
 -- `::before` is its own
-pub before-named : (n : ℕ) → ¬ (n ≡ 0) → n ≡ 1 → 1 ≡ pseudoNumber (pseudoFrom n)
+pub before-named : (n : ℕ) → ¬ (n ≡ 0) → n ≡ 1 → beforeRecord ≡ pseudoNumber (pseudoFrom n)
 unfolding pseudoNumber pseudoFrom
 before-named n d e = ap pseudoNumber (pick-false _ _ _ _ (is-no n 0 d) (pick-true _ _ _ _ (is-yes n 1 e) refl))
 
 -- all others are `::after`
-pub after-named : (n : ℕ) → ¬ (n ≡ 0) → ¬ (n ≡ 1) → 2 ≡ pseudoNumber (pseudoFrom n)
+pub after-named : (n : ℕ) → ¬ (n ≡ 0) → ¬ (n ≡ 1) → afterRecord ≡ pseudoNumber (pseudoFrom n)
 unfolding pseudoNumber pseudoFrom
 after-named n d e = ap pseudoNumber (pick-false _ _ _ _ (is-no n 0 d) (pick-false _ _ _ _ (is-no n 1 e) refl))
 
@@ -96,12 +98,14 @@ module _ (c : Cascade) (pseudo origin : ℕ) (spec : Specificity) (styles : List
   pub styles-begin : RowRoom row₀ → StylesMerging count at row₀
   styles-begin r = record { merging = merging-begin c row₀ _ r }
 
+  -- the first of them, and the others
   one-declared : (n place next : ℕ) → 0 < n → drop next styles ≡ drop (place + styleWidth) styles
       → stylesDeclared n place ≡ (styleDeclared place ∷ []) ++ stylesDeclared (n - 1) next
   unfolding readMany readStyled
   one-declared zero place next h e = absurd (omega arith)
   one-declared (suc k) place next h e = let q : suc k - 1 ≡ k = omega arith in rw (q, e, drop-drop styleWidth place styles)
 
+  -- none is left
   none-declared : (n place : ℕ) → n ≤ 0 → stylesDeclared n place ≡ []
   unfolding readMany
   none-declared zero place h = refl
@@ -160,11 +164,13 @@ module _ (c : Cascade) (origin : ℕ) (p : Path) (ds : List (Styled Value)) (tex
   abbrev selectorDeclared : List (Declared Value)
   selectorDeclared = map (fromRule origin) (selectorSays p ds (readSelector texts (drop at rows) .value))
 
+  -- are its components
   lent-components : componentsAt texts lent n ≡ readSelector texts (drop at rows) .value .components
   unfolding componentsAt readSelector
   lent-components = rw (rest rows behind, eb, en, getD-drop at rows selectorComponents 0, drop-drop selectorHead at rows)
 
   module _ (m : Bool) (em : m ≡ matches (componentsAt texts lent n) p) where
+    -- what is asked is whether it matches
     matched : m ≡ matches (readSelector texts (drop at rows) .value .components) p
     matched = em ∙ ap (λ cs. matches cs p) lent-components
 
@@ -201,6 +207,7 @@ module _ (c : Cascade) (origin : ℕ) (p : Path) (ds : List (Styled Value)) (tex
   pub selectors-begin : RowRoom row₀ → SelectorsMerging count at row₀
   selectors-begin r = record { merging = merging-begin c row₀ _ r; passing = λ _. refl }
 
+  -- the first of them, and the others
   one-selector : (n place next : ℕ) → 0 < n → drop next rows ≡ readSelector texts (drop place rows) .rest
       → selectorsDeclared n place ≡ map (fromRule origin) (selectorSays p ds (readSelector texts (drop place rows) .value)) ++ selectorsDeclared (n - 1) next
   unfolding readMany selectorsSay
@@ -210,6 +217,7 @@ module _ (c : Cascade) (origin : ℕ) (p : Path) (ds : List (Styled Value)) (tex
       let s = readSelector texts (drop place rows) in
       rw (q, e) (map-append (fromRule origin) (selectorSays p ds (s .value)) (selectorsSay p ds (readMany (readSelector texts) k (s .rest) .value)))
 
+  -- none is left
   none-selected : (n place : ℕ) → n ≤ 0 → selectorsDeclared n place ≡ []
   unfolding readMany selectorsSay
   none-selected zero place h = refl
@@ -290,6 +298,7 @@ module _ (c : Cascade) (origin : ℕ) (p : Path) (texts rows : List ℕ) (count 
   pub rules-begin : RowRoom row₀ → RulesMerging count at first row₀
   rules-begin r = record { merging = merging-begin c row₀ _ r }
 
+  -- the first of them, and the others
   one-rule : (n place kept next later : ℕ) → 0 < n → drop next rows ≡ readRule texts (drop place rows) .rest → drop later styles ≡ readKept (drop kept styles) .rest
       → rulesDeclared n place kept
       ≡ map (fromRule origin) (selectorsSay p (readKept (drop kept styles) .value) (readRule texts (drop place rows) .value .selectors)) ++ rulesDeclared (n - 1) next later
@@ -301,6 +310,7 @@ module _ (c : Cascade) (origin : ℕ) (p : Path) (texts rows : List ℕ) (count 
       let s = readKept (drop kept styles) in
       rw (q, e, f) (map-append (fromRule origin) (selectorsSay p (s .value) (r .value .selectors)) (rulesSay p (rulesKept texts k (r .rest) (s .rest))))
 
+  -- none is left
   no-rule : (n place kept : ℕ) → n ≤ 0 → rulesDeclared n place kept ≡ []
   unfolding rulesKept rulesSay
   no-rule zero place kept h = refl

@@ -107,7 +107,16 @@ fn merge_selector(
     let length = number_at(rows, at, SELECTOR_COMPONENTS);
     let behind_head = forward(rows, at, SELECTOR_HEAD);
     let components = &rows[behind_head..];
-    if do_matches(components, texts, length as usize, nodes, attributes, text, row) {
+    let matched = do_matches(
+        components,
+        texts,
+        length as usize,
+        nodes,
+        attributes,
+        text,
+        row,
+    );
+    if matched {
         let pseudo = pseudo_of(number_at(rows, at, SELECTOR_PSEUDO));
         let spec = specificity(components, length);
         merge_styles(out, cascade, pseudo, origin, spec, styles, first, count);
@@ -146,7 +155,18 @@ fn merge_selectors(
     let mut left = selectors;
     while left > 0 {
         merge_selector(
-            out, cascade, origin, rows, place, texts, styles, first, count, nodes, attributes, text,
+            out,
+            cascade,
+            origin,
+            rows,
+            place,
+            texts,
+            styles,
+            first,
+            count,
+            nodes,
+            attributes,
+            text,
             row,
         );
         place = skip_selector(rows, place);
@@ -242,7 +262,18 @@ pub fn merge_rules(
     let mut left = count;
     while left > 0 {
         place = merge_rule(
-            out, cascade, origin, rows, place, texts, styles, kept, nodes, attributes, text, row,
+            out,
+            cascade,
+            origin,
+            rows,
+            place,
+            texts,
+            styles,
+            kept,
+            nodes,
+            attributes,
+            text,
+            row,
         );
         kept = skip_kept(styles, kept);
         left -= 1;

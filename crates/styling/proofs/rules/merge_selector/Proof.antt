@@ -1,3 +1,4 @@
+-- The components that are lent are those of the selector, so where they match its styles are merged, and elsewhere it says nothing.
 use Rattle.styling.proofs.RulesMerging as laws
 use Rattle.page.specs.PathOf.{pathOf}
 use borrow.Author.Needs.{needs}

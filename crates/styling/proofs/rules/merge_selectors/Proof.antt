@@ -1,3 +1,4 @@
+-- Each turn merges what the first of the selectors that are left says and goes behind it, so all are merged and passed.
 use Rattle.styling.proofs.RulesMerging as laws
 use Rattle.styling.specs.Placing.{readStyled}
 use Rattle.syntax.specs.Stream.{readMany}

@@ -1,3 +1,4 @@
+-- Each turn merges the first of the styles that are left, so all are merged in their order.
 use Rattle.styling.proofs.RulesMerging as laws
 use borrow.Author.Needs.{needs}
 use Rattle.styling.proofs.rules.merge_styles.Statement.{statement}

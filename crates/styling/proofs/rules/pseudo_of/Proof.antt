@@ -1,3 +1,4 @@
+-- The three records have the numbers of the pseudo elements.
 use Rattle.styling.proofs.RulesMerging as laws
 use Rattle.styling.proofs.rules.pseudo_of.Statement.{statement}
 use Rattle.styling.proofs.rules.pseudo_of.Tie as tie

@@ -1,3 +1,4 @@
+-- The styles that are kept for a rule are rows of one width behind their count.
 use Rattle.styling.proofs.RulesMerging as laws
 use borrow.Author.Needs.{needs}
 use Rattle.styling.proofs.rules.skip_kept.Statement.{statement}
