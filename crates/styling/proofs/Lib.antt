@@ -1,2 +1,3 @@
 pub mod Written
 pub mod PathLaws
+pub mod RulesMerging

@@ -72,6 +72,12 @@ styledRules text f zero t = []
 styledRules text f (suc n) t = styledRule text f t ∷ styledRules text (f + length (contentsAt text t)) n (readRule text t .rest)
 
 -- ---- the styles of rules as the call keeps them: for each rule how many decide, and their rows
+abbrev pub keptHead : ℕ
+keptHead = 1
+
+abbrev pub keptCount : ℕ
+keptCount = 0
+
 unfoldable pub styledRow : Styled Value → List ℕ
 styledRow x = rowOfNumbers (record { slot = x .slot; important = x .important; value = x .value })
 
@@ -86,7 +92,7 @@ unfoldable pub readStyled : List ℕ → Read (Styled Value)
 readStyled t = record { value = inNumbers (numbersAt t); rest = drop styleWidth t }
 
 unfoldable pub readKept : List ℕ → Read (List (Styled Value))
-readKept t = readMany readStyled (getD t 0 0) (drop 1 t)
+readKept t = readMany readStyled (getD t keptCount 0) (drop keptHead t)
 
 -- n rules, whose selectors are read from their rows and whose styles from those that the call keeps
 unfoldable pub rulesKept : List ℕ → ℕ → List ℕ → List ℕ → List (StyledRule Value)

@@ -4,3 +4,4 @@ pub mod styled; // styled.rt: three sheets whose styles are made
 mod stub; // stub
 pub mod path; // path.rt: the style of an element, down its path
 pub mod style; // style.rt: the entry points
+pub mod rules; // rules.rt: what the rules of a sheet say of an element, merged into its row

@@ -1,7 +1,7 @@
 // The style of an element and of those above it, from the top down.
 use crate::stub::merge_attributes;
 use crate::stub::merge_early_attributes;
-use crate::stub::merge_rules;
+use crate::rules::merge_rules;
 use crate::styled::StyledSheet;
 use crate::styled::StyledSheets;
 use cascade::rows::clear_row;

@@ -1,39 +1,15 @@
 // Stubs.
 use cascade::slots::Cascade;
 ghost use mathlib.Core.Path.{_≡_};
-ghost use mathlib.Core.List.{_++_, map};
+ghost use mathlib.Core.List.{_++_};
 ghost use Prim.Native.Nat.{ℕ, _+_};
-ghost use lib.ListN.{length, take, drop};
+ghost use lib.ListN.{length, take};
 ghost use Rattle.cascade.specs.Row.{RowRoom};
-ghost use Rattle.cascade.specs.Record.{fromRule};
-ghost use Rattle.page.specs.PathOf.{attributesFrom, pathOf};
-ghost use Rattle.matching.specs.Rows.{Countable, Rooted};
-ghost use Rattle.styles.specs.Said.{rulesSay};
+ghost use Rattle.page.specs.PathOf.{attributesFrom};
+ghost use Rattle.matching.specs.Rows.{Countable};
 ghost use Rattle.styles.specs.Merged.{mergedRow, earlyDeclared, lateDeclared};
 ghost use Rattle.styles.specs.StyleCall.{placedAttributes, attributesContents};
 ghost use Rattle.attributes.specs.Merging.{InlineRoom};
-ghost use Rattle.styling.specs.Placing.{rulesKept};
-
-pub fn merge_rules(
-    out: &mut [u32],
-    cascade: Cascade,
-    origin: u32,
-    rows: &[u32],
-    at: usize,
-    count: usize,
-    texts: &[u8],
-    styles: &[u32],
-    first: usize,
-    nodes: &[u32],
-    attributes: &[u32],
-    text: &[u8],
-    row: usize,
-)
-    requires { ⌜ RowRoom (now out) ⌝ }
-    requires { ⌜ Rooted (now nodes) row ⌝ }
-    ensures { λ _. ⌜ now (out .exit) ≡ mergedRow cascade (now (out .entry)) (map (fromRule origin) (rulesSay (pathOf (now (nodes .entry)) (now (attributes .entry)) (now (text .entry)) row) (rulesKept (now (texts .entry)) count (drop at (now (rows .entry))) (drop first (now (styles .entry)))))) ⌝ }
-{
-}
 
 pub fn merge_attributes(
     cascade: Cascade,
