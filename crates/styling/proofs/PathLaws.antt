@@ -5,26 +5,145 @@ use mathlib.Core.List.{List, [], _∷_, _++_, map, append-assoc, append-nil}
 use Prim.Native.Nat.{ℕ, _+_, _-_, _*_, _^_, _≤_, _<_}
 use native.Mathlib.Omega.{arith}
 use borrow.Rule.Slice.PartMut.{putMid, post-is}
-use lib.ListN.{length, take, drop, length-drop, length-append}
-use lib.Seq.{take-append-seam, length-take-le}
+use lib.ListN.{length, take, drop, drop-of-length-le}
+use lib.Seq.{take-add, take-at, take-append-add, length-take-le}
 use Rattle.combinators.specs.Choice.{pick}
 use Rattle.combinators.specs.LeastLengths.{numberLeast}
 use Rattle.combinators.proofs.Lists.{rest}
+use Rattle.syntax.specs.Stream.{textsMany}
 use Rattle.syntax.specs.Style.{agentOrigin, userOrigin, authorOrigin}
 use Rattle.syntax.specs.declared.styles.Value.{Value}
 use Rattle.cascade.specs.declared.slots.Cascade.{Cascade}
 use Rattle.cascade.specs.Record.{Declared, Sources, fromRule, declaredBy}
 use Rattle.cascade.specs.Row.{styleRowWidth, RowRoom, Inherited, inheritedRow}
+use Rattle.origins.proofs.Parts.{lentPart, part-length}
 use Rattle.page.specs.Path.{Attribute, Element, Path}
+use Rattle.page.specs.PathOf.{attributesFrom, elementAt}
+use Rattle.page.specs.Rows.{nodeAt}
 use Rattle.styles.specs.declared.settings.Settings.{Settings}
 use Rattle.styles.specs.Merged.{mergedRow, earlyDeclared, lateDeclared}
 use Rattle.styles.specs.Said.{Rules, StyledRule, rulesSay, countedAttributes, sourcesFrom}
 use Rattle.styles.specs.StyleCall.{placedAttributes, attributesContents, inlineContents}
 use Rattle.styles.proofs.Merging.{merged-append, merged-none, merged-long, early-none, late-none, declared-parts}
-use Rattle.styling.specs.Path.{keptSheet, keptSheets}
+use Rattle.attributes.specs.Merging.{InlineRoom}
+use Rattle.styling.specs.Path.{keptSheet, keptSheets, EarlyRoom, ElementRoom}
 use Rattle.styling.specs.declared.styled.StyledSheets.{StyledSheets}
 
 -- ---- an element begins with what it inherits, and the rules of agent and user
 pub begun : (c : Cascade) (xs a b ys : List ℕ) (ds es : List (Declared Value)) → Inherited c xs a → b ≡ mergedRow c a ds → ys ≡ mergedRow c b es
     → ys ≡ mergedRow c (inheritedRow c xs) (ds ++ es)
 begun c xs a b ys ds es h e k = rw (merged-append c (inheritedRow c xs) ds es) (k ∙ ap (λ (r : List ℕ). mergedRow c r es) (e ∙ ap (λ (r : List ℕ). mergedRow c r ds) (h .numbers)))
+
+-- ---- a store lent from a place on
+module _ (l : List ℕ) (a : ℕ) (h : a ≤ length l) where
+  -- what is written into the part stands behind what was before it
+  part-returned : (ys : List ℕ) → putMid a (length l - a) l ys ≡ take a l ++ ys
+  part-returned ys =
+      ap (λ (r : List ℕ). take a l ++ (ys ++ r)) (post-is a (length l) l h ∙ drop-of-length-le l {i = length l} (omega arith)) ∙ ap (λ (r : List ℕ). take a l ++ r) (append-nil ys)
+
+  -- which is the same
+  pub part-before : (ys : List ℕ) → take a (putMid a (length l - a) l ys) ≡ take a l
+  part-before ys = ap (take a) (part-returned ys) ∙ take-at (take a l) ys a (length-take-le a l h)
+
+  -- as far as the part is known, with what lies behind that
+  pub part-filled : (n m : ℕ) (ys more : List ℕ) → take n ys ≡ take m (lentPart l a h) ++ more → take (a + n) (putMid a (length l - a) l ys) ≡ take (a + m) l ++ more
+  part-filled n m ys more e =
+      let q : length (take a l) + n ≡ a + n = omega (arith, length-take-le a l h) in
+      ap (take (a + n)) (part-returned ys)
+      ∙ ap (λ (k : ℕ). take k (take a l ++ ys)) (sym q)
+      ∙ take-append-add (take a l) ys n
+      ∙ ap (λ (r : List ℕ). take a l ++ r) (e ∙ ap (λ (r : List ℕ). take m r ++ more) (rest l a))
+      ∙ sym (append-assoc (take a l) (take m (drop a l)) more)
+      ∙ ap (λ (r : List ℕ). r ++ more) (sym (take-add a m l))
+
+  pub part-same : (m : ℕ) (ys : List ℕ) → take m ys ≡ take m (lentPart l a h) → take (a + m) (putMid a (length l - a) l ys) ≡ take (a + m) l
+  part-same m ys e = part-filled m m ys [] (e ∙ sym (append-nil (take m (lentPart l a h)))) ∙ append-nil (take (a + m) l)
+
+-- ---- attributes, where document styles are on or off
+module _ (c : Cascade) (settings : Settings) (e : Element) where
+  -- on: all of them count
+  pub counted-on : settings .«document_styles» ≡ true → countedAttributes settings e ≡ e .attributes
+  unfolding countedAttributes pick
+  counted-on h = rw h
+
+  pub contents-on : settings .«document_styles» ≡ true → inlineContents settings e ≡ attributesContents (e .attributes)
+  unfolding inlineContents
+  contents-on h = ap attributesContents (counted-on h)
+
+  -- off: none does
+  counted-off : settings .«document_styles» ≡ false → countedAttributes settings e ≡ []
+  unfolding countedAttributes pick
+  counted-off h = rw h
+
+  pub contents-off : settings .«document_styles» ≡ false → inlineContents settings e ≡ []
+  unfolding inlineContents attributesContents textsMany
+  contents-off h = rw (counted-off h)
+
+  pub early-off : settings .«document_styles» ≡ false → (row : List ℕ) (f : ℕ) → row ≡ mergedRow c row (earlyDeclared c (placedAttributes f (countedAttributes settings e)))
+  unfolding placedAttributes
+  early-off h row f = rw (counted-off h, early-none {A = Value} c) (sym (merged-none c row))
+
+  pub late-off : settings .«document_styles» ≡ false → (row : List ℕ) (f : ℕ) → row ≡ mergedRow c row (lateDeclared c (placedAttributes f (countedAttributes settings e)))
+  unfolding placedAttributes
+  late-off h row f = rw (counted-off h, late-none {A = Value} c) (sym (merged-none c row))
+
+-- ---- the attributes of a row of a page
+module _ (nodes attributes text : List ℕ) (row n at : ℕ) (en : n ≡ nodeAt nodes row .attributeCount) (ea : at ≡ nodeAt nodes row .firstAttribute) where
+  pub attributes-are : attributesFrom attributes text n at ≡ elementAt nodes attributes text row .attributes
+  unfolding elementAt
+  attributes-are = rw (en, ea)
+
+-- ---- the room that they ask for, in the parts that are lent
+module _ (s : StyledSheets) (e : Element) (fill : ℕ) (xs : List Attribute) (ex : xs ≡ e .attributes) where
+  pub early-room : (tokens brackets texts : List ℕ) → EarlyRoom s e fill tokens brackets texts → (h : s .behind ≤ length tokens) (k : s .end ≤ length texts)
+      → InlineRoom xs 0 fill (lentPart tokens (s .behind) h) (lentPart tokens (s .behind) h) brackets (lentPart texts (s .end) k)
+  early-room tokens brackets texts r h k =
+      let t = part-length tokens (s .behind) h in
+      let u = part-length texts (s .end) k in
+      rw ex (record {
+        for-rules = omega (arith, t, r .for-tokens);
+        for-tokens = omega (arith, t, r .for-tokens);
+        for-brackets = r .for-brackets;
+        for-texts = omega (arith, u, r .for-texts);
+        bits = omega (arith, r .bits);
+      })
+
+  pub late-room : (rows tokens brackets texts : List ℕ) → ElementRoom s e fill rows tokens brackets texts → (j : s .rows ≤ length rows) (h : s .behind ≤ length tokens) (k : s .end ≤ length texts)
+      → InlineRoom xs 0 fill (lentPart rows (s .rows) j) (lentPart tokens (s .behind) h) brackets (lentPart texts (s .end) k)
+  late-room rows tokens brackets texts r j h k =
+      let v = part-length rows (s .rows) j in
+      let t = part-length tokens (s .behind) h in
+      let u = part-length texts (s .end) k in
+      rw ex (record {
+        for-rules = omega (arith, v, r .for-rules);
+        for-tokens = omega (arith, t, r .for-tokens);
+        for-brackets = r .for-brackets;
+        for-texts = omega (arith, u, r .for-texts);
+        bits = omega (arith, r .bits);
+      })
+
+-- ---- what they say, where document styles are on
+module _ (c : Cascade) (settings : Settings) (e : Element) (on : settings .«document_styles» ≡ true) (xs : List Attribute) (ex : xs ≡ e .attributes) where
+  counted : xs ≡ countedAttributes settings e
+  counted = ex ∙ sym (counted-on c settings e on)
+
+  pub early-on : (row ys : List ℕ) → ((f : ℕ) → ys ≡ mergedRow c row (earlyDeclared c (placedAttributes f xs))) → (f : ℕ)
+      → ys ≡ mergedRow c row (earlyDeclared c (placedAttributes f (countedAttributes settings e)))
+  early-on row ys h f = h f ∙ ap (λ (l : List Attribute). mergedRow c row (earlyDeclared c (placedAttributes f l))) counted
+
+  pub late-on : (row ys : List ℕ) (f : ℕ) → ys ≡ mergedRow c row (lateDeclared c (placedAttributes (0 + f) xs)) → ys ≡ mergedRow c row (lateDeclared c (placedAttributes f (countedAttributes settings e)))
+  late-on row ys f h = let z : 0 + f ≡ f = omega arith in h ∙ ap (λ (n : ℕ). mergedRow c row (lateDeclared c (placedAttributes n xs))) z ∙ ap (λ (l : List Attribute). mergedRow c row (lateDeclared c (placedAttributes f l))) counted
+
+  pub contents-counted : attributesContents xs ≡ inlineContents settings e
+  unfolding inlineContents
+  contents-counted = ap attributesContents counted
+
+-- ---- what a call on attributes leaves: the row, the fill, the texts up to it, and what is kept
+module _ (c : Cascade) (s : StyledSheets) (fill r : ℕ) (texts ys xs more : List ℕ) where
+  pub texts-left : xs ≡ more → r ≡ fill + length xs → (h : s .end ≤ length texts) → take r ys ≡ take fill (lentPart texts (s .end) h) ++ xs
+      → (r ≡ fill + length more) × (take (s .end + r) (putMid (s .end) (length texts - s .end) texts ys) ≡ take (s .end + fill) texts ++ more)
+  texts-left e k h t = (k ∙ ap (λ (l : List ℕ). fill + length l) e, part-filled texts (s .end) h r fill ys more (t ∙ ap (λ (l : List ℕ). take fill (lentPart texts (s .end) h) ++ l) e))
+
+-- where there are no attributes
+pub texts-none : (end fill : ℕ) (texts more : List ℕ) → more ≡ [] → (fill ≡ fill + length more) × (take (end + fill) texts ≡ take (end + fill) texts ++ more)
+texts-none end fill texts more e = (rw e (omega arith), rw e (sym (append-nil (take (end + fill) texts))))
