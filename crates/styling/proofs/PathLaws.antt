@@ -6,7 +6,7 @@ use Prim.Native.Nat.{ℕ, _+_, _-_, _*_, _^_, _≤_, _<_}
 use native.Mathlib.Omega.{arith}
 use borrow.Rule.Slice.PartMut.{putMid, post-is}
 use lib.ListN.{length, take, drop, drop-of-length-le}
-use lib.Seq.{take-add, take-at, take-append-add, length-take-le}
+use lib.Seq.{take-add, take-at, take-take, take-append-le, take-append-add, length-take-le}
 use Rattle.combinators.specs.Choice.{pick}
 use Rattle.combinators.specs.LeastLengths.{numberLeast}
 use Rattle.combinators.proofs.Lists.{rest}
@@ -14,7 +14,7 @@ use Rattle.syntax.specs.Stream.{textsMany}
 use Rattle.syntax.specs.Style.{agentOrigin, userOrigin, authorOrigin}
 use Rattle.syntax.specs.declared.styles.Value.{Value}
 use Rattle.cascade.specs.declared.slots.Cascade.{Cascade}
-use Rattle.cascade.specs.Record.{Declared, Sources, fromRule, declaredBy}
+use Rattle.cascade.specs.Record.{Declared, AttributeStyle, Sources, fromRule, declaredBy}
 use Rattle.cascade.specs.Row.{styleRowWidth, RowRoom, Inherited, inheritedRow}
 use Rattle.origins.proofs.Parts.{lentPart, part-length}
 use Rattle.page.specs.Path.{Attribute, Element, Path}
@@ -26,7 +26,8 @@ use Rattle.styles.specs.Said.{Rules, StyledRule, rulesSay, countedAttributes, s
 use Rattle.styles.specs.StyleCall.{placedAttributes, attributesContents, inlineContents}
 use Rattle.styles.proofs.Merging.{merged-append, merged-none, merged-long, early-none, late-none, declared-parts}
 use Rattle.attributes.specs.Merging.{InlineRoom}
-use Rattle.styling.specs.Path.{keptSheet, keptSheets, EarlyRoom, ElementRoom}
+use Rattle.styling.specs.Path.{keptSheet, keptSheets, TextsIn, SameKept, Steady, EarlyRoom, ElementRoom}
+use Rattle.styling.specs.declared.styled.StyledSheet.{StyledSheet}
 use Rattle.styling.specs.declared.styled.StyledSheets.{StyledSheets}
 
 -- ---- an element begins with what it inherits, and the rules of agent and user
@@ -147,3 +148,59 @@ module _ (c : Cascade) (s : StyledSheets) (fill r : ℕ) (texts ys xs more : Lis
 -- where there are no attributes
 pub texts-none : (end fill : ℕ) (texts more : List ℕ) → more ≡ [] → (fill ≡ fill + length more) × (take (end + fill) texts ≡ take (end + fill) texts ++ more)
 texts-none end fill texts more e = (rw e (omega arith), rw e (sym (append-nil (take (end + fill) texts))))
+
+-- ---- what is kept stays
+module _ (s : StyledSheets) {rows tokens texts : List ℕ} where
+  -- where the stores are the same up to a fill
+  pub same-below : (fill : ℕ) (l m : List ℕ) → take (s .end + fill) m ≡ take (s .end + fill) l → take (s .end) m ≡ take (s .end) l
+  same-below fill l m e =
+      sym (take-take (s .end) (s .end + fill) m (omega arith)) ∙ ap (take (s .end)) e ∙ take-take (s .end) (s .end + fill) l (omega arith)
+
+  -- and where more was filled
+  pub same-filled : (fill r : ℕ) (l m more : List ℕ) → s .end + fill ≤ length l → fill ≤ r → take (s .end + r) m ≡ take (s .end + fill) l ++ more → take (s .end) m ≡ take (s .end) l
+  same-filled fill r l m more h k e =
+      sym (take-take (s .end) (s .end + r) m (omega arith))
+      ∙ ap (take (s .end)) e
+      ∙ take-append-le (s .end) (take (s .end + fill) l) more (omega (arith, length-take-le (s .end + fill) l h))
+      ∙ take-take (s .end) (s .end + fill) l (omega arith)
+
+  -- after one change and another
+  pub same-twice : {rows₁ tokens₁ texts₁ rows₂ tokens₂ texts₂ : List ℕ} → SameKept s rows tokens texts rows₁ tokens₁ texts₁ → SameKept s rows₁ tokens₁ texts₁ rows₂ tokens₂ texts₂
+      → SameKept s rows tokens texts rows₂ tokens₂ texts₂
+  same-twice h k = record { same-rows = k .same-rows ∙ h .same-rows; same-tokens = k .same-tokens ∙ h .same-tokens; same-texts = k .same-texts ∙ h .same-texts }
+
+  -- it can be kept on
+  steady-on : {texts₁ : List ℕ} → length texts₁ ≡ length texts → (x : StyledSheet) → TextsIn texts (s .end) x → TextsIn texts₁ (s .end) x
+  steady-on e x t = record { begins = t .begins; ends = omega (arith, e, t .ends) }
+
+  pub steady-still : {rows₁ tokens₁ texts₁ : List ℕ} → Steady s rows tokens texts → SameKept s rows tokens texts rows₁ tokens₁ texts₁ → length texts₁ ≡ length texts → Steady s rows₁ tokens₁ texts₁
+  steady-still {rows₁} {tokens₁} {texts₁} h k e =
+      record {
+        kept = λ rows₂ tokens₂ texts₂ m. h .kept rows₂ tokens₂ texts₂ (same-twice k m) ∙ sym (h .kept rows₁ tokens₁ texts₁ k);
+        agent-in = steady-on e (s .agent) (h .agent-in);
+        user-in = steady-on e (s .user) (h .user-in);
+        author-in = steady-on e (s .author) (h .author-in);
+      }
+
+-- ---- the row of an element
+module _ (c : Cascade) (rules : Rules (StyledRule Value)) (inline : List (AttributeStyle Value)) (p : Path) where
+  abbrev said : Sources Value
+  said = sourcesFrom rules inline p
+
+  pub element-row : (xs a b d z : List ℕ)
+      → a ≡ mergedRow c (inheritedRow c xs) (map (fromRule agentOrigin) (rulesSay p (rules .agent)) ++ map (fromRule userOrigin) (rulesSay p (rules .user)))
+      → b ≡ mergedRow c a (earlyDeclared c inline)
+      → (author : List (StyledRule Value)) → author ≡ rules .author → d ≡ mergedRow c b (map (fromRule authorOrigin) (rulesSay p author))
+      → z ≡ mergedRow c d (lateDeclared c inline)
+      → z ≡ mergedRow c (inheritedRow c xs) (declaredBy c said)
+  unfolding sourcesFrom
+  element-row xs a b d z ea eb author e ed ez =
+      let A = map (fromRule agentOrigin) (rulesSay p (rules .agent)) in
+      let U = map (fromRule userOrigin) (rulesSay p (rules .user)) in
+      let W = map (fromRule authorOrigin) (rulesSay p (rules .author)) in
+      let E = earlyDeclared c inline in
+      let L = lateDeclared c inline in
+      let i = inheritedRow c xs in
+      let d′ : d ≡ mergedRow c b W = ed ∙ ap (λ (l : List (StyledRule Value)). mergedRow c b (map (fromRule authorOrigin) (rulesSay p l))) e in
+      rw (declared-parts c said, merged-append c i A (U ++ (E ++ (W ++ L))), merged-append c (mergedRow c i A) U (E ++ (W ++ L)), merged-append c (mergedRow c (mergedRow c i A) U) E (W ++ L), merged-append c (mergedRow c (mergedRow c (mergedRow c i A) U) E) W L)
+      (ez ∙ ap (λ (r : List ℕ). mergedRow c r L) (d′ ∙ ap (λ (r : List ℕ). mergedRow c r W) (eb ∙ ap (λ (r : List ℕ). mergedRow c r E) (ea ∙ merged-append c i A U))))

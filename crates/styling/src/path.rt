@@ -202,3 +202,135 @@ fn merge_late(
     }
     fill
 }
+
+// The row of an element, from its parent's; the fill behind its contents.
+fn style_element(
+    cascade: Cascade,
+    settings: Settings,
+    sheets: StyledSheets,
+    nodes: &[u32],
+    attributes: &[u32],
+    text: &[u8],
+    row: usize,
+    out: &mut [u32],
+    rules: &mut [u32],
+    tokens: &mut [u32],
+    brackets: &mut [u8],
+    texts: &mut [u8],
+    fill: usize,
+) -> usize
+    requires { ⌜ RowRoom (now out) ⌝ }
+    requires { ⌜ Rooted (now nodes) row ⌝ }
+    requires { ⌜ Steady sheets (now rules) (now tokens) (now texts) ⌝ }
+    requires { ⌜ ElementRoom sheets (elementAt (now nodes) (now attributes) (now text) row) fill (now rules) (now tokens) (now brackets) (now texts) ⌝ }
+    ensures { λ _. ⌜ now (out .exit) ≡ mergedRow cascade (inheritedRow cascade (now (out .entry)))
+        (declaredBy cascade (sourcesFrom (keptSheets (now (rules .entry)) (now (tokens .entry)) (now (texts .entry)) sheets) (placedAttributes fill (countedAttributes settings (elementAt (now (nodes .entry)) (now (attributes .entry)) (now (text .entry)) row))) (pathOf (now (nodes .entry)) (now (attributes .entry)) (now (text .entry)) row))) ⌝ }
+    ensures { λ r. ⌜ r ≡ fill + length (inlineContents settings (elementAt (now (nodes .entry)) (now (attributes .entry)) (now (text .entry)) row)) ⌝ }
+    ensures { λ r. ⌜ take (sheets .end + r) (now (texts .exit)) ≡ take (sheets .end + fill) (now (texts .entry)) ++ inlineContents settings (elementAt (now (nodes .entry)) (now (attributes .entry)) (now (text .entry)) row) ⌝ }
+    ensures { λ _. ⌜ SameKept sheets (now (rules .entry)) (now (tokens .entry)) (now (texts .entry)) (now (rules .exit)) (now (tokens .exit)) (now (texts .exit)) ⌝ }
+{
+    begin_element(cascade, sheets, rules, tokens, texts, nodes, attributes, text, row, out);
+    merge_early(
+        cascade,
+        settings,
+        sheets,
+        nodes,
+        attributes,
+        text,
+        row,
+        out,
+        tokens,
+        brackets,
+        texts,
+        fill,
+    );
+    merge_sheet(
+        cascade,
+        AUTHOR_ORIGIN,
+        sheets.author,
+        sheets.end,
+        rules,
+        tokens,
+        texts,
+        nodes,
+        attributes,
+        text,
+        row,
+        out,
+    );
+    merge_late(
+        cascade,
+        settings,
+        sheets,
+        nodes,
+        attributes,
+        text,
+        row,
+        out,
+        rules,
+        tokens,
+        brackets,
+        texts,
+        fill,
+    )
+}
+
+// The row of an element, from the top of its path down to it; the fill behind the contents of the path. What the stores hold behind what is
+// kept, and `texts` behind that fill, is left free.
+pub fn style_path(
+    cascade: Cascade,
+    settings: Settings,
+    sheets: StyledSheets,
+    nodes: &[u32],
+    attributes: &[u32],
+    text: &[u8],
+    row: usize,
+    out: &mut [u32],
+    rules: &mut [u32],
+    tokens: &mut [u32],
+    brackets: &mut [u8],
+    texts: &mut [u8],
+) -> usize
+    requires { ⌜ OneRow (now out) ⌝ }
+    requires { ⌜ Rooted (now nodes) row ⌝ }
+    requires { ⌜ Steady sheets (now rules) (now tokens) (now texts) ⌝ }
+    requires { ⌜ PathRoom sheets (pathOf (now nodes) (now attributes) (now text) row) (now rules) (now tokens) (now brackets) (now texts) ⌝ }
+    ensures { λ _. ⌜ now (out .exit) ≡ rowOf (cascaded cascade (placedFrom (keptSheets (now (rules .entry)) (now (tokens .entry)) (now (texts .entry)) sheets) (sheets .fill) settings (pathOf (now (nodes .entry)) (now (attributes .entry)) (now (text .entry)) row))) ⌝ }
+    ensures { λ r. ⌜ r ≡ sheets .fill + length (pathContents settings (pathOf (now (nodes .entry)) (now (attributes .entry)) (now (text .entry)) row)) ⌝ }
+    ensures { λ r. ⌜ take (sheets .end + r) (now (texts .exit)) ≡ take (sheets .end + sheets .fill) (now (texts .entry)) ++ pathContents settings (pathOf (now (nodes .entry)) (now (attributes .entry)) (now (text .entry)) row) ⌝ }
+    ensures { λ _. ⌜ SameKept sheets (now (rules .entry)) (now (tokens .entry)) (now (texts .entry)) (now (rules .exit)) (now (tokens .exit)) (now (texts .exit)) ⌝ }
+{
+    if row == 0 {
+        clear_row(out);
+        return sheets.fill;
+    }
+    let fill = style_path(
+        cascade,
+        settings,
+        sheets,
+        nodes,
+        attributes,
+        text,
+        parent_of(nodes, row),
+        out,
+        rules,
+        tokens,
+        brackets,
+        texts,
+    );
+    style_element(
+        cascade,
+        settings,
+        sheets,
+        nodes,
+        attributes,
+        text,
+        row,
+        out,
+        rules,
+        tokens,
+        brackets,
+        texts,
+        fill,
+    )
+}
