@@ -1,0 +1,4 @@
+pub mod DecidingSlot
+pub mod DecidingUpdate
+pub mod DecidingRecord
+pub mod Deciding
