@@ -1,4 +1,5 @@
 pub mod DecidingSlot
 pub mod DecidingUpdate
 pub mod DecidingRecord
-pub mod Deciding
+pub mod DecidingSame
+pub mod DecidingRows
