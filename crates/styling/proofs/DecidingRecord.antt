@@ -17,6 +17,7 @@ use Rattle.cascade.proofs.RowLaws.{record-same}
 use Rattle.styling.specs.Deciding.{deciding}
 use Rattle.styling.proofs.DecidingSlot.{Settled, offered, offered-own, offered-other, deciding-slot}
 
+-- a test has one of two answers
 either-way : (t : Bool) → (t ≡ true) ⊎ (t ≡ false)
 either-way true = inl refl
 either-way false = inr refl
@@ -30,6 +31,7 @@ abbrev marks : {A : Type 0} → Bool → Styled A → Bool
 marks b d = true
 
 module _ {A : Type 0} where
+  -- nothing but the slot matters to it
   marks-settled : Settled {A = A} marks
   marks-settled =
       record {
@@ -39,26 +41,32 @@ module _ {A : Type 0} where
         important-late = λ x a n b e g f. refl;
       }
 
+  -- a style with a slot that there is makes it present
   presents-slot : (b : Bool) (d : Styled A) → d .slot < slotCount → presents b d ≡ true
   unfolding presents
   presents-slot b d h = sym (pick-true _ _ _ _ (lt-ltb (d .slot) slotCount h) refl)
 
+  -- what is present stays present, after one style
   presents-true : (d : Styled A) → presents true d ≡ true
   unfolding presents
   presents-true d = pick-holds (λ b. b ≡ true) (ltb (d .slot) slotCount) _ _ (λ e. refl) (λ e. refl)
 
+  -- and after many
   stays-present : (xs : List (Styled A)) → foldl presents true xs ≡ true
   stays-present [] = refl
   stays-present (d ∷ xs) = ap (λ (b : Bool). foldl presents b xs) (presents-true d) ∙ stays-present xs
 
+  -- one style before others takes nothing away
   presents-more : (d : Styled A) (xs : List (Styled A)) (b : Bool) → foldl presents b xs ≡ true → foldl presents (presents b d) xs ≡ true
   unfolding presents
   presents-more d xs b e = pick-holds (λ (c : Bool). foldl presents c xs ≡ true) (ltb (d .slot) slotCount) true b (λ f. stays-present xs) (λ f. e)
 
+  -- a slot once marked stays marked, after one style
   marks-true : (k : ℕ) (d : Styled A) → offered marks k true d ≡ true
   unfolding offered
   marks-true k d = pick-holds (λ b. b ≡ true) (is (d .slot) k) _ _ (λ e. refl) (λ e. refl)
 
+  -- and after many
   stays-marked : (k : ℕ) (xs : List (Styled A)) → foldl (offered marks k) true xs ≡ true
   stays-marked k [] = refl
   stays-marked k (d ∷ xs) = ap (λ (b : Bool). foldl (offered marks k) b xs) (marks-true k d) ∙ stays-marked k xs
@@ -113,13 +121,16 @@ unfoldable pub mergedInto : {A : Type 0} → (Slot A → Styled A → Slot A) �
 mergedInto u p d = pick (ltb (d .slot) slotCount) (updateRecord (d .slot) (λ x. u x d) p) p
 
 module _ {A : Type 0} (u : Slot A → Styled A → Slot A) where
+  -- it has all its slots
   abbrev Whole : Record A → Type 0
   Whole p = length (p .slots) ≡ slotCount
 
+  -- a record keeps all its slots
   merged-whole : (p : Record A) (d : Styled A) → Whole p → Whole (mergedInto u p d)
   unfolding mergedInto updateRecord
   merged-whole p d w = pick-holds Whole (ltb (d .slot) slotCount) _ _ (λ e. length-set (p .slots) (d .slot) (u (slotOf p (d .slot)) d) ∙ w) (λ e. w)
 
+  -- it is present as the styles say
   merged-present : (p : Record A) (d : Styled A) → mergedInto u p d .present ≡ presents (p .present) d
   unfolding mergedInto presents updateRecord pick
   merged-present p d = go (ltb (d .slot) slotCount)
@@ -128,10 +139,12 @@ module _ {A : Type 0} (u : Slot A → Styled A → Slot A) where
       go true = refl
       go false = refl
 
+  -- a style with a slot that there is updates it
   merged-in : (p : Record A) (d : Styled A) → d .slot < slotCount → mergedInto u p d ≡ updateRecord (d .slot) (λ x. u x d) p
   unfolding mergedInto
   merged-in p d h = sym (pick-true _ _ _ _ (lt-ltb (d .slot) slotCount h) refl)
 
+  -- one without changes nothing
   merged-out : (p : Record A) (d : Styled A) → slotCount ≤ d .slot → mergedInto u p d ≡ p
   unfolding mergedInto
   merged-out p d h = sym (pick-false _ _ _ _ (le-ltb (d .slot) slotCount h) refl)
@@ -158,15 +171,17 @@ module _ {A : Type 0} (u : Slot A → Styled A → Slot A) where
       when-out : slotCount ≤ d .slot → slotOf (mergedInto u p d) k ≡ offered u k (slotOf p k) d
       when-out g = ap (λ (q : Record A). slotOf q k) (merged-out p d g) ∙ sym (offered-other u k (slotOf p k) d (λ e. omega arith))
 
-  -- ---- many
+  -- ---- many styles: the record keeps all its slots
   all-whole : (xs : List (Styled A)) (p : Record A) → Whole p → Whole (foldl (mergedInto u) p xs)
   all-whole [] p w = w
   all-whole (d ∷ xs) p w = all-whole xs (mergedInto u p d) (merged-whole p d w)
 
+  -- after all it is present as they all say
   all-present : (xs : List (Styled A)) (p : Record A) → foldl (mergedInto u) p xs .present ≡ foldl presents (p .present) xs
   all-present [] p = refl
   all-present (d ∷ xs) p = all-present xs (mergedInto u p d) ∙ ap (λ (b : Bool). foldl presents b xs) (merged-present p d)
 
+  -- and each slot is offered them all
   all-slot : (k : ℕ) → k < slotCount → (xs : List (Styled A)) (p : Record A) → Whole p → slotOf (foldl (mergedInto u) p xs) k ≡ foldl (offered u k) (slotOf p k) xs
   all-slot k h [] p w = refl
   all-slot k h (d ∷ xs) p w = all-slot k h xs (mergedInto u p d) (merged-whole p d w) ∙ ap (λ (x : Slot A). foldl (offered u k) x xs) (merged-slot k h p d w)

@@ -3,20 +3,19 @@ use mathlib.Core.Path.{_≡_, refl, sym, ap, subst, _∙_}
 use mathlib.Core.Bool.{Bool, true, false, _||_}
 use mathlib.Core.List.{List, [], _∷_, _++_, foldl}
 use Prim.Native.Nat.{ℕ, zero, suc, _+_, _-_, _*_, _≤_, _<_}
-use native.Mathlib.Nat.{mul-zero, mul-suc}
 use native.Mathlib.Omega.{arith}
-use lib.ListN.{length, getD, set, drop, length-append}
+use lib.ListN.{length, set, drop, length-append}
 use lib.Seq.{sets, length-sets, drop-set-lt, drop-drop}
-use Rattle.combinators.specs.Choice.{pick, or, is}
+use Rattle.combinators.specs.Choice.{pick, or}
 use Rattle.combinators.proofs.Rules.{pick-true, pick-false, is-yes, is-no}
 use Rattle.combinators.proofs.Wiped.{sets-append}
 use Rattle.syntax.specs.Layout.{styleWidth, numbersAt, valueNumbers, rowOfNumbers}
-use Rattle.syntax.specs.Stream.{Read, readMany, textsMany}
+use Rattle.syntax.specs.Stream.{readMany, textsMany}
 use Rattle.syntax.specs.declared.styles.StyleNumbers.{StyleNumbers}
 use Rattle.syntax.specs.declared.styles.Value.{Value}
 use Rattle.syntax.proofs.RowSizes.{length-style}
 use Rattle.syntax.proofs.Streams.{texts-append}
-use Rattle.values.specs.Words.{Found, found, missing, onFound}
+use Rattle.values.specs.Words.{Found, found, onFound}
 use Rattle.cascade.specs.Record.{slotCount, Styled}
 use Rattle.styles.specs.StyleCall.{inNumbers}
 use Rattle.styling.specs.Deciding.{Sifted, nothingSifted, sift, listed, siftedStyles, decidingFor, decidingFrom, deciding}
@@ -24,11 +23,13 @@ use Rattle.styling.specs.Placing.{styledRow, readStyled}
 use Rattle.styling.specs.Sifting.{foundIn, siftedIn, DecidingRoom}
 use Rattle.styling.specs.declared.deciding.Sifted as code
 
+-- the code's `|` is `or`
 or-same : (a b : Bool) → (a || b) ≡ or a b
 unfolding or
 or-same true b = refl
 or-same false b = refl
 
+-- whether a style was found is the flag that says so
 found-test : (t : Bool) (x : StyleNumbers) → onFound (foundIn t x) (λ _. true) false ≡ t
 unfolding foundIn onFound pick
 found-test true x = refl
@@ -39,6 +40,7 @@ found-yes : (x : StyleNumbers) → found (inNumbers x) ≡ foundIn true x
 unfolding foundIn
 found-yes x = pick-true _ _ _ _ refl refl
 
+-- sifted styles that agree in all parts
 sifted-same : (n m i j : Found (Styled Value)) (b c : Bool) → n ≡ m → i ≡ j → b ≡ c
     → _≡_ {A = Sifted Value} (record { normal = n; important = i; behind = b }) (record { normal = m; important = j; behind = c })
 sifted-same n m i j b c e f g = rw (e, f, g)
@@ -76,6 +78,7 @@ unfolding siftedIn nothingSifted foundIn pick
 sifted-nothing a b = refl
 
 module _ (rows : List ℕ) (k : ℕ) where
+  -- what is known with the styles that are left
   abbrev pub siftedFrom : Sifted Value → ℕ → ℕ → Sifted Value
   siftedFrom s left place = foldl (sift k) s (readMany readStyled left (drop place rows) .value)
 
@@ -85,6 +88,7 @@ module _ (rows : List ℕ) (k : ℕ) where
   sift-none s zero place h = refl
   sift-none s (suc left) place h = absurd (omega arith)
 
+  -- the first of those that are left
   sift-first : (s : Sifted Value) (left place : ℕ) → siftedFrom s (suc left) place ≡ siftedFrom (sift k s (inNumbers (numbersAt (drop place rows)))) left (place + styleWidth)
   unfolding readMany readStyled
   sift-first s left place =
@@ -131,13 +135,12 @@ missing-written rows at t x e = rw e (refl, (refl, omega arith))
 -- styles behind others
 pub both-written : (rows one left : List ℕ) (at n m : ℕ) (xs ys : List (Styled Value)) → Written rows one at n 1 xs → Written one left (at + n * styleWidth) m 1 ys → Written rows left at (n + m) 2 (xs ++ ys)
 both-written rows one left at n m xs ys p q =
-    let e : at + n * styleWidth ≡ at + length (textsMany styledRow xs) = omega (arith, styles-long xs, p .1 .0) in
-    (
+    let e : at + n * styleWidth ≡ at + length (textsMany styledRow xs) = omega (arith, styles-long xs, p .1 .0) in (
       q .0
-      ∙ ap (λ (i : ℕ). sets one i (textsMany styledRow ys)) e
-      ∙ ap (λ (l : List ℕ). sets l (at + length (textsMany styledRow xs)) (textsMany styledRow ys)) (p .0)
-      ∙ sym (sets-append rows at (textsMany styledRow xs) (textsMany styledRow ys))
-      ∙ ap (sets rows at) (sym (texts-append (λ f x. []) styledRow xs ys)),
+          ∙ ap (λ (i : ℕ). sets one i (textsMany styledRow ys)) e
+          ∙ ap (λ (l : List ℕ). sets l (at + length (textsMany styledRow xs)) (textsMany styledRow ys)) (p .0)
+          ∙ sym (sets-append rows at (textsMany styledRow xs) (textsMany styledRow ys))
+          ∙ ap (sets rows at) (sym (texts-append (λ f x. []) styledRow xs ys)),
       (omega (arith, p .1 .0, q .1 .0, length-append xs ys), omega (arith, p .1 .1, q .1 .1)),
     )
 
@@ -177,6 +180,7 @@ from-slot k xs h =
     let f : suc k ≡ k + 1 = omega arith in
     ap (λ (n : ℕ). decidingFrom n k xs) e ∙ ap (λ (j : ℕ). decidingFor k xs ++ decidingFrom (slotCount - (k + 1)) j xs) f
 
+-- behind the last slot nothing is left
 no-slot-left : (k : ℕ) (xs : List (Styled Value)) → slotCount ≤ k → decidingFrom (slotCount - k) k xs ≡ []
 unfolding decidingFrom
 no-slot-left k xs h = let e : slotCount - k ≡ 0 = omega arith in ap (λ (n : ℕ). decidingFrom n k xs) e
@@ -192,6 +196,7 @@ pub record Keeping (rows₀ : List ℕ) (at count place : ℕ) (rows : List ℕ)
   pub slots : slot ≤ slotCount
 
 module _ (rows₀ : List ℕ) (at count place : ℕ) where
+  -- the styles of the rule
   abbrev xs : List (Styled Value)
   xs = stylesFrom rows₀ at count
 
@@ -213,8 +218,7 @@ module _ (rows₀ : List ℕ) (at count place : ℕ) where
     pub keeping-done : slotCount ≤ slot → (rows ≡ sets rows₀ place (textsMany styledRow (deciding xs))) × (kept ≡ length (deciding xs))
     unfolding textsMany
     keeping-done h =
-        let z = no-slot-left slot xs h in
-        (
+        let z = no-slot-left slot xs h in (
           ap (λ (l : List (Styled Value)). sets rows (place + kept * styleWidth) (textsMany styledRow l)) (sym z) ∙ k .written,
           omega (arith, k .counted, ap length z),
         )

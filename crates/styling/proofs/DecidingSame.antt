@@ -7,17 +7,17 @@ use Prim.Native.Nat.{ℕ, _≤_, _<_}
 use lib.Dec.{ltb}
 use lib.ListN.{length}
 use borrow.Author.Tests.{lt-ltb}
-use Rattle.combinators.specs.Choice.{pick, and}
-use Rattle.combinators.proofs.Rules.{pick-true, pick-false, pick-holds, and-gives, lt-or-ge}
+use Rattle.combinators.specs.Choice.{pick}
+use Rattle.combinators.proofs.Rules.{pick-false, and-gives, lt-or-ge}
 use Rattle.syntax.specs.Selector.{Selector}
 use Rattle.syntax.specs.RuleLayout.{pseudoNumber}
 use Rattle.syntax.specs.declared.styles.Value.{Value}
 use Rattle.cascade.specs.declared.specificity.Specificity.{Specificity}
 use Rattle.cascade.specs.declared.slots.Cascade.{Cascade}
-use Rattle.cascade.specs.Slot.{Candidate, Slot, updateBy}
-use Rattle.cascade.specs.Record.{slotCount, recordCount, mainRecord, beforeRecord, afterRecord, Record, ComputedStyle, Formed, updateRecord, updateStyle, Declared, isNamed, mergeBy, Styled, RuleStyle, fromRule}
-use Rattle.cascade.specs.Row.{rowOf, mergeRowBy}
-use Rattle.cascade.proofs.RowLaws.{style-same, Which, isMain, isBefore, isAfter, which, update-main, update-before, update-after}
+use Rattle.cascade.specs.Slot.{Slot, updateBy}
+use Rattle.cascade.specs.Record.{slotCount, recordCount, Record, ComputedStyle, Formed, updateRecord, updateStyle, Declared, isNamed, mergeBy, Styled, RuleStyle, fromRule}
+use Rattle.cascade.specs.Row.{rowOf}
+use Rattle.cascade.proofs.RowLaws.{Which, isMain, isBefore, isAfter, which, update-main, update-before, update-after}
 use Rattle.cascade.proofs.Merging.{no-record}
 use Rattle.cascade.proofs.Cascading.{merges-formed}
 use Rattle.cascade.proofs.RowBack.{merges-layout}
@@ -27,7 +27,6 @@ use Rattle.matching.specs.Specificity.{specificity}
 use Rattle.styles.specs.Said.{StyledRule, ruleStyle, selectorSays, selectorsSay, rulesSay}
 use Rattle.styles.specs.Merged.{mergedRow}
 use Rattle.styling.specs.Deciding.{deciding, decidingRule}
-use Rattle.styling.proofs.DecidingSlot.{fold-append}
 use Rattle.styling.proofs.DecidingUpdate.{candidateOf, updateFrom, rule-settled}
 use Rattle.styling.proofs.DecidingRecord.{mergedInto, record-decided}
 
@@ -36,9 +35,11 @@ abbrev pub declaredIn : {A : Type 0} → ℕ → ℕ → Specificity → List (S
 declaredIn o r p xs = map (fromRule o) (map (ruleStyle r p) xs)
 
 module _ {A : Type 0} (c : Cascade) (o r : ℕ) (p : Specificity) where
+  -- one style merged into a computed style
   abbrev one : ComputedStyle A → Styled A → ComputedStyle A
   one s d = mergeBy (updateBy c) s (fromRule o (ruleStyle r p d))
 
+  -- and into its record
   abbrev into : Record A → Styled A → Record A
   into = mergedInto (updateFrom c o p)
 
@@ -47,6 +48,7 @@ module _ {A : Type 0} (c : Cascade) (o r : ℕ) (p : Specificity) where
   unfolding mergeBy fromRule ruleStyle
   one-nowhere h s d = sym (pick-false _ _ _ _ (no-record r (d .slot) h) refl)
 
+  -- nor by many styles
   all-nowhere : recordCount ≤ r → (xs : List (Styled A)) (s : ComputedStyle A) → foldl (mergeBy (updateBy c)) s (declaredIn o r p xs) ≡ s
   all-nowhere h [] s = refl
   all-nowhere h (d ∷ xs) s = all-nowhere h xs (one s d) ∙ one-nowhere h s d
@@ -65,6 +67,7 @@ module _ {A : Type 0} (c : Cascade) (o r : ℕ) (p : Specificity) where
       (get-put : (q : Record A) (s : ComputedStyle A) → get (put q s) ≡ q)
       (put-put : (q t : Record A) (s : ComputedStyle A) → put t (put q s) ≡ put t s)
       (h : r < recordCount) where
+    -- one style changes that record alone
     one-put : (s : ComputedStyle A) (d : Styled A) → one s d ≡ put (into (get s) d) s
     unfolding mergedInto pick
     one-put s d = one-there h s d ∙ go (ltb (d .slot) slotCount)
@@ -73,6 +76,7 @@ module _ {A : Type 0} (c : Cascade) (o r : ℕ) (p : Specificity) where
         go true = updated (d .slot) (λ x. updateFrom c o p x d) s
         go false = sym (put-get s)
 
+    -- and so do many
     all-put : (xs : List (Styled A)) (s : ComputedStyle A) → foldl (mergeBy (updateBy c)) s (declaredIn o r p xs) ≡ put (foldl into (get s) xs) s
     all-put [] s = sym (put-get s)
     all-put (d ∷ xs) s =
@@ -81,6 +85,7 @@ module _ {A : Type 0} (c : Cascade) (o r : ℕ) (p : Specificity) where
         ∙ ap (λ (q : Record A). put (foldl into q xs) (put (into (get s) d) s)) (get-put (into (get s) d) s)
         ∙ put-put (into (get s) d) (foldl into (into (get s) d) xs) s
 
+    -- so what decides in that record decides in the style
     same-put : (s : ComputedStyle A) → length (get s .slots) ≡ slotCount → (xs : List (Styled A))
         → foldl (mergeBy (updateBy c)) s (declaredIn o r p (deciding xs)) ≡ foldl (mergeBy (updateBy c)) s (declaredIn o r p xs)
     same-put s w xs =
@@ -112,13 +117,16 @@ module _ (c : Cascade) (o : ℕ) where
 
 -- ---- many selectors, and many rules
 module _ {A : Type 0} (c : Cascade) (o : ℕ) (p : Path) where
+  -- what is left where rules say this
   abbrev left : ComputedStyle A → List (RuleStyle A) → ComputedStyle A
   left s xs = foldl (mergeBy (updateBy c)) s (map (fromRule o) xs)
 
+  -- what is said behind other things is merged behind them
   left-append : (s : ComputedStyle A) (xs ys : List (RuleStyle A)) → left s (xs ++ ys) ≡ left (left s xs) ys
   left-append s [] ys = refl
   left-append s (x ∷ xs) ys = left-append (mergeBy (updateBy c) s (fromRule o x)) xs ys
 
+  -- the style stays whole
   left-formed : (s : ComputedStyle A) (xs : List (RuleStyle A)) → Formed s → Formed (left s xs)
   left-formed s xs f = merges-formed (updateBy c) (map (fromRule o) xs) s f
 

@@ -4,7 +4,6 @@ use mathlib.Core.Bool.{Bool, true, false}
 use mathlib.Core.List.{List, [], _∷_, _++_, foldl}
 use mathlib.Core.Logic.{⊎-elim}
 use Prim.Native.Nat.{ℕ, zero, suc, _+_, _≤_, _<_}
-use native.Mathlib.Nat.{add-zero}
 use native.Mathlib.Omega.{arith}
 use Rattle.combinators.specs.Choice.{pick, or, is}
 use Rattle.combinators.proofs.Rules.{pick-true, pick-false, is-yes, is-no, is-true, is-false, lt-or-ge}
@@ -52,6 +51,7 @@ pub data Known (A : Type 0) (k : ℕ) : Type 0 where
   thenImportant : (n i : Styled A) → Kind k false n → Kind k true i → Known A k
 
 module _ {A : Type 0} (k : ℕ) where
+  -- it as sifted styles
   abbrev pub siftedBy : Known A k → Sifted A
   siftedBy neither = record { normal = missing; important = missing; behind = false }
   siftedBy (onlyNormal n p) = record { normal = found n; important = missing; behind = false }
@@ -59,6 +59,7 @@ module _ {A : Type 0} (k : ℕ) where
   siftedBy (thenNormal i n q p) = record { normal = found n; important = found i; behind = false }
   siftedBy (thenImportant n i p q) = record { normal = found n; important = found i; behind = true }
 
+  -- the styles themselves, in the order that matters
   abbrev pub stylesBy : Known A k → List (Styled A)
   stylesBy neither = []
   stylesBy (onlyNormal n p) = n ∷ []
@@ -121,6 +122,7 @@ module _ {A : Type 0} (k : ℕ) where
 
   -- ---- what is known, put to use
   module _ {S : Type 0} (u : S → Styled A → S) where
+    -- the styles taken one after the other
     abbrev pub run : Known A k → S → S
     run neither x = x
     run (onlyNormal n p) x = u x n
@@ -128,6 +130,7 @@ module _ {A : Type 0} (k : ℕ) where
     run (thenNormal i n q p) x = u (u x i) n
     run (thenImportant n i p q) x = u (u x n) i
 
+    -- two styles for the slot are both taken
     two-own : (a b : Styled A) (x : S) → a .slot ≡ k → b .slot ≡ k → offered u k (offered u k x a) b ≡ u (u x a) b
     two-own a b x e f = rw (offered-own u k x a e) (offered-own u k (u x a) b f)
 
@@ -169,6 +172,7 @@ module _ {A : Type 0} (k : ℕ) where
     pub sifted : foldl (sift k) (siftedBy s) xs ≡ siftedBy state
     pub does : {S : Type 0} (u : S → Styled A → S) → Settled u → (x : S) → run u state x ≡ foldl (offered u k) (run u s x) xs
 
+  -- such a state there is, for all styles
   pub reach : (xs : List (Styled A)) (s : Known A k) → Reached s xs
   reach [] s = record { state = s; sifted = refl; does = λ u l x. refl }
   reach (d ∷ xs) s = go (λ n. reach xs n) (is (d .slot) k) refl
@@ -221,6 +225,7 @@ module _ {A S : Type 0} (u : S → Styled A → S) (l : Settled u) (k : ℕ) (xs
       ∙ ap (λ z. foldl (offered u k) z (decidingFrom n (suc j) xs)) (other-slot j u k (λ e. omega arith) x xs)
       ∙ from-above n (suc j) x (omega arith)
 
+  -- so those of slot k alone decide there
   from-below : (n j : ℕ) (x : S) → j ≤ k → k < j + n → foldl (offered u k) x (decidingFrom n j xs) ≡ foldl (offered u k) x xs
   unfolding decidingFrom
   from-below zero j x h i = absurd (omega arith)

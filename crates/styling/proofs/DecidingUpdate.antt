@@ -2,11 +2,11 @@
 -- and of two of a kind the later wins.
 use mathlib.Core.Path.{_≡_, refl, sym, ap, _∙_}
 use mathlib.Core.Bool.{Bool, true, false}
-use Prim.Native.Nat.{ℕ, _≤_, _<_}
+use Prim.Native.Nat.{ℕ, _≤_}
 use native.Mathlib.Omega.{arith}
 use lib.Dec.{ltb}
 use borrow.Author.Tests.{le-ltb}
-use Rattle.combinators.specs.Choice.{pick, or, is}
+use Rattle.combinators.specs.Choice.{pick, is}
 use Rattle.combinators.proofs.Rules.{pick-true, pick-false, pick-holds, or-left, or-none}
 use Rattle.syntax.specs.Layout.{flag}
 use Rattle.syntax.specs.Style.{agentOrigin, userOrigin}
@@ -14,7 +14,7 @@ use Rattle.cascade.specs.declared.specificity.Specificity.{Specificity}
 use Rattle.cascade.specs.declared.slots.Weight.{Weight}
 use Rattle.cascade.specs.declared.slots.Cascade.{Cascade}
 use Rattle.cascade.specs.declared.slots.Cascade.the-variants.{Crate, Book}
-use Rattle.cascade.specs.Specificity.{lessThen, lessBySelector, less}
+use Rattle.cascade.specs.Specificity.{lessBySelector, less}
 use Rattle.cascade.specs.Slot.{Candidate, Slot, empty, held, heldByImportance, heldByOrigin, heldAgainst, maybeUpdate, rank, rankOf, weaker, heldInBook, bookUpdate, updateBy, normalAuthor, importantAuthor}
 use Rattle.cascade.specs.Record.{Styled}
 use Rattle.cascade.proofs.Orders.{then-lower, then-higher, then-equal}
@@ -100,6 +100,7 @@ module _ (o : ℕ) (p : Specificity) where
 
 -- ---- candidates of such weights
 module _ {A : Type 0} (c : Cascade) (o : ℕ) (p : Specificity) where
+  -- the update of the cascade
   abbrev u : Slot A → Candidate A → Slot A
   u = updateBy c
 
@@ -108,6 +109,7 @@ module _ {A : Type 0} (c : Cascade) (o : ℕ) (p : Specificity) where
     stay : ((y : Candidate A) → y .weight ≡ w → u (held z) y ≡ held z) → Answer z w
     give : ((y : Candidate A) → y .weight ≡ w → u (held z) y ≡ held y) → Answer z w
 
+  -- one of the two holds
   answer : (z : Candidate A) (w : Weight) → Answer z w
   answer z w = go (stays c (z .weight) w) refl
     where
@@ -124,12 +126,15 @@ module _ {A : Type 0} (c : Cascade) (o : ℕ) (p : Specificity) where
       go (stay h) = rw (h a e)
       go (give h) = rw (h a e, h b f) (takes c a b (rw (e, f) (yields-alike o p c i)))
 
+  -- an important one takes the place of a normal one
   over-normal : (n i : Candidate A) → n .weight ≡ weightOf o p false → i .weight ≡ weightOf o p true → u (held n) i ≡ held i
   over-normal n i e f = takes c n i (rw (e, f) (yields-normal o p c))
 
+  -- a normal one does not take that of an important one
   over-important : (i n : Candidate A) → i .weight ≡ weightOf o p true → n .weight ≡ weightOf o p false → u (held i) n ≡ held i
   over-important i n e f = keeps c i n (rw (e, f) (stays-important o p c))
 
+  -- the later takes the place of the earlier of its kind
   over-alike : (j : Bool) (a b : Candidate A) → a .weight ≡ weightOf o p j → b .weight ≡ weightOf o p j → u (held a) b ≡ held b
   over-alike j a b e f = takes c a b (rw (e, f) (yields-alike o p c j))
 
@@ -158,9 +163,11 @@ module _ {A : Type 0} (c : Cascade) (o : ℕ) (p : Specificity) where
 unfoldable pub candidateOf : {A : Type 0} → ℕ → Specificity → Styled A → Candidate A
 candidateOf o p d = record { weight = record { important = d .important; origin = o; spec = p }; value = d .value }
 
+-- and what the slot then holds
 unfoldable pub updateFrom : {A : Type 0} → Cascade → ℕ → Specificity → Slot A → Styled A → Slot A
 updateFrom c o p x d = updateBy c x (candidateOf o p d)
 
+-- its weight
 weighs : {A : Type 0} (o : ℕ) (p : Specificity) (i : Bool) (d : Styled A) → d .important ≡ i → candidateOf o p d .weight ≡ weightOf o p i
 unfolding candidateOf
 weighs o p i d e = rw e

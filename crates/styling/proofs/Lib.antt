@@ -3,3 +3,4 @@ pub mod DecidingUpdate
 pub mod DecidingRecord
 pub mod DecidingSame
 pub mod DecidingRows
+pub mod DecidingBounds
