@@ -1,3 +1,9 @@
 pub mod Written
 pub mod PathLaws
 pub mod RulesMerging
+pub mod DecidingSlot
+pub mod DecidingUpdate
+pub mod DecidingRecord
+pub mod DecidingSame
+pub mod DecidingRows
+pub mod DecidingBounds

@@ -150,7 +150,7 @@ pub texts-none : (end fill : ℕ) (texts more : List ℕ) → more ≡ [] → (f
 texts-none end fill texts more e = (rw e (omega arith), rw e (sym (append-nil (take (end + fill) texts))))
 
 -- ---- what is kept stays
-module _ (s : StyledSheets) {rows tokens texts : List ℕ} where
+module _ (s : StyledSheets) where
   -- where the stores are the same up to a fill
   pub same-below : (fill : ℕ) (l m : List ℕ) → take (s .end + fill) m ≡ take (s .end + fill) l → take (s .end) m ≡ take (s .end) l
   same-below fill l m e =
@@ -165,16 +165,16 @@ module _ (s : StyledSheets) {rows tokens texts : List ℕ} where
       ∙ take-take (s .end) (s .end + fill) l (omega arith)
 
   -- after one change and another
-  pub same-twice : {rows₁ tokens₁ texts₁ rows₂ tokens₂ texts₂ : List ℕ} → SameKept s rows tokens texts rows₁ tokens₁ texts₁ → SameKept s rows₁ tokens₁ texts₁ rows₂ tokens₂ texts₂
+  pub same-twice : {rows tokens texts rows₁ tokens₁ texts₁ rows₂ tokens₂ texts₂ : List ℕ} → SameKept s rows tokens texts rows₁ tokens₁ texts₁ → SameKept s rows₁ tokens₁ texts₁ rows₂ tokens₂ texts₂
       → SameKept s rows tokens texts rows₂ tokens₂ texts₂
   same-twice h k = record { same-rows = k .same-rows ∙ h .same-rows; same-tokens = k .same-tokens ∙ h .same-tokens; same-texts = k .same-texts ∙ h .same-texts }
 
   -- it can be kept on
-  steady-on : {texts₁ : List ℕ} → length texts₁ ≡ length texts → (x : StyledSheet) → TextsIn texts (s .end) x → TextsIn texts₁ (s .end) x
+  steady-on : {texts texts₁ : List ℕ} → length texts₁ ≡ length texts → (x : StyledSheet) → TextsIn texts (s .end) x → TextsIn texts₁ (s .end) x
   steady-on e x t = record { begins = t .begins; ends = omega (arith, e, t .ends) }
 
-  pub steady-still : {rows₁ tokens₁ texts₁ : List ℕ} → Steady s rows tokens texts → SameKept s rows tokens texts rows₁ tokens₁ texts₁ → length texts₁ ≡ length texts → Steady s rows₁ tokens₁ texts₁
-  steady-still {rows₁} {tokens₁} {texts₁} h k e =
+  pub steady-still : {rows tokens texts rows₁ tokens₁ texts₁ : List ℕ} → Steady s rows tokens texts → SameKept s rows tokens texts rows₁ tokens₁ texts₁ → length texts₁ ≡ length texts → Steady s rows₁ tokens₁ texts₁
+  steady-still {rows} {tokens} {texts} {rows₁} {tokens₁} {texts₁} h k e =
       record {
         kept = λ rows₂ tokens₂ texts₂ m. h .kept rows₂ tokens₂ texts₂ (same-twice k m) ∙ sym (h .kept rows₁ tokens₁ texts₁ k);
         agent-in = steady-on e (s .agent) (h .agent-in);

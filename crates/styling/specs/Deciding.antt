@@ -8,6 +8,7 @@ use mathlib.Core.Path.{_≡_, refl}
 use Rattle.combinators.specs.Choice.{pick, or, is}
 use Rattle.values.specs.Words.{Found, found, missing, onFound}
 use Rattle.cascade.specs.Record.{slotCount, Styled}
+use Rattle.styles.specs.Said.{StyledRule}
 
 -- what is known of the styles for one slot so far: the last normal one, the last important one, and whether an important one stands behind a normal one
 pub record Sifted (A : Type 0) : Type 0 where
@@ -44,6 +45,10 @@ decidingFrom (suc n) k xs = decidingFor k xs ++ decidingFrom n (suc k) xs
 
 unfoldable pub deciding : {A : Type 0} → List (Styled A) → List (Styled A)
 deciding xs = decidingFrom slotCount 0 xs
+
+-- a rule with the styles that decide
+unfoldable pub decidingRule : {A : Type 0} → StyledRule A → StyledRule A
+decidingRule r = record { selectors = r .selectors; styles = deciding (r .styles) }
 
 -- ---- important, normal, normal: the important one and the last normal one; important, normal, important: a normal one, and the last; slots by their numbers
 abbrev case : ℕ → Bool → ℕ → Styled ℕ

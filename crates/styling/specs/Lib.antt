@@ -1,4 +1,5 @@
 pub mod Deciding
+pub mod Sifting
 pub mod Placing
 pub mod Path
 pub mod StyleAnswer

@@ -1,7 +1,8 @@
 // The style call: the computed style of one element, from three sheets and a page, in the crate's cascade or in the book order.
 pub mod rows; // rows.rt: style rows, written
+pub mod deciding; // deciding.rt: the styles of a rule that decide
 pub mod styled; // styled.rt: three sheets whose styles are made
+pub mod rules; // rules.rt: what the rules of a sheet say of an element, merged into its row
 mod stub; // stub
 pub mod path; // path.rt: the style of an element, down its path
 pub mod style; // style.rt: the entry points
-pub mod rules; // rules.rt: what the rules of a sheet say of an element, merged into its row
