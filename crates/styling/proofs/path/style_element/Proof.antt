@@ -10,19 +10,19 @@ use Rattle.styling.proofs.path.merge_sheet.Reads as merge-sheet-reads
 
 -- src/path.rt:232:5
 begin-element-requires : tie.Need-begin-element-requires
-begin-element-requires c κs = search needs
+begin-element-requires c κs = ?
 
 -- src/path.rt:233:5
 merge-early-requires : tie.Need-merge-early-requires
-merge-early-requires c κs = search needs
+merge-early-requires c κs = ?
 
 -- src/path.rt:247:5
 merge-sheet-requires : tie.Need-merge-sheet-requires
-merge-sheet-requires c κs = search needs
+merge-sheet-requires c κs = ?
 
 -- src/path.rt:261:5
 merge-late-requires : tie.Need-merge-late-requires
-merge-late-requires c κs = search needs
+merge-late-requires c κs = ?
 
 -- src/path.rt:207:1
 same-length : tie.Need-same-length
@@ -46,7 +46,7 @@ same-length-5 c = search needs
 
 -- src/path.rt:207:1
 returns : tie.Need-returns
-returns c = search needs
+returns c = ?
 
 pub style-element-spec : {M : Type 1} → statement M
 style-element-spec =
