@@ -3,6 +3,5 @@ pub mod rows; // rows.rt: style rows, written
 pub mod deciding; // deciding.rt: the styles of a rule that decide
 pub mod styled; // styled.rt: three sheets whose styles are made
 pub mod rules; // rules.rt: what the rules of a sheet say of an element, merged into its row
-mod stub; // stub
 pub mod path; // path.rt: the style of an element, down its path
 pub mod style; // style.rt: the entry points

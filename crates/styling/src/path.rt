@@ -1,6 +1,6 @@
 // The style of an element and of those above it, from the top down.
-use crate::stub::merge_attributes;
-use crate::stub::merge_early_attributes;
+use attributes::merging::merge_attributes;
+use attributes::merging::merge_early_attributes;
 use crate::rules::merge_rules;
 use crate::styled::StyledSheet;
 use crate::styled::StyledSheets;
