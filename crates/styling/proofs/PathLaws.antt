@@ -204,3 +204,40 @@ module _ (c : Cascade) (rules : Rules (StyledRule Value)) (inline : List (Attrib
       let d′ : d ≡ mergedRow c b W = ed ∙ ap (λ (l : List (StyledRule Value)). mergedRow c b (map (fromRule authorOrigin) (rulesSay p l))) e in
       rw (declared-parts c said, merged-append c i A (U ++ (E ++ (W ++ L))), merged-append c (mergedRow c i A) U (E ++ (W ++ L)), merged-append c (mergedRow c (mergedRow c i A) U) E (W ++ L), merged-append c (mergedRow c (mergedRow c (mergedRow c i A) U) E) W L)
       (ez ∙ ap (λ (r : List ℕ). mergedRow c r L) (d′ ∙ ap (λ (r : List ℕ). mergedRow c r W) (eb ∙ ap (λ (r : List ℕ). mergedRow c r E) (ea ∙ merged-append c i A U))))
+
+-- ---- what an element leaves: the texts up to the new fill, and what is kept
+pub element-kept : (s : StyledSheets) (fill r : ℕ) (rows tokens texts tokens₁ texts₁ rows₂ tokens₂ texts₂ more : List ℕ) → s .end + fill ≤ length texts₁ → r ≡ fill + length more
+    → take (s .behind) tokens₁ ≡ take (s .behind) tokens → take (s .end + fill) texts₁ ≡ take (s .end + fill) texts
+    → take (s .rows) rows₂ ≡ take (s .rows) rows → take (s .behind) tokens₂ ≡ take (s .behind) tokens₁ → take (s .end + r) texts₂ ≡ take (s .end + fill) texts₁ ++ more
+    → (take (s .end + r) texts₂ ≡ take (s .end + fill) texts ++ more) × SameKept s rows tokens texts rows₂ tokens₂ texts₂
+element-kept s fill r rows tokens texts tokens₁ texts₁ rows₂ tokens₂ texts₂ more h k t₁ x₁ r₂ t₂ x₂ = (
+  x₂ ∙ ap (λ (l : List ℕ). l ++ more) x₁,
+  record {
+    same-rows = r₂;
+    same-tokens = t₂ ∙ t₁;
+    same-texts = same-filled s fill r texts₁ texts₂ more h (omega (arith, k)) x₂ ∙ same-below s fill texts texts₁ x₁;
+  },
+)
+
+-- the author's rules are the same behind the attributes that come early
+pub author-still : (s : StyledSheets) (fill : ℕ) (rows tokens texts tokens₁ texts₁ : List ℕ) → Steady s rows tokens texts
+    → take (s .behind) tokens₁ ≡ take (s .behind) tokens → take (s .end + fill) texts₁ ≡ take (s .end + fill) texts
+    → keptSheet rows tokens₁ texts₁ (s .end) (s .author) ≡ keptSheets rows tokens texts s .author
+unfolding keptSheets
+author-still s fill rows tokens texts tokens₁ texts₁ h t x =
+    ap (λ (k : Rules (StyledRule Value)). k .author) (h .kept rows tokens₁ texts₁ (record { same-rows = refl; same-tokens = t; same-texts = same-below s fill texts texts₁ x }))
+
+-- room that is asked for again behind a call
+pub early-of : (s : StyledSheets) (e : Element) (fill : ℕ) (rows tokens brackets texts : List ℕ) → ElementRoom s e fill rows tokens brackets texts → EarlyRoom s e fill tokens brackets texts
+early-of s e fill rows tokens brackets texts r = record { for-tokens = r .for-tokens; for-brackets = r .for-brackets; for-texts = r .for-texts; bits = r .bits }
+
+pub room-again : (s : StyledSheets) (e : Element) (fill : ℕ) (rows tokens brackets texts tokens₁ brackets₁ texts₁ : List ℕ) → ElementRoom s e fill rows tokens brackets texts
+    → length tokens₁ ≡ length tokens → length brackets₁ ≡ length brackets → length texts₁ ≡ length texts → ElementRoom s e fill rows tokens₁ brackets₁ texts₁
+room-again s e fill rows tokens brackets texts tokens₁ brackets₁ texts₁ r t b x =
+    record {
+      for-rules = r .for-rules;
+      for-tokens = omega (arith, t, r .for-tokens);
+      for-brackets = omega (arith, b, r .for-brackets);
+      for-texts = omega (arith, x, r .for-texts);
+      bits = r .bits;
+    }
