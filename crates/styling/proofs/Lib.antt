@@ -1,0 +1,2 @@
+pub mod PlacingCopies
+pub mod PlacingStyles
