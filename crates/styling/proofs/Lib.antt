@@ -1,2 +1,5 @@
 pub mod PlacingCopies
 pub mod PlacingStyles
+pub mod PlacingFew
+pub mod PlacingKept
+pub mod PlacingRule

@@ -68,8 +68,7 @@ module _ (tokens texts : List ℕ) (at from end fill : ℕ) (style : StyleNumber
         → t ≡ sets tokens at (rowOfNumbers (record { slot = style .slot; important = style .important; value = record { number = fill; second = size } }))
         → Left t z (fill + size)
     content-placed size es t z ez et =
-        rw (← e)
-        (
+        rw (← e) (
           et ∙ ap (λ (x : StyleNumbers). sets tokens at (rowOfNumbers x)) (content-lies text fill style h size es),
           (ez ∙ ap (sets texts (end + fill)) (content-is text fill style h), ap (λ (n : ℕ). fill + n) (es ∙ ap length (content-is text fill style h))),
         )
@@ -77,8 +76,7 @@ module _ (tokens texts : List ℕ) (at from end fill : ℕ) (style : StyleNumber
   -- any other
   pub other-placed : ¬ (style .slot ≡ contentSlot) → (t : List ℕ) → t ≡ sets tokens at (rowOfNumbers style) → Left t texts fill
   other-placed h t et =
-      rw (← e)
-      (
+      rw (← e) (
         et ∙ ap (λ (x : StyleNumbers). sets tokens at (rowOfNumbers x)) (other-stays text fill style h),
         (
           ap (sets texts (end + fill)) (other-none text fill style h),

@@ -1,11 +1,13 @@
 -- Which styles of a rule decide. All styles of a rule come to a slot with one origin and one specificity, so at most two of them matter there: the last normal one
 -- and the last important one, in an order that depends on whether an important one stands behind a normal one. A rule is then merged in a bounded number of
 -- steps for each of its selectors, however many declarations it has; that nothing else changes is the law `deciding-same`.
-use Prim.Native.Nat.{ℕ, zero, suc, _+_}
+use Prim.Native.Nat.{ℕ, zero, suc, _+_, _*_, _≤_}
 use mathlib.Core.Bool.{Bool, true, false}
 use mathlib.Core.List.{List, [], _∷_, _++_, foldl}
 use mathlib.Core.Path.{_≡_, refl}
+use lib.ListN.{length}
 use Rattle.combinators.specs.Choice.{pick, or, is}
+use Rattle.syntax.specs.Layout.{styleWidth}
 use Rattle.values.specs.Words.{Found, found, missing, onFound}
 use Rattle.cascade.specs.Record.{slotCount, Styled}
 
@@ -44,6 +46,11 @@ decidingFrom (suc n) k xs = decidingFor k xs ++ decidingFrom n (suc k) xs
 
 unfoldable pub deciding : {A : Type 0} → List (Styled A) → List (Styled A)
 deciding xs = decidingFrom slotCount 0 xs
+
+-- so many styles from a place on, behind room for those that decide
+pub record DecidingRoom (rows : List ℕ) (at count place : ℕ) : Type 0 where
+  pub apart : place + 2 * slotCount * styleWidth ≤ at
+  pub inside : at + styleWidth * count ≤ length rows
 
 -- ---- important, normal, normal: the important one and the last normal one; important, normal, important: a normal one, and the last; slots by their numbers
 abbrev case : ℕ → Bool → ℕ → Styled ℕ
