@@ -3,3 +3,4 @@ pub mod PlacingStyles
 pub mod PlacingFew
 pub mod PlacingKept
 pub mod PlacingRule
+pub mod PlacingRules

@@ -43,7 +43,7 @@ numbers-before (suc n) (a ∷ b ∷ c ∷ []) t h = absurd (omega arith)
 numbers-before (suc n) (a ∷ b ∷ c ∷ d ∷ xs) t h = ap (λ (r : List StyleNumbers). numbersAt (a ∷ b ∷ c ∷ d ∷ xs) ∷ r) (numbers-before n xs t (omega arith))
 
 -- so many as are asked for
-numbers-long : (n : ℕ) (t : List ℕ) → length (numbersOf n t) ≡ n
+pub numbers-long : (n : ℕ) (t : List ℕ) → length (numbersOf n t) ≡ n
 unfolding numbersOf
 numbers-long n t = many-length readNumbers n t
 
@@ -56,7 +56,7 @@ styled-back (x ∷ xs) t =
     rw (append-assoc (rowOfNumbers x) (textsMany rowOfNumbers xs) t, row-numbers-back x others, row-numbers-rest x others, styled-back xs t)
 
 -- as many are placed
-placed-long : (text : List ℕ) (xs : List StyleNumbers) (f : ℕ) → length (placedAll text f xs) ≡ length xs
+pub placed-long : (text : List ℕ) (xs : List StyleNumbers) (f : ℕ) → length (placedAll text f xs) ≡ length xs
 unfolding placedAll
 placed-long text [] f = refl
 placed-long text (x ∷ xs) f = ap suc (placed-long text xs (f + length (contentOf text x)))
@@ -167,12 +167,11 @@ module _ (t tokens : List ℕ) (place : ℕ) (o : RuleKeptRoom t tokens place) w
         unfolding contentsAt
         rule-left w next ew en =
             let k = keptOf (stylesPlaced text fill t) in
-            let b : place + length k ≤ made = omega (arith, length-kept (deciding (stylesPlaced text fill t)), deciding-two Value (stylesPlaced text fill t)) in
-            (
+            let b : place + length k ≤ made = omega (arith, length-kept (deciding (stylesPlaced text fill t)), deciding-two Value (stylesPlaced text fill t)) in (
               ew ∙ ap (λ (xs : List (Styled Value)). wiped made (styleWidth * count) (sets y₂ place (keptOf xs))) styles-are
-              ∙ ap (λ (l : List ℕ). wiped made (styleWidth * count) (sets l place k)) placed-is
-              ∙ wiped-apart (sets tokens made rows) place made (styleWidth * count) k b
-              ∙ ap (λ (l : List ℕ). sets l place k) (zeros-back tokens made made-zeros rows (styleWidth * count) (omega (arith, rows-are))),
+                  ∙ ap (λ (l : List ℕ). wiped made (styleWidth * count) (sets l place k)) placed-is
+                  ∙ wiped-apart (sets tokens made rows) place made (styleWidth * count) k b
+                  ∙ ap (λ (l : List ℕ). sets l place k) (zeros-back tokens made made-zeros rows (styleWidth * count) (omega (arith, rows-are))),
               (
                 ez ∙ ap (λ (xs : List StyleNumbers). sets texts (end + fill) (contentsOf text xs)) numbers-are,
                 rw (en, eg, styles-are, numbers-are),
