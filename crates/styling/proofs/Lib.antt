@@ -4,3 +4,4 @@ pub mod PlacingFew
 pub mod PlacingKept
 pub mod PlacingRule
 pub mod PlacingRules
+pub mod PlacingLies

@@ -88,6 +88,7 @@ module _ (texts : List ℕ) (from end start n fill : ℕ) (found : List ℕ) (e 
   abbrev copied : List ℕ
   copied = part (sheetText texts from end) start n
 
+  -- as long as what was looked up
   same : length found ≡ length copied
   unfolding sheetText
   same = ap length e
@@ -112,6 +113,7 @@ module _ (texts : List ℕ) (from end start n fill : ℕ) (found : List ℕ) (e 
   unfolding part sheetText
   part-lies = ap (take (length copied)) (sym (drop-drop start from texts)) ∙ part-within (drop from texts) (end - from) start n
 
+  -- so that it is there
   pub part-copied : (z : List ℕ) → z ≡ sets texts (end + fill) (part texts (from + start) (length found))
       → (z ≡ sets texts (end + fill) copied) × (length found ≡ length copied)
   part-copied z p =

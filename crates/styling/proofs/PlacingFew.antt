@@ -1,12 +1,12 @@
 -- How many styles of a rule decide: no more than two for each slot, and no more than it has.
-use mathlib.Core.Path.{_≡_, refl, sym, ap, _∙_}
+use mathlib.Core.Path.{_≡_, refl}
 use mathlib.Core.Bool.{Bool, true, false}
 use mathlib.Core.List.{List, [], _∷_, _++_, foldl}
 use Prim.Native.Nat.{ℕ, zero, suc, _+_, _*_, _≤_, _<_}
 use native.Mathlib.Omega.{arith}
 use lib.ListN.{length, length-append}
 use Rattle.combinators.specs.Choice.{pick, or, is}
-use Rattle.combinators.proofs.Rules.{is-yes, is-no, is-true, pick-holds}
+use Rattle.combinators.proofs.Rules.{is-no, is-true, pick-holds}
 use Rattle.values.specs.Words.{Found, found, missing, onFound}
 use Rattle.cascade.specs.Record.{slotCount, Styled}
 use Rattle.styling.specs.Deciding.{Sifted, nothingSifted, sift, listed, siftedStyles, decidingFor, decidingFrom, deciding}
@@ -52,18 +52,20 @@ module _ (A : Type 0) where
   countFor k [] = 0
   countFor k (x ∷ xs) = counts k x + countFor k xs
 
+  -- many styles more
   fold-known : (xs : List (Styled A)) (k : ℕ) (s : Sifted A) → known (foldl (sift k) s xs) ≤ known s + countFor k xs
   unfolding countFor
   fold-known [] k s = omega arith
   fold-known (x ∷ xs) k s = omega (arith, fold-known xs k (sift k s x), sift-known k s x)
 
-  -- for a slot at most two decide, and no more than are for it
+  -- for a slot at most two decide
   for-two : (k : ℕ) (xs : List (Styled A)) → length (decidingFor k xs) ≤ 2
   unfolding decidingFor
   for-two k xs =
       let s = foldl (sift k) nothingSifted xs in
       omega (arith, sifted-known s, listed-few (s .normal), listed-few (s .important))
 
+  -- and no more than are for it
   for-few : (k : ℕ) (xs : List (Styled A)) → length (decidingFor k xs) ≤ countFor k xs
   unfolding decidingFor nothingSifted listed onFound
   for-few k xs = omega (arith, sifted-known (foldl (sift k) nothingSifted xs), fold-known xs k nothingSifted)
@@ -75,28 +77,33 @@ module _ (A : Type 0) where
   from-two zero k xs = omega arith
   from-two (suc n) k xs = omega (arith, length-append (decidingFor k xs) (decidingFrom n (suc k) xs), for-two k xs, from-two n (suc k) xs)
 
+  -- so at most two for each slot of a style
   pub deciding-two : (xs : List (Styled A)) → length (deciding xs) ≤ 2 * slotCount
   unfolding deciding
   deciding-two xs = from-two slotCount 0 xs
 
-  -- a style is for one slot at most, of n slots from k on
+  -- how many of n slots from k on a style is for
   unfoldable countsFrom : ℕ → ℕ → Styled A → ℕ
   countsFrom zero k x = 0
   countsFrom (suc n) k x = counts k x + countsFrom n (suc k) x
 
+  -- none is counted for another slot
   counts-no : (k : ℕ) (x : Styled A) → is (x .slot) k ≡ false → counts k x ≡ 0
   unfolding counts pick
   counts-no k x h = rw h
 
+  -- one is counted for its own
   counts-yes : (k : ℕ) (x : Styled A) → is (x .slot) k ≡ true → counts k x ≡ 1
   unfolding counts pick
   counts-yes k x h = rw h
 
+  -- it is for none that lies behind its own
   below-none : (n k : ℕ) (x : Styled A) → x .slot < k → countsFrom n k x ≡ 0
   unfolding countsFrom
   below-none zero k x h = refl
   below-none (suc n) k x h = omega (arith, counts-no k x (is-no _ _ (λ e. omega (arith, e, h))), below-none n (suc k) x (omega arith))
 
+  -- it is for one at most
   one-slot : (n k : ℕ) (x : Styled A) → countsFrom n k x ≤ 1
   unfolding countsFrom
   one-slot zero k x = omega arith
@@ -111,20 +118,24 @@ module _ (A : Type 0) where
   countFrom zero k xs = 0
   countFrom (suc n) k xs = countFor k xs + countFrom n (suc k) xs
 
+  -- of no style there are none
   count-none : (n k : ℕ) → countFrom n k [] ≡ 0
   unfolding countFrom countFor
   count-none zero k = refl
   count-none (suc n) k = omega (arith, count-none n (suc k))
 
+  -- a style, and the others
   count-one : (n k : ℕ) (x : Styled A) (xs : List (Styled A)) → countFrom n k (x ∷ xs) ≡ countsFrom n k x + countFrom n k xs
   unfolding countFrom countFor countsFrom
   count-one zero k x xs = refl
   count-one (suc n) k x xs = omega (arith, count-one n (suc k) x xs)
 
+  -- no more are counted than there are
   count-few : (xs : List (Styled A)) (n k : ℕ) → countFrom n k xs ≤ length xs
   count-few [] n k = omega (arith, count-none n k)
   count-few (x ∷ xs) n k = omega (arith, count-one n k x xs, one-slot n k x, count-few xs n k)
 
+  -- no more decide than are counted
   from-few : (n k : ℕ) (xs : List (Styled A)) → length (decidingFrom n k xs) ≤ countFrom n k xs
   unfolding decidingFrom countFrom
   from-few zero k xs = omega arith

@@ -25,7 +25,7 @@ use Rattle.origins.proofs.Parts.{lentPart, part-length, part-stored}
 use Rattle.origins.proofs.WalkLaws.{many-length}
 use Rattle.styles.specs.StyleCall.{inNumbers}
 use Rattle.styling.specs.Deciding.{deciding}
-use Rattle.styling.specs.Placing.{sheetText, readNumbers, numbersOf, placedNumbers, contentOf, contentsOf, placedAll, lyingStyles, contentsAt, stylesPlaced, kept, readStyled}
+use Rattle.styling.specs.Placing.{sheetText, readNumbers, numbersOf, contentOf, contentsOf, placedAll, lyingStyles, contentsAt, stylesPlaced, kept, readStyled}
 use Rattle.styling.specs.PlacingRoom.{ContentsRoom, StyleRowsRoom, keptHead, keptWidth, KeptRoom, RuleKeptRoom}
 use Rattle.styling.specs.declared.placing.Placed.{Placed}
 use Rattle.styling.proofs.PlacingFew.{deciding-two}
@@ -77,9 +77,11 @@ rule-styles-few t =
 
 -- ---- a rule, whose styles are made behind room for what is kept of it
 module _ (t tokens : List ℕ) (place : ℕ) (o : RuleKeptRoom t tokens place) where
+  -- where they are made
   abbrev made : ℕ
   made = place + keptHead + keptWidth
 
+  -- that place lies in the store
   pub made-in : made ≤ length tokens
   made-in = omega (arith, o .styled)
 
@@ -87,17 +89,21 @@ module _ (t tokens : List ℕ) (place : ℕ) (o : RuleKeptRoom t tokens place) w
   pub rule-room : RuleRoom t (length (lentPart tokens made made-in))
   rule-room = record { texts = o .texts; declared = o .declared; styled = omega (arith, o .styled, part-length tokens made made-in) }
 
+  -- the store is zero from there on
   made-zeros : Zeros tokens made
   made-zeros = let q : place + (keptHead + keptWidth) ≡ made = omega arith in subst (Zeros tokens) q (zeros-later tokens place (o .zeros) (keptHead + keptWidth))
 
   -- when they are made
   module _ (y : List ℕ) (count : ℕ) (ey : y ≡ sets (lentPart tokens made made-in) 0 (ruleStyles t)) (ec : styleWidth * count ≡ length (ruleStyles t)) where
+    -- the store with their rows
     abbrev store : List ℕ
     store = putMid made (length tokens - made) tokens y
 
+    -- they are stored from there on
     store-is : store ≡ sets tokens made (ruleStyles t)
     store-is = part-stored tokens made made-in (ruleStyles t) y ey
 
+    -- they lie in the store
     rows-in : made + styleWidth * count ≤ length tokens
     rows-in = omega (arith, ec, rule-styles-few t, o .styled)
 
@@ -111,10 +117,12 @@ module _ (t tokens : List ℕ) (place : ℕ) (o : RuleKeptRoom t tokens place) w
         ∙ numbers-before count (ruleStyles t) (drop (made + length (ruleStyles t)) tokens) (omega (arith, ec))
         ∙ ap (λ (n : ℕ). numbersOf n (ruleStyles t)) q
 
+    -- so many
     lying-long : length (lyingStyles t) ≡ count
     lying-long = ap length (sym numbers-are) ∙ numbers-long count (drop made store)
 
     module _ (texts : List ℕ) (from end fill : ℕ) where
+      -- the text of the sheet
       abbrev text : List ℕ
       text = sheetText texts from end
 
@@ -129,12 +137,15 @@ module _ (t tokens : List ℕ) (place : ℕ) (o : RuleKeptRoom t tokens place) w
       module _ (y₂ z : List ℕ) (g : ℕ) (ey₂ : y₂ ≡ sets store made (textsMany rowOfNumbers (placedAll text fill (numbersOf count (drop made store)))))
           (ez : z ≡ sets texts (end + fill) (contentsOf text (numbersOf count (drop made store))))
           (eg : g ≡ fill + length (contentsOf text (numbersOf count (drop made store)))) where
+        -- their rows
         abbrev rows : List ℕ
         rows = textsMany rowOfNumbers (placedAll text fill (lyingStyles t))
 
+        -- these take as many numbers as before
         rows-are : length rows ≡ styleWidth * count
         rows-are = rows-long (placedAll text fill (lyingStyles t)) ∙ ap (λ (n : ℕ). styleWidth * n) (placed-long text (lyingStyles t) fill ∙ lying-long)
 
+        -- and lie where the others lay
         placed-is : y₂ ≡ sets tokens made rows
         placed-is =
             ey₂ ∙ ap (λ (xs : List StyleNumbers). sets store made (textsMany rowOfNumbers (placedAll text fill xs))) numbers-are
@@ -144,6 +155,7 @@ module _ (t tokens : List ℕ) (place : ℕ) (o : RuleKeptRoom t tokens place) w
         pub keep-room : KeptRoom y₂ place made count
         keep-room = record { apart = omega arith; inside = omega (arith, rows-in, ap length placed-is, length-sets tokens made rows) }
 
+        -- they are read back as the styles of the rule
         styles-are : readMany readStyled count (drop made y₂) .value ≡ stylesPlaced text fill t
         unfolding stylesPlaced
         styles-are =

@@ -1,6 +1,6 @@
 -- The styles of rules one behind the other: the loop of `style_rules`.
 use mathlib.Core.Path.{_≡_, refl, sym, ap, _∙_}
-use mathlib.Core.List.{List, [], _∷_, _++_}
+use mathlib.Core.List.{List, [], _++_}
 use Prim.Native.Nat.{ℕ, zero, suc, _+_, _-_, _*_, _/_, _^_, _≤_, _<_}
 use native.Mathlib.Omega.{arith}
 use lib.ListN.{length, getD, drop, length-append, length-drop, length-map}
@@ -16,7 +16,7 @@ use Rattle.origins.proofs.WalkLaws.{component-rest, declaration-rest}
 use Rattle.styles.specs.StyleCall.{inNumbers}
 use Rattle.styling.specs.Deciding.{deciding}
 use Rattle.styling.specs.Placing.{sheetText, placedAll, lyingStyles, contentsAt, stylesPlaced, styledRule, rulesContentsAt, styledRules, kept, keptRules}
-use Rattle.styling.specs.PlacingRoom.{ContentsRoom, keptHead, keptWidth, RuleKeptRoom, RuleLies, EachLies, RulesKeptRoom}
+use Rattle.styling.specs.PlacingRoom.{ContentsRoom, keptHead, RuleKeptRoom, RuleLies, EachLies, RulesKeptRoom}
 use Rattle.styling.specs.declared.placing.Placed.{Placed}
 use Rattle.styling.proofs.PlacingCopies.{sheet-text-kept}
 use Rattle.styling.proofs.PlacingFew.{deciding-few}
@@ -51,6 +51,7 @@ module _ (text : List ℕ) where
       let s = selectorsRead text t .rest in
       ap length (declaration-rest text n s) ∙ length-drop (declarationWidth * n) s
 
+  -- so no more is left
   rule-short : (t : List ℕ) → length (readRule text t .rest) ≤ length t
   rule-short t = omega (arith, rule-rest t, selectors-short t)
 
@@ -63,84 +64,98 @@ module _ (text : List ℕ) where
   rules-short n t = many-short (readRule text) rule-short n t
 
   -- ---- what is kept of a rule takes no more numbers than its head and its declarations
+  -- as many styles are placed as it has
   styles-long : (f : ℕ) (t : List ℕ) → length (stylesPlaced text f t) ≡ length (ruleStyles t) / styleWidth
   unfolding stylesPlaced lyingStyles
   styles-long f t =
       length-map (placedAll text f (lyingStyles t)) inNumbers ∙ placed-long text (lyingStyles t) f ∙ numbers-long (length (ruleStyles t) / styleWidth) (ruleStyles t)
 
+  -- and no more are kept
   pub kept-short : (f : ℕ) (t : List ℕ) → length (kept (deciding (stylesPlaced text f t))) ≤ keptHead + styleWidth * getD t ruleDeclarations 0
   kept-short f t =
       omega (arith, length-kept (deciding (stylesPlaced text f t)), deciding-few Value (stylesPlaced text f t), styles-long f t, rule-styles-few t)
 
+  -- what lies behind rules lies behind those that follow the first
+  pub rest-behind : (n : ℕ) (t : List ℕ) → readMany (readRule text) (suc n) t .rest ≡ readMany (readRule text) n (readRule text t .rest) .rest
+  unfolding readMany
+  rest-behind n t = refl
+
   -- ---- room, for the first rule and for those behind it
   module _ (n : ℕ) (t tokens : List ℕ) (place : ℕ) (o : RulesKeptRoom text (suc n) t tokens place) where
+    -- the first is there
     first-lies : RuleLies text t
     unfolding EachLies
     first-lies = o .lie .0
 
+    -- and so are the others
     others-lie : EachLies text n (readRule text t .rest)
     unfolding EachLies
     others-lie = o .lie .1
 
-    one-rest : readMany (readRule text) (suc n) t .rest ≡ readMany (readRule text) n (readRule text t .rest) .rest
-    unfolding readMany
-    one-rest = refl
-
+    -- room for the first
     pub first-room : RuleKeptRoom t tokens place
     first-room =
         record {
           texts = text;
           declared = first-lies .declared;
-          styled = omega (arith, o .room, ap length one-rest, rules-short n (readRule text t .rest), rule-takes t first-lies);
+          styled = omega (arith, o .room, ap length (rest-behind n t), rules-short n (readRule text t .rest), rule-takes t first-lies);
           zeros = o .zeros;
         }
 
+    -- room for the others, when the first is kept
     pub others-room : (f : ℕ) (w : List ℕ) → w ≡ sets tokens place (kept (deciding (stylesPlaced text f t)))
         → RulesKeptRoom text n (readRule text t .rest) w (place + length (kept (deciding (stylesPlaced text f t))))
     others-room f w e =
         let k = kept (deciding (stylesPlaced text f t)) in
         record {
           lie = others-lie;
-          room = omega (arith, o .room, ap length one-rest, rule-takes t first-lies, kept-short f t, ap length e, length-sets tokens place k);
+          room = omega (arith, o .room, ap length (rest-behind n t), rule-takes t first-lies, kept-short f t, ap length e, length-sets tokens place k);
           zeros = rw e (zeros-behind tokens place (o .zeros) k);
         }
 
   -- ---- the first rule, and those behind it
   module _ (k : ℕ) (t : List ℕ) where
-    one-kept : (f : ℕ) → keptRules (styledRules text f (suc k) t)
+    -- what is kept of them
+    pub one-kept : (f : ℕ) → keptRules (styledRules text f (suc k) t)
         ≡ kept (deciding (stylesPlaced text f t)) ++ keptRules (styledRules text (f + length (contentsAt text t)) k (readRule text t .rest))
     unfolding keptRules styledRules styledRule textsMany
     one-kept f = refl
 
+    -- their contents
     one-content : rulesContentsAt text (suc k) t ≡ contentsAt text t ++ rulesContentsAt text k (readRule text t .rest)
     unfolding rulesContentsAt
     one-content = refl
 
-  -- no rule
-  none-kept : (f : ℕ) (t : List ℕ) → keptRules (styledRules text f zero t) ≡ []
+  -- of no rule nothing is kept
+  pub none-kept : (f : ℕ) (t : List ℕ) → keptRules (styledRules text f zero t) ≡ []
   unfolding keptRules styledRules textsMany
   none-kept f t = refl
 
+  -- it has no content
   none-content : (t : List ℕ) → rulesContentsAt text zero t ≡ []
   unfolding rulesContentsAt
   none-content t = refl
 
-  none-rest : (t : List ℕ) → readMany (readRule text) zero t .rest ≡ t
+  -- and takes no number
+  pub none-rest : (t : List ℕ) → readMany (readRule text) zero t .rest ≡ t
   unfolding readMany
   none-rest t = refl
 
 -- ---- the loop of `style_rules`
 module _ (rules : List ℕ) (at count : ℕ) (tokens₀ : List ℕ) (place : ℕ) (texts₀ : List ℕ) (from end fill : ℕ) where
+  -- the text of the sheet
   abbrev sheet : List ℕ
   sheet = sheetText texts₀ from end
 
-  -- what is kept of n rules from a place on, their contents, and what lies behind them
+  -- what is kept of n rules from a place on
   abbrev keptFrom : ℕ → ℕ → ℕ → List ℕ
   keptFrom f rows n = keptRules (styledRules sheet f n (drop rows rules))
 
+  -- their contents
   abbrev contentsFrom : ℕ → ℕ → List ℕ
   contentsFrom rows n = rulesContentsAt sheet n (drop rows rules)
 
+  -- what lies behind them
   abbrev restFrom : ℕ → ℕ → List ℕ
   restFrom rows n = readMany (readRule sheet) n (drop rows rules) .rest
 
@@ -173,6 +188,7 @@ module _ (rules : List ℕ) (at count : ℕ) (tokens₀ : List ℕ) (place : ℕ
         }
 
     module _ (tokens texts : List ℕ) (rows p f : ℕ) where
+      -- the rules that are left
       abbrev t : List ℕ
       t = drop rows rules
 
@@ -199,17 +215,19 @@ module _ (rules : List ℕ) (at count : ℕ) (tokens₀ : List ℕ) (place : ℕ
             place-left = rw d (omega (arith, length-append a others, ap length (one-kept sheet k t f), c .place-left));
             texts-left = rw (d, ez, q) (sym (sets-append texts (end + f) b contents) ∙ ap (sets texts (end + f)) (sym (one-content sheet k t)) ∙ c .texts-left);
             fill-left = rw d (omega (arith, length-append b contents, ap length (one-content sheet k t), c .fill-left));
-            rest-left = ap (λ (l : List ℕ). readMany (readRule sheet) k l .rest) d ∙ sym (one-rest sheet k t tokens p (c .room)) ∙ c .rest-left;
+            rest-left = ap (λ (l : List ℕ). readMany (readRule sheet) k l .rest) d ∙ sym (rest-behind sheet k t) ∙ c .rest-left;
             same = ap (λ (l : List ℕ). sheetText l from end) ez ∙ sheet-text-kept b texts from end (end + f) (r .ordered) (omega arith) ∙ c .same;
             room = rw d (others-room sheet k t tokens p (c .room) f w ew);
             row-length = ap length ew ∙ length-sets tokens p a ∙ c .row-length;
             text-length = ap length ez ∙ length-sets texts (end + f) b ∙ c .text-length;
           }
 
+      -- room for the next, while any is left
       pub styling-room : (n : ℕ) → Styling tokens texts rows p f n → 0 < n → RuleKeptRoom t tokens p × ContentsRoom texts from end f (contentsAt (sheetText texts from end) t)
       styling-room zero c h = absurd (omega arith)
       styling-room (suc k) c h = next-room k c
 
+      -- the next is kept
       pub styling-more : (n : ℕ) → Styling tokens texts rows p f n → 0 < n → (w z : List ℕ) (x : Placed)
           → w ≡ sets tokens p (kept (deciding (stylesPlaced (sheetText texts from end) f t))) → z ≡ sets texts (end + f) (contentsAt (sheetText texts from end) t)
           → x ≡ record { place = p + length (kept (deciding (stylesPlaced (sheetText texts from end) f t))); fill = f + length (contentsAt (sheetText texts from end) t) }

@@ -19,22 +19,24 @@ use Rattle.styling.proofs.PlacingCopies.{sheet-text-kept}
 
 -- ---- one style
 module _ (text : List ℕ) (fill : ℕ) (x : StyleNumbers) where
-  -- a content: its text, and the style that says where it lies
+  -- a content: its text
   content-is : x .slot ≡ contentSlot → part text (x .value .number) (x .value .second) ≡ contentOf text x
   unfolding contentOf
   content-is h = pick-true _ _ _ _ (is-yes _ _ h) refl
 
+  -- the style that says where it lies
   content-lies : x .slot ≡ contentSlot → (size : ℕ) → size ≡ length (part text (x .value .number) (x .value .second))
       → record { slot = x .slot; important = x .important; value = record { number = fill; second = size } } ≡ placedNumbers text fill x
   unfolding placedNumbers placedValue
   content-lies h size e =
       ap (λ v. record { slot = x .slot; important = x .important; value = v }) (pick-true _ _ _ _ (is-yes _ _ h) (rw (e, content-is h) refl))
 
-  -- any other has no text, and stays
+  -- any other has no text
   other-none : ¬ (x .slot ≡ contentSlot) → [] ≡ contentOf text x
   unfolding contentOf
   other-none h = pick-false _ _ _ _ (is-no _ _ h) refl
 
+  -- and stays
   other-stays : ¬ (x .slot ≡ contentSlot) → x ≡ placedNumbers text fill x
   unfolding placedNumbers placedValue
   other-stays h = ap (λ v. record { slot = x .slot; important = x .important; value = v }) (pick-false _ _ _ _ (is-no _ _ h) refl)
@@ -63,6 +65,7 @@ module _ (tokens texts : List ℕ) (at from end fill : ℕ) (style : StyleNumber
         → size ≡ length (part text (style .value .number) (style .value .second)) → fill + size < 2 ^ 32
     content-bits r size es = rw es (content-room r .bits)
 
+    -- it is copied, and its row says where it lies
     pub content-placed : (size : ℕ) → size ≡ length (part text (style .value .number) (style .value .second)) → (t z : List ℕ)
         → z ≡ sets texts (end + fill) (part text (style .value .number) (style .value .second))
         → t ≡ sets tokens at (rowOfNumbers (record { slot = style .slot; important = style .important; value = record { number = fill; second = size } }))
@@ -102,24 +105,27 @@ module _ (text : List ℕ) (k : ℕ) (t : List ℕ) where
   unfolding placedAll numbersOf readMany readNumbers textsMany
   one-row f = refl
 
--- no style has no row and no content
+-- of no style there is no row
 no-row : (text : List ℕ) (f : ℕ) (t : List ℕ) → textsMany rowOfNumbers (placedAll text f (numbersOf zero t)) ≡ []
 unfolding placedAll numbersOf readMany textsMany
 no-row text f t = refl
 
+-- and no content
 no-content : (text t : List ℕ) → contentsOf text (numbersOf zero t) ≡ []
 unfolding contentsOf numbersOf readMany textsMany
 no-content text t = refl
 
 -- ---- the loop of `place_styles`
 module _ (tokens₀ : List ℕ) (at count : ℕ) (texts₀ : List ℕ) (from end fill : ℕ) where
+  -- the text of the sheet
   abbrev sheet : List ℕ
   sheet = sheetText texts₀ from end
 
-  -- the rows of n styles from a place on, and their contents
+  -- the rows of n styles from a place on
   abbrev rowsFrom : List ℕ → ℕ → ℕ → ℕ → List ℕ
   rowsFrom tokens f place n = textsMany rowOfNumbers (placedAll sheet f (numbersOf n (drop place tokens)))
 
+  -- their contents
   abbrev contentsFrom : List ℕ → ℕ → ℕ → List ℕ
   contentsFrom tokens place n = contentsOf sheet (numbersOf n (drop place tokens))
 
@@ -139,6 +145,7 @@ module _ (tokens₀ : List ℕ) (at count : ℕ) (texts₀ : List ℕ) (from end
     placing-begin = record { rows-left = refl; texts-left = refl; fill-left = refl; same = refl; row-room = s .room; row-length = refl; text-length = refl }
 
     module _ (tokens texts : List ℕ) (f place : ℕ) where
+      -- the next style
       abbrev x : StyleNumbers
       x = numbersAt (drop place tokens)
 
@@ -178,10 +185,12 @@ module _ (tokens₀ : List ℕ) (at count : ℕ) (texts₀ : List ℕ) (from end
             text-length = ap length ez ∙ length-sets texts (end + f) (contentOf sheet x) ∙ c .text-length;
           }
 
+      -- room for the next, while any is left
       pub placing-room : (n : ℕ) → Placing tokens texts f place n → 0 < n → StyleRowRoom tokens place × ContentsRoom texts from end f (contentOf (sheetText texts from end) x)
       placing-room zero c h = absurd (omega arith)
       placing-room (suc k) c h = next-room k c
 
+      -- the next is placed
       pub placing-more : (n : ℕ) → Placing tokens texts f place n → 0 < n → (t z : List ℕ) (g : ℕ)
           → t ≡ sets tokens place (rowOfNumbers (placedNumbers (sheetText texts from end) f x)) → z ≡ sets texts (end + f) (contentOf (sheetText texts from end) x)
           → g ≡ f + length (contentOf (sheetText texts from end) x) → Placing t z g (place + styleWidth) (n - 1)

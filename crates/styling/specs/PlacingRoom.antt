@@ -1,7 +1,7 @@
 -- What placing the styles of rules asks for: room in the stores, and numbers that fit.
 use Prim.Native.Nat.{ℕ, zero, suc, _+_, _*_, _^_, _≤_, _<_}
 use mathlib.Core.List.{List}
-use lib.ListN.{length, getD, drop}
+use lib.ListN.{length, getD}
 use Rattle.syntax.specs.Layout.{declarationWidth, styleWidth}
 use Rattle.syntax.specs.RuleLayout.{ruleHead, ruleDeclarations, readRule}
 use Rattle.syntax.specs.Stream.{readMany}
@@ -24,10 +24,12 @@ pub record ContentsRoom (texts : List ℕ) (from end fill : ℕ) (contents : Lis
 pub record StyleRowsRoom (rows : List ℕ) (at count : ℕ) : Type 0 where
   pub room : at + styleWidth * count ≤ length rows
 
--- ---- what is kept of a rule: a count, and two styles for each slot at most. Its styles are made behind that
+-- ---- what is kept of a rule, behind which its styles are made
+-- a count
 abbrev pub keptHead : ℕ
 keptHead = 1
 
+-- and two styles for each slot at most
 abbrev pub keptWidth : ℕ
 keptWidth = 2 * slotCount * styleWidth
 

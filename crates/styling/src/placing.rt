@@ -95,28 +95,20 @@ fn place_style(
     let style = style_at(tokens, at);
     let slot = style.slot;
     if slot == CONTENT_SLOT {
-        let value = style.value;
-        let size = copy_part(
-            texts,
-            from,
-            end,
-            value.number as usize,
-            value.second as usize,
-            fill,
-        );
-        let placed = Value {
-            number: fill as u32,
-            second: size as u32,
+        let text = style.value;
+        let start = text.number as usize;
+        let n = text.second as usize;
+        let size = copy_part(texts, from, end, start, n, fill);
+        let number = fill as u32;
+        let second = size as u32;
+        let value = Value { number, second };
+        let important = style.important;
+        let placed = StyleNumbers {
+            slot,
+            important,
+            value,
         };
-        write_style(
-            tokens,
-            at,
-            StyleNumbers {
-                slot,
-                important: style.important,
-                value: placed,
-            },
-        );
+        write_style(tokens, at, placed);
         return fill + size;
     }
     write_style(tokens, at, style);

@@ -7,22 +7,22 @@ use Rattle.styling.proofs.placing.place_style.Tie as tie
 style-at-requires : tie.Need-style-at-requires
 style-at-requires c κs = search needs
 
-cast-copy-part : tie.Need-cast-copy-part
-cast-copy-part c = search needs
+cast-start : tie.Need-cast-start
+cast-start c = search needs
 
-cast-copy-part-2 : tie.Need-cast-copy-part-2
-cast-copy-part-2 c = search needs
+cast-n : tie.Need-cast-n
+cast-n c = search needs
 
 copy-part-requires : tie.Need-copy-part-requires
 copy-part-requires c κs = let s = c .before .before .before .before .before in
     let S = s .before .before .before .before in
     laws.content-room (S .args .tokens .now) (S .args .texts .now) (S .args .at) (S .args .from) (S .args .end) (S .args .fill) _ (s .style-at .ensures) (c .before .before .before .before .if1 .taken) (S .pre .1)
 
-cast-t19 : tie.Need-cast-t19
-cast-t19 c = search needs
+cast-number : tie.Need-cast-number
+cast-number c = search needs
 
-cast-t20 : tie.Need-cast-t20
-cast-t20 c = let p = c .before .before in
+cast-second : tie.Need-cast-second
+cast-second c = let p = c .before .before in
     let s = p .before .before .before .before .before .before in
     let S = s .before .before .before .before in
     search (needs, laws.content-bits (S .args .tokens .now) (S .args .texts .now) (S .args .at) (S .args .from) (S .args .end) (S .args .fill) _ (s .style-at .ensures) (p .before .before .before .before .before .if1 .taken) (S .pre .1) _ (p .copy-part .ensures .1))
@@ -66,11 +66,11 @@ place-style-spec =
     tie.close
     (tie.spec
     style-at-requires
-    cast-copy-part
-    cast-copy-part-2
+    cast-start
+    cast-n
     copy-part-requires
-    cast-t19
-    cast-t20
+    cast-number
+    cast-second
     write-style-requires
     add-result
     same-length
