@@ -7,3 +7,9 @@ pub mod DecidingRecord
 pub mod DecidingSame
 pub mod DecidingRows
 pub mod DecidingBounds
+pub mod PlacingCopies
+pub mod PlacingStyles
+pub mod PlacingKept
+pub mod PlacingRule
+pub mod PlacingRules
+pub mod PlacingLies

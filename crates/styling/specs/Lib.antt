@@ -3,3 +3,4 @@ pub mod Sifting
 pub mod Placing
 pub mod Path
 pub mod StyleAnswer
+pub mod PlacingRoom
