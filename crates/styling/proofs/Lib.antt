@@ -13,3 +13,5 @@ pub mod PlacingKept
 pub mod PlacingRule
 pub mod PlacingRules
 pub mod PlacingLies
+pub mod SheetsStyled
+pub mod SheetsHeldLaws

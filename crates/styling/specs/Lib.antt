@@ -4,3 +4,4 @@ pub mod Placing
 pub mod Path
 pub mod StyleAnswer
 pub mod PlacingRoom
+pub mod Held
