@@ -15,3 +15,5 @@ pub mod PlacingRules
 pub mod PlacingLies
 pub mod SheetsStyled
 pub mod SheetsHeldLaws
+pub mod KeptBack
+pub mod DecidedCascade

@@ -267,7 +267,7 @@ module _ (nodes attributes text : List ℕ) (row : ℕ) (h : Rooted nodes row) w
 sets-all : (l vs : List ℕ) → length vs ≡ length l → sets l 0 vs ≡ vs
 sets-all l vs e = sets-eq vs l 0 (omega (arith, e)) ∙ ap (λ (r : List ℕ). vs ++ r) (drop-of-length-le l {i = 0 + length vs} (omega (arith, e))) ∙ append-nil vs
 
-inherit-formed-by : (c : Cascade) (x : ComputedStyle Value) → Formed x → Formed (inheritBy c x)
+pub inherit-formed-by : (c : Cascade) (x : ComputedStyle Value) → Formed x → Formed (inheritBy c x)
 unfolding inheritBy
 inherit-formed-by Crate x h = inherit-formed x h
 inherit-formed-by Book x h = inherit-book-formed x h
