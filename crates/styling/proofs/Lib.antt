@@ -17,3 +17,4 @@ pub mod SheetsStyled
 pub mod SheetsHeldLaws
 pub mod KeptBack
 pub mod DecidedCascade
+pub mod Steadying

@@ -62,11 +62,11 @@ module _ {s : SheetsRules} {rows tokens texts : List ℕ} (h : SheetsHeld s rows
   sheets-are = rw (agent-back (h .lent) m er et, user-back (h .lent) m er et, author-back (h .lent) m er et) refl
 
   -- where their texts end
-  end-is : s .end ≡ length (ruleTexts a) + length (ruleTexts u) + length (ruleTexts w)
+  pub end-is : s .end ≡ length (ruleTexts a) + length (ruleTexts u) + length (ruleTexts w)
   unfolding sheetsRules
   end-is = ap (λ (v : SheetsRules). v .end) (m .lie)
 
-  end-held : s .end ≡ length (textsHeld (h .lent) m)
+  pub end-held : s .end ≡ length (textsHeld (h .lent) m)
   end-held = end-is ∙ sym (texts-length (h .lent) m)
 
   -- how long the stores are, and what lies there
@@ -101,69 +101,75 @@ module _ {s : SheetsRules} {rows tokens texts : List ℕ} (h : SheetsHeld s rows
   pub tokens-zero : Zeros tokens 0
   tokens-zero = rw (h .tokens-are) (clear-zeros (h .tokens₀))
 
-  -- ---- each sheet
-  window : (from : ℕ) (q more : List ℕ) → drop from texts ≡ q ++ more → length q ≡ s .end - from → sheetText texts from (s .end) ≡ q
-  unfolding sheetText
-  window from q more e k = ap (take (s .end - from)) e ∙ take-at q more (s .end - from) k
+  -- ---- each sheet, in any stores that hold what was read and anything behind it
+  module _ {rows′ texts′ : List ℕ} (X Y : List ℕ) (rx : rows′ ≡ rowsHeld (h .lent) m ++ X) (tx : texts′ ≡ textsHeld (h .lent) m ++ Y) where
+    window : (from : ℕ) (q more : List ℕ) → drop from texts′ ≡ q ++ more → length q ≡ s .end - from → sheetText texts′ from (s .end) ≡ q
+    unfolding sheetText
+    window from q more e k = ap (take (s .end - from)) e ∙ take-at q more (s .end - from) k
 
+    pub agent-lies-in : SheetLies rows′ texts′ (s .end) (s .agent) a
+    agent-lies-in =
+        let T = ruleTexts a in
+        let q = ruleTexts u ++ ruleTexts w in
+        lies-by _ _ (place₁ (h .lent) m er et) (record {
+          behind = (ruleRows 0 u ++ ruleRows 0 w) ++ X;
+          counted = refl;
+          rows-at = ap (drop 0) rx ∙ from-first (ruleRows 0 a) (ruleRows 0 u) (ruleRows 0 w) X;
+          held = record { more = q; held = window 0 (T ++ q) Y tx (omega (arith, end-is, length-append T q, length-append (ruleTexts u) (ruleTexts w))) };
+          ordered = omega arith;
+          fit = agent-keeps (h .lent) m .fit;
+        })
+
+    pub user-lies-in : SheetLies rows′ texts′ (s .end) (s .user) u
+    user-lies-in =
+        let n = length (ruleRows 0 a) in
+        let f = length (ruleTexts a) in
+        lies-by _ _ (place₂ (h .lent) m er et) (record {
+          behind = ruleRows 0 w ++ X;
+          counted = refl;
+          rows-at = ap (drop n) rx ∙ from-second (ruleRows 0 a) (ruleRows 0 u) (ruleRows 0 w) X n refl;
+          held =
+              record {
+                more = ruleTexts w;
+                held =
+                    window f (ruleTexts u ++ ruleTexts w) Y
+                    (ap (drop f) tx ∙ from-second (ruleTexts a) (ruleTexts u) (ruleTexts w) Y f refl ∙ sym (append-assoc (ruleTexts u) (ruleTexts w) Y))
+                    (omega (arith, end-is, length-append (ruleTexts u) (ruleTexts w)));
+              };
+          ordered = omega (arith, end-is);
+          fit = user-keeps (h .lent) m .fit;
+        })
+
+    pub author-lies-in : SheetLies rows′ texts′ (s .end) (s .author) w
+    author-lies-in =
+        let n = length (ruleRows 0 a) + length (ruleRows 0 u) in
+        let f = length (ruleTexts a) + length (ruleTexts u) in
+        lies-by _ _ (place₃ (h .lent) m er et) (record {
+          behind = X;
+          counted = refl;
+          rows-at = ap (drop n) rx ∙ from-third (ruleRows 0 a) (ruleRows 0 u) (ruleRows 0 w) X n refl;
+          held =
+              record {
+                more = [];
+                held =
+                    window f (ruleTexts w) Y (ap (drop f) tx ∙ from-third (ruleTexts a) (ruleTexts u) (ruleTexts w) Y f refl) (omega (arith, end-is))
+                    ∙ sym (append-nil (ruleTexts w));
+              };
+          ordered = omega (arith, end-is);
+          fit = author-keeps (h .lent) m .fit;
+        })
+
+  -- where they were read
   pub agent-lies : SheetLies rows texts (s .end) (s .agent) a
-  agent-lies =
-      let T = ruleTexts a in
-      let q = ruleTexts u ++ ruleTexts w in
-      let p = place₁ (h .lent) m er et in
-      lies-by _ _ p (record {
-        behind = (ruleRows 0 u ++ ruleRows 0 w) ++ zr (h .lent) m er et;
-        counted = refl;
-        rows-at = ap (drop 0) (rows-are (h .lent) m er et) ∙ from-first (ruleRows 0 a) (ruleRows 0 u) (ruleRows 0 w) (zr (h .lent) m er et);
-        held = record { more = q; held = window 0 (T ++ q) (zt (h .lent) m er et) (texts-are (h .lent) m er et) (omega (arith, end-is, length-append T q, length-append (ruleTexts u) (ruleTexts w))) };
-        ordered = omega arith;
-        fit = agent-keeps (h .lent) m .fit;
-      })
+  agent-lies = agent-lies-in (zr (h .lent) m er et) (zt (h .lent) m er et) (rows-are (h .lent) m er et) (texts-are (h .lent) m er et)
 
   pub user-lies : SheetLies rows texts (s .end) (s .user) u
-  user-lies =
-      let n = length (ruleRows 0 a) in
-      let f = length (ruleTexts a) in
-      let p = place₂ (h .lent) m er et in
-      lies-by _ _ p (record {
-        behind = ruleRows 0 w ++ zr (h .lent) m er et;
-        counted = refl;
-        rows-at = ap (drop n) (rows-are (h .lent) m er et) ∙ from-second (ruleRows 0 a) (ruleRows 0 u) (ruleRows 0 w) (zr (h .lent) m er et) n refl;
-        held =
-            record {
-              more = ruleTexts w;
-              held =
-                  window f (ruleTexts u ++ ruleTexts w) (zt (h .lent) m er et)
-                  (ap (drop f) (texts-are (h .lent) m er et) ∙ from-second (ruleTexts a) (ruleTexts u) (ruleTexts w) (zt (h .lent) m er et) f refl ∙ sym (append-assoc (ruleTexts u) (ruleTexts w) (zt (h .lent) m er et)))
-                  (omega (arith, end-is, length-append (ruleTexts u) (ruleTexts w)));
-            };
-        ordered = omega (arith, end-is);
-        fit = user-keeps (h .lent) m .fit;
-      })
+  user-lies = user-lies-in (zr (h .lent) m er et) (zt (h .lent) m er et) (rows-are (h .lent) m er et) (texts-are (h .lent) m er et)
 
   pub author-lies : SheetLies rows texts (s .end) (s .author) w
-  author-lies =
-      let n = length (ruleRows 0 a) + length (ruleRows 0 u) in
-      let f = length (ruleTexts a) + length (ruleTexts u) in
-      let p = place₃ (h .lent) m er et in
-      lies-by _ _ p (record {
-        behind = zr (h .lent) m er et;
-        counted = refl;
-        rows-at = ap (drop n) (rows-are (h .lent) m er et) ∙ from-third (ruleRows 0 a) (ruleRows 0 u) (ruleRows 0 w) (zr (h .lent) m er et) n refl;
-        held =
-            record {
-              more = [];
-              held =
-                  window f (ruleTexts w) (zt (h .lent) m er et)
-                  (ap (drop f) (texts-are (h .lent) m er et) ∙ from-third (ruleTexts a) (ruleTexts u) (ruleTexts w) (zt (h .lent) m er et) f refl)
-                  (omega (arith, end-is))
-                  ∙ sym (append-nil (ruleTexts w));
-            };
-        ordered = omega (arith, end-is);
-        fit = author-keeps (h .lent) m .fit;
-      })
+  author-lies = author-lies-in (zr (h .lent) m er et) (zt (h .lent) m er et) (rows-are (h .lent) m er et) (texts-are (h .lent) m er et)
 
-  author-place : s .author .place ≡ length (ruleRows 0 a) + length (ruleRows 0 u)
+  pub author-place : s .author .place ≡ length (ruleRows 0 a) + length (ruleRows 0 u)
   author-place = ap (λ (x : SheetRules). x .place) (place₃ (h .lent) m er et)
 
   -- ---- the styles of the three, one behind the other

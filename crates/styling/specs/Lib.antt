@@ -5,3 +5,4 @@ pub mod Path
 pub mod StyleAnswer
 pub mod PlacingRoom
 pub mod Held
+pub mod Styling
