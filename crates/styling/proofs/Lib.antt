@@ -18,3 +18,4 @@ pub mod SheetsHeldLaws
 pub mod KeptBack
 pub mod DecidedCascade
 pub mod Steadying
+pub mod StyleTurns

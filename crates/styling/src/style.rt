@@ -39,6 +39,7 @@ ghost use lib.ListN.{length, drop, replicate};
 ghost use Rattle.combinators.specs.Choice.{and};
 ghost use Rattle.combinators.specs.LeastLengths.{storesSuffice};
 ghost use Rattle.combinators.specs.Part.{part};
+ghost use Rattle.combinators.specs.Refusal.{noRefusal};
 ghost use Rattle.combinators.specs.Store.{cleared};
 ghost use Rattle.sheets.specs.SheetAnswer.{padded};
 ghost use Rattle.origins.specs.Checks.{Lent};
@@ -50,8 +51,8 @@ ghost use Rattle.page.specs.Rows.{attributeWidth};
 ghost use Rattle.matching.specs.Rows.{Rooted};
 ghost use Rattle.styles.specs.StyleCall.{callRow, callStore};
 ghost use Rattle.styling.specs.Held.{sheetsFrom, SheetsHeld};
-ghost use Rattle.styling.specs.StyleAnswer.{isElement, styledLeft, styleOf};
-ghost use Rattle.styling.specs.Styling.{FewBytes, ContentsIn, ReadRoom, CallLent};
+ghost use Rattle.styling.specs.StyleAnswer.{isElement, styledLeft, askedLeft, styleOf};
+ghost use Rattle.styling.specs.Styling.{FewBytes, ContentsIn, ReadRoom, CallLent, AskedLent};
 
 // The refusal; of an element that was styled the bytes of its texts. What does not apply is 0.
 pub struct StyleAnswer {
@@ -63,6 +64,14 @@ fn refused_style(refusal: Refusal) -> StyleAnswer
     ensures { λ r. ⌜ r ≡ record { refusal = refusal; texts = 0 } ⌝ }
 {
     StyleAnswer { refusal, texts: 0 }
+}
+
+// An element that was styled, with so many bytes of texts.
+fn styled_answer(texts: usize) -> StyleAnswer
+    ensures { λ r. ⌜ r ≡ record { refusal = noRefusal; texts = texts } ⌝ }
+{
+    let refusal = no_refusal();
+    StyleAnswer { refusal, texts }
 }
 
 // Whether a row is an element of the page.
@@ -183,4 +192,228 @@ fn style_read(
     keep_contents(texts, styled.end, fill);
     clear_work(rules, tokens, brackets);
     fill
+}
+
+// Styles an element by sheets for which the stores suffice, whatever the buffers hold.
+fn style_texts(
+    cascade: Cascade,
+    settings: Settings,
+    agent: &[u8],
+    user: &[u8],
+    author: &[u8],
+    nodes: &[u32],
+    attributes: &[u32],
+    text: &[u8],
+    row: usize,
+    out: &mut [u32],
+    texts: &mut [u8],
+    rules: &mut [u32],
+    tokens: &mut [u32],
+    brackets: &mut [u8],
+) -> StyleAnswer
+    requires { ⌜ Rooted (now nodes) row ⌝ }
+    requires { ⌜ Lent (now agent) (now user) (now author) (now rules) (now tokens) (now brackets) (now texts) ⌝ }
+    requires { ⌜ CallLent (length (now agent) + length (now user) + length (now author)) (pathOf (now nodes) (now attributes) (now text) row) (now out) (now rules) (now tokens) (now brackets) (now texts) ⌝ }
+    ensures { λ r. ⌜ record { answer = r; row = now (out .exit); texts = now (texts .exit); rules = now (rules .exit); tokens = now (tokens .exit); brackets = now (brackets .exit) }
+        ≡ styledLeft (now (out .entry)) (now (texts .entry)) (now (rules .entry)) (now (tokens .entry)) (now (brackets .entry)) cascade settings (pathOf (now (nodes .entry)) (now (attributes .entry)) (now (text .entry)) row) (sheetsOf (now (agent .entry)) (now (user .entry)) (now (author .entry))) ⌝ }
+{
+    clear_all(out, texts, rules, tokens, brackets);
+    match read_sheets(agent, user, author, rules, tokens, brackets, texts) {
+        SheetsRead::Panic(which, byte) => {
+            return refused_style(refused_in(PANIC, which, byte));
+        }
+        SheetsRead::Rules(sheets) => {
+            let filled = style_read(
+                cascade,
+                settings,
+                sheets,
+                nodes,
+                attributes,
+                text,
+                row,
+                out,
+                texts,
+                rules,
+                tokens,
+                brackets,
+            );
+            return styled_answer(filled);
+        }
+    }
+}
+
+// Styles an element of a page that is accepted or not, by sheets for which the stores suffice.
+fn style_asked(
+    cascade: Cascade,
+    settings: Settings,
+    agent: &[u8],
+    user: &[u8],
+    author: &[u8],
+    nodes: &[u32],
+    attributes: &[u32],
+    text: &[u8],
+    row: usize,
+    out: &mut [u32],
+    texts: &mut [u8],
+    rules: &mut [u32],
+    tokens: &mut [u32],
+    brackets: &mut [u8],
+) -> StyleAnswer
+    requires { ⌜ AskedLent (record { agent = now agent; user = now user; author = now author }) (record { nodes = now nodes; attributes = now attributes; text = now text }) (now out) (now rules) (now tokens) (now brackets) (now texts) ⌝ }
+    ensures { λ r. ⌜ record { answer = r; row = now (out .exit); texts = now (texts .exit); rules = now (rules .exit); tokens = now (tokens .exit); brackets = now (brackets .exit) }
+        ≡ askedLeft (now (out .entry)) (now (texts .entry)) (now (rules .entry)) (now (tokens .entry)) (now (brackets .entry)) cascade settings (record { nodes = now (nodes .entry); attributes = now (attributes .entry); text = now (text .entry) }) row (sheetsOf (now (agent .entry)) (now (user .entry)) (now (author .entry))) ⌝ }
+{
+    let refusal = refusal_of(check_page(nodes, attributes, text));
+    if refusal.number == NO_REFUSAL {
+        if is_element(nodes, row) {
+            return style_texts(
+                cascade,
+                settings,
+                agent,
+                user,
+                author,
+                nodes,
+                attributes,
+                text,
+                row,
+                out,
+                texts,
+                rules,
+                tokens,
+                brackets,
+            );
+        }
+        return refused_style(refused(NO_ELEMENT));
+    }
+    refused_style(refusal)
+}
+
+// The style of an element in either cascade.
+fn style_by(
+    cascade: Cascade,
+    settings: Settings,
+    agent: &[u8],
+    user: &[u8],
+    author: &[u8],
+    nodes: &[u32],
+    attributes: &[u32],
+    text: &[u8],
+    row: usize,
+    out: &mut [u32],
+    texts: &mut [u8],
+    rules: &mut [u32],
+    tokens: &mut [u32],
+    brackets: &mut [u8],
+) -> StyleAnswer
+    ensures { λ r. ⌜ record { answer = r; row = now (out .exit); texts = now (texts .exit); rules = now (rules .exit); tokens = now (tokens .exit); brackets = now (brackets .exit) }
+        ≡ styleOf cascade settings (record { agent = now (agent .entry); user = now (user .entry); author = now (author .entry) }) (record { nodes = now (nodes .entry); attributes = now (attributes .entry); text = now (text .entry) }) row (now (out .entry)) (now (texts .entry)) (now (rules .entry)) (now (tokens .entry)) (now (brackets .entry)) ⌝ }
+{
+    if any_too_long(agent.len(), user.len(), author.len()) {
+        return refused_style(refused(TOO_LONG));
+    }
+    if lent_suffices(
+        agent.len() + user.len() + author.len(),
+        attributes.len(),
+        text.len(),
+        out.len(),
+        rules.len(),
+        tokens.len(),
+        brackets.len(),
+        texts.len(),
+    ) {
+        if all_valid(agent, user, author) {
+            return style_asked(
+                cascade,
+                settings,
+                agent,
+                user,
+                author,
+                nodes,
+                attributes,
+                text,
+                row,
+                out,
+                texts,
+                rules,
+                tokens,
+                brackets,
+            );
+        }
+        return refused_style(refused(NOT_UTF8));
+    }
+    refused_style(refused(SHORT_STORE))
+}
+
+// The style of an element in the crate's cascade: its row to `out`, its contents to `texts`; the others are work stores.
+pub fn style(
+    settings: Settings,
+    agent: &[u8],
+    user: &[u8],
+    author: &[u8],
+    nodes: &[u32],
+    attributes: &[u32],
+    text: &[u8],
+    row: usize,
+    out: &mut [u32],
+    texts: &mut [u8],
+    rules: &mut [u32],
+    tokens: &mut [u32],
+    brackets: &mut [u8],
+) -> StyleAnswer
+    ensures { λ r. ⌜ record { answer = r; row = now (out .exit); texts = now (texts .exit); rules = now (rules .exit); tokens = now (tokens .exit); brackets = now (brackets .exit) }
+        ≡ styleOf Crate settings (record { agent = now (agent .entry); user = now (user .entry); author = now (author .entry) }) (record { nodes = now (nodes .entry); attributes = now (attributes .entry); text = now (text .entry) }) row (now (out .entry)) (now (texts .entry)) (now (rules .entry)) (now (tokens .entry)) (now (brackets .entry)) ⌝ }
+{
+    style_by(
+        Cascade::Crate,
+        settings,
+        agent,
+        user,
+        author,
+        nodes,
+        attributes,
+        text,
+        row,
+        out,
+        texts,
+        rules,
+        tokens,
+        brackets,
+    )
+}
+
+// The same in the book order.
+pub fn style_book(
+    settings: Settings,
+    agent: &[u8],
+    user: &[u8],
+    author: &[u8],
+    nodes: &[u32],
+    attributes: &[u32],
+    text: &[u8],
+    row: usize,
+    out: &mut [u32],
+    texts: &mut [u8],
+    rules: &mut [u32],
+    tokens: &mut [u32],
+    brackets: &mut [u8],
+) -> StyleAnswer
+    ensures { λ r. ⌜ record { answer = r; row = now (out .exit); texts = now (texts .exit); rules = now (rules .exit); tokens = now (tokens .exit); brackets = now (brackets .exit) }
+        ≡ styleOf Book settings (record { agent = now (agent .entry); user = now (user .entry); author = now (author .entry) }) (record { nodes = now (nodes .entry); attributes = now (attributes .entry); text = now (text .entry) }) row (now (out .entry)) (now (texts .entry)) (now (rules .entry)) (now (tokens .entry)) (now (brackets .entry)) ⌝ }
+{
+    style_by(
+        Cascade::Book,
+        settings,
+        agent,
+        user,
+        author,
+        nodes,
+        attributes,
+        text,
+        row,
+        out,
+        texts,
+        rules,
+        tokens,
+        brackets,
+    )
 }

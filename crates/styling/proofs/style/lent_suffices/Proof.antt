@@ -1,41 +1,35 @@
+-- A row that is too short, brackets that are fewer than the bytes, or the test of the stores.
+use Prim.Native.Nat.{_+_, _*_, _/_}
+use native.Mathlib.Omega.{arith}
+use Rattle.page.specs.Rows.{attributeWidth}
+use Rattle.styling.proofs.StyleTurns as laws
 use borrow.Author.Needs.{needs}
 use Rattle.styling.proofs.style.lent_suffices.Statement.{statement}
 use Rattle.styling.proofs.style.lent_suffices.Tie as tie
-use Rattle.styling.proofs.style.lent_suffices.Reads as reads
-use Rattle.styling.proofs.style.lent_suffices.Lts as lts
-use Rattle.combinators.proofs.least.stores_suffice.Reads as stores-suffice-reads
 
--- src/style.rt:94:9
 returns : tie.Need-returns
-returns c = search needs
+returns c = laws.short-row _ _ _ _ _ _ (c .if1 .taken)
 
--- src/style.rt:96:27
 mul-beside : tie.Need-mul-beside
 mul-beside c = search needs
 
--- src/style.rt:96:18
 add-beside : tie.Need-add-beside
 add-beside c = search needs
 
--- src/style.rt:98:9
 returns-2 : tie.Need-returns-2
-returns-2 c = search needs
+returns-2 c = let A = c .before .before .args in laws.short-brackets (A .sheets + 2 * (A .attributes / attributeWidth) + A .text) (A .out) (A .rules) (A .tokens) (A .brackets) (A .texts) (omega (arith, c .if2 .taken))
 
--- src/style.rt:101:9
 returns-3 : tie.Need-returns-3
-returns-3 c = search needs
+returns-3 c = let A = c .before .before .before .args in laws.short-brackets (A .sheets + 2 * (A .attributes / attributeWidth) + A .text) (A .out) (A .rules) (A .tokens) (A .brackets) (A .texts) (omega (arith, c .if3 .taken, c .before .if2 .left))
 
--- src/style.rt:103:20
 add-stores-suffice : tie.Need-add-stores-suffice
 add-stores-suffice c = search needs
 
--- src/style.rt:103:5
 stores-suffice-requires : tie.Need-stores-suffice-requires
 stores-suffice-requires c κs = search needs
 
--- src/style.rt:80:1
 returns-4 : tie.Need-returns-4
-returns-4 c = search needs
+returns-4 c = laws.by-stores _ _ _ _ _ _ (c .before .before .before .if1 .left) _ (c .stores-suffice .ensures)
 
 pub lent-suffices-spec : {M : Type 1} → statement M
 lent-suffices-spec =
