@@ -19,3 +19,4 @@ pub mod KeptBack
 pub mod DecidedCascade
 pub mod Steadying
 pub mod StyleTurns
+pub mod StyleCalls

@@ -24,31 +24,31 @@ is-element-requires c κs = search needs
 
 -- src/style.rt:269:13
 style-texts-requires : tie.Need-style-texts-requires
-style-texts-requires c κs = search needs
+style-texts-requires c κs = ?
 
 -- src/style.rt:269:13
 same-length : tie.Need-same-length
-same-length c = search needs
+same-length c = ?
 
 -- src/style.rt:269:13
 same-length-2 : tie.Need-same-length-2
-same-length-2 c = search needs
+same-length-2 c = ?
 
 -- src/style.rt:269:13
 same-length-3 : tie.Need-same-length-3
-same-length-3 c = search needs
+same-length-3 c = ?
 
 -- src/style.rt:269:13
 same-length-4 : tie.Need-same-length-4
-same-length-4 c = search needs
+same-length-4 c = ?
 
 -- src/style.rt:269:13
 same-length-5 : tie.Need-same-length-5
-same-length-5 c = search needs
+same-length-5 c = ?
 
 -- src/style.rt:269:13
 returns : tie.Need-returns
-returns c = search needs
+returns c = ?
 
 -- src/style.rt:286:30
 refused-requires : tie.Need-refused-requires
@@ -60,7 +60,7 @@ refused-style-requires c κs = search needs
 
 -- src/style.rt:286:9
 returns-2 : tie.Need-returns-2
-returns-2 c = search needs
+returns-2 c = ?
 
 -- src/style.rt:288:5
 refused-style-requires-2 : tie.Need-refused-style-requires-2
@@ -68,7 +68,7 @@ refused-style-requires-2 c κs = search needs
 
 -- src/style.rt:246:1
 returns-3 : tie.Need-returns-3
-returns-3 c = search needs
+returns-3 c = ?
 
 pub style-asked-spec : {M : Type 1} → statement M
 style-asked-spec =

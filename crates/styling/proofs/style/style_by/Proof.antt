@@ -24,7 +24,7 @@ refused-style-requires c κs = search needs
 
 -- src/style.rt:312:9
 returns : tie.Need-returns
-returns c = search needs
+returns c = ?
 
 -- src/style.rt:315:9
 add-lent-suffices : tie.Need-add-lent-suffices
@@ -36,7 +36,7 @@ add-lent-suffices-2 c = search needs
 
 -- src/style.rt:314:8
 lent-suffices-requires : tie.Need-lent-suffices-requires
-lent-suffices-requires c κs = search needs
+lent-suffices-requires c κs = ?
 
 -- src/style.rt:324:12
 all-valid-requires : tie.Need-all-valid-requires
@@ -44,31 +44,31 @@ all-valid-requires c κs = search needs
 
 -- src/style.rt:325:13
 style-asked-requires : tie.Need-style-asked-requires
-style-asked-requires c κs = search needs
+style-asked-requires c κs = ?
 
 -- src/style.rt:325:13
 same-length : tie.Need-same-length
-same-length c = search needs
+same-length c = ?
 
 -- src/style.rt:325:13
 same-length-2 : tie.Need-same-length-2
-same-length-2 c = search needs
+same-length-2 c = ?
 
 -- src/style.rt:325:13
 same-length-3 : tie.Need-same-length-3
-same-length-3 c = search needs
+same-length-3 c = ?
 
 -- src/style.rt:325:13
 same-length-4 : tie.Need-same-length-4
-same-length-4 c = search needs
+same-length-4 c = ?
 
 -- src/style.rt:325:13
 same-length-5 : tie.Need-same-length-5
-same-length-5 c = search needs
+same-length-5 c = ?
 
 -- src/style.rt:325:13
 returns-2 : tie.Need-returns-2
-returns-2 c = search needs
+returns-2 c = ?
 
 -- src/style.rt:342:30
 refused-requires-2 : tie.Need-refused-requires-2
@@ -80,7 +80,7 @@ refused-style-requires-2 c κs = search needs
 
 -- src/style.rt:342:9
 returns-3 : tie.Need-returns-3
-returns-3 c = search needs
+returns-3 c = ?
 
 -- src/style.rt:344:19
 refused-requires-3 : tie.Need-refused-requires-3
@@ -92,7 +92,7 @@ refused-style-requires-3 c κs = search needs
 
 -- src/style.rt:292:1
 returns-4 : tie.Need-returns-4
-returns-4 c = search needs
+returns-4 c = ?
 
 pub style-by-spec : {M : Type 1} → statement M
 style-by-spec =
