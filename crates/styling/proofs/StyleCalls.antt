@@ -301,8 +301,3 @@ module _ (c : Cascade) (settings : Settings) (s : Sheets₃) (g : Page) (row : �
             pub called : x ≡ true → {z : StyleLeft} → z ≡ askedLeft out texts rules₀ tokens brackets c settings g row (sheetsOf (s .agent) (s .user) (s .author)) → Called z
             unfolding styleOf
             called j d = pick-false _ _ _ _ (sym e ∙ f) (pick-true _ _ _ _ (sym ev ∙ h) (pick-true _ _ _ _ (sym i ∙ j) d))
-
--- the bytes that a call takes, as its test adds them up
-pub bytes-called : (s : Sheets₃) (g : Page) → length (s .agent) + length (s .user) + length (s .author) + 2 * (length (g .attributes) / attributeWidth) + length (g .text) ≡ callBytes s g
-unfolding callBytes
-bytes-called s g = refl

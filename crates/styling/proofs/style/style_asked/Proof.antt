@@ -1,74 +1,69 @@
+-- The page is refused, the row is no element, or the element is styled.
+use mathlib.Core.Path.{_∙_}
+use Rattle.styling.proofs.StyleCalls as laws
 use borrow.Author.Needs.{needs}
 use Rattle.styling.proofs.style.style_asked.Statement.{statement}
 use Rattle.styling.proofs.style.style_asked.Tie as tie
-use Rattle.styling.proofs.style.style_asked.Reads as reads
-use Rattle.styling.proofs.style.style_asked.Lts as lts
-use Rattle.combinators.proofs.refusals.refused.Reads as refused-reads
-use Rattle.page.proofs.check.check_page.Reads as check-page-reads
-use Rattle.page.proofs.check.refusal_of.Reads as refusal-of-reads
-use Rattle.styling.proofs.style.is_element.Reads as is-element-reads
-use Rattle.styling.proofs.style.refused_style.Reads as refused-style-reads
-use Rattle.styling.proofs.style.style_texts.Reads as style-texts-reads
 
--- src/style.rt:266:30
 check-page-requires : tie.Need-check-page-requires
 check-page-requires c κs = search needs
 
--- src/style.rt:266:9
 refusal-of-requires : tie.Need-refusal-of-requires
 refusal-of-requires c κs = search needs
 
--- src/style.rt:268:12
 is-element-requires : tie.Need-is-element-requires
 is-element-requires c κs = search needs
 
--- src/style.rt:269:13
 style-texts-requires : tie.Need-style-texts-requires
-style-texts-requires c κs = ?
+style-texts-requires c κs = let S = c .before .before .before .before .before .before .before .before .before .before .before .before .before .before .before .before .before .before .before .before .before .before in
+    let a = S .args in
+    let e = c .before .before .before .before .before .before .before .before .before .refusal-of .ensures ∙ c .before .before .before .before .before .before .before .before .before .before .check-page .ensures in
+    let x = c .before .before .before .before .before .before .before .if1 .taken in
+    let y = c .before .before .before .before .before .before .is-element .ensures in
+    let z = c .before .before .before .before .before .if2 .taken in
+    (laws.rooted (a .cascade) (a .settings) (record { agent = a .agent .now; user = a .user .now; author = a .author .now }) (record { nodes = a .nodes .now; attributes = a .attributes .now; text = a .text .now }) (a .row) (a .out .now) (a .texts .now) (a .rules .now) (a .tokens .now) (a .brackets .now) (S .pre) e x y z, (laws.lent (a .cascade) (a .settings) (record { agent = a .agent .now; user = a .user .now; author = a .author .now }) (record { nodes = a .nodes .now; attributes = a .attributes .now; text = a .text .now }) (a .row) (a .out .now) (a .texts .now) (a .rules .now) (a .tokens .now) (a .brackets .now) (S .pre) e x y z, laws.call-lent (a .cascade) (a .settings) (record { agent = a .agent .now; user = a .user .now; author = a .author .now }) (record { nodes = a .nodes .now; attributes = a .attributes .now; text = a .text .now }) (a .row) (a .out .now) (a .texts .now) (a .rules .now) (a .tokens .now) (a .brackets .now) (S .pre) e x y z))
 
--- src/style.rt:269:13
 same-length : tie.Need-same-length
-same-length c = ?
+same-length c = c .before .before .before .before .before .before .before .before .before .before .style-texts .kept .1 .1 .1 .1 .1 .1 .1 .1 .1 .0
 
--- src/style.rt:269:13
 same-length-2 : tie.Need-same-length-2
-same-length-2 c = ?
+same-length-2 c = c .before .before .before .before .before .before .before .before .before .before .style-texts .kept .1 .1 .1 .1 .1 .1 .1 .1 .1 .1 .0
 
--- src/style.rt:269:13
 same-length-3 : tie.Need-same-length-3
-same-length-3 c = ?
+same-length-3 c = c .before .before .before .before .before .before .before .before .before .before .style-texts .kept .1 .1 .1 .1 .1 .1 .1 .1 .1 .1 .1 .0
 
--- src/style.rt:269:13
 same-length-4 : tie.Need-same-length-4
-same-length-4 c = ?
+same-length-4 c = c .before .before .before .before .before .before .before .before .before .before .style-texts .kept .1 .1 .1 .1 .1 .1 .1 .1 .1 .1 .1 .1 .0
 
--- src/style.rt:269:13
 same-length-5 : tie.Need-same-length-5
-same-length-5 c = ?
+same-length-5 c = c .before .before .before .before .before .before .before .before .before .before .style-texts .kept .1 .1 .1 .1 .1 .1 .1 .1 .1 .1 .1 .1 .1 .0
 
--- src/style.rt:269:13
 returns : tie.Need-returns
-returns c = ?
+returns c = let S = c .before .before .before .before .before .before .before .before .before .before .before .before .before .before .before .before .before .before .before .before .before .before .before .before .before .before .before .before .before .before .before .before .before in
+    let a = S .args in
+    let e = c .before .before .before .before .before .before .before .before .before .before .before .before .before .before .before .before .before .before .before .before .refusal-of .ensures ∙ c .before .before .before .before .before .before .before .before .before .before .before .before .before .before .before .before .before .before .before .before .before .check-page .ensures in
+    laws.asked (a .cascade) (a .settings) (record { agent = a .agent .now; user = a .user .now; author = a .author .now }) (record { nodes = a .nodes .now; attributes = a .attributes .now; text = a .text .now }) (a .row) (a .out .now) (a .texts .now) (a .rules .now) (a .tokens .now) (a .brackets .now) (S .pre) e (c .before .before .before .before .before .before .before .before .before .before .before .before .before .before .before .before .before .before .if1 .taken) (c .before .before .before .before .before .before .before .before .before .before .before .before .before .before .before .before .before .is-element .ensures) (c .before .before .before .before .before .before .before .before .before .before .before .before .before .before .before .before .if2 .taken) (c .before .before .before .before .before .before .before .before .before .before .style-texts .ensures)
 
--- src/style.rt:286:30
 refused-requires : tie.Need-refused-requires
 refused-requires c κs = search needs
 
--- src/style.rt:286:9
 refused-style-requires : tie.Need-refused-style-requires
 refused-style-requires c κs = search needs
 
--- src/style.rt:286:9
 returns-2 : tie.Need-returns-2
-returns-2 c = ?
+returns-2 c = let S = c .before .before .before .before .before .before .before .before .before .before .before .before .before .before .before .before .before .before .before in
+    let a = S .args in
+    let e = c .before .before .before .before .before .before .refusal-of .ensures ∙ c .before .before .before .before .before .before .before .check-page .ensures in
+    laws.no-element (a .cascade) (a .settings) (record { agent = a .agent .now; user = a .user .now; author = a .author .now }) (record { nodes = a .nodes .now; attributes = a .attributes .now; text = a .text .now }) (a .row) (a .out .now) (a .texts .now) (a .rules .now) (a .tokens .now) (a .brackets .now) (S .pre) e (c .before .before .before .before .if1 .taken) (c .before .before .before .is-element .ensures) (c .before .before .if2 .left) (c .before .refused .ensures) (c .refused-style .ensures)
 
--- src/style.rt:288:5
 refused-style-requires-2 : tie.Need-refused-style-requires-2
 refused-style-requires-2 c κs = search needs
 
--- src/style.rt:246:1
 returns-3 : tie.Need-returns-3
-returns-3 c = ?
+returns-3 c = let S = c .before .before .before .before .before .before .before .before .before .before .before .before .before .before .before .before in
+    let a = S .args in
+    let e = c .before .before .before .refusal-of .ensures ∙ c .before .before .before .before .check-page .ensures in
+    laws.page-refused (a .cascade) (a .settings) (record { agent = a .agent .now; user = a .user .now; author = a .author .now }) (record { nodes = a .nodes .now; attributes = a .attributes .now; text = a .text .now }) (a .row) (a .out .now) (a .texts .now) (a .rules .now) (a .tokens .now) (a .brackets .now) (S .pre) e (c .before .if1 .left) (c .refused-style2 .ensures)
 
 pub style-asked-spec : {M : Type 1} → statement M
 style-asked-spec =
