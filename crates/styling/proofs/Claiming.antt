@@ -34,7 +34,8 @@ use Rattle.styles.specs.Says.{Says}
 use Rattle.styles.specs.StyleCall.{placedAlong, callRow, callStore}
 use Rattle.styles.proofs.Called.{cascaded-formed, call-row-long, call-says-alone, book-style-decides}
 use Rattle.styling.specs.Claim.{rowLeft, textsLeft, RowSays}
-use Rattle.styling.specs.StyleAnswer.{Sheets₃, Page, callBytes, isElement, StyleLeft, zeroed, unchanged, answered, styledLeft, askedLeft, styleOf}
+use Rattle.styles.specs.Lent.{SheetTexts, Page}
+use Rattle.styling.specs.StyleAnswer.{callBytes, isElement, StyleLeft, zeroed, unchanged, answered, styledLeft, askedLeft, styleOf}
 
 -- what stands at the start of a store comes back
 padded-front : (xs : List ℕ) (n k : ℕ) → length xs ≡ k → take k (padded xs n) ≡ xs
@@ -45,7 +46,7 @@ padded-long : (xs : List ℕ) (n : ℕ) → length xs ≤ length (padded xs n)
 unfolding padded
 padded-long xs n = omega (arith, length-append xs (replicate (n - length xs) 0))
 
-module _ (c : Cascade) (settings : Settings) (s : Sheets₃) (p : Path) (row texts rules₀ tokens brackets : List ℕ) where
+module _ (c : Cascade) (settings : Settings) (s : SheetTexts) (p : Path) (row texts rules₀ tokens brackets : List ℕ) where
   row-is-fine : (sheets : Rules RuleSet) → RowFine (callRow c sheets settings p)
   unfolding callRow
   row-is-fine sheets = row-fine (cascaded c (placedAlong sheets settings p)) (cascaded-formed c (placedAlong sheets settings p))
@@ -72,7 +73,7 @@ module _ (c : Cascade) (settings : Settings) (s : Sheets₃) (p : Path) (row tex
   sheets-say (panicked which byte) e h = absurd (let z : _≡_ {A = ℕ} 4 0 = ap (λ (r : Refusal). r .number) h in omega (arith, z))
 
 -- a call that refuses nothing
-module _ (c : Cascade) (settings : Settings) (s : Sheets₃) (g : Page) (asked : ℕ) (row texts rules₀ tokens brackets : List ℕ) where
+module _ (c : Cascade) (settings : Settings) (s : SheetTexts) (g : Page) (asked : ℕ) (row texts rules₀ tokens brackets : List ℕ) where
   abbrev path : Path
   path = pathOf (g .nodes) (g .attributes) (g .text) asked
 
@@ -112,7 +113,7 @@ slot-same R x y q i j =
     (pick-same (SameRecord R) (is i beforeRecord) (is i beforeRecord) _ _ _ _ refl (q .before) (q .after)) .all)
 
 -- ---- result 7 of the call: each slot of the row in the book order holds what wins among what is inherited and what is said of the element
-pub book-says : (settings : Settings) (s : Sheets₃) (e : Element) (up : Path) (l : StyleLeft) (h : RowSays Book settings s (e ∷ up) l) (r k : ℕ) → r < recordCount → k < slotCount
+pub book-says : (settings : Settings) (s : SheetTexts) (e : Element) (up : Path) (l : StyleLeft) (h : RowSays Book settings s (e ∷ up) l) (r k : ℕ) → r < recordCount → k < slotCount
     → SameSlot (Says (textsLeft l)) (slotIn (styleAt (rowLeft l)) r k) (slotIn (computedStyle Book (h .sheets) settings (e ∷ up)) r k)
     × Decided (slotIn (computedStyle Book (h .sheets) settings (e ∷ up)) r k)
     (inheritedCandidates (slotIn (computedStyle Book (h .sheets) settings up) r k) ++ candidatesFor r k (bookDeclared (sourcesFrom (meantRules (h .sheets)) (attributesSay (countedAttributes settings e)) (e ∷ up))))

@@ -14,7 +14,8 @@ use Rattle.styles.specs.declared.settings.Settings.{Settings}
 use Rattle.styles.specs.Computed.{computedStyle}
 use Rattle.styles.specs.Said.{Rules}
 use Rattle.styles.specs.Says.{Says}
-use Rattle.styling.specs.StyleAnswer.{Sheets₃, StyleLeft}
+use Rattle.styles.specs.Lent.{SheetTexts}
+use Rattle.styling.specs.StyleAnswer.{StyleLeft}
 
 -- the row that is left, and the texts
 abbrev pub rowLeft : StyleLeft → List ℕ
@@ -23,7 +24,7 @@ rowLeft l = take styleRowWidth (l .row)
 abbrev pub textsLeft : StyleLeft → List ℕ
 textsLeft l = take (l .answer .texts) (l .texts)
 
-pub record RowSays (c : Cascade) (settings : Settings) (s : Sheets₃) (p : Path) (l : StyleLeft) : Type 0 where
+pub record RowSays (c : Cascade) (settings : Settings) (s : SheetTexts) (p : Path) (l : StyleLeft) : Type 0 where
   -- the rules of the three sheets, as they are read from their texts
   pub sheets : Rules RuleSet
   pub read : sheetsOf (s .agent) (s .user) (s .author) ≡ rules (sheets .agent) (sheets .user) (sheets .author)
