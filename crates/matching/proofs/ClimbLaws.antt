@@ -110,8 +110,8 @@ module _ (store components nodes attributes text : List ℕ) where
           rooted = parent-rooted nodes row (i .rooted) (i .no-document) p ep;
           higher = parent-before nodes row (i .rooted) (i .no-document) p ep;
           same =
-            ap (resultOnAncestors (matchRecursively (componentsAt store components n))) (other-path nodes attributes text row (i .rooted) (i .no-document))
-            ∙ ap (λ (q : ℕ). orElse (Result n q) (Above n q)) (sym ep);
+              ap (resultOnAncestors (matchRecursively (componentsAt store components n))) (other-path nodes attributes text row (i .rooted) (i .no-document))
+              ∙ ap (λ (q : ℕ). orElse (Result n q) (Above n q)) (sym ep);
         }
 
   module _ (n row above : ℕ) (next : NextAncestor store components nodes attributes text n row above) where
@@ -214,8 +214,8 @@ module _ (store components nodes text : List ℕ) (n row : ℕ) where
       record {
         rooted = parent-rooted nodes above (s .rooted) z p ep;
         next =
-          λ attributes. next-on store components nodes attributes text n row above (s .next attributes) z
-          (other-name store components nodes attributes text n row above (s .next attributes) a z b (eb ∙ ap (sameText (nameOf nodes text above)) en) h) p ep;
+            λ attributes. next-on store components nodes attributes text n row above (s .next attributes) z
+            (other-name store components nodes attributes text n row above (s .next attributes) a z b (eb ∙ ap (sameText (nameOf nodes text above)) en) h) p ep;
       }
 
   -- no element has it
