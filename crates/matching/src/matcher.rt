@@ -193,12 +193,11 @@ fn match_locally(
                 return Climbed::Ended(SelectorMatch::FailsCompletely);
             }
             at = parent_of(nodes, at);
-            continue;
+        } else if passes(kind, components, store, n, nodes, attributes, text, at) {
+            // the row is asked for the component before it
+        } else {
+            return Climbed::Ended(SelectorMatch::FailsLocally);
         }
-        if passes(kind, components, store, n, nodes, attributes, text, at) {
-            continue;
-        }
-        return Climbed::Ended(SelectorMatch::FailsLocally);
     }
     Climbed::Ended(SelectorMatch::Matches)
 }
