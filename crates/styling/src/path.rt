@@ -1,9 +1,9 @@
 // The style of an element and of those above it, from the top down.
-use attributes::merging::merge_attributes;
-use attributes::merging::merge_early_attributes;
 use crate::rules::merge_rules;
 use crate::styled::StyledSheet;
 use crate::styled::StyledSheets;
+use attributes::merging::merge_attributes;
+use attributes::merging::merge_early_attributes;
 use cascade::rows::clear_row;
 use cascade::rows::inherit;
 use cascade::slots::Cascade;
@@ -229,7 +229,18 @@ fn style_element(
     ensures { λ r. ⌜ take (sheets .end + r) (now (texts .exit)) ≡ take (sheets .end + fill) (now (texts .entry)) ++ inlineContents settings (elementAt (now (nodes .entry)) (now (attributes .entry)) (now (text .entry)) row) ⌝ }
     ensures { λ _. ⌜ SameKept sheets (now (rules .entry)) (now (tokens .entry)) (now (texts .entry)) (now (rules .exit)) (now (tokens .exit)) (now (texts .exit)) ⌝ }
 {
-    begin_element(cascade, sheets, rules, tokens, texts, nodes, attributes, text, row, out);
+    begin_element(
+        cascade,
+        sheets,
+        rules,
+        tokens,
+        texts,
+        nodes,
+        attributes,
+        text,
+        row,
+        out,
+    );
     merge_early(
         cascade,
         settings,
