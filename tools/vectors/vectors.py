@@ -19,6 +19,8 @@ REPLAY = os.path.join(HERE, "..", "..", "crates", "replay")
 LISTS = ["sheets", "compiled sheets", "compiled bytes", "pages", "attributes", "classes", "styles"]
 RECORDED = {"vectors": "html2text's sheets, attributes and selectors", "compile_vectors": "html2text's compiled sheets", "style_vectors": "html2text's computed styles"}
 
+IN_BOOK_ORDER = "the same in the book order, where it differs"
+
 # The calls, as crates/replay/src/calls.rt has them.
 CALLS = {"read_sheet": 1, "compile": 2, "check_page": 3, "style": 4, "style_book": 5, "check_bytes": 7, "style_attribute": 8, "color_attribute": 9, "matches": 10, "rows": 11, "selector": 12}
 BUFFERS = ["rules", "tokens", "brackets", "texts", "bytes", "out"]
@@ -270,6 +272,31 @@ def recorded_styles(r):
             questions.append(Question(lent, FULL, arguments + [row, on], [0, 0, 0, len(texts)], style_left(out, whole(texts))))
     none = Question(lent, FULL, arguments + [0, on], [NO_ELEMENT, 0, 0, 0], left_by(NO_ELEMENT))
     return Vector("", "style", whole(page + b"".join(sheets)), whole(nodes + attributes), *questions or [none])
+
+
+def style_question(read, rows, question, book):
+    """What model.py answers to a question of a style vector, and a question that expects it."""
+    arguments = question["arguments"]
+    nodes, attributes, page, agent, user, author, row, on = arguments[OWN_ARGUMENTS:]
+    bounds = list(itertools.accumulate([page, agent, user, author]))
+    sheets = [read[a:b] for a, b in itertools.pairwise(bounds)]
+    answer = model.style_call(sheets, rows[:nodes], rows[nodes:nodes + attributes], read[:page], row, on, book)
+    if answer[0]:
+        return answer, None
+    after = style_left(answer[1], whole(answer[2]))
+    lent = dict(zip(BUFFERS, arguments[1:OWN_ARGUMENTS]))
+    return answer, Question(lent, FULL, arguments[OWN_ARGUMENTS:], [0, 0, 0, len(answer[2])], after)
+
+
+def in_book_order(data):
+    """The questions of a style vector whose answer is another in the book order, with that answer."""
+    _, _, v = Reader(data).vector()
+    read, rows, questions = joined(v["read"], b""), joined(v["rows"], []), []
+    for q in v["questions"]:
+        answer, asked = style_question(read, rows, q, True)
+        if answer != style_question(read, rows, q, False)[0]:
+            questions.append(asked)
+    return [Vector("", "style_book", v["read"], v["rows"], *questions).bytes()] if questions else []
 
 
 RECORDED_KINDS = {1: recorded_sheet, 2: recorded_style, 3: recorded_colour, 4: recorded_selector, 5: recorded_compile, 6: recorded_styles}
@@ -600,17 +627,23 @@ def join(folder):
     kept = stdin_lists() if folder is None else None
     for file, words in RECORDED.items():
         lists[words] = recorded(os.path.join(folder, file)) if folder else kept[words]
+    lists[IN_BOOK_ORDER] = [made for data in lists[RECORDED["style_vectors"]] for made in in_book_order(data)]
     with open(os.path.join(REPLAY, "stdin"), "wb") as file:
         file.write(b"".join(list_bytes(words, vectors) for words, vectors in lists.items()))
     with open(os.path.join(REPLAY, "stdout"), "w", encoding="utf-8") as file:
         file.writelines(f"{words}: {len(vectors)} vectors, 0 differ\n" for words, vectors in lists.items())
 
 
+def recorded_file(file):
+    """A file of html2text's answers, from stdin."""
+    vectors = stdin_lists()[RECORDED[file]]
+    return low_number(len(vectors)) + b"".join(map(unrecorded, vectors))
+
+
 def split(folder):
-    lists = stdin_lists()
-    for file, words in RECORDED.items():
+    for file in RECORDED:
         with open(os.path.join(folder, file), "wb") as out:
-            out.write(low_number(len(lists[words])) + b"".join(map(unrecorded, lists[words])))
+            out.write(recorded_file(file))
 
 
 def main():
