@@ -12,9 +12,9 @@ use crate::pages::nodes_of;
 use crate::stream::argument;
 use crate::stream::number_argument;
 use combinators::texts::part_of;
-use engine::styles::StyleResult;
-use engine::styles::hicsolmab_style;
-use engine::styles::hicsolmab_style_book;
+use engine::style::StyleResult;
+use engine::style::hicsolmab_style;
+use engine::style::hicsolmab_style_book;
 use std::num::wrapping_add_usize;
 
 // Asks by the cascade of the call.

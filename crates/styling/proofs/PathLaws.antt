@@ -291,9 +291,9 @@ module _ (c : Cascade) (s : StyledSheets) (settings : Settings) (kept : Rules (S
       let formed = cascaded-formed c (placedFrom kept (s .fill) settings up) in
       let said = declaredBy c (sourcesFrom kept (placedAttributes (s .fill + length (pathContents settings up)) (countedAttributes settings e)) (e ∷ up)) in
       rw n (
-        (rw (k, f, n, y) at z)
-        ∙ ap (λ (r : List ℕ). mergedRow c r said) (inherit-layout c above formed)
-        ∙ merges-layout (updateBy c) said (inheritBy c above) (inherit-formed-by c above formed)
+      (rw (k, f, n, y) at z)
+      ∙ ap (λ (r : List ℕ). mergedRow c r said) (inherit-layout c above formed)
+      ∙ merges-layout (updateBy c) said (inheritBy c above) (inherit-formed-by c above formed)
       )
 
 -- the contents of a path: those above, then its own

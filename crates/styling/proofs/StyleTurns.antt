@@ -151,8 +151,8 @@ module _ {s : SheetsRules} {rows tokens texts : List ℕ} (h : SheetsHeld s rows
         let a : length (take (s .end) texts) ≡ v .end = length-take-le (s .end) texts (omega arith) ∙ sym end-is in
         let b : length (take (v .end) l) ≡ v .end = length-take-le (v .end) l (omega (arith, contents-in brackets q l n)) in
         let front : take (v .end + v .fill) x ≡ take (s .end) texts ++ C =
-            ap (take (v .end + v .fill)) (x-is ∙ sets-eq C texts (s .end) fits)
-            ∙ take-at (take (s .end) texts ++ C) (drop (s .end + length C) texts) (v .end + v .fill) (omega (arith, length-append (take (s .end) texts) C, a, fill-is)) in
+        ap (take (v .end + v .fill)) (x-is ∙ sets-eq C texts (s .end) fits)
+        ∙ take-at (take (s .end) texts ++ C) (drop (s .end + length C) texts) (v .end + v .fill) (omega (arith, length-append (take (s .end) texts) C, a, fill-is)) in
         let whole : take (v .end + r) l ≡ take (s .end) texts ++ (C ++ P) = e ∙ ap (λ (f : List ℕ). f ++ P) front ∙ append-assoc (take (s .end) texts) C P in
         behind (take (v .end) l) (take r (drop (v .end) l)) (take (s .end) texts) (C ++ P) (b ∙ sym a) (sym (take-add (v .end) r l) ∙ whole) ∙ sym store-is
 

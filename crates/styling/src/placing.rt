@@ -1,7 +1,7 @@
 // The styles of rules, made once for a call: contents are copied behind the texts of the sheets, each style says where its own lies, and those that decide are
 // kept in the store of tokens.
-use crate::rows::KEPT_HEAD;
 use crate::deciding::keep_deciding;
+use crate::rows::KEPT_HEAD;
 use crate::rows::write_style;
 use cascade::rows::SLOT_COUNT;
 use combinators::stores::wipe_numbers;
