@@ -74,6 +74,53 @@ hicsolmab_page_result hicsolmab_check_page(const uint32_t *nodes, size_t nodes_l
                                            const uint32_t *attributes, size_t attributes_length,
                                            const uint8_t *text, size_t text_length);
 
+/* An element that was styled: `texts` bytes of the texts of contents. For 4 `text` is the sheet (0 agent, 1 user, 2 author) and `place` the byte where
+ * html2text panics; for 6 and 7 `place` is the first row that is refused. */
+typedef struct {
+    uint32_t refusal;
+    size_t text;
+    size_t place;
+    size_t texts;
+} hicsolmab_style_result;
+
+/* The style of the element `row` of a page, by three sheets of at most 32,768 bytes each: what html2text computes. `document_styles` is 0 where `style`,
+ * `color` and `bgcolor` attributes do not count, and anything else where they do.
+ *
+ * `out` gets 138 numbers: for the element, its ::before and its ::after each a number that says whether there is a style (the element's is always 1), and five
+ * slots: colour, background, display, white space, content. A slot has nine numbers: 1 where it is filled; origin (1 agent, 2 user, 3 author); 1 where it is from
+ * a `style` attribute; how many ids, classes and types its selector names; 1 where it is important; its value, and a second number. A colour is red * 65536 +
+ * green * 256 + blue; display is 0, which says none; white space is 0 normal, 1 pre, 2 pre-wrap; a content is where its text starts in `texts`, and its length. A slot
+ * that is not filled is nine zeros.
+ *
+ * N is the bytes of the three sheets, the bytes of `text` and twice the attribute rows lent; `out` has at least 138 numbers. After an answer all beyond it is
+ * zero, and so are `rules`, `tokens` and `brackets`. Refuses 1, 2, 3, 5, 6, 7, 8, 4, looked for in this order. */
+hicsolmab_style_result hicsolmab_style(const uint8_t *agent, size_t agent_length,
+                                       const uint8_t *user, size_t user_length,
+                                       const uint8_t *author, size_t author_length,
+                                       const uint32_t *nodes, size_t nodes_length,
+                                       const uint32_t *attributes, size_t attributes_length,
+                                       const uint8_t *text, size_t text_length,
+                                       size_t row, uint32_t document_styles,
+                                       uint32_t *out, size_t out_length,
+                                       uint8_t *texts, size_t texts_length,
+                                       uint32_t *rules, size_t rules_length,
+                                       uint32_t *tokens, size_t tokens_length,
+                                       uint8_t *brackets, size_t brackets_length);
+
+/* The same in the order of CSS Cascading Level 3. */
+hicsolmab_style_result hicsolmab_style_book(const uint8_t *agent, size_t agent_length,
+                                            const uint8_t *user, size_t user_length,
+                                            const uint8_t *author, size_t author_length,
+                                            const uint32_t *nodes, size_t nodes_length,
+                                            const uint32_t *attributes, size_t attributes_length,
+                                            const uint8_t *text, size_t text_length,
+                                            size_t row, uint32_t document_styles,
+                                            uint32_t *out, size_t out_length,
+                                            uint8_t *texts, size_t texts_length,
+                                            uint32_t *rules, size_t rules_length,
+                                            uint32_t *tokens, size_t tokens_length,
+                                            uint8_t *brackets, size_t brackets_length);
+
 #ifdef __cplusplus
 }
 #endif

@@ -17,8 +17,8 @@ use Rattle.declarations.specs.declared.attributes.StylesRead.{StylesRead}
 use Rattle.declarations.proofs.LeastLengths.{least-room, least-style-room}
 use Rattle.page.specs.Accepted.{textLimit}
 use Rattle.comparison.specs.Attributes.{refusedOr, refusedStyles, stylesResult, StyleCalled, styleRead, styleCalled, refusedColour, colourResult, ColourCalled, colourRead, colourCalled}
-use Rattle.comparison.specs.declared.attributes.StylesResult.{StylesResult}
-use Rattle.comparison.specs.declared.attributes.ColourResult.{ColourResult}
+use Rattle.comparison.specs.declared.values_read.StylesResult.{StylesResult}
+use Rattle.comparison.specs.declared.values_read.ColourResult.{ColourResult}
 
 -- ---- refusals, in their order
 module _ {A : Type 0} (s : List ℕ) (rules tokens brackets texts : ℕ) (refused : ℕ → A) (answer : A) where

@@ -20,23 +20,10 @@ use Rattle.matching.specs.Matches.{matches}
 use Rattle.matching.specs.Rows.{componentsAt, Rooted}
 use Rattle.matching.specs.Specificity.{specificity}
 use Rattle.matching.proofs.Roots.{accepted-element}
-use Rattle.comparison.specs.Matches.{componentLimit, isElement, refusedMatch, answeredMatch, selectorMatch, rowMatch, pageMatch, matchCalled}
+use Rattle.comparison.specs.Matches.{componentLimit, refusedMatch, answeredMatch, selectorMatch, rowMatch, pageMatch, matchCalled}
 use Rattle.comparison.specs.declared.matches.MatchResult.{MatchResult}
-
--- a refusal whose number is 0 is none
-unfoldable Quiet : Refusal → Type 0
-Quiet r = r .number ≡ 0 → r ≡ noRefusal
-
-loud : (n place : ℕ) → Quiet (record { number = suc n; text = 0; place = place })
-unfolding Quiet
-loud n place e = absurd (omega (arith, e))
-
-quiet : (nodes attributes text : List ℕ) → Quiet (pageRefusal nodes attributes text)
-unfolding pageRefusal rowsRefusal Quiet
-quiet nodes attributes text =
-    pick-holds Quiet _ _ _
-    (λ _. pick-holds Quiet _ _ _ (λ _. loud _ _) (λ _. pick-holds Quiet _ _ _ (λ _. loud _ _) (λ _. pick-holds Quiet _ _ _ (λ _. loud _ _) (λ _ e. refl))))
-    (λ _. loud _ _)
+use Rattle.styling.specs.StyleAnswer.{isElement}
+use Rattle.styling.proofs.StyleCalls.{Quiet, quiet}
 
 module _ (components : List ℕ) (count : ℕ) (texts nodes attributes text : List ℕ) (row : ℕ) where
   -- ---- a row of an accepted page

@@ -12,8 +12,8 @@ use Rattle.values.specs.declared.colours.ColourAnswer.the-variants.{Colour, NoC
 use Rattle.declarations.specs.Leaving.{Leaves, ColourLeft, colourLeft, styleLeft}
 use Rattle.declarations.specs.declared.attributes.StylesRead.{StylesRead}
 use Rattle.page.specs.Accepted.{textLimit}
-use Rattle.comparison.specs.declared.attributes.StylesResult.{StylesResult}
-use Rattle.comparison.specs.declared.attributes.ColourResult.{ColourResult}
+use Rattle.comparison.specs.declared.values_read.StylesResult.{StylesResult}
+use Rattle.comparison.specs.declared.values_read.ColourResult.{ColourResult}
 
 -- ---- a call with the text s: a text over `textLimit` is refused first, then stores shorter than the least lengths
 unfoldable pub refusedOr : {A : Type 0} → List ℕ → ℕ → ℕ → ℕ → ℕ → (ℕ → A) → A → A

@@ -19,14 +19,12 @@ use Rattle.page.specs.Rows.{nodeCount, nodeAt, elementKind}
 use Rattle.matching.specs.Matches.{matches}
 use Rattle.matching.specs.Rows.{componentsAt}
 use Rattle.matching.specs.Specificity.{specificity}
+use Rattle.styling.specs.StyleAnswer.{isElement}
 use Rattle.comparison.specs.declared.matches.MatchResult.{MatchResult}
 
 -- the most components that a selector may have here: as many as a sheet may have bytes, for each takes one
 abbrev pub componentLimit : ℕ
 componentLimit = sheetLimit
-
-unfoldable pub isElement : List ℕ → ℕ → Bool
-isElement nodes row = and (ltb row (nodeCount nodes)) (is (nodeAt nodes row .kind) elementKind)
 
 -- a refusal by its number and place; all else is 0
 abbrev pub refusedMatch : ℕ → ℕ → MatchResult

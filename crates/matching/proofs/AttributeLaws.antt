@@ -5,23 +5,31 @@ use mathlib.Core.List.{List, [], _∷_}
 use mathlib.Core.Path.{_≡_, refl, sym, ap, ap₂, _∙_}
 use native.Mathlib.Omega.{arith}
 use Rattle.combinators.specs.Choice.{pick, or, and}
+use Rattle.combinators.specs.Part.{part}
 use Rattle.combinators.specs.Word.{sameText}
 use Rattle.combinators.proofs.Rules.{pick-true, pick-false, or-left, or-gives, and-gives, and-gives-false}
 use Rattle.unicode.specs.Literal.{text}
 use Rattle.unicode.specs.Utf8.{utf8}
 use Rattle.page.specs.Path.{Attribute}
 use Rattle.page.specs.PathOf.{attributesFrom}
-use Rattle.page.specs.Rows.{attributeName, attributeValue}
+use Rattle.page.specs.Rows.{attributeAt, attributeName, attributeValue}
 use Rattle.matching.specs.Matches.{anyAttribute, isNamed, isClass, isId, firstIs}
 use Rattle.matching.specs.Rows.{attributeOf}
 use Rattle.matching.specs.Texts.{hasWord}
 
--- ---- one attribute: n is its name, v its value
+-- ---- one attribute: v is its value
 module _ (attributes names : List ℕ) (row : ℕ) where
-  -- it has a name
-  pub named : (w n : List ℕ) → n ≡ attributeName attributes names row → (r : Bool) → r ≡ sameText n w → r ≡ isNamed w (attributeOf attributes names row)
-  unfolding isNamed attributeOf
-  named w n e r p = p ∙ ap (λ (l : List ℕ). sameText l w) e
+  -- it has a name, which is a part of the text
+  pub named : (w : List ℕ) (start n : ℕ) → start ≡ attributeAt attributes row .nameStart → n ≡ attributeAt attributes row .nameLength → (r : Bool)
+      → r ≡ sameText (part names start n) w → r ≡ isNamed w (attributeOf attributes names row)
+  unfolding isNamed attributeOf attributeName
+  named w start n es en r p = rw (← es, ← en) p
+
+  -- it has a value, which is one too
+  pub valued : (w : List ℕ) (start n : ℕ) → start ≡ attributeAt attributes row .valueStart → n ≡ attributeAt attributes row .valueLength → (r : Bool)
+      → r ≡ sameText (part names start n) w → r ≡ sameText (attributeValue attributes names row) w
+  unfolding attributeValue
+  valued w start n es en r p = rw (← es, ← en) p
 
   class-name : text "class" ≡ 0x63 ∷ 0x6c ∷ 0x61 ∷ 0x73 ∷ 0x73 ∷ []
   unfolding text utf8 pick
@@ -49,9 +57,9 @@ module _ (attributes names : List ℕ) (row : ℕ) where
     id-test : isNamed (text "id") (attributeOf attributes names row) ≡ t
     id-test = ap (λ (l : List ℕ). isNamed l (attributeOf attributes names row)) id-name ∙ sym e
 
-    pub id-named : t ≡ true → (v : List ℕ) → v ≡ attributeValue attributes names row → (r : Bool) → r ≡ sameText v c → r ≡ isId c (attributeOf attributes names row)
+    pub id-named : t ≡ true → (r : Bool) → r ≡ sameText (attributeValue attributes names row) c → r ≡ isId c (attributeOf attributes names row)
     unfolding isId attributeOf
-    id-named h v p r q = and-gives _ _ r (id-test ∙ h) (q ∙ ap (λ (l : List ℕ). sameText l c) p)
+    id-named h r q = and-gives _ _ r (id-test ∙ h) q
 
     pub id-other : t ≡ false → false ≡ isId c (attributeOf attributes names row)
     unfolding isId
@@ -108,12 +116,10 @@ module _ (n w : List ℕ) (attributes names : List ℕ) (at count i : ℕ) (v : 
   first-end h = looked (firstIs n w) attributes names at count i v h
 
   module _ (h : i < count) (t : Bool) (e : t ≡ isNamed n (attributeOf attributes names (at + i))) where
-    pub first-found : t ≡ true → (x : List ℕ) → x ≡ attributeValue attributes names (at + i) → (r : Bool) → r ≡ sameText x w
-        → r ≡ firstIs n w (attributesFrom attributes names count at)
+    pub first-found : t ≡ true → (r : Bool) → r ≡ sameText (attributeValue attributes names (at + i)) w → r ≡ firstIs n w (attributesFrom attributes names count at)
     unfolding firstIs attributeOf
-    first-found p x q r s =
-        pick-true _ _ _ (isNamed n (attributeOf attributes names (at + i))) (sym e ∙ p) (s ∙ ap (λ (l : List ℕ). sameText l w) q)
-        ∙ opened (firstIs n w) attributes names at count i v h
+    first-found p r s =
+        pick-true _ _ _ (isNamed n (attributeOf attributes names (at + i))) (sym e ∙ p) s ∙ opened (firstIs n w) attributes names at count i v h
 
     pub first-more : t ≡ false → Looking (firstIs n w) attributes names at count (i + 1)
     unfolding firstIs

@@ -3,6 +3,7 @@ pub mod Selectors
 pub mod Signed
 pub mod AsciiLaws
 pub mod Words
+pub mod PartLaws
 pub mod ComponentLaws
 pub mod AttributeLaws
 pub mod PathLaws
@@ -10,6 +11,6 @@ pub mod PlaceLaws
 pub mod PassLaws
 pub mod MatchLaws
 pub mod Roots
-pub mod TestLaws
+pub mod ClimbLaws
 pub mod RecursionLaws
 pub mod CallLaws

@@ -1,23 +1,23 @@
--- The returns of `passes` and `match_recursively`: each step of the code is one of the definition, on the path of the row.
+-- The returns of `passes` and the steps of `match_locally`: each step of the code is one of the definition, on the path of the row.
 use Prim.Native.Nat.{ℕ, suc, _-_}
 use mathlib.Core.Bool.{Bool, true, false}
 use mathlib.Core.List.{List, [], _∷_}
-use mathlib.Core.Path.{_≡_, refl, sym, ap, ap₂, _∙_}
+use mathlib.Core.Path.{_≡_, refl, sym, ap, _∙_}
 use native.Mathlib.Omega.{arith}
 use Rattle.combinators.specs.Choice.{pick}
 use Rattle.combinators.proofs.Rules.{pick-true, pick-false}
 use Rattle.syntax.specs.RuleLayout.{starKind, childKind, descendantKind, componentKindAt}
 use Rattle.syntax.specs.Selector.{Component, child, descendant}
 use Rattle.page.specs.PathOf.{elementAt, pathOf}
-use Rattle.page.specs.Rows.{elementKind, nodeAt}
+use Rattle.page.specs.Rows.{nodeAt}
 use Rattle.matching.specs.Matches.{matches}
 use Rattle.matching.specs.Rows.{componentNumber, componentAt, componentsAt, firstText, secondText, SimpleAt, Rooted, elementPasses}
-use Rattle.matching.specs.Recursion.{resultOnParent, resultOnAncestors, orElse, byCombinator, resultStep, matchRecursively}
+use Rattle.matching.specs.Recursion.{resultOnParent, resultOnAncestors, byCombinator, resultStep, matchRecursively}
 use Rattle.matching.specs.declared.matcher.SelectorMatch.{SelectorMatch}
 use Rattle.matching.specs.declared.matcher.SelectorMatch.the-variants.{Matches, FailsLocally, FailsCompletely}
 use Rattle.matching.proofs.ComponentLaws.{components-none, components-more}
 use Rattle.matching.proofs.PassLaws.{from-child, from-descendant, from-star, document-fails, simple-beside, asked-of-element}
-use Rattle.matching.proofs.PathLaws.{top-path, no-element-path, some-element-path, other-path}
+use Rattle.matching.proofs.PathLaws.{top-path, other-path}
 
 -- ---- `passes`
 module _ (store components nodes attributes text : List ℕ) (i row k : ℕ) (ek : k ≡ componentNumber components i componentKindAt) where
@@ -26,22 +26,21 @@ module _ (store components nodes attributes text : List ℕ) (i row k : ℕ) (ek
   unfolding componentAt
   star-passes e = from-star store _ _ _ _ (pathOf nodes attributes text row) (sym ek ∙ e)
 
-  module _ (simple : SimpleAt components i) (rooted : Rooted nodes row) (no-star : ¬ (k ≡ starKind)) (kind : ℕ) (er : kind ≡ nodeAt nodes row .kind) where
+  module _ (simple : SimpleAt components i) (rooted : Rooted nodes row) (no-star : ¬ (k ≡ starKind)) where
     -- an element
-    pub element-passes : kind ≡ elementKind → (r : Bool) → r ≡ elementPasses store components i (elementAt nodes attributes text row)
+    pub element-passes : ¬ (row ≡ 0) → (r : Bool) → r ≡ elementPasses store components i (elementAt nodes attributes text row)
         → r ≡ matches (componentAt store components i ∷ []) (pathOf nodes attributes text row)
     unfolding componentAt elementPasses firstText secondText
-    element-passes e r p =
-        rw (some-element-path nodes attributes text row rooted (sym er ∙ e))
-        (p ∙ asked-of-element store _ _ _ _ (simple .no-child) (simple .no-descendant) (λ z. no-star (ek ∙ z)) (elementAt nodes attributes text row) _)
+    element-passes z r p =
+        rw (other-path nodes attributes text row rooted z)
+        (p ∙ asked-of-element store _ _ _ _ (simple .no-child) (simple .no-descendant) (λ y. no-star (ek ∙ y)) (elementAt nodes attributes text row) _)
 
     -- the document
-    pub document-passes : ¬ (kind ≡ elementKind) → false ≡ matches (componentAt store components i ∷ []) (pathOf nodes attributes text row)
+    pub document-passes : row ≡ 0 → false ≡ matches (componentAt store components i ∷ []) (pathOf nodes attributes text row)
     unfolding componentAt
-    document-passes d =
-        rw (no-element-path nodes attributes text row rooted (λ z. d (er ∙ z))) (document-fails store _ _ _ _ (λ z. no-star (ek ∙ z)))
+    document-passes z = rw (top-path nodes attributes text row rooted z) (document-fails store _ _ _ _ (λ y. no-star (ek ∙ y)))
 
--- ---- `match_recursively`
+-- ---- `match_locally`
 module _ (store components nodes attributes text : List ℕ) (left row : ℕ) where
   -- the result of the first l components on the path of a row
   abbrev Result : ℕ → ℕ → SelectorMatch
@@ -89,40 +88,10 @@ module _ (store components nodes attributes text : List ℕ) (left row : ℕ) wh
         unfolding componentAt
         is-descendant = from-descendant store _ _ _ _ (sym ek ∙ e)
 
-        descendant-opened : (q : ℕ) → Result left q ≡ resultOnAncestors (matchRecursively (componentsAt store components (left - 1))) (pathOf nodes attributes text q)
+        -- the result is that of the ancestors
+        pub descendant-opened : (q : ℕ) → Result left q ≡ resultOnAncestors (matchRecursively (componentsAt store components (left - 1))) (pathOf nodes attributes text q)
         unfolding resultStep byCombinator
         descendant-opened q = opened q ∙ ap (λ (c : Component). resultStep c (matchRecursively (componentsAt store components (left - 1))) (pathOf nodes attributes text q)) is-descendant
-
-        -- the document has no ancestor
-        pub descendant-of-document : row ≡ 0 → FailsCompletely ≡ Result left row
-        unfolding resultOnAncestors
-        descendant-of-document z =
-            sym (descendant-opened row ∙ ap (resultOnAncestors (matchRecursively (componentsAt store components (left - 1)))) (top-path nodes attributes text row rooted z))
-
-        module _ (z : ¬ (row ≡ 0)) (p : ℕ) (ep : p ≡ nodeAt nodes row .parent) (r : SelectorMatch) (er : r ≡ Result (left - 1) p) where
-          -- the parent's result for what is left decides, or else that of its own ancestors
-          tried : Result left row ≡ orElse r (Result left p)
-          unfolding resultOnAncestors
-          tried =
-              descendant-opened row
-              ∙ ap (resultOnAncestors (matchRecursively (componentsAt store components (left - 1)))) (other-path nodes attributes text row rooted z)
-              ∙ ap (λ (q : ℕ). orElse (Result (left - 1) q) (resultOnAncestors (matchRecursively (componentsAt store components (left - 1))) (pathOf nodes attributes text q))) (sym ep)
-              ∙ ap₂ orElse (sym er) (sym (descendant-opened p))
-
-          -- the parent matches
-          pub descendant-matches : r ≡ Matches → Matches ≡ Result left row
-          unfolding orElse
-          descendant-matches h = sym (tried ∙ ap (λ (x : SelectorMatch). orElse x (Result left p)) h)
-
-          -- the parent and all rows above fail
-          pub descendant-fails : r ≡ FailsCompletely → FailsCompletely ≡ Result left row
-          unfolding orElse
-          descendant-fails h = sym (tried ∙ ap (λ (x : SelectorMatch). orElse x (Result left p)) h)
-
-          -- the parent fails locally, and its own ancestors are asked
-          pub descendant-of-ancestor : r ≡ FailsLocally → (s : SelectorMatch) → s ≡ Result left p → s ≡ Result left row
-          unfolding orElse
-          descendant-of-ancestor h s es = es ∙ sym (tried ∙ ap (λ (x : SelectorMatch). orElse x (Result left p)) h)
 
       -- any other component, asked of the row itself
       module _ (no-child : ¬ (k ≡ childKind)) (no-descendant : ¬ (k ≡ descendantKind)) where

@@ -3,6 +3,7 @@ use Prim.Native.Nat.{ℕ, _+_}
 use mathlib.Core.Bool.{Bool, true, false}
 use mathlib.Core.List.{List, [], _∷_}
 use mathlib.Core.Path.{_≡_, refl, sym, ap, _∙_}
+use native.Mathlib.Omega.{arith}
 use Rattle.combinators.specs.Choice.{pick, and, is}
 use Rattle.combinators.specs.Part.{part}
 use Rattle.combinators.specs.Word.{sameText}
@@ -14,7 +15,7 @@ use Rattle.page.specs.Ancestors.{placeOf}
 use Rattle.page.specs.Path.{Element, Path}
 use Rattle.page.specs.PathOf.{attributesFrom, elementAt}
 use Rattle.page.specs.Rows.{nodeAt, nameOf}
-use Rattle.matching.specs.Matches.{hasClass, hasId, hasAttribute, attributeIs, nameIs, here, onParent, onAncestors, step, matches}
+use Rattle.matching.specs.Matches.{anyAttribute, isClass, isId, isNamed, firstIs, hasClass, hasId, hasAttribute, attributeIs, nameIs, here, onParent, onAncestors, step, matches}
 use Rattle.matching.specs.Nth.{nthMatches}
 use Rattle.matching.specs.Rows.{componentNumber, firstText, secondText, attributesPass, elementPasses}
 use Rattle.matching.specs.Recursion.{byCombinator, resultStep}
@@ -26,34 +27,77 @@ unfolding and
 and-yes true = refl
 and-yes false = refl
 
+-- ---- the return of `is_called`: the part that is compared is the name
+pub called-as : (nodes text name : List ℕ) (row start n : ℕ) → start ≡ nodeAt nodes row .nameStart → n ≡ nodeAt nodes row .nameLength → (r : Bool)
+    → r ≡ sameText (part text start n) name → r ≡ sameText (nameOf nodes text row) name
+unfolding nameOf
+called-as nodes text name row start n es el r e = rw (← es, ← el) e
+
+-- ---- the returns of `attributes_asked`, with the first text of a component and the attributes of an element
+module _ (store components nodes attributes text : List ℕ) (i row k : ℕ) (name : List ℕ) (en : name ≡ firstText store components i)
+    (at : ℕ) (ea : at ≡ nodeAt nodes row .firstAttribute) (count : ℕ) (ec : count ≡ nodeAt nodes row .attributeCount) where
+  -- what is asked of the attributes
+  abbrev AsksFor : Bool → Type 0
+  AsksFor r = r ≡ attributesPass k (firstText store components i) (secondText store components i) (elementAt nodes attributes text row .attributes)
+
+  -- a class
+  pub class-asked : k ≡ classKind → (r : Bool) → r ≡ anyAttribute (isClass name) (attributesFrom attributes text count at) → AsksFor r
+  unfolding attributesPass elementAt
+  class-asked e r p = pick-true _ _ _ (is k classKind) (is-yes _ _ e) (rw (← en, ← ea, ← ec) p)
+
+  module _ (no-class : ¬ (k ≡ classKind)) where
+    -- an id
+    pub hash-asked : k ≡ hashKind → (r : Bool) → r ≡ anyAttribute (isId name) (attributesFrom attributes text count at) → AsksFor r
+    unfolding attributesPass elementAt
+    hash-asked e r p =
+        pick-false _ _ _ (is k classKind) (is-no _ _ no-class) (pick-true _ _ _ (is k hashKind) (is-yes _ _ e) (rw (← en, ← ea, ← ec) p))
+
+    module _ (no-hash : ¬ (k ≡ hashKind)) where
+      -- an attribute
+      pub attribute-asked : k ≡ attributeKind → (r : Bool) → r ≡ anyAttribute (isNamed name) (attributesFrom attributes text count at) → AsksFor r
+      unfolding attributesPass elementAt
+      attribute-asked e r p =
+          pick-false _ _ _ (is k classKind) (is-no _ _ no-class)
+          (pick-false _ _ _ (is k hashKind) (is-no _ _ no-hash) (pick-true _ _ _ (is k attributeKind) (is-yes _ _ e) (rw (← en, ← ea, ← ec) p)))
+
+      -- an attribute of a value
+      pub value-asked : ¬ (k ≡ attributeKind) → (value : List ℕ) → value ≡ secondText store components i → (r : Bool)
+          → r ≡ firstIs name value (attributesFrom attributes text count at) → AsksFor r
+      unfolding attributesPass elementAt
+      value-asked no-attribute value ev r p =
+          pick-false _ _ _ (is k classKind) (is-no _ _ no-class)
+          (pick-false _ _ _ (is k hashKind) (is-no _ _ no-hash)
+          (pick-false _ _ _ (is k attributeKind) (is-no _ _ no-attribute) (rw (← en, ← ev, ← ea, ← ec) p)))
+
 -- ---- the returns of `element_passes`
 module _ (store components nodes attributes text : List ℕ) (i row k : ℕ) (ek : k ≡ componentNumber components i componentKindAt) where
-  pub nth-passes : k ≡ nthKind → (r : Bool)
-      → r ≡ nthMatches (signedOf (componentNumber components i componentFirstAt)) (signedOf (componentNumber components i componentSecondAt)) (placeOf nodes row)
+  -- a name
+  pub name-passes : k ≡ elementKind → (name : List ℕ) → name ≡ firstText store components i → (r : Bool) → r ≡ sameText (nameOf nodes text row) name
       → r ≡ elementPasses store components i (elementAt nodes attributes text row)
-  unfolding elementPasses elementAt
-  nth-passes e r p = pick-true _ _ _ (is (componentNumber components i componentKindAt) nthKind) (is-yes _ _ (sym ek ∙ e)) p
+  unfolding elementPasses elementAt nameIs
+  name-passes e name en r p =
+      let no-nth : ¬ (componentNumber components i componentKindAt ≡ nthKind) = λ z. absurd (omega arith) in
+      pick-false _ _ _ (is (componentNumber components i componentKindAt) nthKind) (is-no _ _ no-nth)
+      (pick-true _ _ _ (is (componentNumber components i componentKindAt) elementKind) (is-yes _ _ (sym ek ∙ e))
+      (p ∙ ap (sameText (nameOf nodes text row)) en))
 
-  module _ (no-nth : ¬ (k ≡ nthKind)) (name : List ℕ) (en : name ≡ firstText store components i) where
-    not-nth : is (componentNumber components i componentKindAt) nthKind ≡ false
-    not-nth = is-no _ _ (λ z. no-nth (ek ∙ z))
-
-    pub name-passes : k ≡ elementKind → (own : List ℕ) → own ≡ nameOf nodes text row → (r : Bool) → r ≡ sameText own name
-        → r ≡ elementPasses store components i (elementAt nodes attributes text row)
-    unfolding elementPasses elementAt nameIs
-    name-passes e own eo r p =
-        pick-false _ _ _ (is (componentNumber components i componentKindAt) nthKind) not-nth
-        (pick-true _ _ _ (is (componentNumber components i componentKindAt) elementKind) (is-yes _ _ (sym ek ∙ e))
-        (p ∙ ap (λ (l : List ℕ). sameText l name) eo ∙ ap (sameText (nameOf nodes text row)) en))
-
-    pub attributes-passes : ¬ (k ≡ elementKind) → (value : List ℕ) → value ≡ secondText store components i → (at : ℕ) → at ≡ nodeAt nodes row .firstAttribute
-        → (count : ℕ) → count ≡ nodeAt nodes row .attributeCount → (r : Bool) → r ≡ attributesPass k name value (attributesFrom attributes text count at)
+  module _ (no-name : ¬ (k ≡ elementKind)) where
+    -- a place
+    pub nth-passes : k ≡ nthKind → (r : Bool)
+        → r ≡ nthMatches (signedOf (componentNumber components i componentFirstAt)) (signedOf (componentNumber components i componentSecondAt)) (placeOf nodes row)
         → r ≡ elementPasses store components i (elementAt nodes attributes text row)
     unfolding elementPasses elementAt
-    attributes-passes d value ev at ea count ec r p =
-        pick-false _ _ _ (is (componentNumber components i componentKindAt) nthKind) not-nth
-        (pick-false _ _ _ (is (componentNumber components i componentKindAt) elementKind) (is-no _ _ (λ z. d (ek ∙ z)))
-        (rw (← ek, ← en, ← ev, ← ea, ← ec) p))
+    nth-passes e r p = pick-true _ _ _ (is (componentNumber components i componentKindAt) nthKind) (is-yes _ _ (sym ek ∙ e)) p
+
+    -- attributes
+    pub attributes-passes : ¬ (k ≡ nthKind) → (r : Bool)
+        → r ≡ attributesPass k (firstText store components i) (secondText store components i) (elementAt nodes attributes text row .attributes)
+        → r ≡ elementPasses store components i (elementAt nodes attributes text row)
+    unfolding elementPasses
+    attributes-passes no-nth r p =
+        pick-false _ _ _ (is (componentNumber components i componentKindAt) nthKind) (is-no _ _ (λ z. no-nth (ek ∙ z)))
+        (pick-false _ _ _ (is (componentNumber components i componentKindAt) elementKind) (is-no _ _ (λ z. no-name (ek ∙ z)))
+        (rw (← ek) p))
 
 -- ---- a component by its numbers
 module _ (store : List ℕ) (k f a b : ℕ) where

@@ -42,12 +42,7 @@ module _ (nodes attributes text : List ℕ) where
   other-path row (document d) e = absurd (e refl)
   other-path row (below k l n r) e = element-path row k l
 
-  -- by kind: a row that is no element is the document
-  pub no-element-path : (row : ℕ) → Rooted nodes row → ¬ (nodeAt nodes row .kind ≡ elementKind) → pathOf nodes attributes text row ≡ []
-  no-element-path row (document d) e = document-path d
-  no-element-path row (below k l n r) e = absurd (e k)
-
-  -- and an element is not
+  -- by kind: an element is not the document
   pub some-element-path : (row : ℕ) → Rooted nodes row → nodeAt nodes row .kind ≡ elementKind
       → pathOf nodes attributes text row ≡ elementAt nodes attributes text row ∷ pathOf nodes attributes text (nodeAt nodes row .parent)
   some-element-path row (document d) e = absurd (d e)

@@ -5,4 +5,4 @@ pub mod Specificity
 pub mod Selectors
 pub mod Rows
 pub mod Recursion
-pub mod Tests
+pub mod Climb

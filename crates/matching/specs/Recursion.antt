@@ -66,8 +66,8 @@ unfoldable pub matchRecursively : List Component → Path → SelectorMatch
 matchRecursively [] p = Matches
 matchRecursively (c ∷ cs) p = resultStep c (matchRecursively cs) p
 
--- ---- the calls of `pass_tests` that it takes, each of which asks one row for the simple selectors up to a combinator; a call of `match_recursively`
--- comes behind one of them
+-- ---- how often it asks one row for the simple selectors up to a combinator; a call of `match_recursively` asks at least once, and rows that are passed
+-- over by their name are counted as asked
 
 -- the parent's
 unfoldable pub callsOnParent : (Path → ℕ) → Path → ℕ

@@ -14,15 +14,19 @@ use syntax::rows::HASH;
 use syntax::rows::STAR;
 ghost use mathlib.Core.Path.{_≡_};
 ghost use mathlib.Core.List.{List};
-ghost use Prim.Native.Nat.{ℕ};
-ghost use Rattle.syntax.specs.RuleLayout.{componentKindAt, componentFirstAt, componentSecondAt, componentFrom};
+ghost use Prim.Native.Nat.{ℕ, _<_};
+ghost use Rattle.syntax.specs.RuleLayout.{componentWidth, componentKindAt, componentFirstAt, componentSecondAt, componentFrom};
 ghost use Rattle.matching.specs.Rows.{componentNumber, componentsAt, firstText, secondText};
 ghost use Rattle.matching.specs.Specificity.{added, specificity};
 
-// The number in a column of a component's row.
+// The number in a column of a component's row. Of a row that is there whole, one test serves all columns.
 fn component_number(components: &[u32], i: usize, column: usize) -> u32
+    requires { ⌜ column < componentWidth ⌝ }
     ensures { λ r. ⌜ r ≡ componentNumber (now (components .entry)) i column ⌝ }
 {
+    if i < components.len() / COMPONENT_WIDTH {
+        return components[i * COMPONENT_WIDTH + column];
+    }
     if i < components.len() {
         return number_at(components, i * COMPONENT_WIDTH, column);
     }

@@ -1,14 +1,19 @@
 // What a simple selector asks of an element: its name, and `count` attributes from row `at` on. Names and values asked for are texts, whether rule
 // rows or compiled bytes name them.
 use crate::texts::has_word;
-use combinators::texts::same_text;
-use page::rows::attribute_name;
+use crate::texts::part_is;
+use page::rows::attribute_name_length;
+use page::rows::attribute_name_start;
 use page::rows::attribute_value;
+use page::rows::value_length;
+use page::rows::value_start;
 use syntax::rows::ATTRIBUTE;
 use syntax::rows::CLASS;
 use syntax::rows::HASH;
 ghost use mathlib.Core.Path.{_≡_};
+ghost use Rattle.combinators.specs.Word.{sameText};
 ghost use Rattle.page.specs.PathOf.{attributesFrom};
+ghost use Rattle.page.specs.Rows.{attributeValue};
 ghost use Rattle.matching.specs.Matches.{anyAttribute, isClass, isId, isNamed, firstIs};
 ghost use Rattle.matching.specs.Rows.{attributeOf, Countable, attributesPass};
 
@@ -20,7 +25,24 @@ const ID_NAME: [u8; 2] = *b"id";
 fn is_named(attributes: &[u32], text: &[u8], row: usize, name: &[u8]) -> bool
     ensures { λ r. ⌜ r ≡ isNamed (now (name .entry)) (attributeOf (now (attributes .entry)) (now (text .entry)) row) ⌝ }
 {
-    same_text(attribute_name(attributes, text, row), name)
+    part_is(
+        text,
+        attribute_name_start(attributes, row),
+        attribute_name_length(attributes, row),
+        name,
+    )
+}
+
+// Whether it has a value.
+fn has_value(attributes: &[u32], text: &[u8], row: usize, value: &[u8]) -> bool
+    ensures { λ r. ⌜ r ≡ sameText (attributeValue (now (attributes .entry)) (now (text .entry)) row) (now (value .entry)) ⌝ }
+{
+    part_is(
+        text,
+        value_start(attributes, row),
+        value_length(attributes, row),
+        value,
+    )
 }
 
 // Whether an attribute is a `class` and `class` one of its words.
@@ -38,7 +60,7 @@ fn is_id(attributes: &[u32], text: &[u8], row: usize, hash: &[u8]) -> bool
     ensures { λ r. ⌜ r ≡ isId (now (hash .entry)) (attributeOf (now (attributes .entry)) (now (text .entry)) row) ⌝ }
 {
     if is_named(attributes, text, row, &ID_NAME) {
-        return same_text(attribute_value(attributes, text, row), hash);
+        return has_value(attributes, text, row, hash);
     }
     false
 }
@@ -103,7 +125,7 @@ pub fn attribute_is(
     let mut i = 0;
     while i < count {
         if is_named(attributes, text, at + i, name) {
-            return same_text(attribute_value(attributes, text, at + i), value);
+            return has_value(attributes, text, at + i, value);
         }
         i += 1;
     }

@@ -1,18 +1,43 @@
-// The words of a text, parted by White_Space.
+// The texts of a page: a part compared with a text, and words, parted by White_Space.
 use combinators::bytes::between;
 use combinators::bytes::peek;
+use combinators::bytes::starts_with;
 use combinators::texts::same_text;
 use unicode::trim::trim_start;
 use unicode::trim::word_end;
 ghost use mathlib.Core.Path.{_≡_};
-ghost use Prim.Native.Nat.{_≤_};
-ghost use lib.ListN.{length};
+ghost use mathlib.Core.List.{List};
+ghost use Prim.Native.Nat.{ℕ, _≤_};
+ghost use lib.ListN.{length, take};
 ghost use Rattle.combinators.specs.Choice.{within};
+ghost use Rattle.combinators.specs.Part.{part};
 ghost use Rattle.combinators.specs.Repeat.{many};
+ghost use Rattle.combinators.specs.Word.{sameText};
 ghost use Rattle.unicode.specs.Trim.{whiteTaken, wordTaken};
 ghost use Rattle.matching.specs.Texts.{hasWord};
 
 const SPACE: u8 = 0x20;
+
+// The smaller of two numbers (`usize::min`).
+fn least(a: usize, b: usize) -> usize
+    ensures { λ r. ⌜ ((l : List ℕ) → length l ≡ b → length (take a l) ≡ r) ⌝ }
+{
+    if a < b { a } else { b }
+}
+
+// Whether the `n` bytes from `start` on, or as many as there are, are `t`: the lengths are compared before any byte.
+pub fn part_is(text: &[u8], start: usize, n: usize, t: &[u8]) -> bool
+    ensures { λ r. ⌜ r ≡ sameText (part (now (text .entry)) start n) (now (t .entry)) ⌝ }
+{
+    if text.len() < start {
+        return same_text(&text[..0], t);
+    }
+    let rest = &text[start..];
+    if least(n, rest.len()) == t.len() {
+        return starts_with(rest, t);
+    }
+    false
+}
 
 // Whether a byte is a visible ASCII character, which is a character of a word by itself (`u8::is_ascii_graphic`).
 fn is_ascii_graphic(b: u8) -> bool

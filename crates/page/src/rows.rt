@@ -3,7 +3,8 @@ use combinators::stores::number_at;
 use combinators::texts::part_of;
 ghost use mathlib.Core.Path.{_≡_};
 ghost use Prim.Native.Nat.{_<_};
-ghost use Rattle.page.specs.Rows.{numberBound, nodeNumber, nodeAt, nodeCount, attributeNumber, attributeAt, attributeRows, nameOf, attributeName, attributeValue};
+ghost use lib.ListN.{length, getD};
+ghost use Rattle.page.specs.Rows.{numberBound, nodeWidth, attributeWidth, nodeNumber, nodeAt, nodeCount, attributeNumber, attributeAt, attributeRows, nameOf, attributeName, attributeValue};
 
 // A node's numbers.
 pub const NODE_WIDTH: usize = 6;
@@ -52,22 +53,38 @@ pub fn attribute_rows(attributes: &[u32]) -> usize
     attributes.len() / ATTRIBUTE_WIDTH
 }
 
-// The number in a column of a node's row.
+// A number that is there.
+fn number_there(rows: &[u32], at: usize) -> u32
+    requires { ⌜ at < length (now rows) ⌝ }
+    ensures { λ r. ⌜ r ≡ getD (now (rows .entry)) at 0 ⌝ }
+{
+    rows[at]
+}
+
+// The number in a column of a node's row. Of a row that is there whole, one test serves all columns.
 fn node_number(nodes: &[u32], row: usize, column: usize) -> usize
+    requires { ⌜ column < nodeWidth ⌝ }
     ensures { λ r. ⌜ r ≡ nodeNumber (now (nodes .entry)) row column ⌝ }
     ensures { λ r. ⌜ r < numberBound ⌝ }
 {
+    if row < nodes.len() / NODE_WIDTH {
+        return number_there(nodes, row * NODE_WIDTH + column) as usize;
+    }
     if row < nodes.len() {
         return number_at(nodes, row * NODE_WIDTH, column) as usize;
     }
     0
 }
 
-// The number in a column of an attribute's row.
+// The number in a column of an attribute's row, in the same way.
 fn attribute_number(attributes: &[u32], row: usize, column: usize) -> usize
+    requires { ⌜ column < attributeWidth ⌝ }
     ensures { λ r. ⌜ r ≡ attributeNumber (now (attributes .entry)) row column ⌝ }
     ensures { λ r. ⌜ r < numberBound ⌝ }
 {
+    if row < attributes.len() / ATTRIBUTE_WIDTH {
+        return number_there(attributes, row * ATTRIBUTE_WIDTH + column) as usize;
+    }
     if row < attributes.len() {
         return number_at(attributes, row * ATTRIBUTE_WIDTH, column) as usize;
     }

@@ -28,7 +28,8 @@ use Rattle.styles.specs.StyleCall.{callStore, callRow}
 use Rattle.styles.specs.Says.{Says}
 use Rattle.styles.proofs.Called.{call-says-alone}
 use Rattle.runner.specs.LeastLengths.{RunLent}
-use Rattle.runner.specs.Run.{Page, Running, styleRowAt, runOf}
+use Rattle.styles.specs.Lent.{Page}
+use Rattle.runner.specs.Run.{Running, styleRowAt, runOf}
 use Rattle.runner.specs.Demand.{AllRows}
 use Rattle.runner.proofs.PageContents.{contents-short}
 use Rattle.runner.proofs.RunRight.{run-right}

@@ -21,7 +21,8 @@ use Rattle.styles.specs.Room.{valuesOf}
 use Rattle.styles.proofs.Room.{inline-short, attributes-counted, values-short}
 use Rattle.styles.specs.declared.settings.Settings.{Settings}
 use Rattle.runner.specs.LeastLengths.{runTextBytes}
-use Rattle.runner.specs.Run.{Page, rowContents, contentsBefore, pageContents}
+use Rattle.styles.specs.Lent.{Page}
+use Rattle.runner.specs.Run.{rowContents, contentsBefore, pageContents}
 
 module _ (settings : Settings) (g : Page) where
   -- the contents of a row

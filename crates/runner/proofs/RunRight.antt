@@ -34,7 +34,8 @@ use Rattle.styles.specs.declared.settings.Settings.{Settings}
 use Rattle.runner.specs.Walked.{WalkedSelector, walked}
 use Rattle.runner.specs.Groups.{allGroups, matching, matchingAt}
 use Rattle.runner.specs.State.{depths, partWidth, partPlace, raised, groupsFrom}
-use Rattle.runner.specs.Run.{noStyle, styleBelow, Stepped, documentStep, elementStep, stepOn, Page, handedAt, Running, styleRowAt, runStep, runFrom, runOf, rowContents, contentsBefore, pageContents}
+use Rattle.styles.specs.Lent.{Page}
+use Rattle.runner.specs.Run.{noStyle, styleBelow, Stepped, documentStep, elementStep, stepOn, handedAt, Running, styleRowAt, runStep, runFrom, runOf, rowContents, contentsBefore, pageContents}
 use Rattle.runner.specs.Demand.{sheetsSelectors, AllRows}
 use Rattle.runner.proofs.GroupLaws.{matching-right}
 use Rattle.runner.proofs.StateParts.{part-kept, part-written}

@@ -14,7 +14,8 @@ use Rattle.page.proofs.RowFacts.{document-kind, one-deeper}
 use Rattle.styles.specs.StyleCall.{inlineContents}
 use Rattle.styles.specs.declared.settings.Settings.{Settings}
 use Rattle.runner.specs.State.{partPlace, countAt}
-use Rattle.runner.specs.Run.{Stepped, noStyle, documentStep, elementStep, openStep, stepOn, Page, handedAt, rowContents, contentsBefore, pageContents}
+use Rattle.styles.specs.Lent.{Page}
+use Rattle.runner.specs.Run.{Stepped, noStyle, documentStep, elementStep, openStep, stepOn, handedAt, rowContents, contentsBefore, pageContents}
 
 -- ---- contents
 module _ (settings : Settings) (g : Page) where

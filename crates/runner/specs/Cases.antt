@@ -66,7 +66,8 @@ use Rattle.cascade.specs.Record.{mainRecord, beforeRecord}
 use Rattle.cascade.specs.Row.{styleRowWidth}
 use Rattle.page.specs.Rows.{elementKind, otherKind}
 use Rattle.compiled.specs.Sheet.{CompiledSelector}
-use Rattle.runner.specs.Run.{Page, Running}
+use Rattle.styles.specs.Lent.{Page}
+use Rattle.runner.specs.Run.{Running}
 use Rattle.runner.specs.State.{partWidth}
 
 -- ---- the sheet

@@ -16,7 +16,8 @@ use Rattle.styles.specs.declared.settings.Settings.{Settings}
 use Rattle.styles.specs.Said.{Rules}
 use Rattle.styles.specs.Computed.{computedStyle}
 use Rattle.styles.specs.Says.{Says}
-use Rattle.runner.specs.Run.{noStyle, Page, Running, styleRowAt, pageContents}
+use Rattle.styles.specs.Lent.{Page}
+use Rattle.runner.specs.Run.{noStyle, Running, styleRowAt, pageContents}
 
 -- the selectors that three sheets are compiled to
 abbrev pub sheetsSelectors : Rules RuleSet → List CompiledSelector

@@ -7,7 +7,7 @@ use Rattle.combinators.specs.LeastLengths.{textLeast}
 use Rattle.cascade.specs.Row.{styleRowWidth}
 use Rattle.page.specs.Rows.{nodeWidth, nodeCount, attributeWidth, attributeRows}
 use Rattle.runner.specs.State.{depths, partWidth}
-use Rattle.runner.specs.Run.{Page}
+use Rattle.styles.specs.Lent.{Page}
 
 -- "For inline styles a run takes N as name bytes plus twice the attributes", as lent, what is left over at their ends included
 abbrev pub runTextBytes : Page → ℕ

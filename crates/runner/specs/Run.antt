@@ -18,6 +18,7 @@ use Rattle.page.specs.PathOf.{attributesFrom, elementAt}
 use Rattle.page.specs.Rows.{elementKind, otherKind, nodeAt, nodeCount, nameOf}
 use Rattle.matching.specs.Specificity.{specificity}
 use Rattle.styles.specs.declared.settings.Settings.{Settings}
+use Rattle.styles.specs.Lent.{Page}
 use Rattle.styles.specs.Said.{ruleStyle, countedAttributes}
 use Rattle.styles.specs.StyleCall.{inlineContents, placedAttributes}
 use Rattle.runner.specs.Walked.{WalkedSelector, walked}
@@ -82,11 +83,6 @@ stepOn code settings x depth parent state store fill =
     pick (is (x .kind) otherKind) (record { row = noStyle; state = state; store = store; fill = fill }) (openStep code settings x depth parent state store fill)
 
 -- ---- the run
-
-pub record Page : Type 0 where
-  pub nodes : List ℕ
-  pub attributes : List ℕ
-  pub text : List ℕ
 
 -- what a row hands to its step
 unfoldable pub handedAt : Page → ℕ → Handed

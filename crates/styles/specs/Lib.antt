@@ -1,3 +1,4 @@
+pub mod Lent
 pub mod Said
 pub mod Computed
 pub mod StyleCall

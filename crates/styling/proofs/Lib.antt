@@ -20,3 +20,4 @@ pub mod DecidedCascade
 pub mod Steadying
 pub mod StyleTurns
 pub mod StyleCalls
+pub mod Claiming

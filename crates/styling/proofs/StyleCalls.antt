@@ -42,7 +42,8 @@ use Rattle.styles.specs.StyleCall.{callRow, callStore}
 use Rattle.styles.proofs.Called.{call-row-long}
 use Rattle.styles.proofs.Room.{path-values, path-attributes}
 use Rattle.styling.specs.Held.{sheetsFrom, SheetsHeld, PathHeld}
-use Rattle.styling.specs.StyleAnswer.{Sheets₃, Page, callBytes, isElement, StyleLeft, zeroed, unchanged, answered, styledLeft, askedLeft, styleOf}
+use Rattle.styles.specs.Lent.{SheetTexts, Page}
+use Rattle.styling.specs.StyleAnswer.{callBytes, isElement, StyleLeft, zeroed, unchanged, answered, styledLeft, askedLeft, styleOf}
 use Rattle.styling.specs.Styling.{FewBytes, ReadRoom, CallLent, AskedLent}
 use Rattle.styling.specs.declared.style.StyleAnswer.{StyleAnswer}
 use Rattle.styling.proofs.SheetsHeldLaws as held
@@ -157,21 +158,21 @@ module _ (c : Cascade) (settings : Settings) (p : Path) {agent user author rules
           ∙ ap (styledLeft out₀ texts₀ rules₀ tokens₀ brackets₀ c settings p) (sym (held.m lies .is))
 
 -- ---- a page: a refusal whose number is 0 is none
-unfoldable Quiet : Refusal → Type 0
+unfoldable pub Quiet : Refusal → Type 0
 Quiet r = r .number ≡ 0 → r ≡ noRefusal
 
 loud : (n place : ℕ) → Quiet (record { number = suc n; text = 0; place = place })
 unfolding Quiet
 loud n place e = absurd (omega (arith, e))
 
-quiet : (nodes attributes text : List ℕ) → Quiet (pageRefusal nodes attributes text)
+pub quiet : (nodes attributes text : List ℕ) → Quiet (pageRefusal nodes attributes text)
 unfolding pageRefusal rowsRefusal Quiet
 quiet nodes attributes text =
     pick-holds Quiet _ _ _
     (λ _. pick-holds Quiet _ _ _ (λ _. loud _ _) (λ _. pick-holds Quiet _ _ _ (λ _. loud _ _) (λ _. pick-holds Quiet _ _ _ (λ _. loud _ _) (λ _ e. refl))))
     (λ _. loud _ _)
 
-module _ (c : Cascade) (settings : Settings) (s : Sheets₃) (g : Page) (row : ℕ) (out texts rules₀ tokens brackets : List ℕ) (l : AskedLent s g out rules₀ tokens brackets texts)
+module _ (c : Cascade) (settings : Settings) (s : SheetTexts) (g : Page) (row : ℕ) (out texts rules₀ tokens brackets : List ℕ) (l : AskedLent s g out rules₀ tokens brackets texts)
     {r : Refusal} (er : r ≡ pageRefusal (g .nodes) (g .attributes) (g .text)) where
   abbrev Asked : StyleLeft → Type 0
   Asked z = z ≡ askedLeft out texts rules₀ tokens brackets c settings g row (sheetsOf (s .agent) (s .user) (s .author))
@@ -252,7 +253,7 @@ module _ (c : Cascade) (settings : Settings) (s : Sheets₃) (g : Page) (row : �
         asked e = pick-true _ _ _ _ (is-yes _ _ no-number) (pick-true _ _ _ _ (sym et ∙ f) e)
 
 -- ---- the call, in the order of the refusals
-module _ (c : Cascade) (settings : Settings) (s : Sheets₃) (g : Page) (row : ℕ) (out texts rules₀ tokens brackets : List ℕ) where
+module _ (c : Cascade) (settings : Settings) (s : SheetTexts) (g : Page) (row : ℕ) (out texts rules₀ tokens brackets : List ℕ) where
   abbrev Called : StyleLeft → Type 0
   Called z = z ≡ styleOf c settings s g row out texts rules₀ tokens brackets
 

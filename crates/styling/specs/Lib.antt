@@ -6,3 +6,4 @@ pub mod StyleAnswer
 pub mod PlacingRoom
 pub mod Held
 pub mod Styling
+pub mod Claim

@@ -18,23 +18,13 @@ use Rattle.page.specs.Path.{Path}
 use Rattle.page.specs.PathOf.{pathOf}
 use Rattle.page.specs.Rows.{nodeCount, nodeAt, elementKind, attributeRows}
 use Rattle.styles.specs.declared.settings.Settings.{Settings}
+use Rattle.styles.specs.Lent.{SheetTexts, Page}
 use Rattle.styles.specs.Said.{Rules}
 use Rattle.styles.specs.StyleCall.{callRow, callStore}
 use Rattle.styling.specs.declared.style.StyleAnswer.{StyleAnswer}
 
--- ---- what a call is lent to read: three sheets, and a page
-pub record Sheets₃ : Type 0 where
-  pub agent : List ℕ
-  pub user : List ℕ
-  pub author : List ℕ
-
-pub record Page : Type 0 where
-  pub nodes : List ℕ
-  pub attributes : List ℕ
-  pub text : List ℕ
-
 -- "a style call takes that [name bytes plus twice the attributes] plus the bytes of its three sheets", as lent
-unfoldable pub callBytes : Sheets₃ → Page → ℕ
+unfoldable pub callBytes : SheetTexts → Page → ℕ
 callBytes s g = length (s .agent) + length (s .user) + length (s .author) + 2 * attributeRows (g .attributes) + length (g .text)
 
 -- "8 the asked row is no element or beyond the page"
@@ -94,7 +84,7 @@ module _ (row texts rules₀ tokens brackets : List ℕ) where
       pick (is (refusal .number) (noRefusal .number)) (pick (isElement (g .nodes) asked) styled (unchanged (refused noElement))) (unchanged refusal)
 
 -- in the order 1, 2, 3, 5, 6, 7, 8, 4
-unfoldable pub styleOf : Cascade → Settings → Sheets₃ → Page → ℕ → List ℕ → List ℕ → List ℕ → List ℕ → List ℕ → StyleLeft
+unfoldable pub styleOf : Cascade → Settings → SheetTexts → Page → ℕ → List ℕ → List ℕ → List ℕ → List ℕ → List ℕ → StyleLeft
 styleOf c settings s g asked row texts rules₀ tokens brackets =
     let asks = askedLeft row texts rules₀ tokens brackets c settings g asked (sheetsOf (s .agent) (s .user) (s .author)) in
     let refuses = unchanged row texts rules₀ tokens brackets in

@@ -10,7 +10,8 @@ use Rattle.page.specs.Accepted.{textLimit}
 use Rattle.page.specs.Path.{Path}
 use Rattle.styles.specs.Room.{valuesAlong, attributesAlong}
 use Rattle.styling.specs.Held.{SheetsHeld, PathHeld}
-use Rattle.styling.specs.StyleAnswer.{Sheets₃, Page, callBytes}
+use Rattle.styles.specs.Lent.{SheetTexts, Page}
+use Rattle.styling.specs.StyleAnswer.{callBytes}
 
 -- no more bytes than three sheets may have
 pub record FewBytes (n : ℕ) : Type 0 where
@@ -33,7 +34,7 @@ pub record CallLent (sheets : ℕ) (p : Path) (out rules tokens brackets texts :
   pub least : Least (sheets + valuesAlong p + 2 * attributesAlong p) (length rules) (length tokens) (length brackets) (length texts)
 
 -- no sheet too long, a row for the style, and stores of the least lengths for all that is lent
-pub record AskedLent (s : Sheets₃) (g : Page) (out rules tokens brackets texts : List ℕ) : Type 0 where
+pub record AskedLent (s : SheetTexts) (g : Page) (out rules tokens brackets texts : List ℕ) : Type 0 where
   pub agent-within : length (s .agent) ≤ sheetLimit
   pub user-within : length (s .user) ≤ sheetLimit
   pub author-within : length (s .author) ≤ sheetLimit

@@ -20,14 +20,11 @@ add-is-named c = search needs
 is-named-requires : tie.Need-is-named-requires Inv-loop μ-loop
 is-named-requires c κs = search needs
 
-add-attribute-value : tie.Need-add-attribute-value Inv-loop μ-loop
-add-attribute-value c = search needs
+add-has-value : tie.Need-add-has-value Inv-loop μ-loop
+add-has-value c = search needs
 
-attribute-value-requires : tie.Need-attribute-value-requires Inv-loop μ-loop
-attribute-value-requires c κs = search needs
-
-same-text-requires : tie.Need-same-text-requires Inv-loop μ-loop
-same-text-requires c κs = search needs
+has-value-requires : tie.Need-has-value-requires Inv-loop μ-loop
+has-value-requires c κs = search needs
 
 returns : tie.Need-returns Inv-loop μ-loop
 returns c = search (needs, first-found)
@@ -53,9 +50,8 @@ attribute-is-spec =
     loop-holds
     add-is-named
     is-named-requires
-    add-attribute-value
-    attribute-value-requires
-    same-text-requires
+    add-has-value
+    has-value-requires
     returns
     add-i
     loop-less

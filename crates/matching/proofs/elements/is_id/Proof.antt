@@ -9,11 +9,8 @@ slice-aggregate-is-named c = search needs
 is-named-requires : tie.Need-is-named-requires
 is-named-requires c κs = search needs
 
-attribute-value-requires : tie.Need-attribute-value-requires
-attribute-value-requires c κs = search needs
-
-same-text-requires : tie.Need-same-text-requires
-same-text-requires c κs = search needs
+has-value-requires : tie.Need-has-value-requires
+has-value-requires c κs = search needs
 
 returns : tie.Need-returns
 returns c = search (needs, id-named)
@@ -27,7 +24,6 @@ is-id-spec =
     (tie.spec
     slice-aggregate-is-named
     is-named-requires
-    attribute-value-requires
-    same-text-requires
+    has-value-requires
     returns
     returns-2)

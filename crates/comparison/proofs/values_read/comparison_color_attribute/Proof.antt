@@ -1,8 +1,8 @@
 use Rattle.comparison.specs.Attributes.{colourResult}
 use Rattle.comparison.proofs.AttributeResults as results
 use borrow.Author.Needs.{needs}
-use Rattle.comparison.proofs.attributes.comparison_color_attribute.Statement.{statement}
-use Rattle.comparison.proofs.attributes.comparison_color_attribute.Tie as tie
+use Rattle.comparison.proofs.values_read.comparison_color_attribute.Statement.{statement}
+use Rattle.comparison.proofs.values_read.comparison_color_attribute.Tie as tie
 
 returns : tie.Need-returns
 returns c = let S = c .before .before .before .before .before in

@@ -1,0 +1,120 @@
+-- The claim about a style call, from its contract's own definition; and of the book order that each slot holds the last greatest of its candidates (result 7).
+use mathlib.Core.Path.{_≡_, refl, ap, sym, subst, _∙_}
+use mathlib.Core.Bool.{Bool, true, false}
+use mathlib.Core.List.{List, [], _∷_, _++_}
+use Prim.Native.Nat.{ℕ, _+_, _-_, _≤_, _<_}
+use native.Mathlib.Omega.{arith}
+use lib.Dec.{leb}
+use lib.ListN.{length, take, replicate, length-append}
+use lib.Seq.{take-at}
+use Rattle.combinators.specs.Choice.{pick, and, is}
+use Rattle.combinators.specs.LeastLengths.{storesSuffice}
+use Rattle.combinators.specs.Refusal.{noRefusal, refused, refusedIn, tooLong, shortStore, notUtf8, noElement, panic}
+use Rattle.combinators.specs.declared.refusals.Refusal.{Refusal}
+use Rattle.combinators.proofs.Rules.{is-false}
+use Rattle.syntax.specs.Selector.{RuleSet}
+use Rattle.sheets.specs.SheetAnswer.{padded}
+use Rattle.origins.specs.Checks.{anyTooLong, allValid}
+use Rattle.origins.specs.Reading.{Sheets, rules, panicked, sheetsOf}
+use Rattle.cascade.specs.declared.slots.Cascade.{Cascade}
+use Rattle.cascade.specs.declared.slots.Cascade.the-variants.{Book}
+use Rattle.cascade.specs.Related.{SameSlot, SameRecord, SameStyle, both-empty}
+use Rattle.cascade.proofs.Relating.{each-get, pick-same}
+use Rattle.cascade.specs.Record.{ComputedStyle, Record, recordIn, slotOf, mainRecord, beforeRecord, slotCount, recordCount, slotIn, bookDeclared, candidatesFor, inheritedCandidates}
+use Rattle.cascade.specs.Row.{styleRowWidth, rowOf, styleAt, RowFine}
+use Rattle.cascade.specs.Slot.{empty, Decided}
+use Rattle.cascade.proofs.RowBack.{row-fine}
+use Rattle.page.specs.Accepted.{pageRefusal}
+use Rattle.page.specs.Path.{Element, Path}
+use Rattle.page.specs.PathOf.{pathOf}
+use Rattle.styles.specs.declared.settings.Settings.{Settings}
+use Rattle.styles.specs.Computed.{cascaded, computedStyle}
+use Rattle.styles.specs.Said.{Rules, sourcesFrom, meantRules, countedAttributes, attributesSay}
+use Rattle.styles.specs.Says.{Says}
+use Rattle.styles.specs.StyleCall.{placedAlong, callRow, callStore}
+use Rattle.styles.proofs.Called.{cascaded-formed, call-row-long, call-says-alone, book-style-decides}
+use Rattle.styling.specs.Claim.{rowLeft, textsLeft, RowSays}
+use Rattle.styles.specs.Lent.{SheetTexts, Page}
+use Rattle.styling.specs.StyleAnswer.{callBytes, isElement, StyleLeft, zeroed, unchanged, answered, styledLeft, askedLeft, styleOf}
+
+-- what stands at the start of a store comes back
+padded-front : (xs : List ℕ) (n k : ℕ) → length xs ≡ k → take k (padded xs n) ≡ xs
+unfolding padded
+padded-front xs n k e = take-at xs (replicate (n - length xs) 0) k e
+
+padded-long : (xs : List ℕ) (n : ℕ) → length xs ≤ length (padded xs n)
+unfolding padded
+padded-long xs n = omega (arith, length-append xs (replicate (n - length xs) 0))
+
+module _ (c : Cascade) (settings : Settings) (s : SheetTexts) (p : Path) (row texts rules₀ tokens brackets : List ℕ) where
+  row-is-fine : (sheets : Rules RuleSet) → RowFine (callRow c sheets settings p)
+  unfolding callRow
+  row-is-fine sheets = row-fine (cascaded c (placedAlong sheets settings p)) (cascaded-formed c (placedAlong sheets settings p))
+
+  -- of sheets that were read
+  answer-says : (sheets : Rules RuleSet) → sheetsOf (s .agent) (s .user) (s .author) ≡ rules (sheets .agent) (sheets .user) (sheets .author)
+      → RowSays c settings s p (answered row texts rules₀ tokens brackets (callRow c sheets settings p) (callStore sheets settings p))
+  unfolding answered
+  answer-says sheets e =
+      let r = padded-front (callRow c sheets settings p) (length row) styleRowWidth (call-row-long c sheets settings p) in
+      let t = padded-front (callStore sheets settings p) (length texts) (length (callStore sheets settings p)) refl in
+      record {
+        sheets = sheets;
+        read = e;
+        says = rw (r, t) (call-says-alone c sheets settings p);
+        fine = rw r (row-is-fine sheets);
+        within = padded-long (callStore sheets settings p) (length texts);
+      }
+
+  sheets-say : (m : Sheets) → sheetsOf (s .agent) (s .user) (s .author) ≡ m → styledLeft row texts rules₀ tokens brackets c settings p m .answer .refusal ≡ noRefusal
+      → RowSays c settings s p (styledLeft row texts rules₀ tokens brackets c settings p m)
+  unfolding styledLeft zeroed
+  sheets-say (rules a u w) e h = answer-says (record { agent = a; user = u; author = w }) e
+  sheets-say (panicked which byte) e h = absurd (let z : _≡_ {A = ℕ} 4 0 = ap (λ (r : Refusal). r .number) h in omega (arith, z))
+
+-- a call that refuses nothing
+module _ (c : Cascade) (settings : Settings) (s : SheetTexts) (g : Page) (asked : ℕ) (row texts rules₀ tokens brackets : List ℕ) where
+  abbrev path : Path
+  path = pathOf (g .nodes) (g .attributes) (g .text) asked
+
+  abbrev Claimed : StyleLeft → Type 0
+  Claimed l = l .answer .refusal ≡ noRefusal → RowSays c settings s path l
+
+  -- one that refuses says nothing
+  refusing : (r : Refusal) → ¬ (r .number ≡ 0) → Claimed (unchanged row texts rules₀ tokens brackets r)
+  unfolding unchanged
+  refusing r n h = absurd (n (ap (λ (q : Refusal). q .number) h))
+
+  pick-claims : (t : Bool) (l m : StyleLeft) → (t ≡ true → Claimed l) → (t ≡ false → Claimed m) → Claimed (pick t l m)
+  unfolding pick
+  pick-claims true l m h k = h refl
+  pick-claims false l m h k = k refl
+
+  pub style-says : Claimed (styleOf c settings s g asked row texts rules₀ tokens brackets)
+  unfolding styleOf askedLeft
+  style-says =
+      let page = pageRefusal (g .nodes) (g .attributes) (g .text) in
+      pick-claims (anyTooLong (length (s .agent)) (length (s .user)) (length (s .author))) _ _ (λ _. refusing (refused tooLong) (λ e. omega (arith, e)))
+      (λ _. pick-claims (and (leb styleRowWidth (length row)) (storesSuffice (callBytes s g) (length rules₀) (length tokens) (length brackets) (length texts))) _ _
+      (λ _. pick-claims (allValid (s .agent) (s .user) (s .author)) _ _
+      (λ _. pick-claims (is (page .number) (noRefusal .number)) _ _
+      (λ _. pick-claims (isElement (g .nodes) asked) _ _ (λ _. sheets-say c settings s path row texts rules₀ tokens brackets (sheetsOf (s .agent) (s .user) (s .author)) refl)
+      (λ _. refusing (refused noElement) (λ e. omega (arith, e))))
+      (λ f. refusing page (is-false (page .number) 0 f)))
+      (λ _. refusing (refused notUtf8) (λ e. omega (arith, e))))
+      (λ _. refusing (refused shortStore) (λ e. omega (arith, e))))
+
+-- two styles that are the same have the same slots
+slot-same : {A B : Type 0} (R : A → B → Type 0) (x : ComputedStyle A) (y : ComputedStyle B) → SameStyle R x y → (i j : ℕ) → SameSlot R (slotIn x i j) (slotIn y i j)
+unfolding slotIn slotOf recordIn
+slot-same R x y q i j =
+    each-get (SameSlot R) j empty empty both-empty
+    (pick-same (SameRecord R) (is i mainRecord) (is i mainRecord) _ _ _ _ refl (q .main)
+    (pick-same (SameRecord R) (is i beforeRecord) (is i beforeRecord) _ _ _ _ refl (q .before) (q .after)) .all)
+
+-- ---- result 7 of the call: each slot of the row in the book order holds what wins among what is inherited and what is said of the element
+pub book-says : (settings : Settings) (s : SheetTexts) (e : Element) (up : Path) (l : StyleLeft) (h : RowSays Book settings s (e ∷ up) l) (r k : ℕ) → r < recordCount → k < slotCount
+    → SameSlot (Says (textsLeft l)) (slotIn (styleAt (rowLeft l)) r k) (slotIn (computedStyle Book (h .sheets) settings (e ∷ up)) r k)
+    × Decided (slotIn (computedStyle Book (h .sheets) settings (e ∷ up)) r k)
+    (inheritedCandidates (slotIn (computedStyle Book (h .sheets) settings up) r k) ++ candidatesFor r k (bookDeclared (sourcesFrom (meantRules (h .sheets)) (attributesSay (countedAttributes settings e)) (e ∷ up))))
+book-says settings s e up l h r k m n = (slot-same (Says (textsLeft l)) _ _ (h .says) r k, book-style-decides (h .sheets) settings e up r k m n)
