@@ -6,7 +6,7 @@ mod content; // content.rt: what stands in a buffer
 mod pages; // pages.rt: calls with a page or with compiled bytes
 mod reading; // reading.rt: calls with sheets and attributes
 mod stream; // stream.rt: numbers and texts of a vector
-mod styles; // styles.rt: the style of an element
+mod style_calls; // style_calls.rt: the style of an element
 mod tally; // tally.rt: counts, and what is printed
 mod window; // window.rt: a window over standard input
 
@@ -52,7 +52,7 @@ use stream::behind_numbers;
 use stream::number_argument;
 use stream::number_at;
 use stream::text_at;
-use styles::ask_style;
+use style_calls::ask_style;
 use tally::Tally;
 use tally::nothing;
 use tally::print_tally;
