@@ -19,7 +19,7 @@ REPLAY = os.path.join(HERE, "..", "..", "crates", "replay")
 LISTS = ["sheets", "compiled sheets", "compiled bytes", "pages", "attributes", "classes", "styles"]
 RECORDED = {"vectors": "html2text's sheets, attributes and selectors", "compile_vectors": "html2text's compiled sheets", "style_vectors": "html2text's computed styles"}
 
-IN_BOOK_ORDER = "the same in the book order, where it differs"
+IN_BOOK_ORDER = "computed styles in the book order"
 
 # The calls, as crates/replay/src/calls.rt has them.
 CALLS = {"read_sheet": 1, "compile": 2, "check_page": 3, "style": 4, "style_book": 5, "check_bytes": 7, "style_attribute": 8, "color_attribute": 9, "matches": 10, "rows": 11, "selector": 12}
