@@ -1,5 +1,5 @@
 #!/usr/bin/env bash
-# Writes the fixed lists of html2text's answers, those in crates/replay/stdin and tools/vectors/style_vectors (their format: tools/vectors/README.md),
+# Writes the fixed lists of html2text's answers, which lie in crates/replay/stdin (their format: tools/vectors/README.md),
 # and makes sure that they meet every branch of html2text's reader, matcher and cascade but those in tools/vectors/unreachable.txt.
 #
 #     bash tools/crate/build.sh FOLDER       once: the crate
@@ -27,7 +27,6 @@ cd "$here/../target/crate"
 CARGO_TERM_QUIET=true RUSTC_WRAPPER=$cover/rustc-wrapper cargo build --offline -p compare --features cover --bin choose_vectors --profile release --target-dir "$cover"
 program=$cover/release/choose_vectors
 LLVM_PROFILE_FILE=$cover/vectors.profraw "$program" "${1:-1}" "$cover"
-cp "$cover/style_vectors" "$here/vectors/"
 python3 "$here/vectors/vectors.py" join "$cover"
 "$llvm/llvm-profdata" merge -o "$cover/vectors.profdata" "$cover/vectors.profraw"
 "$llvm/llvm-cov" export "$program" -instr-profile="$cover/vectors.profdata" | python3 "$here/vectors/uncovered.py"

@@ -1,5 +1,5 @@
 #!/usr/bin/env python3
-"""Holds the definitions `computedStyle` and `runOf` against html2text's computed styles (style_vectors), by computing them.
+"""Holds the definitions `computedStyle` and `runOf` against html2text's computed styles, by computing them.
 
     python3 tools/vectors/definitions.py FOLDER style|run [FIRST COUNT]
     cd FOLDER && rt check held
@@ -11,6 +11,8 @@ import pathlib
 import re
 import shutil
 import sys
+
+from vectors import recorded_file
 
 HERE = pathlib.Path(__file__).resolve().parent
 ROOT = HERE.parent.parent
@@ -234,7 +236,7 @@ def opened():
 
 
 def chosen(first, count):
-    file = Reader((HERE / "style_vectors").read_bytes())
+    file = Reader(recorded_file("style_vectors"))
     vectors = sorted((file.vector(i) for i in range(file.number())), key=size)
     assert file.at == len(file.bytes)
     return vectors[first:first + count]

@@ -2,30 +2,39 @@
 """Writes the vectors that crates/replay replays: crates/replay/stdin, and the counts that it prints, crates/replay/stdout.
 
     vectors.py join [FOLDER]    from cases/*.txt here and html2text's answers, which stay as they are in stdin; with FOLDER
-                                they are read from FOLDER/vectors and FOLDER/compile_vectors
-    vectors.py split FOLDER     writes html2text's answers in stdin to those two files, for `compare replay`
+                                they are read from FOLDER/vectors, FOLDER/compile_vectors and FOLDER/style_vectors
+    vectors.py split FOLDER     writes html2text's answers in stdin to those three files, for `compare replay`
 
 README.md says how all of these are written."""
+import itertools
 import os
 import re
 import sys
 
+import model
+
 HERE = os.path.dirname(os.path.abspath(__file__))
 CASES = os.path.join(HERE, "cases")
 REPLAY = os.path.join(HERE, "..", "..", "crates", "replay")
-LISTS = ["sheets", "compiled sheets", "compiled bytes", "pages", "attributes", "classes"]
-RECORDED = {"vectors": "html2text's sheets, attributes and selectors", "compile_vectors": "html2text's compiled sheets"}
+LISTS = ["sheets", "compiled sheets", "compiled bytes", "pages", "attributes", "classes", "styles"]
+RECORDED = {"vectors": "html2text's sheets, attributes and selectors", "compile_vectors": "html2text's compiled sheets", "style_vectors": "html2text's computed styles"}
+
+IN_BOOK_ORDER = "computed styles in the book order"
 
 # The calls, as crates/replay/src/calls.rt has them.
-CALLS = {"read_sheet": 1, "compile": 2, "check_page": 3, "check_bytes": 7, "style_attribute": 8, "color_attribute": 9, "matches": 10, "rows": 11, "selector": 12}
-BUFFERS = ["rules", "tokens", "brackets", "texts", "bytes"]
-NUMBER_BUFFERS = ("rules", "tokens")
+CALLS = {"read_sheet": 1, "compile": 2, "check_page": 3, "style": 4, "style_book": 5, "check_bytes": 7, "style_attribute": 8, "color_attribute": 9, "matches": 10, "rows": 11, "selector": 12}
+BUFFERS = ["rules", "tokens", "brackets", "texts", "bytes", "out"]
+NUMBER_BUFFERS = ("rules", "tokens", "out")
+OWN_ARGUMENTS = 1 + len(BUFFERS)  # those of every call stand before them
 RESULTS = 6
 ANY = None
-NODE_WIDTH, COMPONENTS_OF_FIRST_RULE = 6, 5
+NODE_WIDTH, ATTRIBUTE_WIDTH, COMPONENTS_OF_FIRST_RULE = 6, 4, 5
+SLOT_NAMES = ["color", "background", "display", "space", "content"]
 PANIC, NO_ELEMENT, NO_SHEET, NO_ROOM = 4, 8, 9, 10
 FULL = 255
 ROOM = 4096
+SLOT_WEIGHT = 6  # the numbers of a slot between whether it is filled and its value
+LEAST_RUN = 4
 MORE = 100  # 'plenty' is what so many bytes more would need
 
 
@@ -61,12 +70,11 @@ def expected(value):
     return number(0 if value is ANY else value + 1)
 
 
-class Vector:
-    """A call; `after` has for a buffer its parts and what stands beyond them (ANY: anything), 'zero' or 'unchanged'."""
+class Question:
+    """What is lent and asked, and what is expected; `after` has for a buffer its parts and what stands beyond them (ANY: anything), 'zero' or 'unchanged'."""
 
-    def __init__(self, words, call, lent, filling, arguments, read=(), rows=(), results=(), after=None):
-        self.words, self.call, self.lent, self.filling, self.arguments = words, call, lent, filling, list(arguments)
-        self.read, self.rows, self.results, self.after = list(read), list(rows), list(results), after or {}
+    def __init__(self, lent, filling, arguments, results=(), after=None):
+        self.lent, self.filling, self.arguments, self.results, self.after = lent, filling, list(arguments), list(results), after or {}
 
     def left(self, name):
         after = self.after.get(name, self.after.get("all", "unchanged"))
@@ -77,9 +85,19 @@ class Vector:
     def bytes(self):
         lengths = [self.lent.get(name, 0) for name in BUFFERS]
         results = self.results + [0] * (RESULTS - len(self.results))
-        out = text(self.words.encode()) + number(CALLS[self.call]) + numbers([self.filling] + lengths + self.arguments)
-        out += content(self.read) + content(self.rows) + b"".join(map(expected, results))
+        out = numbers([self.filling] + lengths + self.arguments) + b"".join(map(expected, results))
         return out + b"".join(content(parts) + expected(beyond) for parts, beyond in map(self.left, BUFFERS))
+
+
+class Vector:
+    """A call, what is lent to read, and questions."""
+
+    def __init__(self, words, call, read, rows, *questions):
+        self.words, self.call, self.read, self.rows, self.questions = words, call, list(read), list(rows), questions
+
+    def bytes(self):
+        out = text(self.words.encode()) + number(CALLS[self.call]) + content(self.read) + content(self.rows)
+        return out + number(len(self.questions)) + b"".join(q.bytes() for q in self.questions)
 
 
 def list_bytes(words, vectors):
@@ -116,16 +134,20 @@ class Reader:
     def content(self, read):
         return [(self.number(), read()) for _ in range(self.number())]
 
+    def question(self):
+        """Arguments, results, and what is left in each buffer."""
+        found = {"arguments": self.list(), "results": [self.number() - 1 for _ in range(RESULTS)]}
+        for name in BUFFERS:
+            found[name] = self.content(self.list if name in NUMBER_BUFFERS else self.text), self.number() - 1
+        return found
+
     def vector(self):
-        """Words, call, and for a call its arguments, what is read, results, and what is left."""
+        """Words, call, and for a call what is read, and the questions."""
         words, call = self.text().decode(), self.number()
         if call == 0:
             return words, call, None
-        parts = {"arguments": self.list(), "read": self.content(self.text), "rows": self.content(self.list)}
-        parts["results"] = [self.number() - 1 for _ in range(RESULTS)]
-        for name in BUFFERS:
-            parts[name] = self.content(self.list if name in NUMBER_BUFFERS else self.text)
-            self.number()
+        parts = {"read": self.content(self.text), "rows": self.content(self.list)}
+        parts["questions"] = [self.question() for _ in range(self.number())]
         return words, call, parts
 
     def lists(self):
@@ -151,6 +173,23 @@ def left_by(refusal):
     return {"all": "zero" if refusal in (PANIC, NO_ROOM) else "unchanged"}
 
 
+def runs(xs):
+    """Numbers as parts, those that repeat one number apart."""
+    parts = []
+    for value, group in itertools.groupby(xs):
+        n = len(list(group))
+        if n < LEAST_RUN and parts and parts[-1][0] == len(parts[-1][1]):
+            parts[-1] = (parts[-1][0] + n, parts[-1][1] + [value] * n)
+        else:
+            parts.append((n, [value] * n if n < LEAST_RUN else [value]))
+    return parts
+
+
+def style_left(row, texts):
+    """What an answered style call leaves: its row, the parts of its texts, and zeros."""
+    return {"all": "zero", "out": (runs(row), 0), "texts": (texts, 0), "bytes": "unchanged"}
+
+
 # ---- html2text's answers
 
 def recorded_sheet(r):
@@ -160,18 +199,18 @@ def recorded_sheet(r):
         count, stop, rows, texts = r.number(), r.number(), r.list(), r.text()
         results = [0, 0, count, stop, len(rows), len(texts)]
         after = {"all": "zero", "rules": (whole(rows), 0), "texts": (whole(texts), 0), "bytes": "unchanged"}
-    return Vector("", "read_sheet", least(len(sheet)), FULL, [len(sheet)], whole(sheet), [], results, after)
+    return Vector("", "read_sheet", whole(sheet), [], Question(least(len(sheet)), FULL, [len(sheet)], results, after))
 
 
 def recorded_style(r):
     value, rows, texts = r.text(), r.list(), r.text()
     after = {"tokens": (whole(rows), 0), "texts": (whole(texts), 0)}
-    return Vector("", "style_attribute", least(len(value)), 0, [len(value)], whole(value), [], [0, len(rows) // 4, len(texts)], after)
+    return Vector("", "style_attribute", whole(value), [], Question(least(len(value)), 0, [len(value)], [0, len(rows) // 4, len(texts)], after))
 
 
 def recorded_colour(r):
     value, found, colour = r.text(), r.number(), r.number()
-    return Vector("", "color_attribute", least(len(value)), 0, [len(value)], whole(value), [], [0, found, colour])
+    return Vector("", "color_attribute", whole(value), [], Question(least(len(value)), 0, [len(value)], [0, found, colour]))
 
 
 def recorded_selector(r):
@@ -183,7 +222,8 @@ def recorded_selector(r):
     # behind the row, which is not asked here, the counts, for a page without an element tells none
     arguments = [len(nodes), len(attributes), len(page), len(components), len(names), count, 0] + counts
     after = {"rules": (whole(answers), ANY)}
-    return Vector("", "rows", {"rules": len(answers)}, 0, arguments, whole(page + names), whole(nodes + attributes + components), [len(matches)], after)
+    asked = Question({"rules": len(answers)}, 0, arguments, [len(matches)], after)
+    return Vector("", "rows", whole(page + names), whole(nodes + attributes + components), asked)
 
 
 def recorded_compile(r):
@@ -195,10 +235,71 @@ def recorded_compile(r):
         results = [0, 0, 0, len(compiled), ANY]
         after = {"all": "zero", "texts": ([], ANY), "bytes": (whole(compiled), 0)}
     lent = dict(least(sum(lengths)), bytes=ROOM)
-    return Vector("", "compile", lent, FULL, lengths, whole(b"".join(sheets)), [], results, after)
+    return Vector("", "compile", whole(b"".join(sheets)), [], Question(lent, FULL, lengths, results, after))
 
 
-RECORDED_KINDS = {1: recorded_sheet, 2: recorded_style, 3: recorded_colour, 4: recorded_selector, 5: recorded_compile}
+def recorded_slots(r):
+    """A record of a computed style: whether it is there, and what each slot holds, a content as its text."""
+    present, slots = r.number(), [None] * model.SLOTS
+    for _ in range(r.number()):
+        slot = r.number()
+        weight = [r.number() for _ in range(SLOT_WEIGHT)]
+        slots[slot] = weight, r.text() if slot == model.CONTENT else r.number()
+    return present, slots
+
+
+def slots_of(row, texts):
+    """The same of a row."""
+    records = []
+    for record in range(model.RECORDS):
+        present, *rest = row[record * model.RECORD_WIDTH:][:model.RECORD_WIDTH]
+        slots = [rest[k * model.SLOT_WIDTH:][:model.SLOT_WIDTH] for k in range(model.SLOTS)]
+        value = lambda k, s: texts[s[-2]:s[-2] + s[-1]] if k == model.CONTENT else s[-2]
+        records.append((present, [(s[1:1 + SLOT_WEIGHT], value(k, s)) if s[0] else None for k, s in enumerate(slots)]))
+    return records
+
+
+def recorded_styles(r):
+    """A question for each element; where contents lie, the crate does not say, but model.py. A page without one is asked for row 0."""
+    sheets, nodes, attributes, page, on = [r.text() for _ in range(3)], r.list(), r.list(), r.text(), r.number()
+    lent = model.least_lengths(sheets, attributes, page)
+    questions, arguments = [], [len(nodes), len(attributes), len(page)] + [len(s) for s in sheets]
+    for row in range(len(nodes) // NODE_WIDTH):
+        if nodes[row * NODE_WIDTH] == model.ELEMENT:
+            records = [recorded_slots(r) for _ in range(model.RECORDS)]
+            _, out, texts = model.style_call(sheets, nodes, attributes, page, row, on, False)
+            assert slots_of(out, texts) == records, "model.py differs from html2text"
+            questions.append(Question(lent, FULL, arguments + [row, on], [0, 0, 0, len(texts)], style_left(out, whole(texts))))
+    none = Question(lent, FULL, arguments + [0, on], [NO_ELEMENT, 0, 0, 0], left_by(NO_ELEMENT))
+    return Vector("", "style", whole(page + b"".join(sheets)), whole(nodes + attributes), *questions or [none])
+
+
+def style_question(read, rows, question, book):
+    """What model.py answers to a question of a style vector, and a question that expects it."""
+    arguments = question["arguments"]
+    nodes, attributes, page, agent, user, author, row, on = arguments[OWN_ARGUMENTS:]
+    bounds = list(itertools.accumulate([page, agent, user, author]))
+    sheets = [read[a:b] for a, b in itertools.pairwise(bounds)]
+    answer = model.style_call(sheets, rows[:nodes], rows[nodes:nodes + attributes], read[:page], row, on, book)
+    if answer[0]:
+        return answer, None
+    after = style_left(answer[1], whole(answer[2]))
+    lent = dict(zip(BUFFERS, arguments[1:OWN_ARGUMENTS]))
+    return answer, Question(lent, FULL, arguments[OWN_ARGUMENTS:], [0, 0, 0, len(answer[2])], after)
+
+
+def in_book_order(data):
+    """The questions of a style vector whose answer is another in the book order, with that answer."""
+    _, _, v = Reader(data).vector()
+    read, rows, questions = joined(v["read"], b""), joined(v["rows"], []), []
+    for q in v["questions"]:
+        answer, asked = style_question(read, rows, q, True)
+        if answer != style_question(read, rows, q, False)[0]:
+            questions.append(asked)
+    return [Vector("", "style_book", v["read"], v["rows"], *questions).bytes()] if questions else []
+
+
+RECORDED_KINDS = {1: recorded_sheet, 2: recorded_style, 3: recorded_colour, 4: recorded_selector, 5: recorded_compile, 6: recorded_styles}
 
 
 def recorded(path):
@@ -227,17 +328,33 @@ def low_list(xs):
 
 
 def joined(parts, start):
-    """Parts of which each is its pattern once."""
-    for _, pattern in parts:
-        start = start + pattern
+    """All that parts stand for."""
+    for n, pattern in parts:
+        start = start + (pattern * n)[:n]
     return start
+
+
+def unrecorded_styles(read, rows, questions):
+    nodes, attributes, page, agent, user, _, _, on = questions[0]["arguments"][OWN_ARGUMENTS:]
+    sheets = read[page:page + agent], read[page + agent:page + agent + user], read[page + agent + user:]
+    out = low_number(6) + b"".join(map(low_text, sheets))
+    out += low_list(rows[:nodes]) + low_list(rows[nodes:]) + low_text(read[:page]) + low_number(on)
+    for q in questions:
+        if q["results"][0] == 0:
+            for present, slots in slots_of(joined(q["out"][0], []), joined(q["texts"][0], b"")):
+                filled = [(k, s) for k, s in enumerate(slots) if s]
+                out += low_number(present) + low_number(len(filled))
+                for k, (weight, what) in filled:
+                    out += low_number(k) + b"".join(map(low_number, weight)) + (low_text(what) if k == model.CONTENT else low_number(what))
+    return out
 
 
 def unrecorded(data):
     _, call, v = Reader(data).vector()
-    own, read, rows, results = v["arguments"][6:], joined(v["read"], b""), joined(v["rows"], []), v["results"]
-    rules, tokens = joined(v["rules"], []), joined(v["tokens"], [])
-    texts, compiled = joined(v["texts"], b""), joined(v["bytes"], b"")
+    read, rows, first = joined(v["read"], b""), joined(v["rows"], []), v["questions"][0]
+    own, results = first["arguments"][OWN_ARGUMENTS:], first["results"]
+    rules, tokens = joined(first["rules"][0], []), joined(first["tokens"][0], [])
+    texts, compiled = joined(first["texts"][0], b""), joined(first["bytes"][0], b"")
     if call == CALLS["read_sheet"]:
         question = low_number(1) + low_text(read) + low_number(results[0])
         return question if results[0] else question + low_number(results[2]) + low_number(results[3]) + low_list(rules) + low_text(texts)
@@ -249,6 +366,8 @@ def unrecorded(data):
         a, b = own[0], own[0] + own[1]
         sheets = low_text(read[:a]) + low_text(read[a:b]) + low_text(read[b:])
         return low_number(5) + sheets + low_number(results[0]) + (b"" if results[0] else low_text(compiled))
+    if call == CALLS["style"]:
+        return unrecorded_styles(read, rows, v["questions"])
     nodes, attributes, page, _, _, count, _, *counts = own
     answers = [rules[i:i + 5] for i in range(0, len(rules), 5)]
     question = low_number(count) + low_list(rows[nodes + attributes:]) + low_text(read[page:])
@@ -296,10 +415,29 @@ class Field:
             parts.append((len(digits) * int(times or 1), [int(d) for d in digits]))
         return parts
 
-    def lengths(self, n):
+    def tree(self):
+        """`1:div[id="i"] 2:p 3-5:a 2:#` as a page: depths and names, with attributes in brackets; `#` is a row that is no element."""
+        nodes, attributes, page, line = [0] * NODE_WIDTH, [], b"", [0]
+        for first, last, name, own in re.findall(r'(\d+)(?:-(\d+))?:([^\s\[]*)(?:\[((?:[^"\]]|"(?:[^"\\]|\\.)*")*)\])?', self.value):
+            for depth in range(int(first), int(last or first) + 1):
+                row, parent = len(nodes) // NODE_WIDTH, line[depth - 1]
+                line = line[:depth] + [row]
+                if name == "#":
+                    nodes += [model.OTHER, parent, 0, 0, 0, 0]
+                    continue
+                found = re.findall(r'([^\s"=]+)=("(?:[^"\\]|\\.)*")', own)
+                nodes += [model.ELEMENT, parent, len(page), len(name), len(attributes) // ATTRIBUTE_WIDTH, len(found)]
+                page += name.encode()
+                for word, value in found:
+                    value = joined(Field(value).texts(), b"")
+                    attributes += [len(page), len(word), len(page) + len(word), len(value)]
+                    page += word.encode() + value
+        return runs(nodes), runs(attributes), whole(page)
+
+    def lengths(self, n, row=0):
         """`least` or `plenty` for n bytes of text, and then buffers with a length of their own."""
         first, *others = self.value.split()
-        lent = {"least": least(n), "plenty": least(n + MORE), "nothing": {}}[first]
+        lent = {"least": dict(least(n), out=row), "plenty": dict(least(n + MORE), out=row + MORE if row else 0), "nothing": {}}[first]
         return dict(lent, **{name: int(length) for name, length in (o.split("=") for o in others)})
 
 
@@ -319,7 +457,7 @@ def fields(line, words):
 
 
 WORDS = {"sheet", "agent", "user", "author", "lent", "filled", "nodes", "attributes", "text", "selector", "bytes", "value",
-         "refused", "in", "at", "rules", "stop", "numbers", "texts", "matches", "misses", "compiled", "accepted", "styles", "colour", "none"}
+         "page", "row", "switch", "main", "before", "after", "refused", "in", "at", "rules", "stop", "numbers", "texts", "matches", "misses", "compiled", "accepted", "styles", "colour", "none"}
 
 
 def total(parts):
@@ -347,11 +485,11 @@ def sheet_case(words, f):
     n = total(sheet)
     number_, _, place = refusal(f)
     if number_:
-        return Vector(words, "read_sheet", lent_to(f, n), filling(f), [n], sheet, [], [number_, place], left_by(number_))
+        return Vector(words, "read_sheet", sheet, [], Question(lent_to(f, n), filling(f), [n], [number_, place], left_by(number_)))
     taken, names = int(f["numbers"].value), f["texts"].texts() if "texts" in f else []
     after = {"all": "zero", "rules": ([(taken, [])] if taken else [], 0), "texts": (names, 0), "bytes": "unchanged"}
     results = [0, 0, int(f["rules"].value), int(f["stop"].value), taken, total(names)]
-    return Vector(words, "read_sheet", lent_to(f, n), filling(f), [n], sheet, [], results, after)
+    return Vector(words, "read_sheet", sheet, [], Question(lent_to(f, n), filling(f), [n], results, after))
 
 
 def compile_case(words, f):
@@ -365,23 +503,23 @@ def compile_case(words, f):
         compiled, names = f["compiled"].hexadecimal(), f["texts"].texts() if "texts" in f else []
         results = [0, 0, 0, total(compiled), total(names)]
         after = {"all": "zero", "bytes": (compiled, 0), "texts": (names, 0)}
-    return Vector(words, "compile", lent, filling(f), lengths, sum(sheets, []), [], results, after)
+    return Vector(words, "compile", sum(sheets, []), [], Question(lent, filling(f), lengths, results, after))
 
 
-def style_case(words, f):
+def style_attribute_case(words, f):
     """Of the rows no more is said than how many they are. The call leaves what it does not use, so the buffers are filled with zeros."""
     value = f["value"].texts()
     number_, names = refusal(f)[0], f["texts"].texts() if "texts" in f else []
     count = int(f["styles"].value) if "styles" in f else 0
     after = {"tokens": ([(4 * count, [])] if count else [], 0), "texts": (names, 0)}
-    return Vector(words, "style_attribute", lent_to(f, total(value)), 0, [total(value)], value, [], [number_, count, total(names)], after)
+    return Vector(words, "style_attribute", value, [], Question(lent_to(f, total(value)), 0, [total(value)], [number_, count, total(names)], after))
 
 
 def colour_case(words, f):
     value = f["value"].texts()
     found = int("colour" in f)
     results = [refusal(f)[0], found, int(f["colour"].value, 16) if found else 0]
-    return Vector(words, "color_attribute", lent_to(f, total(value)), 0, [total(value)], value, [], results)
+    return Vector(words, "color_attribute", value, [], Question(lent_to(f, total(value)), 0, [total(value)], results))
 
 
 def page_of(f):
@@ -394,13 +532,13 @@ def page_of(f):
 def page_case(words, f):
     nodes, attributes, page = page_of(f)
     number_, _, place = refusal(f)
-    return Vector(words, "check_page", {}, 0, map(total, (nodes, attributes, page)), page, nodes + attributes, [number_, place])
+    return Vector(words, "check_page", page, nodes + attributes, Question({}, 0, map(total, (nodes, attributes, page)), [number_, place]))
 
 
 def bytes_case(words, f):
     data = f["bytes"].hexadecimal()
     number_, _, place = refusal(f)
-    return Vector(words, "check_bytes", {}, 0, [total(data)], data, [], [number_, place])
+    return Vector(words, "check_bytes", data, [], Question({}, 0, [total(data)], [number_, place]))
 
 
 def class_case(words, f):
@@ -410,19 +548,58 @@ def class_case(words, f):
     page = [(6, b"pclass")] + value
     nodes, attributes = whole([0] * 6 + [1, 0, 0, 1, 0, 1]), whole([1, 5, 6, total(value)])
     arguments = [total(nodes), total(attributes), total(page), COMPONENTS_OF_FIRST_RULE, total(sheet), 1, 1]
-    left = {"all": ([], ANY)}
-    return Vector(words, "selector", least(total(sheet)), FULL, arguments, page + sheet, nodes + attributes, [0, 0, int("matches" in f), 0, 1, 0], left)
+    asked = Question(least(total(sheet)), FULL, arguments, [0, 0, int("matches" in f), 0, 1, 0], {"all": ([], ANY)})
+    return Vector(words, "selector", page + sheet, nodes + attributes, asked)
 
 
 def prefixes_case(words, f):
     """Every proper prefix of the bytes is no sheet, whatever the place."""
     data = b"".join(pattern for _, pattern in f["bytes"].hexadecimal())
     name = words + ", its first bytes: "
-    return [Vector(name + str(n), "check_bytes", {}, 0, [n], whole(data[:n]), [], [NO_SHEET, ANY]) for n in range(len(data))]
+    return [Vector(name + str(n), "check_bytes", whole(data[:n]), [], Question({}, 0, [n], [NO_SHEET, ANY])) for n in range(len(data))]
+
+
+def style_rows(f):
+    """The numbers of a row, by its records and the slots that are filled."""
+    row = []
+    for record in ("main", "before", "after"):
+        slots = {}
+        for word in f[record].value.split() if record in f else []:
+            name, _, held = word.partition(":")
+            *weight, value = held.split(",")
+            value = [int(n) for n in value.split("+")] if name == "content" else [int(value, 16), 0]
+            slots[name] = [1] + [int(n) for n in weight] + value
+            assert len(slots[name]) == model.SLOT_WIDTH, word
+        assert not slots.keys() - set(SLOT_NAMES), slots
+        row.append(int(record == "main" or record in f))
+        row += [n for name in SLOT_NAMES for n in slots.get(name, [0] * model.SLOT_WIDTH)]
+    return row
+
+
+def style_case(call):
+    def case(words, f):
+        nodes, attributes, page = f["page"].tree() if "page" in f else page_of(f)
+        sheets = [f[word].texts() if word in f else [] for word in ("agent", "user", "author")]
+        n = sum(map(total, sheets)) + total(page) + 2 * (total(attributes) // ATTRIBUTE_WIDTH)
+        number_, which, place = refusal(f)
+        results, after = [number_, which, place, 0], left_by(number_)
+        if number_ == 0:
+            names = f["texts"].texts() if "texts" in f else []
+            results, after = [0, 0, 0, total(names)], style_left(style_rows(f), names)
+        lengths = [total(p) for p in (nodes, attributes, page, *sheets)]
+        arguments = lengths + [int(f["row"].value), int(f["switch"].value) if "switch" in f else 1]
+        lent = f.get("lent", Field("plenty")).lengths(n, model.ROW_WIDTH)
+        return Vector(words, call, page + sum(sheets, []), nodes + attributes, Question(lent, filling(f), arguments, results, after))
+    return case
+
+
+def both_case(words, f):
+    return [style_case("style")(words, f), style_case("style_book")(words + ", in the book order", f)]
 
 
 KINDS = {"read_sheet": sheet_case, "compile": compile_case, "check_page": page_case, "check_bytes": bytes_case, "prefixes": prefixes_case,
-         "style_attribute": style_case, "color_attribute": colour_case, "class": class_case}
+         "style_attribute": style_attribute_case, "color_attribute": colour_case, "class": class_case, "style": style_case("style"),
+         "style_book": style_case("style_book"), "both": both_case}
 
 
 def cases(name):
@@ -450,17 +627,23 @@ def join(folder):
     kept = stdin_lists() if folder is None else None
     for file, words in RECORDED.items():
         lists[words] = recorded(os.path.join(folder, file)) if folder else kept[words]
+    lists[IN_BOOK_ORDER] = [made for data in lists[RECORDED["style_vectors"]] for made in in_book_order(data)]
     with open(os.path.join(REPLAY, "stdin"), "wb") as file:
         file.write(b"".join(list_bytes(words, vectors) for words, vectors in lists.items()))
     with open(os.path.join(REPLAY, "stdout"), "w", encoding="utf-8") as file:
         file.writelines(f"{words}: {len(vectors)} vectors, 0 differ\n" for words, vectors in lists.items())
 
 
+def recorded_file(file):
+    """A file of html2text's answers, from stdin."""
+    vectors = stdin_lists()[RECORDED[file]]
+    return low_number(len(vectors)) + b"".join(map(unrecorded, vectors))
+
+
 def split(folder):
-    lists = stdin_lists()
-    for file, words in RECORDED.items():
+    for file in RECORDED:
         with open(os.path.join(folder, file), "wb") as out:
-            out.write(low_number(len(lists[words])) + b"".join(map(unrecorded, lists[words])))
+            out.write(recorded_file(file))
 
 
 def main():

@@ -7,12 +7,17 @@ pub const COMPILE: u32 = 2;
 
 pub const CHECK_PAGE: u32 = 3;
 
-// Numbers 4, 5 and 6 are kept for style, style_book and run.
+// The style of an element, by html2text's cascade and in the book order.
+pub const STYLE: u32 = 4;
+
+pub const STYLE_BOOK: u32 = 5;
+
+// Number 6 is kept for run.
 
 // What only the comparison asks.
 pub const CHECK_BYTES: u32 = 7;
 
-pub const STYLE: u32 = 8;
+pub const STYLE_ATTRIBUTE: u32 = 8;
 
 pub const COLOUR: u32 = 9;
 
@@ -40,20 +45,32 @@ pub const TEXTS_LENT: u32 = 4;
 
 pub const BYTES_LENT: u32 = 5;
 
+pub const OUT_LENT: u32 = 6;
+
 // Behind them the lengths of what is lent to read, in its order, and then other numbers. A sheet, an attribute or compiled bytes have one length, three
 // sheets have three. A page has the numbers of its nodes and of its attributes and the bytes of its text.
-pub const FIRST: u32 = 6;
+pub const FIRST: u32 = 7;
 
-pub const SECOND: u32 = 7;
+pub const SECOND: u32 = 8;
 
-pub const THIRD: u32 = 8;
+pub const THIRD: u32 = 9;
 
-// A selector has the numbers of its components (of a selector of a sheet, where they start in its rules) and the bytes of its texts (of the sheet),
-// the count of its components, and the row.
-pub const COMPONENTS: u32 = 9;
+// Behind a page, for a selector: the numbers of its components (of a selector of a sheet, where they start in its rules), the bytes of its texts (of the
+// sheet), and the count of its components.
+pub const COMPONENTS: u32 = 10;
 
-pub const NAMES: u32 = 10;
+pub const NAMES: u32 = 11;
 
-pub const COUNT: u32 = 11;
+pub const COUNT: u32 = 12;
 
-pub const ROW: u32 = 12;
+// The same for a style: the bytes of its three sheets.
+pub const AGENT: u32 = 10;
+
+pub const USER: u32 = 11;
+
+pub const AUTHOR: u32 = 12;
+
+// Behind either the row, and for a style whether document styles are on.
+pub const ROW: u32 = 13;
+
+pub const DOCUMENT_STYLES: u32 = 14;

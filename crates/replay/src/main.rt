@@ -1,11 +1,12 @@
 // Replays vectors, which it reads from standard input: asks the exported functions of crates/engine and crates/comparison, and holds what they answer and
 // leave in the lent buffers against what each vector expects. Prints the number, the call and the words of each vector that differs, then for each list how
-// many vectors it has and how many differ. tools/vectors/README.md says how vectors lie in bytes; tools/vectors/vectors.py writes them. Takes 3 MB of stack.
+// many vectors it has and how many differ. tools/vectors/README.md says how vectors lie in bytes; tools/vectors/vectors.py writes them. Takes 5 MB of stack.
 mod calls; // calls.rt: the calls, and where their arguments stand
 mod content; // content.rt: what stands in a buffer
 mod pages; // pages.rt: calls with a page or with compiled bytes
 mod reading; // reading.rt: calls with sheets and attributes
 mod stream; // stream.rt: numbers and texts of a vector
+mod style_calls; // style_calls.rt: the style of an element
 mod tally; // tally.rt: counts, and what is printed
 mod window; // window.rt: a window over standard input
 
@@ -17,14 +18,18 @@ use calls::COLOUR;
 use calls::COMPILE;
 use calls::FILLING;
 use calls::MATCHES;
+use calls::OUT_LENT;
 use calls::READ_SHEET;
 use calls::RESULTS;
 use calls::ROWS;
 use calls::RULES_LENT;
 use calls::SELECTOR;
 use calls::STYLE;
+use calls::STYLE_ATTRIBUTE;
+use calls::STYLE_BOOK;
 use calls::TEXTS_LENT;
 use calls::TOKENS_LENT;
+use cascade::rows::STYLE_ROW_WIDTH;
 use combinators::texts::part_of;
 use content::Verdict;
 use content::both;
@@ -41,11 +46,13 @@ use pages::ask_selector;
 use reading::ask_colour;
 use reading::ask_compile;
 use reading::ask_sheet;
-use reading::ask_style;
+use reading::ask_style_attribute;
 use stream::argument;
 use stream::behind_numbers;
+use stream::number_argument;
 use stream::number_at;
 use stream::text_at;
+use style_calls::ask_style;
 use tally::Tally;
 use tally::nothing;
 use tally::print_tally;
@@ -55,8 +62,8 @@ use window::move_on;
 use window::refill;
 ghost use Prim.Native.Nat.{_<_, _≤_};
 
-// The longest text of a vector, three sheets together, and stores of the least lengths for it.
-const LONGEST: usize = 33200;
+// All texts of a vector together, at most, and stores of the least lengths for it.
+const LONGEST: usize = 65600;
 
 const NUMBERS: usize = 8 * LONGEST + 64;
 
@@ -64,6 +71,9 @@ const TEXTS: usize = 2 * LONGEST + 12;
 
 // More than any compiled sheet has.
 const COMPILED: usize = 80000;
+
+// A style row, and as much beyond it.
+const OUT: usize = 2 * STYLE_ROW_WIDTH;
 
 // What is lent to read: bytes of sheets or of a page, and numbers of a page and a selector.
 const INPUT: usize = 98304;
@@ -124,6 +134,7 @@ fn ask(
     brackets: &mut [u8],
     texts: &mut [u8],
     compiled: &mut [u8],
+    out: &mut [u32],
 ) -> [usize; RESULTS] {
     match call {
         READ_SHEET => ask_sheet(s, arguments, input, rules, tokens, brackets, texts),
@@ -137,7 +148,19 @@ fn ask(
             texts,
             compiled,
         ),
-        STYLE => ask_style(s, arguments, input, rules, tokens, brackets, texts),
+        STYLE | STYLE_BOOK => ask_style(
+            s,
+            arguments,
+            call,
+            input,
+            numbers,
+            rules,
+            tokens,
+            brackets,
+            texts,
+            out,
+        ),
+        STYLE_ATTRIBUTE => ask_style_attribute(s, arguments, input, rules, tokens, brackets, texts),
         COLOUR => ask_colour(s, arguments, input, tokens, brackets, texts),
         SELECTOR => ask_selector(s, arguments, input, numbers, rules, tokens, brackets, texts),
         _ => ask_page_call(s, arguments, call, input, numbers, rules),
@@ -195,9 +218,31 @@ fn settle_stores(
     }
 }
 
+// Holds the results and all buffers against what is expected at `at`.
+fn settle(
+    s: &[u8],
+    at: usize,
+    came: [usize; RESULTS],
+    rules: &mut [u32],
+    tokens: &mut [u32],
+    brackets: &mut [u8],
+    texts: &mut [u8],
+    compiled: &mut [u8],
+    out: &mut [u32],
+) -> Verdict {
+    let told = settle_results(s, at, came);
+    let rows = settle_rows(s, told.next, rules, tokens);
+    let stores = settle_stores(s, rows.next, brackets, texts, compiled);
+    let style = settle_numbers(s, stores.next, out);
+    Verdict {
+        next: style.next,
+        same: both(both(told.same, rows.same), both(stores.same, style.same)),
+    }
+}
+
 // ---- a vector
 
-// Asks with lent buffers, and judges the results at `at` and what is left.
+// Asks with lent buffers, and judges what came by what is expected at `at`.
 fn judged(
     s: &[u8],
     arguments: usize,
@@ -210,6 +255,7 @@ fn judged(
     brackets: &mut [u8],
     texts: &mut [u8],
     compiled: &mut [u8],
+    out: &mut [u32],
 ) -> Verdict {
     let came = ask(
         s,
@@ -222,14 +268,9 @@ fn judged(
         brackets,
         texts,
         compiled,
+        out,
     );
-    let told = settle_results(s, at, came);
-    let rows = settle_rows(s, told.next, rules, tokens);
-    let stores = settle_stores(s, rows.next, brackets, texts, compiled);
-    Verdict {
-        next: stores.next,
-        same: both(told.same, both(rows.same, stores.same)),
-    }
+    settle(s, at, came, rules, tokens, brackets, texts, compiled, out)
 }
 
 // The length that a vector lends of a buffer, or all of it where that is less.
@@ -243,29 +284,59 @@ fn lent(s: &[u8], arguments: usize, k: u32, length: usize) -> usize
     length
 }
 
-// Lends as much of each buffer as the vector says, full of the value that it says.
-fn lend(
+// Lends as much of each buffer of bytes as the vector says.
+fn lend_bytes(
     s: &[u8],
     arguments: usize,
     call: u32,
     at: usize,
     input: &[u8],
     numbers: &[u32],
+    rules: &mut [u32],
+    tokens: &mut [u32],
+    brackets: &mut [u8],
+    texts: &mut [u8],
+    compiled: &mut [u8],
+    out: &mut [u32],
 ) -> Verdict {
-    let filling = number_at(s, behind_numbers(s, arguments, FILLING));
-    let value = filling.value;
-    let byte = byte_of(value);
-    let mut rules = [value; NUMBERS];
-    let mut tokens = [value; NUMBERS];
-    let mut brackets = [byte; LONGEST];
-    let mut texts = [byte; TEXTS];
-    let mut compiled = [byte; COMPILED];
-    let r = lent(s, arguments, RULES_LENT, NUMBERS);
-    let t = lent(s, arguments, TOKENS_LENT, NUMBERS);
-    let b = lent(s, arguments, BRACKETS_LENT, LONGEST);
-    let n = lent(s, arguments, TEXTS_LENT, TEXTS);
-    let c = lent(s, arguments, BYTES_LENT, COMPILED);
+    let b = lent(s, arguments, BRACKETS_LENT, brackets.len());
+    let t = lent(s, arguments, TEXTS_LENT, texts.len());
+    let c = lent(s, arguments, BYTES_LENT, compiled.len());
     judged(
+        s,
+        arguments,
+        call,
+        at,
+        input,
+        numbers,
+        rules,
+        tokens,
+        &mut brackets[..b],
+        &mut texts[..t],
+        &mut compiled[..c],
+        out,
+    )
+}
+
+// The same of each buffer of numbers, and then of those of bytes.
+fn lend_numbers(
+    s: &[u8],
+    arguments: usize,
+    call: u32,
+    at: usize,
+    input: &[u8],
+    numbers: &[u32],
+    rules: &mut [u32],
+    tokens: &mut [u32],
+    brackets: &mut [u8],
+    texts: &mut [u8],
+    compiled: &mut [u8],
+    out: &mut [u32],
+) -> Verdict {
+    let r = lent(s, arguments, RULES_LENT, rules.len());
+    let t = lent(s, arguments, TOKENS_LENT, tokens.len());
+    let o = lent(s, arguments, OUT_LENT, out.len());
+    lend_bytes(
         s,
         arguments,
         call,
@@ -274,20 +345,76 @@ fn lend(
         numbers,
         &mut rules[..r],
         &mut tokens[..t],
-        &mut brackets[..b],
-        &mut texts[..n],
-        &mut compiled[..c],
+        brackets,
+        texts,
+        compiled,
+        &mut out[..o],
     )
 }
 
-// Replays the vector whose call is known: a list of arguments, the bytes and the numbers that are lent to read, what is expected.
+// Lends buffers that are full of the value that the vector says.
+fn lend(
+    s: &[u8],
+    arguments: usize,
+    call: u32,
+    at: usize,
+    input: &[u8],
+    numbers: &[u32],
+) -> Verdict {
+    let value = number_argument(s, arguments, FILLING);
+    let byte = byte_of(value);
+    let mut rules = [value; NUMBERS];
+    let mut tokens = [value; NUMBERS];
+    let mut brackets = [byte; LONGEST];
+    let mut texts = [byte; TEXTS];
+    let mut compiled = [byte; COMPILED];
+    let mut out = [value; OUT];
+    lend_numbers(
+        s,
+        arguments,
+        call,
+        at,
+        input,
+        numbers,
+        &mut rules,
+        &mut tokens,
+        &mut brackets,
+        &mut texts,
+        &mut compiled,
+        &mut out,
+    )
+}
+
+// Replays the question at `at`: a list of arguments, and what is expected.
+fn replay_question(s: &[u8], at: usize, call: u32, input: &[u8], numbers: &[u32]) -> Verdict {
+    let count = number_at(s, at);
+    let arguments = count.next;
+    let expected = behind_numbers(s, arguments, count.value);
+    lend(s, arguments, call, expected, input, numbers)
+}
+
+// Replays the questions at `at`, one behind the other.
+fn replay_questions(s: &[u8], at: usize, call: u32, input: &[u8], numbers: &[u32]) -> Verdict {
+    let count = number_at(s, at);
+    let mut next = count.next;
+    let mut same = true;
+    let mut left = count.value;
+    while left > 0 {
+        let verdict = replay_question(s, next, call, input, numbers);
+        next = verdict.next;
+        same = both(same, verdict.same);
+        left -= 1;
+    }
+    Verdict { next, same }
+}
+
+// Replays the vector whose call is known: the bytes and the numbers that are lent to read, and what is asked with them.
 fn replay_vector(s: &[u8], at: usize, call: u32) -> Verdict {
     let mut input = [0u8; INPUT];
     let mut numbers = [0u32; INPUT_NUMBERS];
-    let count = number_at(s, at);
-    let bytes = put_bytes(s, behind_numbers(s, count.next, count.value), &mut input);
+    let bytes = put_bytes(s, at, &mut input);
     let rows = put_numbers(s, bytes.next, &mut numbers);
-    lend(s, count.next, call, rows.next, &input, &numbers)
+    replay_questions(s, rows.next, call, &input, &numbers)
 }
 
 // ---- all of them

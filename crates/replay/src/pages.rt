@@ -24,14 +24,25 @@ pub fn ask_bytes(s: &[u8], arguments: usize, input: &[u8]) -> [usize; RESULTS] {
     [came.refusal as usize, came.place, 0, 0, 0, 0]
 }
 
+// The numbers of a page's nodes.
+pub fn nodes_of<'a>(s: &[u8], arguments: usize, numbers: &'a [u32]) -> &'a [u32] {
+    piece(numbers, 0, argument(s, arguments, FIRST))
+}
+
+// Those of its attributes, which lie behind them.
+pub fn attributes_of<'a>(s: &[u8], arguments: usize, numbers: &'a [u32]) -> &'a [u32] {
+    piece(
+        numbers,
+        argument(s, arguments, FIRST),
+        argument(s, arguments, SECOND),
+    )
+}
+
 pub fn ask_page(s: &[u8], arguments: usize, input: &[u8], numbers: &[u32]) -> [usize; RESULTS] {
-    let nodes = argument(s, arguments, FIRST);
-    let attributes = argument(s, arguments, SECOND);
-    let text = argument(s, arguments, THIRD);
     let came = hicsolmab_check_page(
-        piece(numbers, 0, nodes),
-        piece(numbers, nodes, attributes),
-        part_of(input, 0, text),
+        nodes_of(s, arguments, numbers),
+        attributes_of(s, arguments, numbers),
+        part_of(input, 0, argument(s, arguments, THIRD)),
     );
     [came.refusal as usize, came.place, 0, 0, 0, 0]
 }
@@ -46,14 +57,12 @@ fn match_row(
     names: &[u8],
     row: usize,
 ) -> MatchResult {
-    let nodes = argument(s, arguments, FIRST);
-    let attributes = argument(s, arguments, SECOND);
     comparison_matches(
         components,
         argument(s, arguments, COUNT),
         names,
-        piece(numbers, 0, nodes),
-        piece(numbers, nodes, attributes),
+        nodes_of(s, arguments, numbers),
+        attributes_of(s, arguments, numbers),
         part_of(input, 0, argument(s, arguments, THIRD)),
         row,
     )

@@ -66,7 +66,7 @@ pub fn ask_compile(
     ]
 }
 
-pub fn ask_style(
+pub fn ask_style_attribute(
     s: &[u8],
     arguments: usize,
     input: &[u8],

@@ -59,7 +59,11 @@ pub fn behind_numbers(s: &[u8], at: usize, count: u32) -> usize {
 }
 
 // The number that has `k` before it.
-pub fn argument(s: &[u8], at: usize, k: u32) -> usize {
+pub fn number_argument(s: &[u8], at: usize, k: u32) -> u32 {
     let number = number_at(s, behind_numbers(s, at, k));
-    number.value as usize
+    number.value
+}
+
+pub fn argument(s: &[u8], at: usize, k: u32) -> usize {
+    number_argument(s, at, k) as usize
 }

@@ -8,6 +8,8 @@ use crate::calls::READ_SHEET;
 use crate::calls::ROWS;
 use crate::calls::SELECTOR;
 use crate::calls::STYLE;
+use crate::calls::STYLE_ATTRIBUTE;
+use crate::calls::STYLE_BOOK;
 use libc::STDOUT_FILENO;
 use std::num::wrapping_add_u64;
 
@@ -26,7 +28,9 @@ fn print_call(call: u32) {
         COMPILE => print(b"compiled sheet"),
         CHECK_PAGE => print(b"page"),
         CHECK_BYTES => print(b"compiled bytes"),
-        STYLE => print(b"style attribute"),
+        STYLE => print(b"style"),
+        STYLE_BOOK => print(b"style in the book order"),
+        STYLE_ATTRIBUTE => print(b"style attribute"),
         COLOUR => print(b"colour attribute"),
         MATCHES => print(b"selector"),
         ROWS => print(b"selector on all rows"),
