@@ -65,21 +65,52 @@ fn place(random: &mut Random, shape: Shape, open: usize) -> usize {
 // The deepest row that is accepted.
 const DEEPEST: usize = 64;
 
+// Rows that have so many attributes at most, made by `attribute`.
+fn rows_of(random: &mut Random, shape: Shape, rows: usize, most: usize, attribute: fn(&mut Random) -> (String, String)) -> Tree {
+    let mut tree = Tree::new();
+    for row in 1..1 + rows {
+        let open = open_rows(&tree, row - 1);
+        let parent = open[place(random, shape, open.len())];
+        let attributes = (0..random.below(most + 1)).map(|_| attribute(random)).collect();
+        // A page of as many rows as it may be deep has elements alone, so that some are that deep.
+        let other = random.percent(10) && rows < DEEPEST;
+        let element = (!other).then(|| (name(random).to_string(), attributes));
+        tree.push(Node { parent, element });
+    }
+    tree
+}
+
 pub fn tree(random: &mut Random) -> Tree {
     let (shape, rows) = match random.below(200) {
         0 => (Shape::Deep, 1 + random.below(DEEPEST)),
         1 | 2 => (Shape::Wide, 1 + random.below(60)),
         _ => (Shape::Any, 1 + random.below(10)),
     };
-    let mut tree = Tree::new();
-    for row in 1..1 + rows {
-        let open = open_rows(&tree, row - 1);
-        let parent = open[place(random, shape, open.len())];
-        let attributes = (0..random.below(4)).map(|_| attribute(random)).collect();
-        let element = (!random.percent(10)).then(|| (name(random).to_string(), attributes));
-        tree.push(Node { parent, element });
+    rows_of(random, shape, rows, 3, attribute)
+}
+
+// An attribute of which more are read.
+fn styling_attribute(random: &mut Random) -> (String, String) {
+    match random.below(10) {
+        0 | 1 => ("style".to_string(), generate::contesting_attribute(random)),
+        2 => (random.choose(&["color", "bgcolor"]).to_string(), format!("#{:03x}", random.below(4096))),
+        3..=6 => ("class".to_string(), random.choose(&CLASSES).to_string()),
+        7 => ("id".to_string(), random.choose(&IDS).to_string()),
+        _ => attribute(random),
     }
-    tree
+}
+
+/// A page to be styled: more of its rows are deep, and more of its attributes are read.
+pub fn styled_tree(random: &mut Random) -> Tree {
+    let (shape, rows) = match random.below(40) {
+        0 => (Shape::Deep, DEEPEST),
+        1 => (Shape::Deep, 1 + random.below(DEEPEST)),
+        2 | 3 => (Shape::Wide, 1 + random.below(60)),
+        4 => (Shape::Any, 1 + random.below(60)),
+        _ => (Shape::Any, 1 + random.below(10)),
+    };
+    let most = [3, 6][random.below(2)];
+    rows_of(random, shape, rows, most, styling_attribute)
 }
 
 /// The rows of a tree.
@@ -126,6 +157,21 @@ pub fn smaller(tree: &Tree) -> Vec<Tree> {
             let mut without = tree.clone();
             without[i].element.as_mut().unwrap().1.remove(j);
             found.push(without);
+        }
+    }
+    found
+}
+
+/// Trees with another value of one attribute.
+pub fn with_values(tree: &Tree, others: fn(&str) -> Vec<String>) -> Vec<Tree> {
+    let mut found = vec![];
+    for (i, node) in tree.iter().enumerate() {
+        for (j, (_, value)) in node.element.iter().flat_map(|(_, attributes)| attributes).enumerate() {
+            for other in others(value) {
+                let mut with = tree.clone();
+                with[i].element.as_mut().unwrap().1[j].1 = other;
+                found.push(with);
+            }
         }
     }
     found

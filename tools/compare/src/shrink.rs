@@ -17,19 +17,28 @@ fn shorter(text: &str, size: usize) -> Vec<String> {
         .collect()
 }
 
+// Texts with any part less, larger parts first.
+fn all_shorter(text: &str) -> Vec<String> {
+    let mut found = vec![];
+    let mut size = text.len();
+    while size > 0 {
+        found.extend(shorter(text, size));
+        size = if size < 2 * STEPS { size - 1 } else { size / 2 };
+    }
+    found
+}
+
 fn smaller(input: &Input) -> Vec<Input> {
     let mut found: Vec<Input> = pages::smaller(&input.tree).into_iter().map(|tree| Input { tree, ..input.clone() }).collect();
-    for i in 0..input.texts.len() {
-        let mut size = input.texts[i].len();
-        while size > 0 {
-            for text in shorter(&input.texts[i], size) {
-                let mut less = input.clone();
-                less.texts[i] = text;
-                found.push(less);
-            }
-            size = if size < 2 * STEPS { size - 1 } else { size / 2 };
+    for (i, text) in input.texts.iter().enumerate() {
+        for shorter in all_shorter(text) {
+            let mut less = input.clone();
+            less.texts[i] = shorter;
+            found.push(less);
         }
     }
+    let trees = pages::with_values(&input.tree, all_shorter);
+    found.extend(trees.into_iter().map(|tree| Input { tree, ..input.clone() }));
     found
 }
 
