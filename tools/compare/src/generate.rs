@@ -401,6 +401,10 @@ fn matching_selector(random: &mut Random) -> String {
         text += random.choose(&[" ", " ", " > "]);
         text += &simple(random);
     }
+    if random.percent(1) {
+        // So often that its count outweighs or passes something.
+        text += &random.choose(&[".k", "[class]", ":nth-child(n)"]).repeat([10, 11, 255, 256, 300][random.below(5)]);
+    }
     let more = ["", "", "", "", ":nth-child(odd)", ":nth-child(-n+3)", "[class]", "[id=i]", "::before", "::before", "::after"];
     text + random.choose(&more)
 }

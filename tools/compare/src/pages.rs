@@ -149,9 +149,12 @@ fn without_row(tree: &Tree, row: usize) -> Option<Tree> {
     Some(smaller)
 }
 
-/// Trees with a row or an attribute less.
+/// Trees with fewer rows, or with an attribute less.
 pub fn smaller(tree: &Tree) -> Vec<Tree> {
-    let mut found: Vec<Tree> = (1..=tree.len()).filter_map(|row| without_row(tree, row)).collect();
+    // The first rows alone, half of them, three quarters and so on; then all but one.
+    let parts = (1..).map(|i| tree.len() >> i).take_while(|&less| less > 0);
+    let mut found: Vec<Tree> = parts.map(|less| tree[..tree.len() - less].to_vec()).collect();
+    found.extend((1..=tree.len()).filter_map(|row| without_row(tree, row)));
     for (i, node) in tree.iter().enumerate() {
         for j in 0..node.element.as_ref().map_or(0, |(_, attributes)| attributes.len()) {
             let mut without = tree.clone();

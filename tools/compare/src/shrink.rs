@@ -1,6 +1,9 @@
 //! The smallest input that can be found which both sides still answer differently.
 use crate::pages;
 use crate::questions::{Answer, Input};
+use std::time::{Duration, Instant};
+
+const TIME: Duration = Duration::from_secs(30);
 
 // Sizes of a part are halved down to twice this one, and then tried one by one.
 const STEPS: usize = 16;
@@ -42,12 +45,13 @@ fn smaller(input: &Input) -> Vec<Input> {
     found
 }
 
-/// Takes parts away as long as the answers stay different.
+/// Takes parts away as long as the answers stay different, and as long as it has time.
 pub fn shrink(ask: fn(&Input) -> Answer, input: Input) -> Input {
+    let start = Instant::now();
+    let differs = |input: &Input| start.elapsed() < TIME && matches!(ask(input), Answer::Different(_));
     let mut least = input;
     loop {
-        let next = smaller(&least).into_iter().find(|i| matches!(ask(i), Answer::Different(_)));
-        match next {
+        match smaller(&least).into_iter().find(differs) {
             Some(input) => least = input,
             None => return least,
         }
