@@ -210,11 +210,15 @@ pub struct Matched {
     pub elements: Vec<bool>,
 }
 
-fn matched(value: &Selector, elements: &[Handle]) -> Matched {
+fn specificity(value: &Selector) -> answers::Specificity {
     let specificity = value.specificity();
+    answers::Specificity { ids: specificity.id.into(), classes: specificity.class.into(), types: specificity.typ.into() }
+}
+
+fn matched(value: &Selector, elements: &[Handle]) -> Matched {
     Matched {
         selector: selector(value),
-        specificity: answers::Specificity { ids: specificity.id.into(), classes: specificity.class.into(), types: specificity.typ.into() },
+        specificity: specificity(value),
         elements: elements.iter().map(|e| Selector::do_matches(&value.components, e)).collect(),
     }
 }
@@ -310,11 +314,10 @@ pub struct Applied {
 }
 
 fn applied(from: StyleOrigin, rule: &Ruleset) -> Applied {
-    let specificity = rule.selector.specificity();
     Applied {
         origin: origin(from),
         pseudo: selector(&rule.selector).pseudo,
-        specificity: answers::Specificity { ids: specificity.id.into(), classes: specificity.class.into(), types: specificity.typ.into() },
+        specificity: specificity(&rule.selector),
         styles: rule.styles.iter().map(style).collect(),
     }
 }
@@ -326,11 +329,10 @@ pub fn applied_rules(sheets: [&str; 3], page: &Page) -> Option<Vec<Vec<Applied>>
     unless_panic(|| {
         let data = style_data(agent, user, author);
         let origins = [(StyleOrigin::Agent, &data.agent_rules), (StyleOrigin::User, &data.user_rules), (StyleOrigin::Author, &data.author_rules)];
+        let rules: Vec<(StyleOrigin, &Ruleset)> = origins.iter().flat_map(|(from, rules)| rules.iter().map(|r| (*from, r))).collect();
         let of_element = |row: usize| {
-            let matching = |rules: &'_ [Ruleset], from| -> Vec<Applied> {
-                rules.iter().filter(|r| r.selector.matches(&handles[row])).map(|r| applied(from, r)).collect()
-            };
-            origins.iter().flat_map(|&(from, rules)| matching(rules, from)).collect()
+            let matching = rules.iter().filter(|(_, r)| r.selector.matches(&handles[row]));
+            matching.map(|&(from, r)| applied(from, r)).collect()
         };
         page.elements().into_iter().map(of_element).collect()
     })

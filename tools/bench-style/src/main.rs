@@ -207,6 +207,23 @@ fn table_of_both(function: StyleFunction) {
     compared(function, "a sheet of 32 KB, short rules", [AGENT, USER, &plain], &ordinary());
 }
 
+// One rule whose steps end nowhere: html2text tries all ways to lay them down the menu, and is asked only where it ends in time.
+fn table_of_steps(function: StyleFunction) {
+    println!("\n| deep menu, one rule `.side ul li .. a` that does not match, steps | this, µs | html2text, ms |\n|---|---|---|");
+    let page = pages::page(&menu(60));
+    let (row, _) = deepest(&page);
+    for (steps, both) in [(4, true), (6, true), (8, true), (12, false)] {
+        let names = (0..steps - 1).map(|i| ["ul", "li"][i % 2]).collect::<Vec<&str>>().join(" ");
+        let sheet = format!(".side {names} a{{color:red}}");
+        let sheets = ["", "", &sheet];
+        let mut this = This::new(function, Styled { sheets, page: &page }, row);
+        let time = median((0..TURNS).map(|_| nanoseconds(8, || this.style())).collect());
+        let html2text = path(&page, row);
+        let html2text = if both { format!("{:.3}", nanoseconds(1, || html2text.style(sheets, true)) / 1e6) } else { String::new() };
+        println!("| {steps} | {:.1} | {html2text} |", time / 1e3);
+    }
+}
+
 // ---- this engine alone
 
 fn alone(function: StyleFunction, name: &str, sheet: &str, tree: &Tree) {
@@ -288,6 +305,7 @@ fn main() {
     let tables = move || {
         if env::args().nth(1).is_none() {
             table_of_both(function);
+            table_of_steps(function);
         }
         table_alone(function);
         table_of_hard_pages(function);

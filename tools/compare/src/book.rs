@@ -1,6 +1,6 @@
 //! Book order a second time, plainly: all that speaks for a slot is gathered in order and sorted by its key, and the last of the greatest wins.
 //! What is read and which selectors match is html2text's; html2text has no such cascade.
-use judge::answers::{Page, SLOTS, Style, StyleRow, Text};
+use judge::answers::{Page, SLOT_WIDTH, SLOTS, Style, StyleRow, Text};
 use judge::css::questions::{self as html2text, Applied};
 
 const AGENT: u32 = 1;
@@ -41,11 +41,13 @@ impl Said {
         (self.rank(), self.inline, self.ids, self.classes, self.types)
     }
 
-    fn value(&self) -> u32 {
-        match self.style {
+    // As they stand in a row; the start and the length of a content are zero.
+    fn numbers(&self) -> [u32; SLOT_WIDTH] {
+        let value = match self.style {
             Style::Colour(n) | Style::Background(n) | Style::WhiteSpace(n) => n,
             Style::DisplayNone | Style::Content(_) => 0,
-        }
+        };
+        [1, self.origin, u32::from(self.inline), self.ids, self.classes, self.types, u32::from(self.important), value, 0]
     }
 
     fn content(&self) -> Text {
@@ -134,9 +136,7 @@ fn style_row(records: &Records) -> StyleRow {
     for record in records {
         row.numbers.push(u32::from(record.present));
         for slot in &record.slots {
-            row.numbers.extend(slot.as_ref().map_or([0; 9], |s| {
-                [1, s.origin, u32::from(s.inline), s.ids, s.classes, s.types, u32::from(s.important), s.value(), 0]
-            }));
+            row.numbers.extend(slot.as_ref().map_or([0; SLOT_WIDTH], Said::numbers));
         }
         let content = record.slots.iter().flatten().find(|s| matches!(s.style, Style::Content(_)));
         row.contents.push(content.map_or(vec![], Said::content));

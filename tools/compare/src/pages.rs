@@ -65,16 +65,21 @@ fn place(random: &mut Random, shape: Shape, open: usize) -> usize {
 // The deepest row that is accepted.
 const DEEPEST: usize = 64;
 
-// Rows that have so many attributes at most, made by `attribute`.
-fn rows_of(random: &mut Random, shape: Shape, rows: usize, most: usize, attribute: fn(&mut Random) -> (String, String)) -> Tree {
+// How a tree is made: where its rows stand and how many there are, how many of a hundred are no elements, and how many attributes one has at most.
+struct Outline {
+    shape: Shape,
+    rows: usize,
+    others: usize,
+    attributes: usize,
+}
+
+fn tree_of(random: &mut Random, outline: Outline, attribute: fn(&mut Random) -> (String, String)) -> Tree {
     let mut tree = Tree::new();
-    for row in 1..1 + rows {
+    for row in 1..1 + outline.rows {
         let open = open_rows(&tree, row - 1);
-        let parent = open[place(random, shape, open.len())];
-        let attributes = (0..random.below(most + 1)).map(|_| attribute(random)).collect();
-        // A page of as many rows as it may be deep has elements alone, so that some are that deep.
-        let other = random.percent(10) && rows < DEEPEST;
-        let element = (!other).then(|| (name(random).to_string(), attributes));
+        let parent = open[place(random, outline.shape, open.len())];
+        let attributes = (0..random.below(outline.attributes + 1)).map(|_| attribute(random)).collect();
+        let element = (!random.percent(outline.others)).then(|| (name(random).to_string(), attributes));
         tree.push(Node { parent, element });
     }
     tree
@@ -86,7 +91,7 @@ pub fn tree(random: &mut Random) -> Tree {
         1 | 2 => (Shape::Wide, 1 + random.below(60)),
         _ => (Shape::Any, 1 + random.below(10)),
     };
-    rows_of(random, shape, rows, 3, attribute)
+    tree_of(random, Outline { shape, rows, others: 10, attributes: 3 }, attribute)
 }
 
 // An attribute of which more are read.
@@ -100,17 +105,17 @@ fn styling_attribute(random: &mut Random) -> (String, String) {
     }
 }
 
-/// A page to be styled: more of its rows are deep, and more of its attributes are read.
+/// A page to be styled: more of its rows are deep, some as deep as they may be, and more of its attributes are read.
 pub fn styled_tree(random: &mut Random) -> Tree {
-    let (shape, rows) = match random.below(40) {
-        0 => (Shape::Deep, DEEPEST),
-        1 => (Shape::Deep, 1 + random.below(DEEPEST)),
-        2 | 3 => (Shape::Wide, 1 + random.below(60)),
-        4 => (Shape::Any, 1 + random.below(60)),
-        _ => (Shape::Any, 1 + random.below(10)),
+    let (shape, rows, others) = match random.below(40) {
+        0 => (Shape::Deep, DEEPEST, 0),
+        1 => (Shape::Deep, 1 + random.below(DEEPEST), 10),
+        2 | 3 => (Shape::Wide, 1 + random.below(60), 10),
+        4 => (Shape::Any, 1 + random.below(60), 10),
+        _ => (Shape::Any, 1 + random.below(10), 10),
     };
-    let most = [3, 6][random.below(2)];
-    rows_of(random, shape, rows, most, styling_attribute)
+    let attributes = [3, 6][random.below(2)];
+    tree_of(random, Outline { shape, rows, others, attributes }, styling_attribute)
 }
 
 /// The rows of a tree.

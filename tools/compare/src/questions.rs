@@ -30,6 +30,8 @@ pub struct Question {
     pub ask: Option<fn(&Input) -> Answer>,
 }
 
+// `computed` and `styled` ask the same of each element, the style by html2text's cascade: of short sheets and small pages, from which vectors are chosen, and of
+// sheets and pages in which more contends; `book` asks for the style in book order, which is held against src/book.rs.
 pub const QUESTIONS: &[Question] = &[
     Question { name: "sheet", generate: a_sheet, ask: Some(ask_sheet) },
     Question { name: "style", generate: a_style_attribute, ask: Some(ask_style_attribute) },
