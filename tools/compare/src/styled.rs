@@ -21,8 +21,8 @@ const NO_ELEMENT: u32 = 8;
 
 // What every buffer holds before a call.
 const FILLING: u8 = u8::MAX;
-// How much longer than they need be the buffers are; which it is depends on the row.
-const MORE: [usize; 4] = [0, 1, 29, 300];
+// How much longer than they need be the buffers are; which it is depends on the row and the texts.
+const MORE: [usize; 4] = [0, 1, 0, 300];
 // Document styles are off for 0 and on for all else.
 const ON: [u32; 3] = [1, 2, u32::MAX];
 const CONTENT_SLOT: usize = 4;
@@ -156,8 +156,8 @@ pub fn texts_of_calls(styled: &Styled, document_styles: bool) -> Vec<Vec<u8>> {
 
 type Styles = fn([&str; 3], &Page, bool) -> Option<Vec<StyleRow>>;
 
-fn more(row: usize) -> usize {
-    MORE[row % MORE.len()]
+fn more(styled: &Styled, row: usize) -> usize {
+    MORE[(row + styled.bytes()) % MORE.len()]
 }
 
 fn nothing_but(refusal: u32) -> StyleResult {
@@ -168,7 +168,7 @@ fn nothing_but(refusal: u32) -> StyleResult {
 fn ask_other_rows(function: StyleFunction, styled: &Styled) -> Result<(), String> {
     let rows = styled.page.rows();
     for row in (0..=rows).filter(|&row| row == rows || styled.page.kind(row) != ELEMENT_KIND) {
-        say(function, styled, row, 1, more(row)).refuses(nothing_but(NO_ELEMENT), FILLING).map_err(|how| format!("  row {row}\n{how}"))?;
+        say(function, styled, row, 1, more(styled, row)).refuses(nothing_but(NO_ELEMENT), FILLING).map_err(|how| format!("  row {row}\n{how}"))?;
     }
     Ok(())
 }
@@ -219,7 +219,7 @@ fn ask_damaged_pages(function: StyleFunction, styled: &Styled) -> Result<(), Str
 fn ask_where_it_panics(function: StyleFunction, styled: &Styled, text: usize) -> Result<(), String> {
     let place = place_of_panic(styled.sheets[text]);
     for row in styled.page.elements() {
-        let said = say(function, styled, row, row as u32 % 2, more(row));
+        let said = say(function, styled, row, row as u32 % 2, more(styled, row));
         let expected = StyleResult { text, place: place.unwrap_or(said.result.place), ..nothing_but(PANICS) };
         said.refuses(expected, 0).map_err(|how| format!("  html2text panics; row {row}\n{how}"))?;
     }
@@ -231,7 +231,7 @@ fn ask_elements(function: StyleFunction, styled: &Styled, styles: Styles, docume
     let texts = texts_of_calls(styled, document_styles);
     for (row, expected) in styled.page.elements().into_iter().zip(&rows) {
         let switch = if document_styles { ON[row % ON.len()] } else { 0 };
-        let said = say(function, styled, row, switch, more(row));
+        let said = say(function, styled, row, switch, more(styled, row));
         if let Some(how) = said.wrong(expected, &texts[row]) {
             return Err(format!("  row {row}, document styles {switch}\n{how}"));
         }
