@@ -1,5 +1,6 @@
 -- Returns of the exported functions, from what the functions that they call leave.
 use Prim.Native.Nat.{ℕ}
+use mathlib.Core.Bool.{Bool, true, false}
 use mathlib.Core.List.{List}
 use mathlib.Core.Path.{_≡_, refl, sym, ap, _∙_}
 use Rattle.combinators.specs.Refusal.{refusedIn, refusedAt}
@@ -13,6 +14,12 @@ use Rattle.page.specs.declared.check.PageAnswer.{PageAnswer}
 use Rattle.page.specs.declared.check.PageAnswer.the-variants as page
 use Rattle.compiler.specs.CompileAnswer.{CompileLeft}
 use Rattle.compiler.specs.declared.answers.CompileNumbers.{CompileNumbers}
+use Rattle.combinators.specs.Choice.{pick, is}
+use Rattle.combinators.proofs.Rules.{pick-true, pick-false, is-yes, is-no}
+use Rattle.styles.specs.declared.settings.Settings.{Settings}
+use Rattle.styling.specs.StyleAnswer.{StyleLeft}
+use Rattle.styling.specs.declared.style.StyleAnswer.{StyleAnswer}
+use Rattle.engine.specs.Style.{switchOff, settingsFrom}
 
 -- ---- a refusal in a call with one text has the text 0
 one-text : (r : Refusal) → r .text ≡ 0 → refusedAt (r .number) (r .place) ≡ r
@@ -55,3 +62,18 @@ pub compile-called : {n m : CompileNumbers} {k t y x b : List ℕ} {l : CompileL
     → record { answer = n; compiled = k; texts = t; rules = y; tokens = x; brackets = b } ≡ l
 compile-called {n} {m} {k} {t} {y} {x} {b} e f =
     ap (λ (q : CompileNumbers). record { answer = q; compiled = k; texts = t; rules = y; tokens = x; brackets = b }) f ∙ e
+
+-- ---- a style call: the switch as a number, and its answer
+pub switched-off : (n : ℕ) → n ≡ switchOff → _≡_ {A = Settings} (record { «document_styles» = false }) (settingsFrom n)
+unfolding settingsFrom
+switched-off n e = ap (λ (b : Bool). record { «document_styles» = b }) (pick-true false false true (is n switchOff) (is-yes n switchOff e) refl)
+
+pub switched-on : (n : ℕ) → ¬ (n ≡ switchOff) → _≡_ {A = Settings} (record { «document_styles» = true }) (settingsFrom n)
+unfolding settingsFrom
+switched-on n e = ap (λ (b : Bool). record { «document_styles» = b }) (pick-false true false true (is n switchOff) (is-no n switchOff e) refl)
+
+pub style-called : (left : Settings → StyleLeft) {s₁ s₂ : Settings} {n m : StyleAnswer} {k t y x b : List ℕ}
+    → s₁ ≡ s₂ → record { answer = m; row = k; texts = t; rules = y; tokens = x; brackets = b } ≡ left s₁ → n ≡ m
+    → record { answer = n; row = k; texts = t; rules = y; tokens = x; brackets = b } ≡ left s₂
+style-called left {s₁} {s₂} {n} {m} {k} {t} {y} {x} {b} es e f =
+    ap (λ (q : StyleAnswer). record { answer = q; row = k; texts = t; rules = y; tokens = x; brackets = b }) f ∙ e ∙ ap left es

@@ -1,3 +1,4 @@
 pub mod Sheet
 pub mod Compile
 pub mod Page
+pub mod Style

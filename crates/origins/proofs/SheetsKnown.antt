@@ -96,13 +96,13 @@ module _ (xs ys zs more : List ℕ) where
   abbrev whole : List ℕ
   whole = (xs ++ (ys ++ zs)) ++ more
 
-  from-first : drop 0 whole ≡ xs ++ ((ys ++ zs) ++ more)
+  pub from-first : drop 0 whole ≡ xs ++ ((ys ++ zs) ++ more)
   from-first = append-assoc xs (ys ++ zs) more
 
-  from-second : (n : ℕ) → n ≡ length xs → drop n whole ≡ ys ++ (zs ++ more)
+  pub from-second : (n : ℕ) → n ≡ length xs → drop n whole ≡ ys ++ (zs ++ more)
   from-second n e = ap (drop n) from-first ∙ drop-at xs ((ys ++ zs) ++ more) n (sym e) ∙ append-assoc ys zs more
 
-  from-third : (n : ℕ) → n ≡ length xs + length ys → drop n whole ≡ zs ++ more
+  pub from-third : (n : ℕ) → n ≡ length xs + length ys → drop n whole ≡ zs ++ more
   from-third n e =
       ap (λ (r : List ℕ). drop n (r ++ more)) (sym (append-assoc xs ys zs)) ∙ ap (drop n) (append-assoc (xs ++ ys) zs more)
       ∙ drop-at (xs ++ ys) (zs ++ more) n (length-append xs ys ∙ sym e)
@@ -164,13 +164,13 @@ module _ {agent user author rules₀ tokens brackets texts₀ : List ℕ} (o : L
   pub known : Known agent user author (m .agent) (m .user) (m .author)
   known = sheets-known agent user author (m .agent) (m .user) (m .author) (m .is)
 
-  agent-keeps : SheetKeeps agent (known .agent-stop) (m .agent)
+  pub agent-keeps : SheetKeeps agent (known .agent-stop) (m .agent)
   agent-keeps = sheet-keeps agent (known .agent-stop) (m .agent) (known .agent-read)
 
-  user-keeps : SheetKeeps user (known .user-stop) (m .user)
+  pub user-keeps : SheetKeeps user (known .user-stop) (m .user)
   user-keeps = sheet-keeps user (known .user-stop) (m .user) (known .user-read)
 
-  author-keeps : SheetKeeps author (known .author-stop) (m .author)
+  pub author-keeps : SheetKeeps author (known .author-stop) (m .author)
   author-keeps = sheet-keeps author (known .author-stop) (m .author) (known .author-read)
 
   abbrev pub rowsHeld : List ℕ
@@ -179,7 +179,7 @@ module _ {agent user author rules₀ tokens brackets texts₀ : List ℕ} (o : L
   abbrev pub textsHeld : List ℕ
   textsHeld = ruleTexts (m .agent) ++ (ruleTexts (m .user) ++ ruleTexts (m .author))
 
-  rows-length : length rowsHeld ≡ length (ruleRows 0 (m .agent)) + length (ruleRows 0 (m .user)) + length (ruleRows 0 (m .author))
+  pub rows-length : length rowsHeld ≡ length (ruleRows 0 (m .agent)) + length (ruleRows 0 (m .user)) + length (ruleRows 0 (m .author))
   rows-length =
       omega (arith, length-append (ruleRows 0 (m .agent)) (ruleRows 0 (m .user) ++ ruleRows 0 (m .author)), length-append (ruleRows 0 (m .user)) (ruleRows 0 (m .author)))
 
@@ -188,11 +188,11 @@ module _ {agent user author rules₀ tokens brackets texts₀ : List ℕ} (o : L
       omega (arith, length-append (ruleTexts (m .agent)) (ruleTexts (m .user) ++ ruleTexts (m .author)), length-append (ruleTexts (m .user)) (ruleTexts (m .author)))
 
   -- rows and texts are no more than the stores hold
-  rows-fit : length rowsHeld ≤ length rules₀
+  pub rows-fit : length rowsHeld ≤ length rules₀
   rows-fit =
       omega (arith, rows-length, agent-keeps .wide, user-keeps .wide, author-keeps .wide, agent-keeps .within, user-keeps .within, author-keeps .within, o .for-rules)
 
-  texts-fit : length textsHeld ≤ length texts₀
+  pub texts-fit : length textsHeld ≤ length texts₀
   texts-fit =
       omega (arith, texts-length, agent-keeps .long, user-keeps .long, author-keeps .long, agent-keeps .within, user-keeps .within, author-keeps .within, o .for-texts)
 
@@ -201,30 +201,30 @@ module _ {agent user author rules₀ tokens brackets texts₀ : List ℕ} (o : L
   texts-lie = stored textsHeld texts₀ texts-fit
 
   module _ {rows texts : List ℕ} (er : rows ≡ sets (cleared 0 rules₀) 0 rowsHeld) (et : texts ≡ sets (cleared 0 texts₀) 0 textsHeld) where
-    zr : List ℕ
+    unfoldable pub zr : List ℕ
     zr = replicate (length rules₀ - length rowsHeld) 0
 
-    zt : List ℕ
+    unfoldable pub zt : List ℕ
     zt = replicate (length texts₀ - length textsHeld) 0
 
-    rows-are : rows ≡ rowsHeld ++ zr
+    pub rows-are : rows ≡ rowsHeld ++ zr
     unfolding padded zr
     rows-are = er ∙ stored rowsHeld rules₀ rows-fit
 
-    texts-are : texts ≡ textsHeld ++ zt
+    pub texts-are : texts ≡ textsHeld ++ zt
     unfolding padded zt
     texts-are = et ∙ texts-lie
 
     -- where the rules of each sheet lie
-    place₁ : s .agent ≡ record { count = length (m .agent); place = 0; from = 0 }
+    pub place₁ : s .agent ≡ record { count = length (m .agent); place = 0; from = 0 }
     unfolding sheetsRules
     place₁ = ap (λ (v : SheetsRules). v .agent) (m .lie)
 
-    place₂ : s .user ≡ record { count = length (m .user); place = length (ruleRows 0 (m .agent)); from = length (ruleTexts (m .agent)) }
+    pub place₂ : s .user ≡ record { count = length (m .user); place = length (ruleRows 0 (m .agent)); from = length (ruleTexts (m .agent)) }
     unfolding sheetsRules
     place₂ = ap (λ (v : SheetsRules). v .user) (m .lie)
 
-    place₃ : s .author
+    pub place₃ : s .author
         ≡ record { count = length (m .author); place = length (ruleRows 0 (m .agent)) + length (ruleRows 0 (m .user)); from = length (ruleTexts (m .agent)) + length (ruleTexts (m .user)) }
     unfolding sheetsRules
     place₃ = ap (λ (v : SheetsRules). v .author) (m .lie)

@@ -34,13 +34,9 @@ use Rattle.runner.specs.Walked.{WalkedSelector, walked, meantSelector}
 use Rattle.runner.specs.Groups.{matchingAt}
 use Rattle.runner.specs.Run.{noStyle, selectorsDeclare, styleBelow}
 use Rattle.runner.specs.Demand.{sheetsSelectors}
+use Rattle.styles.proofs.Called.{empty-row}
 use Rattle.runner.proofs.WalkedBack.{walked-said}
 use Rattle.runner.proofs.Declaring.{SameSelector, declared-alike, matching-alike, selectors-declare}
-
--- the row of the empty style
-pub empty-row : noStyle ≡ rowOf emptyStyle
-unfolding rowOf emptyStyle emptyRecord recordNumbers slotsNumbers slotNumbers flag
-empty-row = refl
 
 module _ (rules : Rules RuleSet) (settings : Settings) where
   abbrev code : List ℕ

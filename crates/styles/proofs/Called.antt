@@ -4,14 +4,15 @@ use mathlib.Core.Bool.{true}
 use mathlib.Core.List.{List, [], _∷_, _++_, append-nil}
 use Prim.Native.Nat.{ℕ, _+_, _<_}
 use native.Mathlib.Nat.{zero-add}
-use lib.ListN.{length}
+use lib.ListN.{length, replicate}
+use Rattle.syntax.specs.Layout.{flag}
 use Rattle.syntax.specs.Selector.{RuleSet}
 use Rattle.syntax.specs.Style.{Style}
 use Rattle.syntax.specs.declared.styles.Value.{Value}
 use Rattle.cascade.specs.declared.slots.Cascade.{Cascade}
 use Rattle.cascade.specs.declared.slots.Cascade.the-variants.{Book}
-use Rattle.cascade.specs.Record.{slotCount, recordCount, ComputedStyle, Formed, slotIn, Sources, cascadeBy, bookDeclared, candidatesFor, inheritedCandidates}
-use Rattle.cascade.specs.Row.{styleRowWidth, rowOf, styleAt}
+use Rattle.cascade.specs.Record.{slotCount, recordCount, emptyRecord, emptyStyle, ComputedStyle, Formed, slotIn, Sources, cascadeBy, bookDeclared, candidatesFor, inheritedCandidates}
+use Rattle.cascade.specs.Row.{styleRowWidth, slotNumbers, slotsNumbers, recordNumbers, rowOf, styleAt}
 use Rattle.cascade.specs.Related.{SameStyle}
 use Rattle.cascade.specs.Slot.{Decided}
 use Rattle.cascade.proofs.Cascading.{cascade-formed, cascade-main-present, book-decides}
@@ -25,6 +26,11 @@ use Rattle.styles.specs.StyleCall.{sheetsContents, inlineContents, pathC
 use Rattle.styles.specs.Says.{Says}
 use Rattle.styles.proofs.Lying.{Lies, lies-left, lies-right, lies-at, lies-first}
 use Rattle.styles.proofs.Placed.{sources-same, sheets-placed, attributes-placed}
+
+-- ---- the row of the empty style
+pub empty-row : replicate styleRowWidth 0 ≡ rowOf emptyStyle
+unfolding rowOf emptyStyle emptyRecord recordNumbers slotsNumbers slotNumbers flag
+empty-row = refl
 
 -- ---- every style that a cascade leaves has all its slots
 pub cascaded-formed : {A : Type 0} (c : Cascade) (xs : List (Sources A)) → Formed (cascaded c xs)

@@ -7,3 +7,16 @@ pub mod DecidingRecord
 pub mod DecidingSame
 pub mod DecidingRows
 pub mod DecidingBounds
+pub mod PlacingCopies
+pub mod PlacingStyles
+pub mod PlacingKept
+pub mod PlacingRule
+pub mod PlacingRules
+pub mod PlacingLies
+pub mod SheetsStyled
+pub mod SheetsHeldLaws
+pub mod KeptBack
+pub mod DecidedCascade
+pub mod Steadying
+pub mod StyleTurns
+pub mod StyleCalls

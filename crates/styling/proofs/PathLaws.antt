@@ -5,28 +5,40 @@ use mathlib.Core.List.{List, [], _∷_, _++_, map, append-assoc, append-nil}
 use Prim.Native.Nat.{ℕ, _+_, _-_, _*_, _^_, _≤_, _<_}
 use native.Mathlib.Omega.{arith}
 use borrow.Rule.Slice.PartMut.{putMid, post-is}
-use lib.ListN.{length, take, drop, drop-of-length-le}
-use lib.Seq.{take-add, take-at, take-take, take-append-le, take-append-add, length-take-le}
+use lib.ListN.{length, take, drop, replicate, drop-of-length-le, length-append, length-replicate}
+use lib.Seq.{sets, sets-eq, take-add, take-at, take-take, take-append-le, take-append-add, length-take-le}
 use Rattle.combinators.specs.Choice.{pick}
 use Rattle.combinators.specs.LeastLengths.{numberLeast}
+use Rattle.combinators.specs.Store.{wiped}
 use Rattle.combinators.proofs.Lists.{rest}
 use Rattle.syntax.specs.Stream.{textsMany}
 use Rattle.syntax.specs.Style.{agentOrigin, userOrigin, authorOrigin}
 use Rattle.syntax.specs.declared.styles.Value.{Value}
 use Rattle.cascade.specs.declared.slots.Cascade.{Cascade}
-use Rattle.cascade.specs.Record.{Declared, AttributeStyle, Sources, fromRule, declaredBy}
-use Rattle.cascade.specs.Row.{styleRowWidth, RowRoom, Inherited, inheritedRow}
+use Rattle.cascade.specs.declared.slots.Cascade.the-variants.{Crate, Book}
+use Rattle.cascade.specs.Record.{ComputedStyle, Formed, Declared, AttributeStyle, Sources, fromRule, declaredBy, inheritBy, cascadeBy}
+use Rattle.cascade.specs.Row.{styleRowWidth, RowRoom, Inherited, Emptied, inheritedRow, rowOf}
+use Rattle.cascade.specs.Slot.{updateBy}
+use Rattle.cascade.proofs.Cascading.{inherit-formed, inherit-book-formed}
+use Rattle.cascade.proofs.Inheriting.{inherit-layout}
+use Rattle.cascade.proofs.RowBack.{merges-layout}
 use Rattle.origins.proofs.Parts.{lentPart, part-length}
 use Rattle.page.specs.Path.{Attribute, Element, Path}
-use Rattle.page.specs.PathOf.{attributesFrom, elementAt}
+use Rattle.page.specs.PathOf.{attributesFrom, elementAt, pathOf}
 use Rattle.page.specs.Rows.{nodeAt}
+use Rattle.matching.specs.Rows.{Rooted}
+use Rattle.matching.proofs.PathLaws.{top-path, other-path}
 use Rattle.styles.specs.declared.settings.Settings.{Settings}
+use Rattle.styles.specs.Computed.{cascaded}
+use Rattle.styles.specs.Room.{valuesAlong, attributesAlong}
 use Rattle.styles.specs.Merged.{mergedRow, earlyDeclared, lateDeclared}
 use Rattle.styles.specs.Said.{Rules, StyledRule, rulesSay, countedAttributes, sourcesFrom}
-use Rattle.styles.specs.StyleCall.{placedAttributes, attributesContents, inlineContents}
+use Rattle.styles.specs.StyleCall.{placedAttributes, attributesContents, inlineContents, pathContents, placedFrom}
+use Rattle.styles.proofs.Called.{empty-row, cascaded-formed}
+use Rattle.styles.proofs.Room.{path-short}
 use Rattle.styles.proofs.Merging.{merged-append, merged-none, merged-long, early-none, late-none, declared-parts}
 use Rattle.attributes.specs.Merging.{InlineRoom}
-use Rattle.styling.specs.Path.{keptSheet, keptSheets, TextsIn, SameKept, Steady, EarlyRoom, ElementRoom}
+use Rattle.styling.specs.Path.{keptSheet, keptSheets, TextsIn, SameKept, Steady, EarlyRoom, ElementRoom, PathRoom, OneRow}
 use Rattle.styling.specs.declared.styled.StyledSheet.{StyledSheet}
 use Rattle.styling.specs.declared.styled.StyledSheets.{StyledSheets}
 
@@ -204,3 +216,140 @@ module _ (c : Cascade) (rules : Rules (StyledRule Value)) (inline : List (Attrib
       let d′ : d ≡ mergedRow c b W = ed ∙ ap (λ (l : List (StyledRule Value)). mergedRow c b (map (fromRule authorOrigin) (rulesSay p l))) e in
       rw (declared-parts c said, merged-append c i A (U ++ (E ++ (W ++ L))), merged-append c (mergedRow c i A) U (E ++ (W ++ L)), merged-append c (mergedRow c (mergedRow c i A) U) E (W ++ L), merged-append c (mergedRow c (mergedRow c (mergedRow c i A) U) E) W L)
       (ez ∙ ap (λ (r : List ℕ). mergedRow c r L) (d′ ∙ ap (λ (r : List ℕ). mergedRow c r W) (eb ∙ ap (λ (r : List ℕ). mergedRow c r E) (ea ∙ merged-append c i A U))))
+
+-- ---- what an element leaves: the texts up to the new fill, and what is kept
+pub element-kept : (s : StyledSheets) (fill r : ℕ) (rows tokens texts tokens₁ texts₁ rows₂ tokens₂ texts₂ more : List ℕ) → s .end + fill ≤ length texts₁ → r ≡ fill + length more
+    → take (s .behind) tokens₁ ≡ take (s .behind) tokens → take (s .end + fill) texts₁ ≡ take (s .end + fill) texts
+    → take (s .rows) rows₂ ≡ take (s .rows) rows → take (s .behind) tokens₂ ≡ take (s .behind) tokens₁ → take (s .end + r) texts₂ ≡ take (s .end + fill) texts₁ ++ more
+    → (take (s .end + r) texts₂ ≡ take (s .end + fill) texts ++ more) × SameKept s rows tokens texts rows₂ tokens₂ texts₂
+element-kept s fill r rows tokens texts tokens₁ texts₁ rows₂ tokens₂ texts₂ more h k t₁ x₁ r₂ t₂ x₂ = (
+  x₂ ∙ ap (λ (l : List ℕ). l ++ more) x₁,
+  record {
+    same-rows = r₂;
+    same-tokens = t₂ ∙ t₁;
+    same-texts = same-filled s fill r texts₁ texts₂ more h (omega (arith, k)) x₂ ∙ same-below s fill texts texts₁ x₁;
+  },
+)
+
+-- the author's rules are the same behind the attributes that come early
+pub author-still : (s : StyledSheets) (fill : ℕ) (rows tokens texts tokens₁ texts₁ : List ℕ) → Steady s rows tokens texts
+    → take (s .behind) tokens₁ ≡ take (s .behind) tokens → take (s .end + fill) texts₁ ≡ take (s .end + fill) texts
+    → keptSheet rows tokens₁ texts₁ (s .end) (s .author) ≡ keptSheets rows tokens texts s .author
+unfolding keptSheets
+author-still s fill rows tokens texts tokens₁ texts₁ h t x =
+    ap (λ (k : Rules (StyledRule Value)). k .author) (h .kept rows tokens₁ texts₁ (record { same-rows = refl; same-tokens = t; same-texts = same-below s fill texts texts₁ x }))
+
+-- room that is asked for again behind a call
+pub early-of : (s : StyledSheets) (e : Element) (fill : ℕ) (rows tokens brackets texts : List ℕ) → ElementRoom s e fill rows tokens brackets texts → EarlyRoom s e fill tokens brackets texts
+early-of s e fill rows tokens brackets texts r = record { for-tokens = r .for-tokens; for-brackets = r .for-brackets; for-texts = r .for-texts; bits = r .bits }
+
+pub room-again : (s : StyledSheets) (e : Element) (fill : ℕ) (rows tokens brackets texts tokens₁ brackets₁ texts₁ : List ℕ) → ElementRoom s e fill rows tokens brackets texts
+    → length tokens₁ ≡ length tokens → length brackets₁ ≡ length brackets → length texts₁ ≡ length texts → ElementRoom s e fill rows tokens₁ brackets₁ texts₁
+room-again s e fill rows tokens brackets texts tokens₁ brackets₁ texts₁ r t b x =
+    record {
+      for-rules = r .for-rules;
+      for-tokens = omega (arith, t, r .for-tokens);
+      for-brackets = omega (arith, b, r .for-brackets);
+      for-texts = omega (arith, x, r .for-texts);
+      bits = r .bits;
+    }
+
+-- ---- a path
+-- by row: the document's is empty, an element's is the element and its parent's path
+module _ (nodes attributes text : List ℕ) (row : ℕ) (h : Rooted nodes row) where
+  pub path-top : row ≡ 0 → pathOf nodes attributes text row ≡ []
+  path-top e = top-path nodes attributes text row h e
+
+  pub path-by : ¬ (row ≡ 0) → (p : ℕ) → p ≡ nodeAt nodes row .parent → pathOf nodes attributes text row ≡ elementAt nodes attributes text row ∷ pathOf nodes attributes text p
+  path-by z p e = rw e (other-path nodes attributes text row h z)
+
+-- a store written over throughout
+sets-all : (l vs : List ℕ) → length vs ≡ length l → sets l 0 vs ≡ vs
+sets-all l vs e = sets-eq vs l 0 (omega (arith, e)) ∙ ap (λ (r : List ℕ). vs ++ r) (drop-of-length-le l {i = 0 + length vs} (omega (arith, e))) ∙ append-nil vs
+
+pub inherit-formed-by : (c : Cascade) (x : ComputedStyle Value) → Formed x → Formed (inheritBy c x)
+unfolding inheritBy
+inherit-formed-by Crate x h = inherit-formed x h
+inherit-formed-by Book x h = inherit-book-formed x h
+
+module _ (c : Cascade) (s : StyledSheets) (settings : Settings) (kept : Rules (StyledRule Value)) where
+  -- at its top is the empty style
+  pub top-row : (p : Path) (xs ys : List ℕ) → OneRow xs → Emptied xs ys → p ≡ [] → ys ≡ rowOf (cascaded c (placedFrom kept (s .fill) settings p))
+  unfolding placedFrom cascaded wiped
+  top-row p xs ys o e n =
+      rw n (e .numbers ∙ sets-all xs (replicate styleRowWidth 0) (length-replicate {A = ℕ} styleRowWidth 0 ∙ sym (o .long)) ∙ empty-row)
+
+  -- an element's row is made of its parent's
+  pub below-row : (p : Path) (e : Element) (up : Path) (fill : ℕ) (kept₁ : Rules (StyledRule Value)) (ys zs : List ℕ) → p ≡ e ∷ up → kept₁ ≡ kept
+      → fill ≡ s .fill + length (pathContents settings up)
+      → ys ≡ rowOf (cascaded c (placedFrom kept (s .fill) settings up))
+      → zs ≡ mergedRow c (inheritedRow c ys) (declaredBy c (sourcesFrom kept₁ (placedAttributes fill (countedAttributes settings e)) p))
+      → zs ≡ rowOf (cascaded c (placedFrom kept (s .fill) settings p))
+  unfolding placedFrom cascaded cascadeBy mergedRow
+  below-row p e up fill kept₁ ys zs n k f y z =
+      let above = cascaded c (placedFrom kept (s .fill) settings up) in
+      let formed = cascaded-formed c (placedFrom kept (s .fill) settings up) in
+      let said = declaredBy c (sourcesFrom kept (placedAttributes (s .fill + length (pathContents settings up)) (countedAttributes settings e)) (e ∷ up)) in
+      rw n (
+        (rw (k, f, n, y) at z)
+        ∙ ap (λ (r : List ℕ). mergedRow c r said) (inherit-layout c above formed)
+        ∙ merges-layout (updateBy c) said (inheritBy c above) (inherit-formed-by c above formed)
+      )
+
+-- the contents of a path: those above, then its own
+module _ (s : StyledSheets) (settings : Settings) where
+  pub below-fill : (p : Path) (e : Element) (up : Path) (fill r : ℕ) → p ≡ e ∷ up → fill ≡ s .fill + length (pathContents settings up) → r ≡ fill + length (inlineContents settings e)
+      → r ≡ s .fill + length (pathContents settings p)
+  unfolding pathContents
+  below-fill p e up fill r n f k = rw n (omega (arith, f, k, length-append (pathContents settings up) (inlineContents settings e)))
+
+  pub below-texts : (p : Path) (e : Element) (up : Path) (fill r : ℕ) (texts texts₁ texts₂ : List ℕ) → p ≡ e ∷ up
+      → take (s .end + fill) texts₁ ≡ take (s .end + s .fill) texts ++ pathContents settings up → take (s .end + r) texts₂ ≡ take (s .end + fill) texts₁ ++ inlineContents settings e
+      → take (s .end + r) texts₂ ≡ take (s .end + s .fill) texts ++ pathContents settings p
+  unfolding pathContents
+  below-texts p e up fill r texts texts₁ texts₂ n t₁ t₂ =
+      rw n (t₂ ∙ ap (λ (l : List ℕ). l ++ inlineContents settings e) t₁ ∙ append-assoc (take (s .end + s .fill) texts) (pathContents settings up) (inlineContents settings e))
+
+  pub top-fill : (p : Path) → p ≡ [] → s .fill ≡ s .fill + length (pathContents settings p)
+  unfolding pathContents
+  top-fill p n = rw n (omega arith)
+
+  pub top-texts : (p : Path) (texts : List ℕ) → p ≡ [] → take (s .end + s .fill) texts ≡ take (s .end + s .fill) texts ++ pathContents settings p
+  unfolding pathContents
+  top-texts p texts n = rw n (sym (append-nil (take (s .end + s .fill) texts)))
+
+-- the room of a path is room for the path above, and for its element behind the contents of that
+module _ (s : StyledSheets) (p : Path) (e : Element) (up : Path) (n : p ≡ e ∷ up) (rows tokens brackets texts : List ℕ) (r : PathRoom s p rows tokens brackets texts) where
+  whole : PathRoom s (e ∷ up) rows tokens brackets texts
+  whole = rw n at r
+
+  pub room-above : PathRoom s up rows tokens brackets texts
+  unfolding valuesAlong attributesAlong
+  room-above =
+      record {
+        for-rules = omega (arith, whole .for-rules);
+        for-tokens = omega (arith, whole .for-tokens);
+        for-brackets = omega (arith, whole .for-brackets);
+        for-texts = omega (arith, whole .for-texts);
+        bits = omega (arith, whole .bits);
+      }
+
+  pub room-here : (settings : Settings) (fill : ℕ) (rows₁ tokens₁ brackets₁ texts₁ : List ℕ) → fill ≡ s .fill + length (pathContents settings up)
+      → length rows₁ ≡ length rows → length tokens₁ ≡ length tokens → length brackets₁ ≡ length brackets → length texts₁ ≡ length texts → ElementRoom s e fill rows₁ tokens₁ brackets₁ texts₁
+  unfolding valuesAlong attributesAlong
+  room-here settings fill rows₁ tokens₁ brackets₁ texts₁ f er et eb ex =
+      let h = path-short settings up in
+      record {
+        for-rules = omega (arith, er, whole .for-rules);
+        for-tokens = omega (arith, et, whole .for-tokens);
+        for-brackets = omega (arith, eb, whole .for-brackets);
+        for-texts = omega (arith, ex, f, h, whole .for-texts);
+        bits = omega (arith, f, h, whole .bits);
+      }
+
+-- what is kept is the same at the start
+pub same-already : (s : StyledSheets) (rows tokens texts : List ℕ) → SameKept s rows tokens texts rows tokens texts
+same-already s rows tokens texts = record { same-rows = refl; same-tokens = refl; same-texts = refl }
+
+pub one-row-room : (out : List ℕ) → OneRow out → RowRoom out
+one-row-room out o = record { room = omega (arith, o .long) }

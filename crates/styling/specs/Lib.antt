@@ -3,3 +3,6 @@ pub mod Sifting
 pub mod Placing
 pub mod Path
 pub mod StyleAnswer
+pub mod PlacingRoom
+pub mod Held
+pub mod Styling

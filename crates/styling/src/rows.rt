@@ -1,4 +1,4 @@
-// Style rows, written.
+// Style rows, written, and the styles that are kept for a rule.
 use syntax::rows::STYLE_IMPORTANT;
 use syntax::rows::STYLE_NUMBER;
 use syntax::rows::STYLE_SECOND;
@@ -11,6 +11,11 @@ ghost use lib.ListN.{length};
 ghost use lib.Seq.{sets};
 ghost use Rattle.syntax.specs.Layout.{styleWidth, rowOfNumbers};
 ghost use Rattle.styling.specs.Placing.{StyleRowRoom};
+
+// Numbers before the style rows that are kept for a rule: how many those are.
+pub const KEPT_HEAD: usize = 1;
+
+pub const KEPT_COUNT: usize = 0;
 
 // Writes the row of a style from `at` on.
 pub fn write_style(rows: &mut [u32], at: usize, style: StyleNumbers)

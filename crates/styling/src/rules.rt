@@ -1,4 +1,6 @@
 // What the rules of a sheet say of an element, merged into its row. The styles of each rule are those that the call keeps for it.
+use crate::rows::KEPT_COUNT;
+use crate::rows::KEPT_HEAD;
 use cascade::rows::AFTER;
 use cascade::rows::BEFORE;
 use cascade::rows::MAIN;
@@ -34,11 +36,6 @@ ghost use Rattle.matching.specs.Rows.{Rooted};
 ghost use Rattle.styles.specs.Merged.{mergedRow};
 ghost use Rattle.styles.specs.Said.{ruleStyle, selectorSays, selectorsSay, rulesSay};
 ghost use Rattle.styling.specs.Placing.{readStyled, readKept, rulesKept};
-
-// Numbers before the style rows that are kept for a rule: how many those are.
-pub const KEPT_HEAD: usize = 1;
-
-pub const KEPT_COUNT: usize = 0;
 
 // The record of a style row that a selector's pseudo element names.
 fn pseudo_of(number: u32) -> usize

@@ -1,0 +1,14 @@
+-- Nothing is refused.
+use mathlib.Core.Path.{ap}
+use borrow.Author.Needs.{needs}
+use Rattle.styling.proofs.style.styled_answer.Statement.{statement}
+use Rattle.styling.proofs.style.styled_answer.Tie as tie
+
+no-refusal-requires : tie.Need-no-refusal-requires
+no-refusal-requires c κs = search needs
+
+returns : tie.Need-returns
+returns c = ap (λ x. record { refusal = x; texts = c .before .args .texts }) (c .no-refusal .ensures)
+
+pub styled-answer-spec : {M : Type 1} → statement M
+styled-answer-spec = tie.close (tie.spec no-refusal-requires returns)
