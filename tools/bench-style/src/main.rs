@@ -226,15 +226,19 @@ fn table_of_steps(function: StyleFunction) {
 
 // ---- this engine alone
 
-fn alone(function: StyleFunction, name: &str, sheet: &str, tree: &Tree) {
+// The median time of this engine for the deepest row, in nanoseconds; one turn where a call takes long.
+fn time_alone(function: StyleFunction, sheet: &str, page: &Page) -> f64 {
     assert!(sheet.len() <= LONGEST, "a sheet may be so long");
-    let page = pages::page(tree);
-    let (row, depth) = deepest(&page);
-    let mut this = This::new(function, Styled { sheets: ["", "", sheet], page: &page }, row);
+    let (row, _) = deepest(page);
+    let mut this = This::new(function, Styled { sheets: ["", "", sheet], page }, row);
     let once = nanoseconds(1, || this.style());
     let turns = if once > 1e9 { 1 } else { ALONE_TURNS };
-    let time = median((0..turns).map(|_| nanoseconds(1, || this.style())).collect());
-    println!("| {name} | {} | {depth} | {:.2} | {:.2} |", sheet.len(), time / 1e6, time / (sheet.len().max(1) * depth) as f64);
+    median((0..turns).map(|_| nanoseconds(1, || this.style())).collect())
+}
+
+fn alone(function: StyleFunction, name: &str, sheet: &str, depth: usize) {
+    let time = time_alone(function, sheet, &pages::page(&nested(depth)));
+    println!("| {name} | {} | {depth} | {:.2} | {:.2} |", sheet.len(), time / 1e6, time / (sheet.len() * depth) as f64);
 }
 
 fn hard_sheets() -> Vec<(&'static str, String)> {
@@ -273,28 +277,56 @@ fn hard_sheets() -> Vec<(&'static str, String)> {
 }
 
 fn table_alone(function: StyleFunction) {
-    println!("\n| sheet | bytes | depth | ms | ns for a byte and a row of the path |\n|---|---|---|---|---|");
+    println!("\n| sheet, nested `a` | bytes | depth | ms | ns for a byte and a row of the path |\n|---|---|---|---|---|");
     for (name, sheet) in hard_sheets() {
         for depth in [1, DEEPEST] {
-            alone(function, name, &sheet, &nested(depth));
+            alone(function, name, &sheet, depth);
         }
     }
 }
 
-// Pages on which a test of one component has much to go through: the time grows with the page too.
+// Selectors that are tried at each ancestor of each row of the path, so that the time grows with the depth once more; html2text is asked once.
+fn table_of_depths(function: StyleFunction) {
+    println!("\n| sheet, nested `a` | bytes | depth | this, ms | ns for a byte and a row of the path | html2text, ms |\n|---|---|---|---|---|---|");
+    let grouped = |selector: &str| filled(selector, &format!(",{selector}"), "{color:red}", LONGEST);
+    for (name, sheet) in
+        [("`b a,b a,..`", grouped("b a")), ("`b>a a,b>a a,..`", grouped("b>a a")), ("`b>a>..>a a,..` of 25 steps", grouped(&format!("b{} a", steps(">a", 24))))]
+    {
+        for depth in [1, 4, 8, 16, 32, DEEPEST] {
+            let page = pages::page(&nested(depth));
+            let (this, html2text) = (time_alone(function, &sheet, &page), time_of_html2text(&sheet, &page));
+            let each = this / (sheet.len() * depth) as f64;
+            println!("| {name} | {} | {depth} | {:.2} | {each:.2} | {:.2} |", sheet.len(), this / 1e6, html2text / 1e6);
+        }
+    }
+}
+
+fn time_of_html2text(sheet: &str, page: &Page) -> f64 {
+    let html2text = path(page, deepest(page).0);
+    nanoseconds(1, || html2text.style(["", "", sheet], true))
+}
+
+// Pages on which a test of one component has much to go through, with html2text, asked once.
+fn hard_page(function: StyleFunction, name: &str, sheet: &str, tree: &Tree) {
+    let page = pages::page(tree);
+    let (this, html2text) = (time_alone(function, sheet, &page), time_of_html2text(sheet, &page));
+    println!("| {name} | {} | {:.2} | {:.2} |", sheet.len(), this / 1e6, html2text / 1e6);
+}
+
 fn table_of_hard_pages(function: StyleFunction) {
-    println!("\n| sheet and page | bytes | depth | ms | ns for a byte and a row of the path |\n|---|---|---|---|---|");
+    println!("\n| sheet and page | bytes of the sheet | this, ms | html2text, ms |\n|---|---|---|---|");
     let pair = |name: &str, value: String| (name.to_string(), value);
-    alone(function, "`:nth-child(n)` again and again, last of 4,095 children", &filled("", ":nth-child(n)", "{color:red}", LONGEST), &wide());
-    alone(function, "`:nth-child(n){}` again and again, last of 4,095 children", &repeated(":nth-child(n){color:red}", LONGEST), &wide());
+    hard_page(function, "`:nth-child(n)` again and again, last of 4,095 children", &filled("", ":nth-child(n)", "{color:red}", LONGEST), &wide());
+    hard_page(function, "`:nth-child(n){color:red}` again and again, last of 4,095 children", &repeated(":nth-child(n){color:red}", LONGEST), &wide());
     let long = one_with(vec![pair("class", filled("", "x ", "k", MOST_BYTES - 10))]);
-    alone(function, "`.k` again and again, the last of 32,000 classes", &filled("", ".k", "{color:red}", LONGEST), &long);
+    hard_page(function, "`.k` again and again, the last of 32,000 classes", &filled("", ".k", "{color:red}", LONGEST), &long);
     let many = one_with(vec![pair("", String::new()); MOST_ATTRIBUTES]);
-    alone(function, "`[a],` again and again, 16,384 attributes of another name", &filled("[a]", ",[a]", "{color:red}", LONGEST), &many);
+    hard_page(function, "`[a],` again and again, 16,384 attributes of another name", &filled("[a]", ",[a]", "{color:red}", LONGEST), &many);
     let classes = one_with(vec![pair("class", String::new()); MOST_BYTES / 5 - 1]);
-    alone(function, "`.k,` again and again, 13,000 empty class attributes", &filled(".k", ",.k", "{color:red}", LONGEST), &classes);
-    alone(function, "no sheet, 60 KB of `color:red;` in a `style` attribute", "", &one_with(vec![pair("style", repeated("color:red;", 60000))]));
-    alone(function, "no sheet, 10,000 empty `style` attributes", "", &one_with(vec![pair("style", String::new()); 10000]));
+    hard_page(function, "`.k,` again and again, 13,000 empty class attributes", &filled(".k", ",.k", "{color:red}", LONGEST), &classes);
+    hard_page(function, "no sheet, 60 KB of `color:red;` in a `style` attribute", "", &one_with(vec![pair("style", repeated("color:red;", 60000))]));
+    hard_page(function, "no sheet, 10,000 empty `style` attributes", "", &one_with(vec![pair("style", String::new()); 10000]));
+    hard_page(function, "no sheet, 60 KB of `/*a` in a `style` attribute", "", &one_with(vec![pair("style", filled("a:", "/*a", "", 60000))]));
 }
 
 fn main() {
@@ -308,6 +340,7 @@ fn main() {
             table_of_steps(function);
         }
         table_alone(function);
+        table_of_depths(function);
         table_of_hard_pages(function);
     };
     thread::Builder::new().stack_size(STACK).spawn(tables).expect("a thread").join().expect("the tables");
