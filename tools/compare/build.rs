@@ -5,7 +5,7 @@ use std::process::Command;
 use std::{env, fs};
 
 // Functions that need not be there yet, and the name under which the code asks for them.
-const LATER: [(&str, &str); 1] = [("hicsolmab_compile", "compiler")];
+const LATER: [(&str, &str); 3] = [("hicsolmab_compile", "compiler"), ("hicsolmab_style", "style_call"), ("hicsolmab_style_book", "book_call")];
 
 // Links the archive of a crate, which the variable may name, and gives its path.
 fn link(name: &str, variable: &str) -> PathBuf {

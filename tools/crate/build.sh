@@ -3,7 +3,7 @@
 #
 #     bash tools/crate/build.sh FOLDER        FOLDER holds the source of html2text 0.17.4 (src/css.rs lies in it)
 #
-# Everything is assembled in target/crate, a cargo workspace of which tools/compare, tools/bench-read and tools/bench-match are members. Nothing of the
+# Everything is assembled in target/crate, a cargo workspace of which tools/compare and tools/bench-* are members. Nothing of the
 # crate's text is kept in this repository. Taken unchanged: src/css.rs and src/css/parser.rs (a module is appended to each, which
 # reaches what is private there), src/macros.rs; of src/lib.rs the text from WhiteSpace to Result and the tree-map helpers; of
 # src/markup5ever_rcdom.rs the node types, get_parent and append.

@@ -210,11 +210,15 @@ pub struct Matched {
     pub elements: Vec<bool>,
 }
 
-fn matched(value: &Selector, elements: &[Handle]) -> Matched {
+fn specificity(value: &Selector) -> answers::Specificity {
     let specificity = value.specificity();
+    answers::Specificity { ids: specificity.id.into(), classes: specificity.class.into(), types: specificity.typ.into() }
+}
+
+fn matched(value: &Selector, elements: &[Handle]) -> Matched {
     Matched {
         selector: selector(value),
-        specificity: answers::Specificity { ids: specificity.id.into(), classes: specificity.class.into(), types: specificity.typ.into() },
+        specificity: specificity(value),
         elements: elements.iter().map(|e| Selector::do_matches(&value.components, e)).collect(),
     }
 }
@@ -300,6 +304,77 @@ fn style_row(style: &ComputedStyle) -> StyleRow {
     row
 }
 
+/// What a selector that matches an element says of it. Origin is 1 for agent, 2 for user, 3 for author.
+#[derive(Debug, Clone, PartialEq, Eq)]
+pub struct Applied {
+    pub origin: u32,
+    pub pseudo: u32,
+    pub specificity: answers::Specificity,
+    pub styles: Vec<answers::StyleDecl>,
+}
+
+fn applied(from: StyleOrigin, rule: &Ruleset) -> Applied {
+    Applied {
+        origin: origin(from),
+        pseudo: selector(&rule.selector).pseudo,
+        specificity: specificity(&rule.selector),
+        styles: rule.styles.iter().map(style).collect(),
+    }
+}
+
+/// For each element of a page, in row order, what the selectors that match it say, in the order in which `computed_style` goes through them.
+pub fn applied_rules(sheets: [&str; 3], page: &Page) -> Option<Vec<Vec<Applied>>> {
+    let [agent, user, author] = sheets;
+    let handles = tree(page);
+    unless_panic(|| {
+        let data = style_data(agent, user, author);
+        let origins = [(StyleOrigin::Agent, &data.agent_rules), (StyleOrigin::User, &data.user_rules), (StyleOrigin::Author, &data.author_rules)];
+        let rules: Vec<(StyleOrigin, &Ruleset)> = origins.iter().flat_map(|(from, rules)| rules.iter().map(|r| (*from, r))).collect();
+        let of_element = |row: usize| {
+            let matching = rules.iter().filter(|(_, r)| r.selector.matches(&handles[row]));
+            matching.map(|&(from, r)| applied(from, r)).collect()
+        };
+        page.elements().into_iter().map(of_element).collect()
+    })
+}
+
+/// The nodes of a page on the way down to a row, for the style of an element to be measured.
+pub struct Path {
+    handles: Vec<Handle>,
+    rows: Vec<usize>,
+}
+
+/// The way down to an element.
+pub fn path(page: &Page, row: usize) -> Path {
+    let mut rows = vec![];
+    let mut at = row;
+    while at > 0 {
+        rows.push(at);
+        at = page.parent(at);
+    }
+    rows.reverse();
+    Path { handles: tree(page), rows }
+}
+
+impl Path {
+    fn computed(&self, sheets: [&str; 3], document_styles: bool) -> ComputedStyle {
+        let [agent, user, author] = sheets;
+        let data = style_data(agent, user, author);
+        let below = |parent: ComputedStyle, &row: &usize| data.computed_style(&parent, &self.handles[row], document_styles);
+        self.rows.iter().fold(ComputedStyle::default(), below)
+    }
+
+    /// Reading three sheets, then `computed_style` down to the row, and nothing but them.
+    pub fn style(&self, sheets: [&str; 3], document_styles: bool) {
+        std::hint::black_box(self.computed(sheets, document_styles));
+    }
+
+    /// The style that this leads to, as a row.
+    pub fn style_row(&self, sheets: [&str; 3], document_styles: bool) -> StyleRow {
+        style_row(&self.computed(sheets, document_styles))
+    }
+}
+
 /// `computed_style` of each element of a page, in row order.
 pub fn computed_styles(sheets: [&str; 3], page: &Page, document_styles: bool) -> Option<Vec<StyleRow>> {
     let [agent, user, author] = sheets;
@@ -359,7 +434,12 @@ mod tests {
         let answer = matches("div *{}.k{}q{}", &page).unwrap();
         let elements: Vec<bool> = answer.iter().map(|m| m.elements[0]).collect();
         assert_eq!(elements, [true, true, false]);
-        let rows = computed_styles(["", "", ".k{color:red}"], &page, true).unwrap();
+        let sheets = ["", "", ".k{color:red}"];
+        let rows = computed_styles(sheets, &page, true).unwrap();
         assert_eq!(rows[0].numbers[..10], [1, 1, 3, 0, 0, 1, 0, 0, 0xff0000, 0]);
+        assert_eq!(path(&page, 1).style_row(sheets, true), rows[0]);
+        let applied = applied_rules(["q{color:red}", "*{content:''}", ".k,div{color:red}"], &page).unwrap();
+        let said: Vec<(u32, u32)> = applied[0].iter().map(|a| (a.origin, a.specificity.classes)).collect();
+        assert_eq!(said, [(2, 0), (3, 1), (3, 0)]);
     }
 }

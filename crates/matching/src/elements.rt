@@ -7,15 +7,12 @@ use page::rows::attribute_name_start;
 use page::rows::attribute_value;
 use page::rows::value_length;
 use page::rows::value_start;
-use syntax::rows::ATTRIBUTE;
-use syntax::rows::CLASS;
-use syntax::rows::HASH;
 ghost use mathlib.Core.Path.{_≡_};
 ghost use Rattle.combinators.specs.Word.{sameText};
 ghost use Rattle.page.specs.PathOf.{attributesFrom};
 ghost use Rattle.page.specs.Rows.{attributeValue};
 ghost use Rattle.matching.specs.Matches.{anyAttribute, isClass, isId, isNamed, firstIs};
-ghost use Rattle.matching.specs.Rows.{attributeOf, Countable, attributesPass};
+ghost use Rattle.matching.specs.Rows.{attributeOf, Countable};
 
 const CLASS_NAME: [u8; 5] = *b"class";
 
@@ -130,29 +127,4 @@ pub fn attribute_is(
         i += 1;
     }
     false
-}
-
-// What a component of a kind that is neither star, element nor nth asks of an element's attributes.
-pub fn attributes_pass(
-    kind: u32,
-    name: &[u8],
-    value: &[u8],
-    attributes: &[u32],
-    text: &[u8],
-    at: usize,
-    count: usize,
-) -> bool
-    requires { ⌜ Countable at count ⌝ }
-    ensures { λ r. ⌜ r ≡ attributesPass kind (now (name .entry)) (now (value .entry)) (attributesFrom (now (attributes .entry)) (now (text .entry)) count at) ⌝ }
-{
-    if kind == CLASS {
-        return has_class(attributes, text, at, count, name);
-    }
-    if kind == HASH {
-        return has_id(attributes, text, at, count, name);
-    }
-    if kind == ATTRIBUTE {
-        return has_attribute(attributes, text, at, count, name);
-    }
-    attribute_is(attributes, text, at, count, name, value)
 }

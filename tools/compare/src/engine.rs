@@ -57,6 +57,33 @@ pub struct CompileResult {
     pub texts: usize,
 }
 
+#[repr(C)]
+#[derive(Debug, Clone, Copy, PartialEq, Eq)]
+pub struct StyleResult {
+    pub refusal: u32,
+    pub text: usize,
+    pub place: usize,
+    pub texts: usize,
+}
+
+/// The style of an element: of sheets and page, the row, and the switch of document styles, to `out` and `texts`; the others are work stores.
+#[rustfmt::skip]
+pub type StyleFunction = unsafe extern "C" fn(
+    agent: *const u8, agent_length: usize,
+    user: *const u8, user_length: usize,
+    author: *const u8, author_length: usize,
+    nodes: *const u32, nodes_length: usize,
+    attributes: *const u32, attributes_length: usize,
+    text: *const u8, text_length: usize,
+    row: usize,
+    document_styles: u32,
+    out: *mut u32, out_length: usize,
+    texts: *mut u8, texts_length: usize,
+    rules: *mut u32, rules_length: usize,
+    tokens: *mut u32, tokens_length: usize,
+    brackets: *mut u8, brackets_length: usize,
+) -> StyleResult;
+
 // A slice passes as a pointer and a length.
 #[rustfmt::skip]
 unsafe extern "C" {
@@ -110,7 +137,51 @@ unsafe extern "C" {
         tokens: *mut u32, tokens_length: usize,
         brackets: *mut u8, brackets_length: usize,
     ) -> CompileResult;
+
+    #[cfg(style_call)]
+    fn hicsolmab_style(
+        agent: *const u8, agent_length: usize,
+        user: *const u8, user_length: usize,
+        author: *const u8, author_length: usize,
+        nodes: *const u32, nodes_length: usize,
+        attributes: *const u32, attributes_length: usize,
+        text: *const u8, text_length: usize,
+        row: usize,
+        document_styles: u32,
+        out: *mut u32, out_length: usize,
+        texts: *mut u8, texts_length: usize,
+        rules: *mut u32, rules_length: usize,
+        tokens: *mut u32, tokens_length: usize,
+        brackets: *mut u8, brackets_length: usize,
+    ) -> StyleResult;
+
+    #[cfg(book_call)]
+    fn hicsolmab_style_book(
+        agent: *const u8, agent_length: usize,
+        user: *const u8, user_length: usize,
+        author: *const u8, author_length: usize,
+        nodes: *const u32, nodes_length: usize,
+        attributes: *const u32, attributes_length: usize,
+        text: *const u8, text_length: usize,
+        row: usize,
+        document_styles: u32,
+        out: *mut u32, out_length: usize,
+        texts: *mut u8, texts_length: usize,
+        rules: *mut u32, rules_length: usize,
+        tokens: *mut u32, tokens_length: usize,
+        brackets: *mut u8, brackets_length: usize,
+    ) -> StyleResult;
 }
+
+/// The style calls, of the crate's cascade and of book order: None where the engine does not export them yet.
+#[cfg(style_call)]
+pub const STYLE_CALL: Option<StyleFunction> = Some(hicsolmab_style);
+#[cfg(not(style_call))]
+pub const STYLE_CALL: Option<StyleFunction> = None;
+#[cfg(book_call)]
+pub const BOOK_CALL: Option<StyleFunction> = Some(hicsolmab_style_book);
+#[cfg(not(book_call))]
+pub const BOOK_CALL: Option<StyleFunction> = None;
 
 /// Stores of the least lengths for `n` bytes of text.
 pub struct Stores {
@@ -123,12 +194,17 @@ pub struct Stores {
 impl Stores {
     /// Stores that hold `filling` throughout.
     pub fn new(n: usize, filling: u8) -> Stores {
-        let numbers = 8 * n + 64;
+        Stores::longer(n, 0, filling)
+    }
+
+    /// Stores that have `more` numbers or bytes each.
+    pub fn longer(n: usize, more: usize, filling: u8) -> Stores {
+        let numbers = 8 * n + 64 + more;
         Stores {
             rules: vec![u32::from(filling); numbers],
             tokens: vec![u32::from(filling); numbers],
-            brackets: vec![filling; n],
-            texts: vec![filling; 2 * n + 12],
+            brackets: vec![filling; n + more],
+            texts: vec![filling; 2 * n + 12 + more],
         }
     }
 
@@ -185,6 +261,43 @@ impl Stores {
                 self.rules.as_mut_ptr(), self.rules.len(),
                 self.tokens.as_mut_ptr(), self.tokens.len(),
                 self.brackets.as_mut_ptr(), self.brackets.len(),
+            )
+        }
+    }
+}
+
+/// Three sheets, agent, user and author, over a page: what a style call reads beside its row.
+#[derive(Clone, Copy)]
+pub struct Styled<'a> {
+    pub sheets: [&'a str; 3],
+    pub page: &'a Page,
+}
+
+impl Styled<'_> {
+    /// The bytes of text by which the stores of a style call are measured: all that is lent, and two for each attribute.
+    pub fn bytes(&self) -> usize {
+        let attributes = self.page.attributes.len() / judge::answers::ATTRIBUTE_WIDTH;
+        self.sheets.iter().map(|s| s.len()).sum::<usize>() + self.page.text.len() + 2 * attributes
+    }
+
+    #[rustfmt::skip]
+    pub fn style(&self, function: StyleFunction, row: usize, document_styles: u32, out: &mut [u32], stores: &mut Stores) -> StyleResult {
+        let ([agent, user, author], page) = (self.sheets, self.page);
+        unsafe {
+            function(
+                agent.as_ptr(), agent.len(),
+                user.as_ptr(), user.len(),
+                author.as_ptr(), author.len(),
+                page.nodes.as_ptr(), page.nodes.len(),
+                page.attributes.as_ptr(), page.attributes.len(),
+                page.text.as_ptr(), page.text.len(),
+                row,
+                document_styles,
+                out.as_mut_ptr(), out.len(),
+                stores.texts.as_mut_ptr(), stores.texts.len(),
+                stores.rules.as_mut_ptr(), stores.rules.len(),
+                stores.tokens.as_mut_ptr(), stores.tokens.len(),
+                stores.brackets.as_mut_ptr(), stores.brackets.len(),
             )
         }
     }

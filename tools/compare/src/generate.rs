@@ -210,6 +210,11 @@ pub fn style_attribute(random: &mut Random) -> String {
     if damage { damaged(random, text) } else { text }
 }
 
+/// Declarations as in rules that contest each other's styles, or a style attribute of any kind.
+pub fn contesting_attribute(random: &mut Random) -> String {
+    if random.percent(60) { contesting(random) } else { style_attribute(random) }
+}
+
 pub fn color_attribute(random: &mut Random) -> String {
     let damage = begin(random);
     let bare = ["+f+f+f", "00aabb", " 00aabb", "\u{a0}00aabb", "00aabbcc", "00aab", "0 0 0 ", "ééé", "\u{2003}a1B2c3;", "00aabb)", "-10000", "12345g"];
@@ -359,6 +364,77 @@ pub fn styling_sheet(random: &mut Random) -> String {
         format!("{head}{{{body}}}")
     };
     let text: String = (0..random.below(4)).map(|_| one(random)).collect();
+    if damage { damaged(random, text) } else { text }
+}
+
+// Declarations of which many are important, and many of the same property, so that they stand against each other.
+fn contesting(random: &mut Random) -> String {
+    let properties = ["color", "color", "background-color", "background", "display", "white-space", "content", "content", "height", "overflow"];
+    let one = |random: &mut Random| {
+        let property = random.choose(&properties);
+        let value = match property {
+            "display" => "none".to_string(),
+            "white-space" => random.choose(&["normal", "pre", "pre-wrap"]).to_string(),
+            "height" => random.choose(&["0", "1px"]).to_string(),
+            "overflow" => "hidden".to_string(),
+            "content" => format!("\"{}\"", random.choose(&["", "x", "yz", "é", "long enough to be seen"])),
+            _ => format!("#{:03x}", random.below(4096)),
+        };
+        format!("{property}:{value}{}", if random.percent(30) { "!important" } else { "" })
+    };
+    (0..1 + random.below(4)).map(|_| one(random)).collect::<Vec<String>>().join(";")
+}
+
+// A selector that many elements match, of some specificity.
+fn matching_selector(random: &mut Random) -> String {
+    if random.percent(25) {
+        return selector(random);
+    }
+    let simple = |random: &mut Random| match random.below(6) {
+        0..=1 => random.choose(&NAMES).to_string(),
+        2..=3 => format!(".{}", random.choose(&CLASSES)),
+        4 => format!("#{}", random.choose(&IDS)),
+        _ => "*".to_string(),
+    };
+    let mut text = simple(random);
+    for _ in 0..[0, 0, 0, 0, 1, 2][random.below(6)] {
+        text += random.choose(&[" ", " ", " > "]);
+        text += &simple(random);
+    }
+    if random.percent(1) {
+        // So often that its count outweighs or passes something.
+        text += &random.choose(&[".k", "[class]", ":nth-child(n)"]).repeat([10, 11, 255, 256, 300][random.below(5)]);
+    }
+    let more = ["", "", "", "", ":nth-child(odd)", ":nth-child(-n+3)", "[class]", "[id=i]", "::before", "::before", "::after"];
+    text + random.choose(&more)
+}
+
+/// A sheet whose rules have groups of selectors and contest each other's styles, or one as `sheet` and `styling_sheet` give it.
+pub fn page_sheet(random: &mut Random) -> String {
+    match random.below(10) {
+        0 => return sheet(random),
+        1 | 2 => return styling_sheet(random),
+        3 => return String::new(),
+        _ => {}
+    }
+    let damage = begin(random) && random.percent(20);
+    let oddness = [0, 0, 0, 0, 1, 5][random.below(6)];
+    random.set_oddness(oddness);
+    let rules = if random.percent(4) { 50 } else { random.below(9) };
+    let mut text = String::new();
+    for _ in 0..rules {
+        let heads: Vec<String> = (0..[1, 1, 1, 2, 3, 6][random.below(6)]).map(|_| matching_selector(random)).collect();
+        let body = match random.below(10) {
+            0 => hiding(random),
+            1 => declarations(random),
+            2 => declaration(random),
+            _ => contesting(random),
+        };
+        text += &format!("{}{{{body}}}", heads.join(","));
+    }
+    if random.percent(1) {
+        text += random.choose(&["[a=", ":nth-child(2147483648){}"]);
+    }
     if damage { damaged(random, text) } else { text }
 }
 

@@ -1,5 +1,6 @@
 //! Both sides of the comparison with html2text: what is asked, how it is generated, and the engine's exported functions.
 
+pub mod book;
 pub mod engine;
 pub mod generate;
 pub mod pages;
@@ -7,4 +8,5 @@ pub mod questions;
 pub mod random;
 pub mod short;
 pub mod shrink;
+pub mod styled;
 pub mod vectors;

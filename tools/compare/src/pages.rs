@@ -65,21 +65,57 @@ fn place(random: &mut Random, shape: Shape, open: usize) -> usize {
 // The deepest row that is accepted.
 const DEEPEST: usize = 64;
 
+// How a tree is made: where its rows stand and how many there are, how many of a hundred are no elements, and how many attributes one has at most.
+struct Outline {
+    shape: Shape,
+    rows: usize,
+    others: usize,
+    attributes: usize,
+}
+
+fn tree_of(random: &mut Random, outline: Outline, attribute: fn(&mut Random) -> (String, String)) -> Tree {
+    let mut tree = Tree::new();
+    for row in 1..1 + outline.rows {
+        let open = open_rows(&tree, row - 1);
+        let parent = open[place(random, outline.shape, open.len())];
+        let attributes = (0..random.below(outline.attributes + 1)).map(|_| attribute(random)).collect();
+        let element = (!random.percent(outline.others)).then(|| (name(random).to_string(), attributes));
+        tree.push(Node { parent, element });
+    }
+    tree
+}
+
 pub fn tree(random: &mut Random) -> Tree {
     let (shape, rows) = match random.below(200) {
         0 => (Shape::Deep, 1 + random.below(DEEPEST)),
         1 | 2 => (Shape::Wide, 1 + random.below(60)),
         _ => (Shape::Any, 1 + random.below(10)),
     };
-    let mut tree = Tree::new();
-    for row in 1..1 + rows {
-        let open = open_rows(&tree, row - 1);
-        let parent = open[place(random, shape, open.len())];
-        let attributes = (0..random.below(4)).map(|_| attribute(random)).collect();
-        let element = (!random.percent(10)).then(|| (name(random).to_string(), attributes));
-        tree.push(Node { parent, element });
+    tree_of(random, Outline { shape, rows, others: 10, attributes: 3 }, attribute)
+}
+
+// An attribute of which more are read.
+fn styling_attribute(random: &mut Random) -> (String, String) {
+    match random.below(10) {
+        0 | 1 => ("style".to_string(), generate::contesting_attribute(random)),
+        2 => (random.choose(&["color", "bgcolor"]).to_string(), format!("#{:03x}", random.below(4096))),
+        3..=6 => ("class".to_string(), random.choose(&CLASSES).to_string()),
+        7 => ("id".to_string(), random.choose(&IDS).to_string()),
+        _ => attribute(random),
     }
-    tree
+}
+
+/// A page to be styled: more of its rows are deep, some as deep as they may be, and more of its attributes are read.
+pub fn styled_tree(random: &mut Random) -> Tree {
+    let (shape, rows, others) = match random.below(40) {
+        0 => (Shape::Deep, DEEPEST, 0),
+        1 => (Shape::Deep, 1 + random.below(DEEPEST), 10),
+        2 | 3 => (Shape::Wide, 1 + random.below(60), 10),
+        4 => (Shape::Any, 1 + random.below(60), 10),
+        _ => (Shape::Any, 1 + random.below(10), 10),
+    };
+    let attributes = [3, 6][random.below(2)];
+    tree_of(random, Outline { shape, rows, others, attributes }, styling_attribute)
 }
 
 /// The rows of a tree.
@@ -118,14 +154,32 @@ fn without_row(tree: &Tree, row: usize) -> Option<Tree> {
     Some(smaller)
 }
 
-/// Trees with a row or an attribute less.
+/// Trees with fewer rows, or with an attribute less.
 pub fn smaller(tree: &Tree) -> Vec<Tree> {
-    let mut found: Vec<Tree> = (1..=tree.len()).filter_map(|row| without_row(tree, row)).collect();
+    // The first rows alone, half of them, three quarters and so on; then all but one.
+    let parts = (1..).map(|i| tree.len() >> i).take_while(|&less| less > 0);
+    let mut found: Vec<Tree> = parts.map(|less| tree[..tree.len() - less].to_vec()).collect();
+    found.extend((1..=tree.len()).filter_map(|row| without_row(tree, row)));
     for (i, node) in tree.iter().enumerate() {
         for j in 0..node.element.as_ref().map_or(0, |(_, attributes)| attributes.len()) {
             let mut without = tree.clone();
             without[i].element.as_mut().unwrap().1.remove(j);
             found.push(without);
+        }
+    }
+    found
+}
+
+/// Trees with another value of one attribute.
+pub fn with_values(tree: &Tree, others: fn(&str) -> Vec<String>) -> Vec<Tree> {
+    let mut found = vec![];
+    for (i, node) in tree.iter().enumerate() {
+        for (j, (_, value)) in node.element.iter().flat_map(|(_, attributes)| attributes).enumerate() {
+            for other in others(value) {
+                let mut with = tree.clone();
+                with[i].element.as_mut().unwrap().1[j].1 = other;
+                found.push(with);
+            }
         }
     }
     found

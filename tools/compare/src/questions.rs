@@ -3,6 +3,7 @@ use crate::engine::{self, Stores};
 use crate::generate;
 use crate::pages::{self, Tree};
 use crate::random::Random;
+use crate::styled::{ASK_BOOK, ASK_COMPUTED};
 use judge::answers::{Component, Rows, Selector};
 use judge::css::questions as html2text;
 
@@ -29,19 +30,23 @@ pub struct Question {
     pub ask: Option<fn(&Input) -> Answer>,
 }
 
+// `computed` and `styled` ask the same of each element, the style by html2text's cascade: of short sheets and small pages, from which vectors are chosen, and of
+// sheets and pages in which more contends; `book` asks for the style in book order, which is held against src/book.rs.
 pub const QUESTIONS: &[Question] = &[
     Question { name: "sheet", generate: a_sheet, ask: Some(ask_sheet) },
     Question { name: "style", generate: a_style_attribute, ask: Some(ask_style_attribute) },
     Question { name: "colour", generate: a_color_attribute, ask: Some(ask_color_attribute) },
     Question { name: "matches", generate: a_sheet_and_page, ask: Some(ask_matches) },
     Question { name: "compile", generate: three_sheets, ask: ASK_COMPILE },
-    Question { name: "computed", generate: three_sheets_and_page, ask: None },
+    Question { name: "computed", generate: three_sheets_and_page, ask: ASK_COMPUTED },
+    Question { name: "styled", generate: styled_page, ask: ASK_COMPUTED },
+    Question { name: "book", generate: styled_page, ask: ASK_BOOK },
 ];
 
 // What the stores hold before a call, so that a byte left as it was is seen.
 const FILLING: u8 = 0xa5;
 
-const PANICS: u32 = 4;
+pub const PANICS: u32 = 4;
 #[cfg(compiler)]
 const TOO_LONG_COMPILED: u32 = 10;
 #[cfg(compiler)]
@@ -77,6 +82,11 @@ fn three_sheets_and_page(random: &mut Random) -> Input {
     Input { texts, tree: pages::tree(random) }
 }
 
+fn styled_page(random: &mut Random) -> Input {
+    let texts = (0..3).map(|_| generate::page_sheet(random)).collect();
+    Input { texts, tree: pages::styled_tree(random) }
+}
+
 // ---- comparing
 
 fn same_or<T: PartialEq + std::fmt::Debug>(crate_says: T, this_says: T) -> Answer {
@@ -90,7 +100,7 @@ fn different(what: &str) -> Answer {
     Answer::Different(format!("  {what}"))
 }
 
-fn is_clear<T: Default + PartialEq>(store: &[T]) -> bool {
+pub fn is_clear<T: Default + PartialEq>(store: &[T]) -> bool {
     store.iter().all(|n| *n == T::default())
 }
 
@@ -104,7 +114,7 @@ fn all_clear(stores: &Stores) -> bool {
 // Beyond this length the place is not looked for.
 const SEARCHED: usize = 2000;
 
-fn place_of_panic(sheet: &str) -> Option<usize> {
+pub fn place_of_panic(sheet: &str) -> Option<usize> {
     if sheet.len() > SEARCHED {
         return None;
     }
@@ -178,7 +188,7 @@ fn ask_color_attribute(input: &Input) -> Answer {
 // ---- matching: each selector of a sheet, each element of a page
 
 // Where idx - b passes 32 bits; idx is at most the count of nodes.
-fn may_overflow(selector: &Selector) -> bool {
+pub fn may_overflow(selector: &Selector) -> bool {
     let far = |c: &Component| matches!(c, Component::Nth(_, b) if *b < -i32::MAX + 4096);
     selector.components.iter().any(far)
 }

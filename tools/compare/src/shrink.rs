@@ -1,6 +1,9 @@
 //! The smallest input that can be found which both sides still answer differently.
 use crate::pages;
 use crate::questions::{Answer, Input};
+use std::time::{Duration, Instant};
+
+const TIME: Duration = Duration::from_secs(30);
 
 // Sizes of a part are halved down to twice this one, and then tried one by one.
 const STEPS: usize = 16;
@@ -17,28 +20,38 @@ fn shorter(text: &str, size: usize) -> Vec<String> {
         .collect()
 }
 
-fn smaller(input: &Input) -> Vec<Input> {
-    let mut found: Vec<Input> = pages::smaller(&input.tree).into_iter().map(|tree| Input { tree, ..input.clone() }).collect();
-    for i in 0..input.texts.len() {
-        let mut size = input.texts[i].len();
-        while size > 0 {
-            for text in shorter(&input.texts[i], size) {
-                let mut less = input.clone();
-                less.texts[i] = text;
-                found.push(less);
-            }
-            size = if size < 2 * STEPS { size - 1 } else { size / 2 };
-        }
+// Texts with any part less, larger parts first.
+fn all_shorter(text: &str) -> Vec<String> {
+    let mut found = vec![];
+    let mut size = text.len();
+    while size > 0 {
+        found.extend(shorter(text, size));
+        size = if size < 2 * STEPS { size - 1 } else { size / 2 };
     }
     found
 }
 
-/// Takes parts away as long as the answers stay different.
+fn smaller(input: &Input) -> Vec<Input> {
+    let mut found: Vec<Input> = pages::smaller(&input.tree).into_iter().map(|tree| Input { tree, ..input.clone() }).collect();
+    for (i, text) in input.texts.iter().enumerate() {
+        for shorter in all_shorter(text) {
+            let mut less = input.clone();
+            less.texts[i] = shorter;
+            found.push(less);
+        }
+    }
+    let trees = pages::with_values(&input.tree, all_shorter);
+    found.extend(trees.into_iter().map(|tree| Input { tree, ..input.clone() }));
+    found
+}
+
+/// Takes parts away as long as the answers stay different, and as long as it has time.
 pub fn shrink(ask: fn(&Input) -> Answer, input: Input) -> Input {
+    let start = Instant::now();
+    let differs = |input: &Input| start.elapsed() < TIME && matches!(ask(input), Answer::Different(_));
     let mut least = input;
     loop {
-        let next = smaller(&least).into_iter().find(|i| matches!(ask(i), Answer::Different(_)));
-        match next {
+        match smaller(&least).into_iter().find(differs) {
             Some(input) => least = input,
             None => return least,
         }

@@ -1,7 +1,8 @@
 //! The fixed list of html2text's answers: how it is written, and how it is replayed. The format is described in tools/vectors/README.md.
-use crate::engine::{self, Stores};
+use crate::engine::{self, Stores, Styled};
 use crate::pages;
 use crate::questions::Input;
+use crate::styled::{say, texts_of_calls};
 use judge::answers::{ELEMENT_KIND, Page, RECORD_WIDTH, Rows, SLOT_WIDTH, SLOTS, StyleRow};
 use judge::css::questions as html2text;
 
@@ -12,6 +13,11 @@ const MATCHES: u32 = 4;
 const COMPILE: u32 = 5;
 const COMPUTED: u32 = 6;
 const PANICS: u32 = 4;
+
+// Where a slot of a style row has its value, the slot of contents, and how many records a row has.
+const VALUE: usize = 7;
+const CONTENT_SLOT: usize = 4;
+const RECORDS: usize = 3;
 
 // ---- writing
 
@@ -121,8 +127,6 @@ fn compile(input: &Input) -> Vec<Vec<u8>> {
 
 // The slots of a style row that are filled: main, before and after, each with a flag and a count.
 fn put_style_row(out: &mut Writer, row: &StyleRow) {
-    const VALUE: usize = 7;
-    const CONTENT_SLOT: usize = 4;
     for (record, content) in row.numbers.chunks(RECORD_WIDTH).zip(&row.contents) {
         let slots: Vec<(usize, &[u32])> = record[1..].chunks(SLOT_WIDTH).enumerate().filter(|(_, slot)| slot[0] == 1).collect();
         assert!(slots.len() <= SLOTS);
@@ -262,6 +266,39 @@ fn replay_compile(file: &mut Reader) -> Option<bool> {
     None
 }
 
+// The style row of the next element.
+fn style_row(file: &mut Reader) -> StyleRow {
+    let mut row = StyleRow::default();
+    for _ in 0..RECORDS {
+        let mut record = vec![0; RECORD_WIDTH];
+        let mut content = vec![];
+        record[0] = file.number();
+        for _ in 0..file.number() {
+            let number = file.number() as usize;
+            let slot = &mut record[1 + number * SLOT_WIDTH..][..SLOT_WIDTH];
+            slot[0] = 1;
+            slot[1..VALUE].fill_with(|| file.number());
+            if number == CONTENT_SLOT { content = file.text().to_vec() } else { slot[VALUE] = file.number() }
+        }
+        row.numbers.extend(record);
+        row.contents.push(content);
+    }
+    row
+}
+
+// None as long as the engine exports no style call.
+fn replay_computed(file: &mut Reader) -> Option<bool> {
+    let sheets = [file.text(), file.text(), file.text()].map(|t| std::str::from_utf8(t).expect("sheets are UTF-8"));
+    let page = Page { nodes: file.list(), attributes: file.list(), text: file.text().to_vec() };
+    let document_styles = file.number();
+    let rows: Vec<StyleRow> = page.elements().iter().map(|_| style_row(file)).collect();
+    let function = engine::STYLE_CALL?;
+    let styled = Styled { sheets, page: &page };
+    let texts = texts_of_calls(&styled, document_styles == 1);
+    let same = |(row, expected): (usize, &StyleRow)| say(function, &styled, row, document_styles, 0).wrong(expected, &texts[row]).is_none();
+    Some(page.elements().into_iter().zip(&rows).all(same))
+}
+
 /// How many vectors a file has, how many of them were asked, and how many differ.
 pub struct Replayed {
     pub count: usize,
@@ -269,7 +306,7 @@ pub struct Replayed {
     pub differ: usize,
 }
 
-/// Replays a file of vectors. Those of computed styles are not asked yet, for the engine exports no style call.
+/// Replays a file of vectors.
 pub fn replay(bytes: &[u8]) -> Replayed {
     let mut file = Reader { bytes, at: 0 };
     let mut replayed = Replayed { count: file.number() as usize, asked: 0, differ: 0 };
@@ -280,7 +317,7 @@ pub fn replay(bytes: &[u8]) -> Replayed {
             COLOR_ATTRIBUTE => Some(replay_color_attribute(&mut file)),
             MATCHES => Some(replay_matches(&mut file)),
             COMPILE => replay_compile(&mut file),
-            COMPUTED => return replayed,
+            COMPUTED => replay_computed(&mut file),
             kind => panic!("no vector has kind {kind}"),
         };
         replayed.asked += usize::from(same.is_some());

@@ -1,0 +1,156 @@
+//! Book order a second time, plainly: all that speaks for a slot is gathered in order and sorted by its key, and the last of the greatest wins.
+//! What is read and which selectors match is html2text's; html2text has no such cascade.
+use judge::answers::{Page, SLOT_WIDTH, SLOTS, Style, StyleRow, Text};
+use judge::css::questions::{self as html2text, Applied};
+
+const AGENT: u32 = 1;
+const USER: u32 = 2;
+const AUTHOR: u32 = 3;
+
+// The records of a style: the element's own, and those before and behind its content.
+const MAIN: usize = 0;
+const RECORDS: usize = 3;
+
+// What is said for a slot, with what it weighs.
+#[derive(Clone)]
+struct Said {
+    origin: u32,
+    inline: bool,
+    ids: u32,
+    classes: u32,
+    types: u32,
+    important: bool,
+    style: Style,
+}
+
+// By an author, not important, of specificity 0.
+fn lightly(style: Style) -> Said {
+    Said { origin: AUTHOR, inline: false, ids: 0, classes: 0, types: 0, important: false, style }
+}
+
+impl Said {
+    // Normal agent, user, author, then important author, user, agent.
+    fn rank(&self) -> u32 {
+        match (self.important, self.origin) {
+            (false, origin) => origin - AGENT,
+            (true, origin) => AUTHOR + (AUTHOR - origin),
+        }
+    }
+
+    fn key(&self) -> (u32, bool, u32, u32, u32) {
+        (self.rank(), self.inline, self.ids, self.classes, self.types)
+    }
+
+    // As they stand in a row; the start and the length of a content are zero.
+    fn numbers(&self) -> [u32; SLOT_WIDTH] {
+        let value = match self.style {
+            Style::Colour(n) | Style::Background(n) | Style::WhiteSpace(n) => n,
+            Style::DisplayNone | Style::Content(_) => 0,
+        };
+        [1, self.origin, u32::from(self.inline), self.ids, self.classes, self.types, u32::from(self.important), value, 0]
+    }
+
+    fn content(&self) -> Text {
+        if let Style::Content(text) = &self.style { text.clone() } else { vec![] }
+    }
+}
+
+#[derive(Clone, Default)]
+struct Record {
+    present: bool,
+    slots: [Option<Said>; SLOTS],
+}
+
+type Records = [Record; RECORDS];
+
+// ---- gathering
+
+type Gathered = Vec<(usize, Said)>;
+
+fn inherited(parent: &Records) -> Gathered {
+    let of_record = |(i, record): (usize, &Record)| -> Gathered { record.slots.iter().flatten().map(|s| (i, lightly(s.style.clone()))).collect() };
+    parent.iter().enumerate().flat_map(of_record).collect()
+}
+
+fn from_rules(applied: &[Applied], origin: u32) -> Gathered {
+    let mut found = vec![];
+    for rule in applied.iter().filter(|r| r.origin == origin) {
+        for said in &rule.styles {
+            let [ids, classes, types] = [rule.specificity.ids, rule.specificity.classes, rule.specificity.types];
+            let said = Said { origin, inline: false, ids, classes, types, important: said.important, style: said.style.clone() };
+            found.push((rule.pseudo as usize, said));
+        }
+    }
+    found
+}
+
+fn from_colours(attributes: &[(&str, &str)]) -> Gathered {
+    let mut found = vec![];
+    for &(name, value) in attributes {
+        let colour = || html2text::color_attribute(value).expect("a colour attribute never panics");
+        let style = match name {
+            "color" => colour().map(Style::Colour),
+            "bgcolor" => colour().map(Style::Background),
+            _ => None,
+        };
+        found.extend(style.map(|s| (MAIN, lightly(s))));
+    }
+    found
+}
+
+fn from_style_attributes(attributes: &[(&str, &str)]) -> Gathered {
+    let mut found = vec![];
+    for &(_, value) in attributes.iter().filter(|(name, _)| *name == "style") {
+        for said in html2text::style_attribute(value).expect("a style attribute never panics") {
+            found.push((MAIN, Said { inline: true, important: said.important, ..lightly(said.style) }));
+        }
+    }
+    found
+}
+
+// ---- choosing
+
+fn records_of(parent: &Records, applied: &[Applied], attributes: &[(&str, &str)]) -> Records {
+    let mut gathered = inherited(parent);
+    gathered.extend(from_rules(applied, AGENT));
+    gathered.extend(from_rules(applied, USER));
+    gathered.extend(from_colours(attributes));
+    gathered.extend(from_rules(applied, AUTHOR));
+    gathered.extend(from_style_attributes(attributes));
+    // Equal keys keep their order, so that the later one is written over the earlier.
+    gathered.sort_by_key(|(_, said)| said.key());
+    let mut records = Records::default();
+    for (i, record) in records.iter_mut().enumerate() {
+        record.present = i == MAIN || parent[i].present;
+    }
+    for (i, said) in gathered {
+        let slot = said.style.slot() as usize;
+        records[i].present = true;
+        records[i].slots[slot] = Some(said);
+    }
+    records
+}
+
+fn style_row(records: &Records) -> StyleRow {
+    let mut row = StyleRow::default();
+    for record in records {
+        row.numbers.push(u32::from(record.present));
+        for slot in &record.slots {
+            row.numbers.extend(slot.as_ref().map_or([0; SLOT_WIDTH], Said::numbers));
+        }
+        let content = record.slots.iter().flatten().find(|s| matches!(s.style, Style::Content(_)));
+        row.contents.push(content.map_or(vec![], Said::content));
+    }
+    row
+}
+
+/// The style of each element of a page, in row order; None where html2text panics.
+pub fn computed_styles(sheets: [&str; 3], page: &Page, document_styles: bool) -> Option<Vec<StyleRow>> {
+    let applied = html2text::applied_rules(sheets, page)?;
+    let mut records = vec![Records::default(); page.rows()];
+    for (&row, applied) in page.elements().iter().zip(&applied) {
+        let attributes = if document_styles { page.attributes_of(row) } else { vec![] };
+        records[row] = records_of(&records[page.parent(row)], applied, &attributes);
+    }
+    Some(page.elements().into_iter().map(|row| style_row(&records[row])).collect())
+}
