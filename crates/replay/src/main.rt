@@ -123,6 +123,7 @@ fn ask_page_call(
     }
 }
 
+// Asks by a call's number; `bytes` are the compiled ones.
 fn ask(
     s: &[u8],
     arguments: usize,
@@ -133,21 +134,12 @@ fn ask(
     tokens: &mut [u32],
     brackets: &mut [u8],
     texts: &mut [u8],
-    compiled: &mut [u8],
+    bytes: &mut [u8],
     out: &mut [u32],
 ) -> [usize; RESULTS] {
     match call {
         READ_SHEET => ask_sheet(s, arguments, input, rules, tokens, brackets, texts),
-        COMPILE => ask_compile(
-            s,
-            arguments,
-            input,
-            rules,
-            tokens,
-            brackets,
-            texts,
-            compiled,
-        ),
+        COMPILE => ask_compile(s, arguments, input, rules, tokens, brackets, texts, bytes),
         STYLE | STYLE_BOOK => ask_style(
             s,
             arguments,

@@ -17,54 +17,126 @@ use engine::style::hicsolmab_style;
 use engine::style::hicsolmab_style_book;
 use std::num::wrapping_add_usize;
 
-// Asks by the cascade of the call.
-fn style_by(
-    call: u32,
-    agent: &[u8],
-    user: &[u8],
-    author: &[u8],
-    nodes: &[u32],
-    attributes: &[u32],
-    text: &[u8],
-    row: usize,
-    document_styles: u32,
-    out: &mut [u32],
-    texts: &mut [u8],
+fn agent_of<'a>(s: &[u8], arguments: usize, input: &'a [u8]) -> &'a [u8] {
+    part_of(
+        input,
+        argument(s, arguments, THIRD),
+        argument(s, arguments, AGENT),
+    )
+}
+
+// Where the user's sheet starts, behind the agent's.
+fn user_start(s: &[u8], arguments: usize) -> usize {
+    wrapping_add_usize(argument(s, arguments, THIRD), argument(s, arguments, AGENT))
+}
+
+fn user_of<'a>(s: &[u8], arguments: usize, input: &'a [u8]) -> &'a [u8] {
+    part_of(
+        input,
+        user_start(s, arguments),
+        argument(s, arguments, USER),
+    )
+}
+
+fn author_of<'a>(s: &[u8], arguments: usize, input: &'a [u8]) -> &'a [u8] {
+    let start = wrapping_add_usize(user_start(s, arguments), argument(s, arguments, USER));
+    part_of(input, start, argument(s, arguments, AUTHOR))
+}
+
+// By html2text's cascade.
+fn style_of_crate(
+    s: &[u8],
+    arguments: usize,
+    input: &[u8],
+    numbers: &[u32],
     rules: &mut [u32],
     tokens: &mut [u32],
     brackets: &mut [u8],
+    texts: &mut [u8],
+    out: &mut [u32],
 ) -> StyleResult {
-    if call == STYLE_BOOK {
-        return hicsolmab_style_book(
-            agent,
-            user,
-            author,
-            nodes,
-            attributes,
-            text,
-            row,
-            document_styles,
-            out,
-            texts,
-            rules,
-            tokens,
-            brackets,
-        );
-    }
     hicsolmab_style(
-        agent,
-        user,
-        author,
-        nodes,
-        attributes,
-        text,
-        row,
-        document_styles,
+        agent_of(s, arguments, input),
+        user_of(s, arguments, input),
+        author_of(s, arguments, input),
+        nodes_of(s, arguments, numbers),
+        attributes_of(s, arguments, numbers),
+        part_of(input, 0, argument(s, arguments, THIRD)),
+        argument(s, arguments, ROW),
+        number_argument(s, arguments, DOCUMENT_STYLES),
         out,
         texts,
         rules,
         tokens,
         brackets,
+    )
+}
+
+// In the book order.
+fn style_in_book_order(
+    s: &[u8],
+    arguments: usize,
+    input: &[u8],
+    numbers: &[u32],
+    rules: &mut [u32],
+    tokens: &mut [u32],
+    brackets: &mut [u8],
+    texts: &mut [u8],
+    out: &mut [u32],
+) -> StyleResult {
+    hicsolmab_style_book(
+        agent_of(s, arguments, input),
+        user_of(s, arguments, input),
+        author_of(s, arguments, input),
+        nodes_of(s, arguments, numbers),
+        attributes_of(s, arguments, numbers),
+        part_of(input, 0, argument(s, arguments, THIRD)),
+        argument(s, arguments, ROW),
+        number_argument(s, arguments, DOCUMENT_STYLES),
+        out,
+        texts,
+        rules,
+        tokens,
+        brackets,
+    )
+}
+
+// The same by the cascade of the call.
+fn style_by(
+    s: &[u8],
+    arguments: usize,
+    call: u32,
+    input: &[u8],
+    numbers: &[u32],
+    rules: &mut [u32],
+    tokens: &mut [u32],
+    brackets: &mut [u8],
+    texts: &mut [u8],
+    out: &mut [u32],
+) -> StyleResult {
+    if call == STYLE_BOOK {
+        return style_in_book_order(
+            s,
+            arguments,
+            input,
+            numbers,
+            rules,
+            tokens,
+            brackets,
+            texts,
+            out,
+        );
+    }
+    style_of_crate(
+        s,
+        arguments,
+        input,
+        numbers,
+        rules,
+        tokens,
+        brackets,
+        texts,
+        out,
     )
 }
 
@@ -80,24 +152,17 @@ pub fn ask_style(
     texts: &mut [u8],
     out: &mut [u32],
 ) -> [usize; RESULTS] {
-    let text = argument(s, arguments, THIRD);
-    let user = wrapping_add_usize(text, argument(s, arguments, AGENT));
-    let author = wrapping_add_usize(user, argument(s, arguments, USER));
     let came = style_by(
+        s,
+        arguments,
         call,
-        part_of(input, text, argument(s, arguments, AGENT)),
-        part_of(input, user, argument(s, arguments, USER)),
-        part_of(input, author, argument(s, arguments, AUTHOR)),
-        nodes_of(s, arguments, numbers),
-        attributes_of(s, arguments, numbers),
-        part_of(input, 0, text),
-        argument(s, arguments, ROW),
-        number_argument(s, arguments, DOCUMENT_STYLES),
-        out,
-        texts,
+        input,
+        numbers,
         rules,
         tokens,
         brackets,
+        texts,
+        out,
     );
     [
         came.refusal as usize,
