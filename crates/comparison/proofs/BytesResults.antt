@@ -10,7 +10,7 @@ use Rattle.combinators.proofs.Rules.{pick-true, pick-false}
 use Rattle.compiled.specs.Answer.{refusalOf, bytesRefusal}
 use Rattle.compiled.specs.declared.sheets.CheckAnswer.{CheckAnswer}
 use Rattle.compiled.specs.declared.sheets.CheckAnswer.the-variants.{Sheet, Fault}
-use Rattle.compiler.specs.CompileAnswer.{compiledLimit}
+use Rattle.compiled.specs.Sheet.{compiledLimit}
 use Rattle.comparison.specs.Bytes.{bytesCalled}
 
 -- more bytes than a compiled sheet may have

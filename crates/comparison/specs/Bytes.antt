@@ -7,7 +7,7 @@ use Rattle.combinators.specs.Choice.{pick}
 use Rattle.combinators.specs.Refusal.{refused, refusedAt, tooLong}
 use Rattle.combinators.specs.declared.refusals.Refusal.{Refusal}
 use Rattle.compiled.specs.Answer.{bytesRefusal}
-use Rattle.compiler.specs.CompileAnswer.{compiledLimit}
+use Rattle.compiled.specs.Sheet.{compiledLimit}
 use Rattle.comparison.specs.declared.bytes.BytesResult.{BytesResult}
 
 -- the refusal that a struct tells

@@ -2,7 +2,7 @@
 use combinators::refusals::TOO_LONG;
 use compiled::sheets::check_sheet;
 use compiled::sheets::refusal_of;
-use compiler::writing::COMPILED_LIMIT;
+use compiled::sheets::COMPILED_LIMIT;
 ghost use mathlib.Core.Path.{_≡_};
 ghost use Rattle.comparison.specs.Bytes.{refusalIn, bytesCalled};
 

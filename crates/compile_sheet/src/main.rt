@@ -14,7 +14,7 @@ use combinators::refusals::refused;
 use combinators::texts::part_of;
 use compiler::answers::numbers_of;
 use compiler::compile::compile;
-use compiler::writing::COMPILED_LIMIT;
+use compiled::sheets::COMPILED_LIMIT;
 use hexadecimal::PAIR_WIDTH;
 use hexadecimal::emit_line;
 use libc::STDIN_FILENO;

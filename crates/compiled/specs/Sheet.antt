@@ -19,6 +19,10 @@ use Rattle.compiled.specs.Text.{textBytes, spanAt, textIn}
 use Rattle.compiled.specs.Component.{componentBody, componentBytes, isMark, nameAt, bodyAt, writtenAt, markOf, namedOf, componentIn, componentAt}
 use Rattle.compiled.specs.Style.{styleBody, styleBytes, numberUpTo, valueAt, valuedAt, slotAt, styleNumbersAt, styleAt}
 
+-- "compiled bytes over 65,536" are refused
+abbrev pub compiledLimit : ℕ
+compiledLimit = 65536
+
 -- a selector with the styles of its rule; components rightmost first
 pub record CompiledSelector : Type 0 where
   pub origin : ℕ

@@ -22,6 +22,9 @@ ghost use Rattle.compiled.specs.Number.{numberLimit};
 ghost use Rattle.compiled.specs.Sheet.{headBytes, countAt, pseudoAt, headAt, partsAt, selectorAt, selectorsAt, wholeAt};
 ghost use Rattle.compiled.specs.Answer.{placeAnswer, headAnswer, headWithin, selectorAnswer, checkAnswer, refusalOf, bytesRefusal, checkWithin};
 
+// The bytes that a compiled sheet may have.
+pub const COMPILED_LIMIT: usize = 65536;
+
 // The place behind the numbers before a selector's components: its origin, its pseudo element and how many components it has. Or the place of the
 // fault.
 pub enum HeadAnswer {

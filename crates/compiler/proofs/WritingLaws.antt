@@ -21,7 +21,8 @@ use Rattle.origins.specs.declared.reading.SheetsRules.{SheetsRules}
 use Rattle.compiled.specs.Number.{numberLimit, numberBytes}
 use Rattle.compiled.specs.Sheet.{CompiledSelector, selectorBytes, encode}
 use Rattle.compiler.specs.Selectors.{sheetSelectors, selectorsOf}
-use Rattle.compiler.specs.CompileAnswer.{compiledLimit, roomOf}
+use Rattle.compiled.specs.Sheet.{compiledLimit}
+use Rattle.compiler.specs.CompileAnswer.{roomOf}
 use Rattle.compiler.specs.Writing.{SelectorsFew}
 use Rattle.compiler.specs.Written.{selectorsFrom, SheetLying, fillOf, writtenIn}
 

@@ -10,17 +10,13 @@ use Rattle.combinators.specs.declared.refusals.Refusal.{Refusal}
 use Rattle.sheets.specs.SheetAnswer.{padded}
 use Rattle.origins.specs.Checks.{anyTooLong, allValid}
 use Rattle.origins.specs.Reading.{Sheets, rules, panicked, sheetsOf, sheetsTexts}
-use Rattle.compiled.specs.Sheet.{encode}
+use Rattle.compiled.specs.Sheet.{compiledLimit, encode}
 use Rattle.compiler.specs.Selectors.{selectorsOf}
 use Rattle.compiler.specs.declared.answers.CompileNumbers.{CompileNumbers}
 use Rattle.compiler.specs.declared.compile.CompileAnswer.{CompileAnswer}
 use Rattle.compiler.specs.declared.compile.CompileAnswer.the-variants.{Compiled, TooLong, ShortStore, NotUtf8, Panic, NoRoom}
 
--- ---- limits: "10 the compiled sheet would exceed its buffer or 65,536 bytes"
-abbrev pub compiledLimit : ℕ
-compiledLimit = 65536
-
--- the room of a buffer of n bytes
+-- ---- the room of a buffer of n bytes: "10 the compiled sheet would exceed its buffer or 65,536 bytes"
 unfoldable pub roomOf : ℕ → ℕ
 roomOf n = pick (ltb compiledLimit n) compiledLimit n
 

@@ -2,6 +2,7 @@
 use crate::rules::count_selectors;
 use crate::rules::emit_rules;
 use compiled::numbers::emit_number;
+use compiled::sheets::COMPILED_LIMIT;
 use origins::reading::SheetRules;
 use origins::reading::SheetsRules;
 use syntax::rows::AGENT_ORIGIN;
@@ -18,9 +19,6 @@ ghost use Rattle.compiled.specs.Sheet.{selectorBytes, encode};
 ghost use Rattle.compiler.specs.Selectors.{sheetSelectors};
 ghost use Rattle.compiler.specs.CompileAnswer.{roomOf};
 ghost use Rattle.compiler.specs.Written.{selectorsFrom, SheetLying, Lying, fillOf, writtenIn};
-
-// The bytes that a compiled sheet may have.
-pub const COMPILED_LIMIT: usize = 65536;
 
 // How many bytes of a buffer of `n` the compiled sheet may take.
 pub fn room_of(n: usize) -> usize

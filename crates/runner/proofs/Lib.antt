@@ -2,12 +2,6 @@ pub mod GroupLaws
 pub mod StateParts
 pub mod OpenRows
 pub mod OpenParts
-pub mod Declaring
-pub mod WalkedBack
-pub mod PartsFit
-pub mod StepStyle
 pub mod Steps
-pub mod RunRight
 pub mod PageContents
-pub mod Demand
 pub mod Independence

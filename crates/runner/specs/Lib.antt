@@ -3,5 +3,4 @@ pub mod Groups
 pub mod State
 pub mod Run
 pub mod LeastLengths
-pub mod Demand
 pub mod Cases

@@ -15,13 +15,13 @@ use Rattle.compiled.proofs.NumberBack.{number-some}
 use Rattle.compiled.proofs.ComponentBack.{component-some}
 use Rattle.cascade.specs.Related.{Each, none, next}
 use Rattle.styles.specs.Says.{Says}
 use Rattle.runner.specs.Walked.{WalkedSelector, walked, meantSelector}
 use Rattle.runner.specs.Groups.{combinators, groupCount, groupsCount}
 use Rattle.runner.specs.State.{partWidth}
 use Rattle.runner.proofs.GroupLaws.{combinators-most}
 use Rattle.runner.proofs.OpenParts.{used}
-use Rattle.runner.proofs.WalkedBack.{walked-said}
-use Rattle.runner.proofs.Declaring.{SameSelector}
+use Rattle.agreement.proofs.WalkedBack.{walked-said}
+use Rattle.agreement.proofs.Declaring.{SameSelector}
 
 -- components take a byte each
 components-bytes : (cs : List Component) → length cs ≤ length (textsMany componentBytes cs)

@@ -31,19 +31,19 @@ use Rattle.syntax.specs.declared.styles.Value.{Value}
 use Rattle.cascade.specs.declared.slots.Cascade.the-variants.{Crate}
 use Rattle.cascade.specs.Related.{SameStyle}
 use Rattle.styles.specs.declared.settings.Settings.{Settings}
 use Rattle.runner.specs.Walked.{WalkedSelector, walked}
 use Rattle.runner.specs.Groups.{allGroups, matching, matchingAt}
 use Rattle.runner.specs.State.{depths, partWidth, partPlace, raised, groupsFrom}
 use Rattle.styles.specs.Lent.{Page}
 use Rattle.runner.specs.Run.{noStyle, styleBelow, Stepped, documentStep, elementStep, stepOn, handedAt, Running, styleRowAt, runStep, runFrom, runOf, rowContents, contentsBefore, pageContents}
-use Rattle.runner.specs.Demand.{sheetsSelectors, AllRows}
+use Rattle.agreement.specs.Demand.{sheetsSelectors, AllRows}
 use Rattle.runner.proofs.GroupLaws.{matching-right}
 use Rattle.runner.proofs.StateParts.{part-kept, part-written}
 use Rattle.runner.proofs.OpenRows.{parent-most, kinds}
 use Rattle.runner.proofs.OpenParts.{length-raised, length-opened, Ready, document-ready, other-ready, place-right, bytes-of, element-ready}
-use Rattle.runner.proofs.PartsFit.{parts-fit}
-use Rattle.runner.proofs.StepStyle.{RowStyled, document-styled, styled-further, styled-below}
+use Rattle.agreement.proofs.PartsFit.{parts-fit}
+use Rattle.agreement.proofs.StepStyle.{RowStyled, document-styled, styled-further, styled-below}
 use Rattle.runner.proofs.Steps.{element-contents, no-contents, contents-most, other-step, document-step, element-step}
 
 -- ---- rows and stores
 module _ (rows row : List ℕ) (i n : ℕ) (there : i < n) (long : n * styleRowWidth ≤ length rows) (whole : length row ≡ styleRowWidth) where

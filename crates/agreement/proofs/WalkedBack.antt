@@ -34,8 +34,8 @@ use Rattle.styles.specs.StyleCall.{inNumbers}
 use Rattle.styles.specs.Says.{Says}
 use Rattle.styles.proofs.Lying.{Lies, lies-more}
 use Rattle.styles.proofs.Placed.{style-says}
 use Rattle.runner.specs.Walked.{WalkedSelector, walkedStylesAt, walkedPartsAt, walkedSelectorAt, walkedSelectorsAt, walked, meantSelector}
-use Rattle.runner.proofs.Declaring.{SameSelector}
+use Rattle.agreement.proofs.Declaring.{SameSelector}
 
 module _ (t : List ℕ) where
   -- a value that is read to the end of its bytes, and of which P holds in t, whatever follows

@@ -30,13 +30,13 @@ use Rattle.styles.specs.StyleCall.{inlineContents, placedAttributes}
 use Rattle.styles.specs.Says.{Says}
 use Rattle.styles.proofs.Lying.{Lies}
 use Rattle.styles.proofs.Placed.{attributes-placed}
 use Rattle.runner.specs.Walked.{WalkedSelector, walked, meantSelector}
 use Rattle.runner.specs.Groups.{matchingAt}
 use Rattle.runner.specs.Run.{noStyle, selectorsDeclare, styleBelow}
-use Rattle.runner.specs.Demand.{sheetsSelectors}
+use Rattle.agreement.specs.Demand.{sheetsSelectors}
 use Rattle.styles.proofs.Called.{empty-row}
-use Rattle.runner.proofs.WalkedBack.{walked-said}
-use Rattle.runner.proofs.Declaring.{SameSelector, declared-alike, matching-alike, selectors-declare}
+use Rattle.agreement.proofs.WalkedBack.{walked-said}
+use Rattle.agreement.proofs.Declaring.{SameSelector, declared-alike, matching-alike, selectors-declare}
 
 module _ (rules : Rules RuleSet) (settings : Settings) where
   abbrev code : List ℕ

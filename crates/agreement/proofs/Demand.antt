@@ -27,12 +27,12 @@ use Rattle.styles.specs.Computed.{computedStyle}
 use Rattle.styles.specs.StyleCall.{callStore, callRow}
 use Rattle.styles.specs.Says.{Says}
 use Rattle.styles.proofs.Called.{call-says-alone}
 use Rattle.runner.specs.LeastLengths.{RunLent}
 use Rattle.styles.specs.Lent.{Page}
 use Rattle.runner.specs.Run.{Running, styleRowAt, runOf}
-use Rattle.runner.specs.Demand.{AllRows}
+use Rattle.agreement.specs.Demand.{AllRows}
 use Rattle.runner.proofs.PageContents.{contents-short}
-use Rattle.runner.proofs.RunRight.{run-right}
+use Rattle.agreement.proofs.RunRight.{run-right}
 
 -- three sheets that are read without a panic, none above its limit; an accepted page; document styles on or off
 module _ (agent user author : List ℕ) (a u w : List RuleSet) (read : sheetsOf agent user author ≡ rules a u w)
