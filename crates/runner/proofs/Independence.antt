@@ -1,5 +1,5 @@
--- What a step does not depend on: the row that it writes, and the state and fill that it leaves, not on what the text store holds; the row, and the used bytes of
--- its own part and its parent's, of the state on nothing but the used bytes of its parent's part.
+-- What a step does not depend on: the row that it writes, its texts, and the used bytes of its own part and its parent's depend of the state on nothing but the
+-- used bytes of its parent's part.
 use Prim.Native.Nat.{ℕ, zero, suc, _+_, _≤_, _<_}
 use mathlib.Core.Path.{_≡_, refl, ap, ap₂, sym, _∙_}
 use mathlib.Core.Bool.{Bool, true, false}
@@ -7,12 +7,11 @@ use mathlib.Core.List.{List, [], _∷_, _++_}
 use native.Mathlib.Omega.{arith}
 use native.Mathlib.Nat.{suc-mul, zero-mul}
 use lib.ListN.{length, getD, take, drop, length-append}
-use lib.Seq.{sets, sets-eq, length-take-le, take-at, getD-drop, getD-take, take-nil, take-take}
+use lib.Seq.{getD-drop, getD-take, take-nil, take-take}
 use Rattle.combinators.specs.Choice.{pick, and, is}
 use Rattle.combinators.specs.Part.{part}
 use Rattle.combinators.proofs.Rules.{pick-false, is-no}
 use Rattle.syntax.specs.Selector.{Component}
-use Rattle.cascade.specs.Row.{rowOf}
 use Rattle.page.specs.Path.{Element, Path}
 use Rattle.page.specs.Rows.{otherKind}
 use Rattle.styles.specs.StyleCall.{inlineContents}
@@ -21,60 +20,10 @@ use Rattle.styles.specs.declared.settings.Settings.{Settings}
 use Rattle.runner.specs.Walked.{WalkedSelector, walked}
 use Rattle.runner.specs.Groups.{Combinator, combined, tested, groups, combinators, groupCount, groupsCount, allGroups, matching}
 use Rattle.runner.specs.State.{partWidth, partPlace, countWidth, countBytes, countAt, raised, groupsFrom, opened}
-use Rattle.runner.specs.Run.{Handed, Stepped, noStyle, styleBelow, documentStep, elementStep, openStep, stepOn}
+use Rattle.runner.specs.Run.{Handed, Stepped, rowBelow, documentStep, elementStep, openStep, stepOn}
 use Rattle.runner.proofs.GroupLaws.{IsTest, joined, by-component, combinators-combinator, combinators-test, groups-combinator, groups-test, length-all-groups}
 use Rattle.runner.proofs.StateParts.{part-kept, part-written, part-front, part-behind, length-count}
 use Rattle.runner.proofs.OpenParts.{used, length-raised}
-
--- ---- the text store
-module _ (code : List ℕ) (settings : Settings) (x : Handed) (parent state store store′ : List ℕ) (fill : ℕ) where
-  -- what a step writes into its row, and leaves in the state and as fill
-  abbrev Left : Stepped → Stepped → Type 0
-  Left s t = (s .row ≡ t .row) × (s .state ≡ t .state) × (s .fill ≡ t .fill)
-
-  -- by the kind of row and its depth
-  store-free : (other : Bool) (depth : ℕ)
-      → Left (pick other (record { row = noStyle; state = state; store = store; fill = fill }) (openStep code settings x depth parent state store fill))
-      (pick other (record { row = noStyle; state = state; store = store′; fill = fill }) (openStep code settings x depth parent state store′ fill))
-  unfolding pick openStep documentStep elementStep
-  store-free true depth = (refl, refl, refl)
-  store-free false zero = (refl, refl, refl)
-  store-free false (suc d) = (refl, refl, refl)
-
-  -- none of these depends on what the text store holds, be it below its fill or beyond
-  pub step-store-free : (depth : ℕ) → (stepOn code settings x depth parent state store fill .row ≡ stepOn code settings x depth parent state store′ fill .row)
-      × (stepOn code settings x depth parent state store fill .state ≡ stepOn code settings x depth parent state store′ fill .state)
-      × (stepOn code settings x depth parent state store fill .fill ≡ stepOn code settings x depth parent state store′ fill .fill)
-  unfolding stepOn
-  step-store-free depth = store-free (is (x .kind) otherKind) depth
-
--- texts that are written behind those so far
-filled-next : (store new : List ℕ) (fill : ℕ) → fill + length new ≤ length store → take (fill + length new) (sets store fill new) ≡ take fill store ++ new
-filled-next store new fill h =
-    let len : length (take fill store ++ new) ≡ fill + length new = length-append (take fill store) new ∙ ap (λ (n : ℕ). n + length new) (length-take-le fill store (omega arith)) in
-    ap (take (fill + length new)) (sets-eq new store fill h) ∙ take-at (take fill store ++ new) (drop (fill + length new) store) (fill + length new) len
-
-module _ (code : List ℕ) (settings : Settings) (x : Handed) (parent state store store′ : List ℕ) (fill : ℕ) (same : take fill store ≡ take fill store′) where
-  -- the step with another store
-  abbrev stepFrom : Bool → ℕ → List ℕ → Stepped
-  stepFrom other depth l = pick other (record { row = noStyle; state = state; store = l; fill = fill }) (openStep code settings x depth parent state l fill)
-
-  -- by the kind of row and its depth
-  texts-same : (other : Bool) (depth : ℕ) → stepFrom other depth store .fill ≤ length store → stepFrom other depth store′ .fill ≤ length store′
-      → take (stepFrom other depth store .fill) (stepFrom other depth store .store) ≡ take (stepFrom other depth store′ .fill) (stepFrom other depth store′ .store)
-  unfolding pick openStep documentStep elementStep
-  texts-same true depth h h′ = same
-  texts-same false zero h h′ = same
-  texts-same false (suc d) h h′ =
-      let new : List ℕ = inlineContents settings (record { name = x .name; attributes = x .attributes; place = countAt state (partPlace code d) + 1 }) in
-      filled-next store new fill h ∙ ap (λ (l : List ℕ). l ++ new) same ∙ sym (filled-next store′ new fill h′)
-
-  -- the texts up to the fill that a step leaves depend on those up to the fill that it was given
-  pub step-texts-free : (depth : ℕ) → stepOn code settings x depth parent state store fill .fill ≤ length store → stepOn code settings x depth parent state store′ fill .fill ≤ length store′
-      → take (stepOn code settings x depth parent state store fill .fill) (stepOn code settings x depth parent state store fill .store)
-      ≡ take (stepOn code settings x depth parent state store′ fill .fill) (stepOn code settings x depth parent state store′ fill .store)
-  unfolding stepOn
-  step-texts-free depth h h′ = texts-same (is (x .kind) otherKind) depth h h′
 
 -- ---- the state
 -- what lies behind the first of some
@@ -185,7 +134,7 @@ module _ (ss : List (WalkedSelector Value)) (state state′ : List ℕ) (at : �
       ∙ sym (part-front state′ c′ at l′ n))
 
 -- ---- a step below a row of the depth d, in two states that agree on the used bytes of that row's part
-module _ (code : List ℕ) (fits : used (walked code) ≤ partWidth code) (settings : Settings) (x : Handed) (d : ℕ) (parent state state′ store : List ℕ) (fill : ℕ)
+module _ (code : List ℕ) (fits : used (walked code) ≤ partWidth code) (settings : Settings) (x : Handed) (d : ℕ) (parent state state′ texts : List ℕ)
     (room : partPlace code (suc d) + partWidth code ≤ length state) (room′ : partPlace code (suc d) + partWidth code ≤ length state′)
     (same : part state (partPlace code d) (used (walked code)) ≡ part state′ (partPlace code d) (used (walked code))) where
   abbrev ss : List (WalkedSelector Value)
@@ -237,25 +186,24 @@ module _ (code : List ℕ) (fits : used (walked code) ≤ partWidth code) (setti
 
   -- what a step leaves in each
   abbrev stepIn : List ℕ → Stepped
-  stepIn l = stepOn code settings x (suc d) parent l store fill
+  stepIn l = stepOn code settings x (suc d) parent l texts
 
   -- at an element
-  step-in : (l : List ℕ) → ¬ (x .kind ≡ otherKind) → stepIn l ≡ elementStep code settings (elementIn l) d parent l store fill
+  step-in : (l : List ℕ) → ¬ (x .kind ≡ otherKind) → stepIn l ≡ elementStep code settings (elementIn l) d parent l texts
   unfolding stepOn openStep
   step-in l n = sym (pick-false _ _ _ _ (is-no _ _ n) refl)
 
   module _ (open-row : ¬ (x .kind ≡ otherKind)) where
-    -- the same style row, store and fill
-    pub step-state-free : (stepIn state .row ≡ stepIn state′ .row) × (stepIn state .store ≡ stepIn state′ .store) × (stepIn state .fill ≡ stepIn state′ .fill)
+    -- the same style row and texts
+    pub step-state-free : (stepIn state .row ≡ stepIn state′ .row) × (stepIn state .texts ≡ stepIn state′ .texts)
     unfolding elementStep
     step-state-free =
         let e = step-in state open-row in
         let e′ = step-in state′ open-row in (
           ap (λ (s : Stepped). s .row) e
-              ∙ ap₂ (λ (a : Element) (b : List ℕ). rowOf (styleBelow parent (matching ss b) settings (length code + fill) a)) element-same own-bytes-same
+              ∙ ap₂ (λ (a : Element) (b : List ℕ). rowBelow parent (matching ss b) settings (length code + length texts) a) element-same own-bytes-same
               ∙ sym (ap (λ (s : Stepped). s .row) e′),
-          ap (λ (s : Stepped). s .store) e ∙ ap (λ (a : Element). sets store fill (inlineContents settings a)) element-same ∙ sym (ap (λ (s : Stepped). s .store) e′),
-          ap (λ (s : Stepped). s .fill) e ∙ ap (λ (a : Element). fill + length (inlineContents settings a)) element-same ∙ sym (ap (λ (s : Stepped). s .fill) e′),
+          ap (λ (s : Stepped). s .texts) e ∙ ap (λ (a : Element). texts ++ inlineContents settings a) element-same ∙ sym (ap (λ (s : Stepped). s .texts) e′),
         )
 
     -- the same used bytes of its own part, and of its parent's
@@ -281,11 +229,11 @@ module _ (code : List ℕ) (fits : used (walked code) ≤ partWidth code) (setti
         )
 
 -- ---- the document's step, in whatever state: its own part
-pub document-part-free : (code : List ℕ) → used (walked code) ≤ partWidth code → (settings : Settings) (x : Handed) → ¬ (x .kind ≡ otherKind) → (parent state store : List ℕ) (fill : ℕ)
-    → partWidth code ≤ length state → part (stepOn code settings x 0 parent state store fill .state) (partPlace code 0) (used (walked code)) ≡ countBytes 0 ++ allGroups [] (walked code) []
+pub document-part-free : (code : List ℕ) → used (walked code) ≤ partWidth code → (settings : Settings) (x : Handed) → ¬ (x .kind ≡ otherKind) → (parent state texts : List ℕ)
+    → partWidth code ≤ length state → part (stepOn code settings x 0 parent state texts .state) (partPlace code 0) (used (walked code)) ≡ countBytes 0 ++ allGroups [] (walked code) []
 unfolding stepOn openStep documentStep opened
-document-part-free code fits settings x open-row parent state store fill room =
+document-part-free code fits settings x open-row parent state texts room =
     let own : List ℕ = countBytes 0 ++ allGroups [] (walked code) [] in
     let own-length : length own ≡ used (walked code) = length-append (countBytes 0) (allGroups [] (walked code) []) ∙ ap₂ _+_ (length-count 0) (length-all-groups (walked code) [] []) ∙ omega arith in
-    let e : stepOn code settings x 0 parent state store fill ≡ documentStep code state store fill = sym (pick-false _ _ _ _ (is-no _ _ open-row) refl) in
+    let e : stepOn code settings x 0 parent state texts ≡ documentStep code state texts = sym (pick-false _ _ _ _ (is-no _ _ open-row) refl) in
     ap (λ (s : Stepped). part (s .state) (partPlace code 0) (used (walked code))) e ∙ part-written state own (partPlace code 0) (omega (arith, zero-mul (partWidth code))) (used (walked code)) own-length

@@ -1,6 +1,6 @@
 -- What a step is at each kind of row of an accepted page, and which contents a row has.
 use Prim.Native.Nat.{ℕ, zero, suc, _+_, _-_, _≤_, _<_}
-use mathlib.Core.Path.{_≡_, refl, sym}
+use mathlib.Core.Path.{_≡_, refl, sym, _∙_}
 use mathlib.Core.List.{List, []}
 use native.Mathlib.Omega.{arith}
 use lib.ListN.{length, length-append}
@@ -15,6 +15,7 @@ use Rattle.styles.specs.StyleCall.{inlineContents}
 use Rattle.styles.specs.declared.settings.Settings.{Settings}
 use Rattle.runner.specs.State.{partPlace, countAt}
 use Rattle.styles.specs.Lent.{Page}
+use Rattle.runner.proofs.Handed.{handed-kind, handed-right}
 use Rattle.runner.specs.Run.{Stepped, noStyle, documentStep, elementStep, openStep, stepOn, handedAt, rowContents, contentsBefore, pageContents}
 
 -- ---- contents
@@ -48,29 +49,29 @@ module _ (settings : Settings) (g : Page) where
       rw e at (grown k i)
 
 -- ---- steps
-module _ (code : List ℕ) (settings : Settings) (g : Page) (parent state store : List ℕ) (fill : ℕ) where
+module _ (code : List ℕ) (settings : Settings) (g : Page) (parent state texts : List ℕ) where
   abbrev stepAt : ℕ → Stepped
-  stepAt i = stepOn code settings (handedAt g i) (depthOf (g .nodes) i) parent state store fill
+  stepAt i = stepOn code settings (handedAt g i) (depthOf (g .nodes) i) parent state texts
 
   -- of other content
-  pub other-step : (i : ℕ) → nodeAt (g .nodes) i .kind ≡ otherKind → stepAt i ≡ record { row = noStyle; state = state; store = store; fill = fill }
-  unfolding stepOn handedAt
-  other-step i e = sym (pick-true _ _ _ _ (is-yes _ _ e) refl)
+  pub other-step : (i : ℕ) → nodeAt (g .nodes) i .kind ≡ otherKind → stepAt i ≡ record { row = noStyle; state = state; texts = texts }
+  unfolding stepOn
+  other-step i e = sym (pick-true _ _ _ _ (is-yes _ _ (handed-kind g i ∙ e)) refl)
 
   module _ (ok : Accepted (g .nodes) (g .attributes) (g .text)) where
     -- of the document
-    pub document-step : stepAt 0 ≡ documentStep code state store fill
-    unfolding stepOn handedAt openStep
+    pub document-step : stepAt 0 ≡ documentStep code state texts
+    unfolding stepOn openStep
     document-step =
         let d : depthOf (g .nodes) 0 ≡ 0 = omega (arith, depth-most (g .nodes) 0) in
         rw d
-        (sym (pick-false _ _ _ _ (is-no _ _ (λ (e : nodeAt (g .nodes) 0 .kind ≡ otherKind). omega (arith, document-kind (g .nodes) (g .attributes) (g .text) ok))) refl))
+        (sym (pick-false _ _ _ _ (is-no _ _ (λ (e : handedAt g 0 .kind ≡ otherKind). omega (arith, e, handed-kind g 0, document-kind (g .nodes) (g .attributes) (g .text) ok))) refl))
 
     -- of an element, where its parent's part gives its place
     pub element-step : (i : ℕ) → suc i < nodeCount (g .nodes) → nodeAt (g .nodes) (suc i) .kind ≡ elementKind
         → countAt state (partPlace code (depthOf (g .nodes) (nodeAt (g .nodes) (suc i) .parent))) + 1 ≡ placeOf (g .nodes) (suc i)
-        → stepAt (suc i) ≡ elementStep code settings (elementAt (g .nodes) (g .attributes) (g .text) (suc i)) (depthOf (g .nodes) (nodeAt (g .nodes) (suc i) .parent)) parent state store fill
-    unfolding stepOn handedAt openStep elementAt
+        → stepAt (suc i) ≡ elementStep code settings (elementAt (g .nodes) (g .attributes) (g .text) (suc i)) (depthOf (g .nodes) (nodeAt (g .nodes) (suc i) .parent)) parent state texts
+    unfolding stepOn openStep elementAt
     element-step i there e place =
-        rw (one-deeper (g .nodes) (g .attributes) (g .text) ok (suc i) there (omega arith), ← place)
+        rw (one-deeper (g .nodes) (g .attributes) (g .text) ok (suc i) there (omega arith), handed-right g ok (suc i) there, ← place)
         (sym (pick-false _ _ _ _ (is-no _ _ (λ (z : nodeAt (g .nodes) (suc i) .kind ≡ otherKind). omega (arith, e, z))) refl))
