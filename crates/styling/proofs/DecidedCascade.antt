@@ -17,9 +17,9 @@ use Rattle.styles.specs.Said.{Rules, StyledRule, rulesSay, countedAttributes, s
 use Rattle.styles.specs.StyleCall.{pathContents, placedAttributes, placedFrom}
 use Rattle.styles.proofs.Called.{cascaded-formed}
 use Rattle.styles.proofs.Merging.{declared-parts}
-use Rattle.styling.specs.Deciding.{decidingRule}
-use Rattle.styling.proofs.DecidingSame.{rules-same}
-use Rattle.styling.proofs.DecidingSlot.{fold-append}
+use Rattle.rule_styles.specs.Deciding.{decidingRule}
+use Rattle.rule_styles.proofs.DecidingSame.{rules-same}
+use Rattle.rule_styles.proofs.DecidingSlot.{fold-append}
 use Rattle.styling.proofs.PathLaws.{inherit-formed-by}
 
 -- three sheets, by the styles that decide

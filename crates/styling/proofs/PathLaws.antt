@@ -39,8 +39,8 @@ use Rattle.styles.proofs.Room.{path-short}
 use Rattle.styles.proofs.Merging.{merged-append, merged-none, merged-long, early-none, late-none, declared-parts}
 use Rattle.attributes.specs.Merging.{InlineRoom}
 use Rattle.styling.specs.Path.{keptSheet, keptSheets, TextsIn, SameKept, Steady, EarlyRoom, ElementRoom, PathRoom, OneRow}
-use Rattle.styling.specs.declared.styled.StyledSheet.{StyledSheet}
-use Rattle.styling.specs.declared.styled.StyledSheets.{StyledSheets}
+use Rattle.rule_styles.specs.declared.styled.StyledSheet.{StyledSheet}
+use Rattle.rule_styles.specs.declared.styled.StyledSheets.{StyledSheets}
 
 -- ---- an element begins with what it inherits, and the rules of agent and user
 pub begun : (c : Cascade) (xs a b ys : List ℕ) (ds es : List (Declared Value)) → Inherited c xs a → b ≡ mergedRow c a ds → ys ≡ mergedRow c b es

@@ -28,7 +28,7 @@ use Rattle.styles.specs.Merged.{mergedRow}
 use Rattle.styles.specs.Said.{ruleStyle, selectorSays, selectorsSay, rulesSay}
 use Rattle.styles.specs.StyleCall.{inNumbers}
 use Rattle.styles.proofs.Merging.{merged-none, merged-more, merged-append, merged-long}
-use Rattle.styling.specs.Placing.{keptHead, keptCount, readStyled, readKept, rulesKept}
+use Rattle.rule_styles.specs.Placing.{keptHead, keptCount, readStyled, readKept, rulesKept}
 
 -- ---- a loop that merges declarations into a row
 -- what has the length of a row with room has room

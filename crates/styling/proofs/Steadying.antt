@@ -16,16 +16,16 @@ use Rattle.page.specs.Path.{Path}
 use Rattle.styles.specs.Room.{valuesAlong, attributesAlong}
 use Rattle.styles.specs.Said.{Rules, StyledRule}
 use Rattle.styles.specs.StyleCall.{rulesContents, sheetsContents, placedRules, placedSheets}
-use Rattle.styling.specs.Deciding.{decidingRule}
-use Rattle.styling.specs.Placing.{sheetText, keptRules, rulesKept}
+use Rattle.rule_styles.specs.Deciding.{decidingRule}
+use Rattle.rule_styles.specs.Placing.{sheetText, keptRules, rulesKept}
 use Rattle.styling.specs.Path.{keptSheet, keptSheets, TextsIn, SameKept, Steady, PathRoom}
-use Rattle.styling.specs.Held.{SheetsHeld, PathHeld, sheetsKept, styledPlaces}
-use Rattle.styling.specs.declared.styled.StyledSheets.{StyledSheets}
+use Rattle.rule_styles.specs.Held.{SheetsHeld, PathHeld, sheetsKept, styledPlaces}
+use Rattle.rule_styles.specs.declared.styled.StyledSheets.{StyledSheets}
 use Rattle.styling.proofs.DecidedCascade.{decided}
-use Rattle.styling.proofs.KeptBack.{rules-kept}
-use Rattle.styling.proofs.SheetsStyled.{SheetLies}
-use Rattle.styling.proofs.SheetsHeldLaws as held
-use Rattle.styling.proofs.SheetsHeldLaws.{agent-lies-in, user-lies-in, author-lies-in}
+use Rattle.rule_styles.proofs.KeptBack.{rules-kept}
+use Rattle.rule_styles.proofs.SheetsStyled.{SheetLies}
+use Rattle.rule_styles.proofs.SheetsHeldLaws as held
+use Rattle.rule_styles.proofs.SheetsHeldLaws.{agent-lies-in, user-lies-in, author-lies-in}
 
 -- a list by its front
 front-known : (n : ℕ) (l xs : List ℕ) → take n l ≡ xs → l ≡ xs ++ drop n l

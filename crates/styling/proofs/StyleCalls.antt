@@ -41,12 +41,12 @@ use Rattle.styles.specs.Said.{Rules}
 use Rattle.styles.specs.StyleCall.{callRow, callStore}
 use Rattle.styles.proofs.Called.{call-row-long}
 use Rattle.styles.proofs.Room.{path-values, path-attributes}
-use Rattle.styling.specs.Held.{sheetsFrom, SheetsHeld, PathHeld}
+use Rattle.rule_styles.specs.Held.{sheetsFrom, SheetsHeld, PathHeld}
 use Rattle.styles.specs.Lent.{SheetTexts, Page}
 use Rattle.styling.specs.StyleAnswer.{callBytes, isElement, StyleLeft, zeroed, unchanged, answered, styledLeft, askedLeft, styleOf}
 use Rattle.styling.specs.Styling.{FewBytes, ReadRoom, CallLent, AskedLent}
 use Rattle.styling.specs.declared.style.StyleAnswer.{StyleAnswer}
-use Rattle.styling.proofs.SheetsHeldLaws as held
+use Rattle.rule_styles.proofs.SheetsHeldLaws as held
 
 -- ---- what is left, by its parts
 left-by : {a a′ : StyleAnswer} {o o′ t t′ y y′ x x′ b b′ : List ℕ} → a ≡ a′ → o ≡ o′ → t ≡ t′ → y ≡ y′ → x ≡ x′ → b ≡ b′

@@ -28,12 +28,12 @@ use Rattle.styles.specs.Room.{valuesAlong, attributesAlong}
 use Rattle.styles.specs.Said.{Rules, StyledRule}
 use Rattle.styles.specs.StyleCall.{sheetsContents, pathContents, placedSheets, placedFrom, placedAlong, callStore, callRow}
 use Rattle.styles.proofs.Room.{path-short}
-use Rattle.styling.specs.Held.{sheetsFrom, SheetsHeld, PathHeld, sheetsKept, styledPlaces}
+use Rattle.rule_styles.specs.Held.{sheetsFrom, SheetsHeld, PathHeld, sheetsKept, styledPlaces}
 use Rattle.styling.specs.Path.{keptSheets, Steady, PathRoom}
 use Rattle.styling.specs.StyleAnswer.{isElement}
-use Rattle.styling.specs.declared.styled.StyledSheets.{StyledSheets}
+use Rattle.rule_styles.specs.declared.styled.StyledSheets.{StyledSheets}
 use Rattle.styling.proofs.DecidedCascade.{decided, path-decided}
-use Rattle.styling.proofs.SheetsHeldLaws as held
+use Rattle.rule_styles.proofs.SheetsHeldLaws as held
 use Rattle.styling.proofs.Steadying as still
 
 -- ---- whether a row is an element

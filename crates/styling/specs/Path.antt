@@ -9,9 +9,9 @@ use Rattle.cascade.specs.Row.{styleRowWidth}
 use Rattle.page.specs.Path.{Element, Path}
 use Rattle.styles.specs.Room.{valuesOf, valuesAlong, attributesAlong}
 use Rattle.styles.specs.Said.{Rules, StyledRule}
-use Rattle.styling.specs.Placing.{sheetText, rulesKept}
-use Rattle.styling.specs.declared.styled.StyledSheet.{StyledSheet}
-use Rattle.styling.specs.declared.styled.StyledSheets.{StyledSheets}
+use Rattle.rule_styles.specs.Placing.{sheetText, rulesKept}
+use Rattle.rule_styles.specs.declared.styled.StyledSheet.{StyledSheet}
+use Rattle.rule_styles.specs.declared.styled.StyledSheets.{StyledSheets}
 
 -- ---- the rules of a sheet, and of three, with the styles that are kept for them
 unfoldable pub keptSheet : List ℕ → List ℕ → List ℕ → ℕ → StyledSheet → List (StyledRule Value)

@@ -9,7 +9,7 @@ use Rattle.origins.specs.declared.reading.SheetsRules.{SheetsRules}
 use Rattle.page.specs.Accepted.{textLimit}
 use Rattle.page.specs.Path.{Path}
 use Rattle.styles.specs.Room.{valuesAlong, attributesAlong}
-use Rattle.styling.specs.Held.{SheetsHeld, PathHeld}
+use Rattle.rule_styles.specs.Held.{SheetsHeld, PathHeld}
 use Rattle.styles.specs.Lent.{SheetTexts, Page}
 use Rattle.styling.specs.StyleAnswer.{callBytes}
 

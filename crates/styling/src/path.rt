@@ -1,7 +1,7 @@
 // The style of an element and of those above it, from the top down.
 use crate::rules::merge_rules;
-use crate::styled::StyledSheet;
-use crate::styled::StyledSheets;
+use rule_styles::styled::StyledSheet;
+use rule_styles::styled::StyledSheets;
 use attributes::merging::merge_attributes;
 use attributes::merging::merge_early_attributes;
 use cascade::rows::clear_row;

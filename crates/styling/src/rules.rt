@@ -1,6 +1,6 @@
 // What the rules of a sheet say of an element, merged into its row. The styles of each rule are those that the call keeps for it.
-use crate::rows::KEPT_COUNT;
-use crate::rows::KEPT_HEAD;
+use rule_styles::rows::KEPT_COUNT;
+use rule_styles::rows::KEPT_HEAD;
 use cascade::rows::AFTER;
 use cascade::rows::BEFORE;
 use cascade::rows::MAIN;
@@ -35,7 +35,7 @@ ghost use Rattle.page.specs.PathOf.{pathOf};
 ghost use Rattle.matching.specs.Rows.{Rooted};
 ghost use Rattle.styles.specs.Merged.{mergedRow};
 ghost use Rattle.styles.specs.Said.{ruleStyle, selectorSays, selectorsSay, rulesSay};
-ghost use Rattle.styling.specs.Placing.{readStyled, readKept, rulesKept};
+ghost use Rattle.rule_styles.specs.Placing.{readStyled, readKept, rulesKept};
 
 // The record of a style row that a selector's pseudo element names.
 fn pseudo_of(number: u32) -> usize

@@ -1,7 +1,7 @@
 // `style` and `style_book`: the computed style of one element. Refusals are looked for in the order of document 01; nothing is written before all of them but
 // 4 are ruled out.
 use crate::path::style_path;
-use crate::styled::style_sheets;
+use rule_styles::styled::style_sheets;
 use cascade::rows::STYLE_ROW_WIDTH;
 use cascade::slots::Cascade;
 use combinators::least::stores_suffice;
@@ -50,7 +50,7 @@ ghost use Rattle.page.specs.PathOf.{pathOf};
 ghost use Rattle.page.specs.Rows.{attributeWidth};
 ghost use Rattle.matching.specs.Rows.{Rooted};
 ghost use Rattle.styles.specs.StyleCall.{callRow, callStore};
-ghost use Rattle.styling.specs.Held.{sheetsFrom, SheetsHeld};
+ghost use Rattle.rule_styles.specs.Held.{sheetsFrom, SheetsHeld};
 ghost use Rattle.styling.specs.StyleAnswer.{isElement, styledLeft, askedLeft, styleOf};
 ghost use Rattle.styling.specs.Styling.{FewBytes, ContentsIn, ReadRoom, CallLent, AskedLent};
 

@@ -1,5 +1,5 @@
 -- The text that is lent is the sheet's, so its rules are those that are kept.
-use Rattle.styling.specs.Placing.{sheetText}
+use Rattle.rule_styles.specs.Placing.{sheetText}
 use Rattle.styling.specs.Path.{keptSheet}
 use borrow.Author.Needs.{needs}
 use Rattle.styling.proofs.path.merge_sheet.Statement.{statement}

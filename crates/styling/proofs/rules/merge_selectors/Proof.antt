@@ -1,6 +1,6 @@
 -- Each turn merges what the first of the selectors that are left says and goes behind it, so all are merged and passed.
 use Rattle.styling.proofs.RulesMerging as laws
-use Rattle.styling.specs.Placing.{readStyled}
+use Rattle.rule_styles.specs.Placing.{readStyled}
 use Rattle.syntax.specs.Stream.{readMany}
 use lib.ListN.{drop}
 use Rattle.page.specs.PathOf.{pathOf}

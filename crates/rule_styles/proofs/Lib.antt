@@ -1,0 +1,16 @@
+pub mod Written
+pub mod DecidingSlot
+pub mod DecidingUpdate
+pub mod DecidingRecord
+pub mod DecidingSame
+pub mod DecidingRows
+pub mod DecidingBounds
+pub mod PlacingCopies
+pub mod PlacingStyles
+pub mod PlacingKept
+pub mod PlacingRule
+pub mod PlacingRules
+pub mod PlacingLies
+pub mod SheetsStyled
+pub mod SheetsHeldLaws
+pub mod KeptBack

@@ -1,0 +1,5 @@
+pub mod Deciding
+pub mod Sifting
+pub mod Placing
+pub mod PlacingRoom
+pub mod Held
