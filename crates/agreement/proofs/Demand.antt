@@ -1,9 +1,8 @@
 -- Demand 3, over the definitions: one claim about all steps of a run, on every page. Compile three sheets, run the bytes down the page, and every row that is written
--- is the computed style of its element, read from the texts of the sheets, whatever the rows, the state and the text store held before.
+-- is the computed style of its element, read from the texts of the sheets, whatever the rows and the state held before.
 use Prim.Native.Nat.{ℕ, _≤_, _<_}
 use mathlib.Core.Path.{_≡_}
 use mathlib.Core.List.{List, _++_}
-use native.Mathlib.Omega.{arith}
 use lib.ListN.{length}
 use Rattle.combinators.specs.Refusal.{noRefusal}
 use Rattle.syntax.specs.Selector.{RuleSet}
@@ -31,7 +30,6 @@ use Rattle.runner.specs.LeastLengths.{RunLent}
 use Rattle.styles.specs.Lent.{Page}
 use Rattle.runner.specs.Run.{Running, styleRowAt, runOf}
 use Rattle.agreement.specs.Demand.{AllRows}
-use Rattle.runner.proofs.PageContents.{contents-short}
 use Rattle.agreement.proofs.RunRight.{run-right}
 
 -- three sheets that are read without a panic, none above its limit; an accepted page; document styles on or off
@@ -45,12 +43,11 @@ module _ (agent user author : List ℕ) (a u w : List RuleSet) (read : sheetsOf 
   code = encode (selectorsOf a u w)
 
   -- the bytes of the sheets, run down the page over lent buffers of the least lengths or longer: every row is right
-  pub demand-3 : (rows state store : List ℕ) → RunLent code g rows state store → AllRows sheets settings g code rows store (runOf code settings g rows state store)
-  demand-3 rows state store lent =
+  pub demand-3 : (rows state : List ℕ) → RunLent code g rows state → AllRows sheets settings g code rows (runOf code settings g rows state)
+  demand-3 rows state lent =
       let k = sheets-known agent user author a u w read in
       let fits = sheets-fit agent user author (k .agent-read) (k .user-read) (k .author-read) agent-within user-within author-within in
-      run-right sheets fits settings g (accepted (g .nodes) (g .attributes) (g .text) ok) rows state store (lent .for-rows) (lent .for-state)
-      (omega (arith, contents-short settings g ok, lent .for-texts))
+      run-right sheets fits settings g (accepted (g .nodes) (g .attributes) (g .text) ok) rows state (lent .for-rows) (lent .for-state)
 
   abbrev Element : ℕ → Type 0
   Element i = (i < nodeCount (g .nodes)) × (nodeAt (g .nodes) i .kind ≡ elementKind)
@@ -58,10 +55,10 @@ module _ (agent user author : List ℕ) (a u w : List RuleSet) (read : sheetsOf 
   abbrev pathAt : ℕ → Path
   pathAt i = pathOf (g .nodes) (g .attributes) (g .text) i
 
-  -- the row of an element says its computed style, each content by the text that it names in the compiled bytes followed by the store
-  pub run-computed : (rows state store : List ℕ) → RunLent code g rows state store → (i : ℕ) → Element i
-      → let r : Running = runOf code settings g rows state store in SameStyle (Says (code ++ r .store)) (styleAt (styleRowAt (r .rows) i)) (computedStyle Crate sheets settings (pathAt i))
-  run-computed rows state store lent i e = demand-3 rows state store lent .element-rows i (e .0) (e .1)
+  -- the row of an element says its computed style, each content by the text that it names in the compiled bytes followed by the texts
+  pub run-computed : (rows state : List ℕ) → RunLent code g rows state → (i : ℕ) → Element i
+      → let r : Running = runOf code settings g rows state in SameStyle (Says (code ++ r .texts)) (styleAt (styleRowAt (r .rows) i)) (computedStyle Crate sheets settings (pathAt i))
+  run-computed rows state lent i e = demand-3 rows state lent .element-rows i (e .0) (e .1)
 
   -- and so does the row of a style call, in its own store
   pub call-computed : (i : ℕ) → SameStyle (Says (callStore sheets settings (pathAt i))) (styleAt (callRow Crate sheets settings (pathAt i))) (computedStyle Crate sheets settings (pathAt i))

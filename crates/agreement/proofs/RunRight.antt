@@ -3,11 +3,11 @@
 use Prim.Native.Nat.{ℕ, zero, suc, _+_, _*_, _≤_, _<_}
 use mathlib.Core.Path.{_≡_, refl, ap, ap₂, sym, subst, _∙_}
 use mathlib.Core.Logic.{_⊎_, inl, inr}
-use mathlib.Core.List.{List, [], _∷_, _++_}
+use mathlib.Core.List.{List, [], _∷_, _++_, append-nil}
 use native.Mathlib.Nat.{not-suc-le-zero}
 use native.Mathlib.Omega.{arith}
-use lib.ListN.{length, take, drop, length-append, length-drop}
-use lib.Seq.{sets, length-sets, sets-eq, length-take-le, take-at, drop-at, drop-drop, drop-append-add}
+use lib.ListN.{length, take, drop, length-append}
+use lib.Seq.{sets, length-sets, sets-eq, length-take-le, drop-at, drop-drop}
 use Rattle.combinators.specs.Part.{part}
 use Rattle.combinators.proofs.Rules.{lt-or-ge}
 use Rattle.syntax.specs.Selector.{RuleSet}
@@ -35,7 +35,7 @@ use Rattle.runner.specs.Walked.{WalkedSelector, walked}
 use Rattle.runner.specs.Groups.{allGroups, matching, matchingAt}
 use Rattle.runner.specs.State.{depths, partWidth, partPlace, raised, groupsFrom}
 use Rattle.styles.specs.Lent.{Page}
-use Rattle.runner.specs.Run.{noStyle, styleBelow, Stepped, documentStep, elementStep, stepOn, handedAt, Running, styleRowAt, runStep, runFrom, runOf, rowContents, contentsBefore, pageContents}
+use Rattle.runner.specs.Run.{noStyle, rowBelow, Stepped, documentStep, elementStep, stepOn, handedAt, Running, styleRowAt, runStep, runFrom, runOf, rowContents, contentsBefore, pageContents}
 use Rattle.agreement.specs.Demand.{sheetsSelectors, AllRows}
 use Rattle.runner.proofs.GroupLaws.{matching-right}
 use Rattle.runner.proofs.StateParts.{part-kept, part-written}
@@ -43,7 +43,7 @@ use Rattle.runner.proofs.OpenRows.{parent-most, kinds}
 use Rattle.runner.proofs.OpenParts.{length-raised, length-opened, Ready, document-ready, other-ready, place-right, bytes-of, element-ready}
 use Rattle.agreement.proofs.PartsFit.{parts-fit}
 use Rattle.agreement.proofs.StepStyle.{RowStyled, document-styled, styled-further, styled-below}
-use Rattle.runner.proofs.Steps.{element-contents, no-contents, contents-most, other-step, document-step, element-step}
+use Rattle.runner.proofs.Steps.{element-contents, no-contents, other-step, document-step, element-step}
 
 -- ---- rows and stores
 module _ (rows row : List ℕ) (i n : ℕ) (there : i < n) (long : n * styleRowWidth ≤ length rows) (whole : length row ≡ styleRowWidth) where
@@ -66,20 +66,9 @@ module _ (rows row : List ℕ) (i n : ℕ) (there : i < n) (long : n * styleRowW
       let len : length (take at rows ++ row) ≡ at + length row = length-append (take at rows) row ∙ omega (arith, length-take-le at rows (omega arith)) in
       rw e (ap (drop (at + length row)) (sets-eq row rows at r) ∙ drop-at (take at rows ++ row) (drop (at + length row) rows) (at + length row) len)
 
--- contents that are written behind those so far
-store-next : (store before new : List ℕ) → length before + length new ≤ length store
-    → sets (before ++ drop (length before) store) (length before) new ≡ (before ++ new) ++ drop (length (before ++ new)) store
-store-next store before new h =
-    let rest : List ℕ = drop (length before) store in
-    let l : length before + length new ≤ length (before ++ rest) = omega (arith, length-append before rest, length-drop (length before) store) in
-    let e : drop (length before + length new) (before ++ rest) ≡ drop (length (before ++ new)) store =
-    drop-append-add before rest (length new) ∙ drop-drop (length new) (length before) store ∙ ap (λ (n : ℕ). drop n store) (sym (length-append before new)) in
-    sets-eq new (before ++ rest) (length before) l
-    ∙ ap₂ (λ (a b : List ℕ). a ++ new ++ b) (take-at before rest (length before) refl) e
-
 -- ---- a run
 module _ (rules : Rules RuleSet) (fits : SheetFits (sheetsSelectors rules)) (settings : Settings) (g : Page) (ok : Accepted (g .nodes) (g .attributes) (g .text))
-    (rows₀ state₀ store₀ : List ℕ) where
+    (rows₀ state₀ : List ℕ) where
   abbrev code : List ℕ
   code = encode (sheetsSelectors rules)
 
@@ -106,8 +95,7 @@ module _ (rules : Rules RuleSet) (fits : SheetFits (sheetsSelectors rules)) (set
     pub behind : drop (i * styleRowWidth) (r .rows) ≡ drop (i * styleRowWidth) rows₀
     pub state-long : length (r .state) ≡ length state₀
     pub ready : ReadyAt i (r .state)
-    pub fill : r .fill ≡ length (contentsBefore settings g i)
-    pub store : r .store ≡ contentsBefore settings g i ++ drop (length (contentsBefore settings g i)) store₀
+    pub texts : r .texts ≡ contentsBefore settings g i
     pub right : (j : ℕ) → j < i → RowRight (contentsBefore settings g i) (styleRowAt (r .rows) j) j
 
   -- what the step of row i leaves
@@ -116,10 +104,9 @@ module _ (rules : Rules RuleSet) (fits : SheetFits (sheetsSelectors rules)) (set
     pub right : RowRight (contentsBefore settings g (suc i)) (s .row) i
     pub state-long : length (s .state) ≡ length (r .state)
     pub ready : ReadyAt (suc i) (s .state)
-    pub fill : s .fill ≡ r .fill + length (rowContents settings g i)
-    pub store : s .store ≡ sets (r .store) (r .fill) (rowContents settings g i)
+    pub texts : s .texts ≡ r .texts ++ rowContents settings g i
 
-  module _ (rows-room : count * styleRowWidth ≤ length rows₀) (state-room : depths * partWidth code ≤ length state₀) (store-room : length (pageContents settings g) ≤ length store₀) where
+  module _ (rows-room : count * styleRowWidth ≤ length rows₀) (state-room : depths * partWidth code ≤ length state₀) where
     -- rows that are right stay so where the store is filled further
     right-further : (i j : ℕ) (row row′ : List ℕ) → row′ ≡ row → RowRight (contentsBefore settings g i) row j → RowRight (contentsBefore settings g (suc i)) row′ j
     unfolding contentsBefore
@@ -131,22 +118,17 @@ module _ (rules : Rules RuleSet) (fits : SheetFits (sheetsSelectors rules)) (set
 
     -- one row further
     next : (i : ℕ) (r : Running) (s : Stepped) → i < count → Before i r → After i r s
-        → Before (suc i) (record { rows = sets (r .rows) (i * styleRowWidth) (s .row); state = s .state; store = s .store; fill = s .fill })
+        → Before (suc i) (record { rows = sets (r .rows) (i * styleRowWidth) (s .row); state = s .state; texts = s .texts })
     unfolding contentsBefore
     next i r s there b a =
-        let before : List ℕ = contentsBefore settings g i in
-        let new : List ℕ = rowContents settings g i in
         let rm : count * styleRowWidth ≤ length (r .rows) = omega (arith, b .long) in
         let at : i * styleRowWidth + styleRowWidth ≡ suc i * styleRowWidth = omega arith in
-        let most : length (before ++ new) ≤ length (pageContents settings g) = contents-most settings g (suc i) there in
-        let fits : length before + length new ≤ length store₀ = omega (arith, length-append before new) in
         record {
           long = length-sets (r .rows) (i * styleRowWidth) (s .row) ∙ b .long;
           behind = behind-kept (r .rows) (s .row) i count there rm (a .whole) ∙ further (r .rows) rows₀ (i * styleRowWidth) (suc i * styleRowWidth) at (b .behind);
           state-long = a .state-long ∙ b .state-long;
           ready = a .ready;
-          fill = a .fill ∙ ap (λ (n : ℕ). n + length new) (b .fill) ∙ sym (length-append before new);
-          store = a .store ∙ ap₂ (λ (l : List ℕ) (n : ℕ). sets l n new) (b .store) (b .fill) ∙ store-next store₀ before new fits;
+          texts = a .texts ∙ ap (λ (l : List ℕ). l ++ rowContents settings g i) (b .texts);
           right = λ (j : ℕ) (l : j < suc i). by-row rm j l (lt-or-ge j i);
         }
       where
@@ -166,15 +148,15 @@ module _ (rules : Rules RuleSet) (fits : SheetFits (sheetsSelectors rules)) (set
     -- ---- the step of each kind of row
     abbrev stepAt : ℕ → Running → Stepped
     stepAt i r =
-        stepOn code settings (handedAt g i) (depthOf (g .nodes) i) (styleRowAt (r .rows) (nodeAt (g .nodes) i .parent)) (r .state) (r .store) (r .fill)
+        stepOn code settings (handedAt g i) (depthOf (g .nodes) i) (styleRowAt (r .rows) (nodeAt (g .nodes) i .parent)) (r .state) (r .texts)
 
     -- a row without a style
     zeros-right : (filled : List ℕ) (i : ℕ) → ¬ (kindAt i ≡ elementKind) → RowRight filled noStyle i
     zeros-right filled i d = record { styled = λ k. absurd (d k); zeros = λ k. refl }
 
-    -- nothing is added to the store
-    nothing-new : (i n : ℕ) → ¬ (kindAt i ≡ elementKind) → n ≡ n + length (rowContents settings g i)
-    nothing-new i n d = rw (no-contents settings g i d) (omega arith)
+    -- nothing is added to the texts
+    nothing-new : (i : ℕ) (l : List ℕ) → ¬ (kindAt i ≡ elementKind) → l ≡ l ++ rowContents settings g i
+    nothing-new i l d = rw (no-contents settings g i d) (sym (append-nil l))
 
     -- the document
     document-after : (r : Running) → Before 0 r → After 0 r (stepAt 0 r)
@@ -182,14 +164,13 @@ module _ (rules : Rules RuleSet) (fits : SheetFits (sheetsSelectors rules)) (set
     document-after r b =
         let no : ¬ (kindAt 0 ≡ elementKind) = λ (e : kindAt 0 ≡ elementKind). omega (arith, document-kind (g .nodes) (g .attributes) (g .text) ok) in
         let long : depths * partWidth code ≤ length (r .state) = omega (arith, b .state-long) in
-        subst (After 0 r) (sym (document-step code settings g (styleRowAt (r .rows) (nodeAt (g .nodes) 0 .parent)) (r .state) (r .store) (r .fill) ok))
+        subst (After 0 r) (sym (document-step code settings g (styleRowAt (r .rows) (nodeAt (g .nodes) 0 .parent)) (r .state) (r .texts) ok))
         (record {
           whole = refl;
           right = zeros-right (contentsBefore settings g 1) 0 no;
           state-long = length-opened (r .state) (partPlace code 0) (allGroups [] (walked code) []);
           ready = document-ready code (walked code) (g .nodes) (g .attributes) (g .text) (parts-fit (sheetsSelectors rules) fits) ok (r .state) long;
-          fill = nothing-new 0 (r .fill) no;
-          store = ap (λ (x : List ℕ). sets (r .store) (r .fill) x) (sym (no-contents settings g 0 no));
+          texts = nothing-new 0 (r .texts) no;
         })
 
     module _ (i : ℕ) (there : suc i < count) (r : Running) (b : Before (suc i) r) where
@@ -204,14 +185,13 @@ module _ (rules : Rules RuleSet) (fits : SheetFits (sheetsSelectors rules)) (set
       other-after : kindAt (suc i) ≡ otherKind → After (suc i) r (stepAt (suc i) r)
       other-after e =
           let no : ¬ (kindAt (suc i) ≡ elementKind) = λ (z : kindAt (suc i) ≡ elementKind). omega (arith, e, z) in
-          subst (After (suc i) r) (sym (other-step code settings g (styleRowAt (r .rows) p) (r .state) (r .store) (r .fill) (suc i) e))
+          subst (After (suc i) r) (sym (other-step code settings g (styleRowAt (r .rows) p) (r .state) (r .texts) (suc i) e))
           (record {
             whole = refl;
             right = zeros-right (contentsBefore settings g (suc (suc i))) (suc i) no;
             state-long = refl;
             ready = other-ready code (walked code) (g .nodes) (g .attributes) (g .text) (parts-fit (sheetsSelectors rules) fits) ok i there (r .state) long (b .ready) e;
-            fill = nothing-new (suc i) (r .fill) no;
-            store = ap (λ (x : List ℕ). sets (r .store) (r .fill) x) (sym (no-contents settings g (suc i) no));
+            texts = nothing-new (suc i) (r .texts) no;
           })
 
       -- the parent's row is the computed style of its path, or the zeros of the document
@@ -253,11 +233,11 @@ module _ (rules : Rules RuleSet) (fits : SheetFits (sheetsSelectors rules)) (set
             ∙ ap (λ (x : Path). matchingAt x (walked code)) path-here
 
         -- the row, by the path
-        row-here : rowOf (styleBelow parent (matching (walked code) bytes) settings (length code + r .fill) e) ≡ rowOf (styleBelow parent (matchingAt (e ∷ pathAt p) (walked code)) settings (length code + length filled) e)
-        row-here = ap₂ (λ (ss : List (WalkedSelector Value)) (n : ℕ). rowOf (styleBelow parent ss settings (length code + n) e)) matching-here (b .fill)
+        row-here : rowBelow parent (matching (walked code) bytes) settings (length code + length (r .texts)) e ≡ rowBelow parent (matchingAt (e ∷ pathAt p) (walked code)) settings (length code + length filled) e
+        row-here = ap₂ (λ (ss : List (WalkedSelector Value)) (l : List ℕ). rowBelow parent ss settings (length code + length l) e) matching-here (b .texts)
 
         -- which is the computed style
-        below : RowStyled rules settings (filled ++ inlineContents settings e) (rowOf (styleBelow parent (matchingAt (e ∷ pathAt p) (walked code)) settings (length code + length filled) e)) (e ∷ pathAt p)
+        below : RowStyled rules settings (filled ++ inlineContents settings e) (rowBelow parent (matchingAt (e ∷ pathAt p) (walked code)) settings (length code + length filled) e) (e ∷ pathAt p)
         below = styled-below rules settings fits filled e (pathAt p) parent parent-styled
 
         -- an element
@@ -267,14 +247,13 @@ module _ (rules : Rules RuleSet) (fits : SheetFits (sheetsSelectors rules)) (set
             let place = place-right code (walked code) (g .nodes) (g .attributes) (g .text) (parts-fit (sheetsSelectors rules) fits) ok i there (r .state) long (b .ready) element in
             let new : rowContents settings g (suc i) ≡ inlineContents settings e = element-contents settings g (suc i) element in
             let at : ℕ = partPlace code (depthOf (g .nodes) p) in
-            subst (After (suc i) r) (sym (element-step code settings g parent (r .state) (r .store) (r .fill) ok i there element place))
+            subst (After (suc i) r) (sym (element-step code settings g parent (r .state) (r .texts) ok i there element place))
             (record {
               whole = ap length (row-here ∙ below .1) ∙ row-long (below .0) (below .2);
               right = record { styled = λ k. rw (row-here, new, path-here) below; zeros = λ d. absurd (d element) };
               state-long = length-opened (raised (r .state) at) (partPlace code (suc (depthOf (g .nodes) p))) bytes ∙ length-raised (r .state) at;
               ready = element-ready code (walked code) (g .nodes) (g .attributes) (g .text) (parts-fit (sheetsSelectors rules) fits) ok i there (r .state) long (b .ready) element e refl;
-              fill = ap (λ (x : List ℕ). r .fill + length x) (sym new);
-              store = ap (λ (x : List ℕ). sets (r .store) (r .fill) x) (sym new);
+              texts = ap (λ (x : List ℕ). r .texts ++ x) (sym new);
             })
 
     -- ---- every row
@@ -296,7 +275,7 @@ module _ (rules : Rules RuleSet) (fits : SheetFits (sheetsSelectors rules)) (set
         run-after k (suc i) (runStep code settings g i r) (omega arith) (next i r (stepAt i r) there b (step-after i there r b))
 
     -- nothing is asked of what the run finds
-    at-start : Before 0 (record { rows = rows₀; state = state₀; store = store₀; fill = 0 })
+    at-start : Before 0 (record { rows = rows₀; state = state₀; texts = [] })
     unfolding contentsBefore
     at-start =
         record {
@@ -304,26 +283,29 @@ module _ (rules : Rules RuleSet) (fits : SheetFits (sheetsSelectors rules)) (set
           behind = refl;
           state-long = refl;
           ready = tt;
-          fill = refl;
-          store = refl;
+          texts = refl;
           right = λ j l. absurd (not-suc-le-zero l);
         }
 
     -- the run
-    pub run-right : AllRows rules settings g code rows₀ store₀ (runOf code settings g rows₀ state₀ store₀)
+    pub run-right : AllRows rules settings g code rows₀ (runOf code settings g rows₀ state₀)
     unfolding runOf pageContents
     run-right =
-        let r : Running = runFrom code settings g count 0 (record { rows = rows₀; state = state₀; store = store₀; fill = 0 }) in
-        let b : Before count r = run-after count 0 (record { rows = rows₀; state = state₀; store = store₀; fill = 0 }) (omega arith) at-start in
+        let r : Running = runFrom code settings g count 0 (record { rows = rows₀; state = state₀; texts = [] }) in
+        let b : Before count r = run-after count 0 (record { rows = rows₀; state = state₀; texts = [] }) (omega arith) at-start in
         record {
           sheet = round-trip (sheetsSelectors rules) fits;
           element-rows = λ i l k.
               let s = b .right i l .styled k in
               let back : styleAt (styleRowAt (r .rows) i) ≡ s .0 = ap styleAt (s .1) ∙ style-back (s .0) (s .2) in
-              rw (back, b .store) (s .3 (drop (length (contentsBefore settings g count)) store₀));
+              let t : contentsBefore settings g count ++ [] ≡ r .texts = append-nil (contentsBefore settings g count) ∙ sym (b .texts) in
+              rw back (rw t at (s .3 []));
+          element-written = λ i l k.
+              let s = b .right i l .styled k in
+              let back : styleAt (styleRowAt (r .rows) i) ≡ s .0 = ap styleAt (s .1) ∙ style-back (s .0) (s .2) in
+              s .1 ∙ ap rowOf (sym back);
           other-rows = λ i l d. b .right i l .zeros d;
           rows-long = b .long;
           rows-behind = b .behind;
-          filled = b .fill;
-          stored = b .store;
+          texts = b .texts;
         }

@@ -19,7 +19,7 @@ use Rattle.cascade.specs.Slot.{updateBy}
 use Rattle.cascade.specs.Specificity.{inlineSpecificity}
 use Rattle.cascade.proofs.Cascading.{inherit-formed, merges-formed}
 use Rattle.cascade.proofs.Relating.{each-append, each-map, SameAttribute, SameDeclared, attribute-declared, inherit-same, merges-same, empty-same}
-use Rattle.cascade.proofs.RowBack.{style-back, view-formed, empty-formed}
+use Rattle.cascade.proofs.RowBack.{empty-formed}
 use Rattle.page.specs.Path.{Element, Path}
 use Rattle.compiled.specs.Sheet.{encode}
 use Rattle.compiled.proofs.Fits.{SheetFits}
@@ -32,8 +32,9 @@ use Rattle.styles.proofs.Lying.{Lies}
 use Rattle.styles.proofs.Placed.{attributes-placed}
 use Rattle.runner.specs.Walked.{WalkedSelector, walked, meantSelector}
 use Rattle.runner.specs.Groups.{matchingAt}
-use Rattle.runner.specs.Run.{noStyle, selectorsDeclare, styleBelow}
+use Rattle.runner.specs.Run.{noStyle, selectorsDeclare, rowBelow}
 use Rattle.agreement.specs.Demand.{sheetsSelectors}
+use Rattle.runner.proofs.RowBelow.{declaredBelow, styleBelow, row-below}
 use Rattle.styles.proofs.Called.{empty-row}
 use Rattle.agreement.proofs.WalkedBack.{walked-said}
 use Rattle.agreement.proofs.Declaring.{SameSelector, declared-alike, matching-alike, selectors-declare}
@@ -83,8 +84,7 @@ module _ (rules : Rules RuleSet) (settings : Settings) where
 
     -- what is declared for the element, its inline contents there
     abbrev declared : List (Declared Value)
-    declared =
-        selectorsDeclare (matchingAt (e ∷ up) (walked code)) ++ map (fromAttribute false inlineSpecificity) (placedAttributes counts (countedAttributes settings e))
+    declared = declaredBelow (matchingAt (e ∷ up) (walked code)) settings counts e
 
     -- the same with the styles themselves is what the sheets and the attributes say
     meant-declared : selectorsDeclare (matchingAt (e ∷ up) (map meantSelector (sheetsSelectors rules))) ++ map (fromAttribute false inlineSpecificity) (attributesSay (countedAttributes settings e))
@@ -114,16 +114,14 @@ module _ (rules : Rules RuleSet) (settings : Settings) where
 
     -- the row of the step
     pub styled-below : (row : List ℕ) → RowStyled filled row up
-        → RowStyled (filled ++ new) (rowOf (styleBelow row (matchingAt (e ∷ up) (walked code)) settings counts e)) (e ∷ up)
-    unfolding styled-further styleBelow computedStyle sourcesAlong cascaded cascadeBy
-    styled-below row h =
-        let parent : styleAt row ≡ h .0 = ap styleAt (h .1) ∙ style-back (h .0) (h .2) in
-        let s : ComputedStyle Value = foldl (mergeBy (updateBy Crate)) (inheritBy Crate (styleAt row)) declared in (
-          s,
-          refl,
-          merges-formed (updateBy Crate) declared (inheritBy Crate (styleAt row)) (unfold inheritBy in inherit-formed (styleAt row) (view-formed row)),
-          λ more.
-              let t : List ℕ = code ++ ((filled ++ new) ++ more) in
-              let above : SameStyle (Says t) (styleAt row) (computedStyle Crate rules settings up) = rw parent (styled-further filled new row up h .3 more) in
-              merges-same (Says t) Crate (declared-right more) (inheritBy Crate (styleAt row)) (inheritBy Crate (computedStyle Crate rules settings up)) (inherit-same (Says t) Crate (styleAt row) (computedStyle Crate rules settings up) above),
-        )
+        → RowStyled (filled ++ new) (rowBelow row (matchingAt (e ∷ up) (walked code)) settings counts e) (e ∷ up)
+    unfolding styled-further computedStyle sourcesAlong cascaded cascadeBy inheritBy
+    styled-below row h = (
+      styleBelow (matchingAt (e ∷ up) (walked code)) settings counts e (h .0),
+      ap (λ (r : List ℕ). rowBelow r (matchingAt (e ∷ up) (walked code)) settings counts e) (h .1) ∙ row-below (matchingAt (e ∷ up) (walked code)) settings counts e (h .0) (h .2),
+      merges-formed (updateBy Crate) declared (inheritBy Crate (h .0)) (inherit-formed (h .0) (h .2)),
+      λ more.
+          let t : List ℕ = code ++ ((filled ++ new) ++ more) in
+          let above : SameStyle (Says t) (h .0) (computedStyle Crate rules settings up) = styled-further filled new row up h .3 more in
+          merges-same (Says t) Crate (declared-right more) (inheritBy Crate (h .0)) (inheritBy Crate (computedStyle Crate rules settings up)) (inherit-same (Says t) Crate (h .0) (computedStyle Crate rules settings up) above),
+    )

@@ -3,6 +3,7 @@ pub mod StateParts
 pub mod OpenRows
 pub mod OpenParts
 pub mod Handed
+pub mod RowBelow
 pub mod Steps
 pub mod PageContents
 pub mod Independence

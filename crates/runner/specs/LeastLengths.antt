@@ -20,11 +20,10 @@ stateLeast code = depths * partWidth code
 abbrev pub rowsLeast : Page → ℕ
 rowsLeast g = nodeCount (g .nodes) * styleRowWidth
 
--- rows, state and text store of these lengths or longer, whatever they hold
-pub record RunLent (code : List ℕ) (g : Page) (rows state store : List ℕ) : Type 0 where
+-- rows and state of these lengths or longer, whatever they hold
+pub record RunLent (code : List ℕ) (g : Page) (rows state : List ℕ) : Type 0 where
   pub for-rows : rowsLeast g ≤ length rows
   pub for-state : stateLeast code ≤ length state
-  pub for-texts : textLeast (runTextBytes g) ≤ length store
 
 -- 14 compiled bytes; two nodes, an attribute and half of one, 3 bytes of text
 test-lengths :
