@@ -8,8 +8,9 @@
  *   2 a lent slice too short         6 a row of the page against the rules
  *   3 a text that is not UTF-8       7 a text of the page outside its bytes, or not UTF-8
  *   4 html2text panics on the sheet  8 the asked row is no element, or beyond the page
+ *                                    9 bytes that are no compiled sheet to their last byte
  *                                   10 the compiled sheet would exceed its buffer or 65,536 bytes
- * The lowest number that applies is returned, 4 counting as above 8. After 4 and 10 every slice that the call writes is zero throughout, after others it is
+ * The lowest number that applies is returned, 4 counting as above 9 and below 10. After 4 and 10 every slice that the call writes is zero throughout, after others it is
  * unchanged.
  *
  * For N bytes of text the least lengths are 8 N + 64 numbers in `rules` and in `tokens`, N bytes in `brackets`, 2 N + 12 bytes in `texts`. */
@@ -120,6 +121,41 @@ hicsolmab_style_result hicsolmab_style_book(const uint8_t *agent, size_t agent_l
                                             uint32_t *rules, size_t rules_length,
                                             uint32_t *tokens, size_t tokens_length,
                                             uint8_t *brackets, size_t brackets_length);
+
+/* A page that was styled: `texts` bytes of the texts of contents. `place` is that of a refusal: for 6 and 7 the first row that is refused, for 9 the byte of
+ * `compiled` where the number or text starts that cannot be read, or the first byte left over. */
+typedef struct {
+    uint32_t refusal;
+    size_t place;
+    size_t texts;
+} hicsolmab_run_result;
+
+/* The styles of all elements of a page in one call, by a compiled sheet: `compiled` are the bytes that hicsolmab_compile wrote, exactly so many as its result says, at most
+ * 65,536. The page is that of hicsolmab_check_page. `document_styles` is 0 where `style`, `color` and `bgcolor` attributes do not count, and anything else where they do.
+ *
+ * `rows` gets 138 numbers for each node row of the page, those of row i from rows[138 * i] on, as hicsolmab_style writes them for one element; they are zeros for the document
+ * and for rows that are no elements. `texts` gets the contents of `style` attributes, end to end in page order. A content is a start and a length as everywhere, but
+ * counted in the compiled bytes followed by `texts`: with c the length of `compiled`, a start below c is that of a text of a rule and lies at compiled + start; any
+ * other lies at texts + (start - c).
+ *
+ * Lent are also `state`, `rules`, `tokens` and `brackets`, work stores; what they hold before the call does not matter. With c bytes in `compiled`, n node rows, and N the bytes of
+ * `text` and twice the attribute rows lent (bytes and rows that the page leaves over count), the least lengths are 138 n numbers in `rows`, 65 (c + 1) bytes in
+ * `state`, and as above 8 N + 64 numbers in `rules` and in `tokens`, N bytes in `brackets` and 2 N + 12 in `texts`. A list that is no whole count of rows counts
+ * as the rows that are whole.
+ *
+ * After an answer `rows` beyond its 138 n numbers, `texts` beyond its texts, and all work stores are zero. Refuses 1, 2, 5, 6, 7, 9, looked for in this order; after
+ * each of them nothing has changed. */
+hicsolmab_run_result hicsolmab_run(const uint8_t *compiled, size_t compiled_length,
+                                   const uint32_t *nodes, size_t nodes_length,
+                                   const uint32_t *attributes, size_t attributes_length,
+                                   const uint8_t *text, size_t text_length,
+                                   uint32_t document_styles,
+                                   uint32_t *rows, size_t rows_length,
+                                   uint8_t *texts, size_t texts_length,
+                                   uint8_t *state, size_t state_length,
+                                   uint32_t *rules, size_t rules_length,
+                                   uint32_t *tokens, size_t tokens_length,
+                                   uint8_t *brackets, size_t brackets_length);
 
 #ifdef __cplusplus
 }

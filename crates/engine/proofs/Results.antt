@@ -3,7 +3,7 @@ use Prim.Native.Nat.{ℕ}
 use mathlib.Core.Bool.{Bool, true, false}
 use mathlib.Core.List.{List}
 use mathlib.Core.Path.{_≡_, refl, sym, ap, _∙_}
-use Rattle.combinators.specs.Refusal.{refusedIn, refusedAt}
+use Rattle.combinators.specs.Refusal.{noRefusal, refusedIn, refusedAt, badBytes}
 use Rattle.combinators.specs.declared.refusals.Refusal.{Refusal}
 use Rattle.sheets.specs.SheetAnswer.{numbersOf, SheetLeft}
 use Rattle.sheets.specs.declared.answers.SheetNumbers.{SheetNumbers}
@@ -15,10 +15,19 @@ use Rattle.page.specs.declared.check.PageAnswer.the-variants as page
 use Rattle.compiler.specs.CompileAnswer.{CompileLeft}
 use Rattle.compiler.specs.declared.answers.CompileNumbers.{CompileNumbers}
 use Rattle.combinators.specs.Choice.{pick, is}
-use Rattle.combinators.proofs.Rules.{pick-true, pick-false, is-yes, is-no}
+use Rattle.combinators.proofs.Rules.{pick-true, pick-false, pick-holds, is-yes, is-no}
 use Rattle.styles.specs.declared.settings.Settings.{Settings}
 use Rattle.styling.specs.StyleAnswer.{StyleLeft}
 use Rattle.styling.specs.declared.style.StyleAnswer.{StyleAnswer}
+use Rattle.page.specs.Accepted.{pageRefusal, rowsRefusal}
+use Rattle.compiled.specs.Answer.{bytesRefusal}
+use Rattle.compiled.specs.Decoded.{Decoded, read, fault, onDecoded}
+use Rattle.compiled.specs.Sheet.{CompiledSelector, decode}
+use Rattle.styles.specs.Lent.{Page}
+use Rattle.running.specs.RunAnswer.{RunLeft, unchanged, ran, runBy, runCall}
+use Rattle.running.specs.declared.run.RunAnswer.{RunAnswer}
+use Rattle.engine.specs.Run.{resultOf, answerIn}
+use Rattle.engine.specs.declared.run.RunResult.{RunResult}
 use Rattle.engine.specs.Style.{switchOff, settingsFrom}
 
 -- ---- a refusal in a call with one text has the text 0
@@ -77,3 +86,56 @@ pub style-called : (left : Settings → StyleLeft) {s₁ s₂ : Settings} {n m :
     → record { answer = n; row = k; texts = t; rules = y; tokens = x; brackets = b } ≡ left s₂
 style-called left {s₁} {s₂} {n} {m} {k} {t} {y} {x} {b} es e f =
     ap (λ (q : StyleAnswer). record { answer = q; row = k; texts = t; rules = y; tokens = x; brackets = b }) f ∙ e ∙ ap left es
+
+-- ---- a run, which reads no sheet: its refusals have the text 0
+abbrev textless : Refusal → Type 0
+textless r = r .text ≡ 0
+
+rows-textless : (nodes attributes text : List ℕ) → textless (rowsRefusal nodes attributes text)
+unfolding rowsRefusal
+rows-textless nodes attributes text =
+    pick-holds textless _ _ _ (λ _. refl) (λ _. pick-holds textless _ _ _ (λ _. refl) (λ _. pick-holds textless _ _ _ (λ _. refl) (λ _. refl)))
+
+page-textless : (g : Page) → textless (pageRefusal (g .nodes) (g .attributes) (g .text))
+unfolding pageRefusal
+page-textless g = pick-holds textless _ _ _ (λ _. rows-textless (g .nodes) (g .attributes) (g .text)) (λ _. refl)
+
+decoded-textless : (d : Decoded (List CompiledSelector)) → textless (onDecoded d (λ _ _. noRefusal) (λ p. refusedAt badBytes p))
+unfolding onDecoded
+decoded-textless (read n ss) = refl
+decoded-textless (fault p) = refl
+
+bytes-textless : (code : List ℕ) → textless (bytesRefusal code)
+unfolding bytesRefusal
+bytes-textless code = decoded-textless (decode code)
+
+abbrev textlessLeft : RunLeft → Type 0
+textlessLeft l = textless (l .answer .refusal)
+
+by-textless : (rows texts state rules tokens brackets code : List ℕ) (settings : Settings) (g : Page) (page bytes : Refusal) → textless page → textless bytes
+    → textlessLeft (runBy rows texts state rules tokens brackets code settings g page bytes)
+unfolding runBy unchanged ran
+by-textless rows texts state rules tokens brackets code settings g page bytes ep eb =
+    pick-holds textlessLeft _ _ _ (λ _. pick-holds textlessLeft _ _ _ (λ _. refl) (λ _. eb)) (λ _. ep)
+
+run-textless : (rows texts state rules tokens brackets code : List ℕ) (settings : Settings) (g : Page)
+    → textlessLeft (runCall rows texts state rules tokens brackets code settings g)
+unfolding runCall unchanged
+run-textless rows texts state rules tokens brackets code settings g =
+    pick-holds textlessLeft _ _ _ (λ _. refl)
+    (λ _. pick-holds textlessLeft _ _ _ (λ _. by-textless rows texts state rules tokens brackets code settings g _ _ (page-textless g) (bytes-textless code)) (λ _. refl))
+
+-- its answer in numbers
+answer-told : (a : RunAnswer) → textless (a .refusal) → answerIn (resultOf a) ≡ a
+unfolding answerIn resultOf
+answer-told a e = ap (λ (r : Refusal). record { refusal = r; texts = a .texts }) (one-text (a .refusal) e)
+
+pub run-called : (rows texts state rules tokens brackets code : List ℕ) (g : Page) {s₁ s₂ : Settings} {n : RunResult} {m : RunAnswer} {k t z y x b : List ℕ}
+    → s₁ ≡ s₂ → record { answer = m; rows = k; texts = t; state = z; rules = y; tokens = x; brackets = b } ≡ runCall rows texts state rules tokens brackets code s₁ g
+    → n ≡ resultOf m
+    → record { answer = answerIn n; rows = k; texts = t; state = z; rules = y; tokens = x; brackets = b } ≡ runCall rows texts state rules tokens brackets code s₂ g
+run-called rows texts state rules tokens brackets code g {s₁} {s₂} {n} {m} {k} {t} {z} {y} {x} {b} es e f =
+    let none : textless (m .refusal) = ap (λ (l : RunLeft). l .answer .refusal .text) e ∙ run-textless rows texts state rules tokens brackets code s₁ g in
+    let told : answerIn n ≡ m = ap answerIn f ∙ answer-told m none in
+    ap (λ (q : RunAnswer). record { answer = q; rows = k; texts = t; state = z; rules = y; tokens = x; brackets = b }) told ∙ e
+    ∙ ap (λ s. runCall rows texts state rules tokens brackets code s g) es

@@ -2,3 +2,4 @@ pub mod Sheet
 pub mod Compile
 pub mod Page
 pub mod Style
+pub mod Run

@@ -4,3 +4,4 @@ pub mod sheet; // sheet.rt: a sheet into lent stores
 pub mod compile; // compile.rt: three sheets into a compiled sheet
 pub mod pages; // pages.rt: which pages are accepted
 pub mod style; // style.rt: the style of an element
+pub mod run; // run.rt: the style rows of a page

@@ -21,7 +21,7 @@ pub struct StyleResult {
 }
 
 // The settings that a number stands for.
-fn settings_from(switch: u32) -> Settings
+pub fn settings_from(switch: u32) -> Settings
     ensures { λ r. ⌜ r ≡ settingsFrom switch ⌝ }
 {
     if switch == SWITCH_OFF {
