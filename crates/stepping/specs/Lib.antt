@@ -1,1 +1,2 @@
+pub mod Components
 pub mod Lent
