@@ -297,3 +297,65 @@ still-ready r er es eu et eb ex =
                 };
           };
     }
+
+-- ---- what holds between two rows: the work left from here is the whole work
+pub record Looping (code : List ℕ) (settings : Settings) (g : Page) (rows₀ state₀ rules₀ tokens₀ brackets₀ texts₀ rows state rules₁ tokens brackets texts : List ℕ) (fill i : ℕ) : Type 0 where
+  pub left : runFrom code settings g (nodeCount (g .nodes) - i) i (record { rows = rows; state = state; texts = take fill texts }) ≡ runOf code settings g rows₀ state₀
+  pub within : fill ≤ length texts
+  pub filled : fill ≤ textsMost g i
+  pub rows-long : length rows ≡ length rows₀
+  pub state-long : length state ≡ length state₀
+  pub rules-long : length rules₁ ≡ length rules₀
+  pub tokens-long : length tokens ≡ length tokens₀
+  pub brackets-long : length brackets ≡ length brackets₀
+  pub texts-long : length texts ≡ length texts₀
+
+-- before the first row
+pub begins : (code : List ℕ) (settings : Settings) (g : Page) (rows state rules₀ tokens brackets texts : List ℕ)
+    → Looping code settings g rows state rules₀ tokens brackets texts rows state rules₀ tokens brackets texts 0 0
+begins code settings g rows state rules₀ tokens brackets texts =
+    record {
+      left = run-begins code settings g rows state texts;
+      within = omega arith;
+      filled = omega arith;
+      rows-long = refl;
+      state-long = refl;
+      rules-long = refl;
+      tokens-long = refl;
+      brackets-long = refl;
+      texts-long = refl;
+    }
+
+module _ {code : List ℕ} {settings : Settings} {g : Page} {rows₀ state₀ rules₀ tokens₀ brackets₀ texts₀ rows₁ state₁ rules₁ tokens₁ brackets₁ texts₁ : List ℕ} {fill i : ℕ}
+    (v : Looping code settings g rows₀ state₀ rules₀ tokens₀ brackets₀ texts₀ rows₁ state₁ rules₁ tokens₁ brackets₁ texts₁ fill i) where
+  -- a row that is there is next
+  pub row-ready : RunReady code g rows₀ state₀ rules₀ tokens₀ brackets₀ texts₀ → (count : ℕ) → count ≡ nodeCount (g .nodes) → i < count → RowReady code g rows₁ state₁ rules₁ tokens₁ brackets₁ texts₁ i fill
+  row-ready r count e h =
+      record {
+        ready = still-ready r (v .rows-long) (v .state-long) (v .rules-long) (v .tokens-long) (v .brackets-long) (v .texts-long);
+        there = omega (arith, e, h);
+        filled = v .filled;
+      }
+
+  -- behind it
+  pub again : (count : ℕ) → count ≡ nodeCount (g .nodes) → i < count → (n : ℕ) (rows state rules₂ tokens brackets texts : List ℕ)
+      → record { rows = rows; state = state; texts = take n texts } ≡ runStep code settings g i (record { rows = rows₁; state = state₁; texts = take fill texts₁ })
+      → n ≤ length texts → n ≤ textsMost g (i + 1)
+      → length rows ≡ length rows₁ → length state ≡ length state₁ → length rules₂ ≡ length rules₁ → length tokens ≡ length tokens₁ → length brackets ≡ length brackets₁ → length texts ≡ length texts₁
+      → Looping code settings g rows₀ state₀ rules₀ tokens₀ brackets₀ texts₀ rows state rules₂ tokens brackets texts n (i + 1)
+  again count ec h n rows state rules₂ tokens brackets texts e w f er es eu et eb ex =
+      record {
+        left = run-more code settings g i (record { rows = rows₁; state = state₁; texts = take fill texts₁ }) (record { rows = rows; state = state; texts = take n texts }) (runOf code settings g rows₀ state₀) (omega (arith, ec, h)) e (v .left);
+        within = w;
+        filled = f;
+        rows-long = er ∙ v .rows-long;
+        state-long = es ∙ v .state-long;
+        rules-long = eu ∙ v .rules-long;
+        tokens-long = et ∙ v .tokens-long;
+        brackets-long = eb ∙ v .brackets-long;
+        texts-long = ex ∙ v .texts-long;
+      }
+
+  -- behind the last row
+  pub ends : (count : ℕ) → count ≡ nodeCount (g .nodes) → count ≤ i → record { rows = rows₁; state = state₁; texts = take fill texts₁ } ≡ runOf code settings g rows₀ state₀
+  ends count ec h = run-done code settings g i (record { rows = rows₁; state = state₁; texts = take fill texts₁ }) (runOf code settings g rows₀ state₀) (omega (arith, ec, h)) (v .left)

@@ -1,38 +1,29 @@
+-- The parent does not come before, or its row is copied.
+use Rattle.running.proofs.RowSteps as laws
 use borrow.Author.Needs.{needs}
 use Rattle.running.proofs.rows.place_parent.Statement.{statement}
 use Rattle.running.proofs.rows.place_parent.Tie as tie
-use Rattle.running.proofs.rows.place_parent.Reads as reads
-use Rattle.running.proofs.rows.place_parent.Lts as lts
-use Rattle.cascade.proofs.rows.copy_within.Reads as copy-within-reads
-use Rattle.page.proofs.rows.parent_of.Reads as parent-of-reads
 
--- src/rows.rt:24:9
 parent-of-requires : tie.Need-parent-of-requires
 parent-of-requires c κs = search needs
 
--- src/rows.rt:26:9
 returns : tie.Need-returns
-returns c = search needs
+returns c = laws.parent-none (c .before .before .before .before .args .nodes .now) (c .before .before .before .before .args .rows .now) (c .before .before .before .before .args .row) _ (c .before .parent-of .ensures .0) (c .if1 .taken)
 
--- src/rows.rt:28:23
 mul-copy-within : tie.Need-mul-copy-within
 mul-copy-within c = search needs
 
--- src/rows.rt:28:49
 mul-copy-within-2 : tie.Need-mul-copy-within-2
 mul-copy-within-2 c = search needs
 
--- src/rows.rt:28:5
 copy-within-requires : tie.Need-copy-within-requires
-copy-within-requires c κs = search needs
+copy-within-requires c κs = laws.two-rooms (c .before .before .before .before .before .args .rows .now) (c .before .before .before .before .before .args .row) _ (c .before .before .before .before .before .pre) (c .before .if1 .left)
 
--- src/rows.rt:20:1
 same-length : tie.Need-same-length
 same-length c = search needs
 
--- src/rows.rt:20:1
 returns-2 : tie.Need-returns-2
-returns-2 c = search needs
+returns-2 c = laws.parent-placed (c .before .before .before .before .before .before .before .before .args .nodes .now) (c .before .before .before .before .before .before .before .before .args .rows .now) (c .before .before .before .before .before .before .before .before .args .row) _ (c .before .before .before .before .before .parent-of .ensures .0) (c .before .before .before .before .if1 .left) _ (c .before .before .copy-within .ensures)
 
 pub place-parent-spec : {M : Type 1} → statement M
 place-parent-spec =

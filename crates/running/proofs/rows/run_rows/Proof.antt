@@ -1,70 +1,56 @@
+-- The work left from a row on is the whole work.
+use Rattle.running.proofs.RowSteps as laws
+use native.Mathlib.Omega.{arith}
+use Prim.Native.Nat.{_-_}
 use borrow.Author.Needs.{needs}
 use Rattle.running.proofs.rows.run_rows.Statement.{statement}
 use Rattle.running.proofs.rows.run_rows.Tie as tie
-use Rattle.running.proofs.rows.run_rows.Reads as reads
-use Rattle.running.proofs.rows.run_rows.Lts as lts
-use Rattle.page.proofs.rows.node_count.Reads as node-count-reads
-use Rattle.running.proofs.rows.run_row.Reads as run-row-reads
 
 abbrev Inv-loop : tie.InvT-loop
-Inv-loop settings compiled nodes attributes text rows₀ state₀ rules₀ tokens₀ brackets₀ texts₀ count fill₀ row₀ rows state rules tokens brackets texts fill row =
-    search needs
+Inv-loop settings compiled nodes attributes text rows₀ state₀ rules₀ tokens₀ brackets₀ texts₀ count fill₀ row₀ rows state rules tokens brackets texts fill row = laws.Looping compiled settings (record { nodes = nodes; attributes = attributes; text = text }) rows₀ state₀ rules₀ tokens₀ brackets₀ texts₀ rows state rules tokens brackets texts fill row
 
 abbrev μ-loop : tie.MeasureT-loop
-μ-loop settings compiled nodes attributes text rows₀ state₀ rules₀ tokens₀ brackets₀ texts₀ count fill₀ row₀ rows state rules tokens brackets texts fill row =
-    search needs
+μ-loop settings compiled nodes attributes text rows₀ state₀ rules₀ tokens₀ brackets₀ texts₀ count fill₀ row₀ rows state rules tokens brackets texts fill row = count - row
 
--- src/rows.rt:95:9
 node-count-requires : tie.Need-node-count-requires Inv-loop μ-loop
 node-count-requires c κs = search needs
 
--- src/rows.rt:98:5
 loop-holds : tie.Need-loop-holds Inv-loop μ-loop
-loop-holds c = search needs
+loop-holds c = let a = c .before .before .before .before .before .before .before .before .before .before .before .args in laws.begins (a .compiled .now) (a .settings) (record { nodes = a .nodes .now; attributes = a .attributes .now; text = a .text .now }) (a .rows .now) (a .state .now) (a .rules .now) (a .tokens .now) (a .brackets .now) (a .texts .now)
 
--- src/rows.rt:99:9
 run-row-requires : tie.Need-run-row-requires Inv-loop μ-loop
-run-row-requires c κs = search needs
+run-row-requires c κs = laws.row-ready (c .before .before .before .before .before .before .before .loop .inv) (c .before .before .before .before .before .before .before .before .before .before .before .before .before .before .before .before .before .before .before .pre) _ (c .before .before .before .before .before .before .before .before .node-count .ensures) (c .before .before .before .before .before .before .loop-test .taken)
 
--- src/rows.rt:114:9
 add-row : tie.Need-add-row Inv-loop μ-loop
-add-row c = search needs
+add-row c = omega (arith, c .before .before .before .before .before .before .before .before .before .before .before .before .before .before .before .before .before .before .before .loop-test .taken)
 
--- src/rows.rt:98:5
 loop-less : tie.Need-loop-less Inv-loop μ-loop
-loop-less c = search needs
+loop-less c = omega (arith, c .before .before .before .before .before .before .before .before .before .before .before .before .before .before .before .before .before .before .before .loop-test .taken)
 
--- src/rows.rt:98:5
 loop-again : tie.Need-loop-again Inv-loop μ-loop
-loop-again c = search needs
+loop-again c = let k = c .before .before .before .before .before .before .before .before .before .before .before .before .run-row .kept .1 .1 .1 .1 .1 .1 in let s = c .before .before .before .before .before .before .before .before .before .before .before .before .run-row .ensures in
+    laws.again (c .before .before .before .before .before .before .before .before .before .before .before .before .before .before .before .before .before .before .before .before .loop .inv) _ (c .before .before .before .before .before .before .before .before .before .before .before .before .before .before .before .before .before .before .before .before .before .node-count .ensures) (c .before .before .before .before .before .before .before .before .before .before .before .before .before .before .before .before .before .before .before .loop-test .taken) _ _ _ _ _ _ _ (s .0) (s .1 .0) (s .1 .1) (k .0) (k .1 .0) (k .1 .1 .0) (k .1 .1 .1 .0) (k .1 .1 .1 .1 .0) (k .1 .1 .1 .1 .1 .0)
 
--- src/rows.rt:77:1
 same-length : tie.Need-same-length Inv-loop μ-loop
-same-length c = search needs
+same-length c = c .before .loop .inv .rows-long
 
--- src/rows.rt:77:1
 same-length-2 : tie.Need-same-length-2 Inv-loop μ-loop
-same-length-2 c = search needs
+same-length-2 c = c .before .loop .inv .state-long
 
--- src/rows.rt:77:1
 same-length-3 : tie.Need-same-length-3 Inv-loop μ-loop
-same-length-3 c = search needs
+same-length-3 c = c .before .loop .inv .rules-long
 
--- src/rows.rt:77:1
 same-length-4 : tie.Need-same-length-4 Inv-loop μ-loop
-same-length-4 c = search needs
+same-length-4 c = c .before .loop .inv .tokens-long
 
--- src/rows.rt:77:1
 same-length-5 : tie.Need-same-length-5 Inv-loop μ-loop
-same-length-5 c = search needs
+same-length-5 c = c .before .loop .inv .brackets-long
 
--- src/rows.rt:77:1
 same-length-6 : tie.Need-same-length-6 Inv-loop μ-loop
-same-length-6 c = search needs
+same-length-6 c = c .before .loop .inv .texts-long
 
--- src/rows.rt:77:1
 returns : tie.Need-returns Inv-loop μ-loop
-returns c = search needs
+returns c = (laws.ends (c .before .loop .inv) _ (c .before .before .node-count .ensures) (c .loop-test .left), c .before .loop .inv .within)
 
 pub run-rows-spec : {M : Type 1} → statement M
 run-rows-spec =

@@ -1,38 +1,31 @@
+-- Rows that are too few, a state that is too short, or the test of the stores.
+use Rattle.running.proofs.Enough as laws
+use Rattle.page.specs.Rows.{attributeWidth}
+use Prim.Native.Nat.{_+_, _*_, _/_}
 use borrow.Author.Needs.{needs}
 use Rattle.running.proofs.suffices.run_suffices.Statement.{statement}
 use Rattle.running.proofs.suffices.run_suffices.Tie as tie
-use Rattle.running.proofs.suffices.run_suffices.Reads as reads
-use Rattle.running.proofs.suffices.run_suffices.Lts as lts
-use Rattle.combinators.proofs.least.long_enough.Reads as long-enough-reads
-use Rattle.running.proofs.suffices.texts_suffice.Reads as texts-suffice-reads
 
--- src/suffices.rt:58:8
 long-enough-requires : tie.Need-long-enough-requires
 long-enough-requires c κs = search needs
 
--- src/suffices.rt:59:30
 add-if2 : tie.Need-add-if2
 add-if2 c = search needs
 
--- src/suffices.rt:59:20
 mul-if2 : tie.Need-mul-if2
 mul-if2 c = search needs
 
--- src/suffices.rt:60:13
 returns : tie.Need-returns
-returns c = search needs
+returns c = let a = c .before .before .before .args in laws.short-state (a .compiled) (a .nodes) (a .rows) (a .state) (a .text + 2 * (a .attributes / attributeWidth)) (a .rules) (a .tokens) (a .brackets) (a .texts) (c .before .before .long-enough .ensures) (c .before .if1 .taken) (c .if2 .taken)
 
--- src/suffices.rt:62:9
 texts-suffice-requires : tie.Need-texts-suffice-requires
 texts-suffice-requires c κs = search needs
 
--- src/suffices.rt:62:9
 returns-2 : tie.Need-returns-2
-returns-2 c = search needs
+returns-2 c = let a = c .before .before .before .before .args in laws.by-texts (a .compiled) (a .nodes) (a .rows) (a .state) (a .text + 2 * (a .attributes / attributeWidth)) (a .rules) (a .tokens) (a .brackets) (a .texts) (c .before .before .before .long-enough .ensures) (c .before .before .if1 .taken) (c .before .if2 .left) _ (c .texts-suffice .ensures)
 
--- src/suffices.rt:43:1
 returns-3 : tie.Need-returns-3
-returns-3 c = search needs
+returns-3 c = let a = c .before .before .args in laws.few-rows (a .compiled) (a .nodes) (a .rows) (a .state) (a .text + 2 * (a .attributes / attributeWidth)) (a .rules) (a .tokens) (a .brackets) (a .texts) (c .before .long-enough .ensures) (c .if1 .left)
 
 pub run-suffices-spec : {M : Type 1} → statement M
 run-suffices-spec =

@@ -1,31 +1,27 @@
+-- Brackets that are fewer than the bytes, or the test of the stores.
+use Rattle.running.proofs.Enough as laws
+use Rattle.page.specs.Rows.{attributeWidth}
+use native.Mathlib.Omega.{arith}
+use Prim.Native.Nat.{_+_, _*_, _/_}
 use borrow.Author.Needs.{needs}
 use Rattle.running.proofs.suffices.texts_suffice.Statement.{statement}
 use Rattle.running.proofs.suffices.texts_suffice.Tie as tie
-use Rattle.running.proofs.suffices.texts_suffice.Reads as reads
-use Rattle.running.proofs.suffices.texts_suffice.Lts as lts
-use Rattle.combinators.proofs.least.stores_suffice.Reads as stores-suffice-reads
 
--- src/suffices.rt:32:18
 mul-beside : tie.Need-mul-beside
 mul-beside c = search needs
 
--- src/suffices.rt:34:9
 returns : tie.Need-returns
-returns c = search needs
+returns c = let a = c .before .args in laws.few-brackets (a .text + 2 * (a .attributes / attributeWidth)) (a .rules) (a .tokens) (a .brackets) (a .texts) (omega (arith, c .if1 .taken))
 
--- src/suffices.rt:37:9
 returns-2 : tie.Need-returns-2
-returns-2 c = search needs
+returns-2 c = let a = c .before .before .args in laws.few-brackets (a .text + 2 * (a .attributes / attributeWidth)) (a .rules) (a .tokens) (a .brackets) (a .texts) (omega (arith, c .if2 .taken, c .before .if1 .left))
 
--- src/suffices.rt:39:20
 add-stores-suffice : tie.Need-add-stores-suffice
 add-stores-suffice c = search needs
 
--- src/suffices.rt:39:5
 stores-suffice-requires : tie.Need-stores-suffice-requires
 stores-suffice-requires c κs = search needs
 
--- src/suffices.rt:22:1
 returns-3 : tie.Need-returns-3
 returns-3 c = search needs
 
