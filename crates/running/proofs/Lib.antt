@@ -1,3 +1,4 @@
 pub mod Handed
 pub mod RowSteps
 pub mod Enough
+pub mod RunCalls
