@@ -1,20 +1,19 @@
 -- What a row hands to its step on an accepted page: its attribute rows are lent, they are the row's attributes, and there is room for them behind the texts
 -- of the rows before.
-use mathlib.Core.Path.{_≡_, refl, sym, ap, _∙_}
+use mathlib.Core.Path.{_≡_, refl, ap, _∙_}
 use mathlib.Core.Bool.{true}
 use mathlib.Core.Logic.{_⊎_, inl, inr}
-use mathlib.Core.List.{List, [], _∷_}
-use Prim.Native.Nat.{ℕ, zero, suc, _+_, _-_, _*_, _/_, _%_, _^_, _≤_, _<_}
+use mathlib.Core.List.{List, _∷_}
+use Prim.Native.Nat.{ℕ, zero, suc, _+_, _-_, _*_, _≤_, _<_}
 use native.Mathlib.Omega.{arith}
 use lib.ListN.{length, take, drop, getD, length-drop}
 use lib.Seq.{getD-take, getD-drop, length-take-le}
 use Rattle.combinators.specs.Part.{part}
-use Rattle.combinators.specs.Refusal.{noRefusal}
 use Rattle.combinators.proofs.Rules.{and-true, is-true}
-use Rattle.page.specs.Accepted.{attributesBefore, attributesEnd, textsEnd, bytesBefore, endsInZeros, elementFollows, pageRefusal}
+use Rattle.page.specs.Accepted.{attributesBefore, textsEnd, bytesBefore, endsInZeros, elementFollows}
 use Rattle.page.specs.Path.{Attribute}
 use Rattle.page.specs.PathOf.{attributesFrom}
-use Rattle.page.specs.Rows.{NodeRow, nodeWidth, nodeCount, nodeAt, attributeWidth, attributeRows, attributeNumber, attributeName, attributeValue, elementKind, otherKind}
+use Rattle.page.specs.Rows.{NodeRow, nodeCount, nodeAt, attributeWidth, attributeRows, attributeNumber, attributeName, attributeValue, elementKind, otherKind}
 use Rattle.page.proofs.AcceptedPages.{Accepted, accepted}
 use Rattle.page.proofs.RowFacts.{document-zeros, kind-of-row, attributes-lent}
 use Rattle.page.proofs.Sums.{bytes-within, attributes-before-within}
@@ -22,7 +21,7 @@ use Rattle.styles.specs.Lent.{Page}
 use Rattle.styles.specs.Room.{valuesOf}
 use Rattle.styles.proofs.Room.{attributes-counted, values-short}
 use Rattle.attributes.specs.Merging.{InlineRoom}
-use Rattle.running.specs.Ready.{RunReady, RowReady, textsMost}
+use Rattle.running.specs.Ready.{RowReady, textsMost}
 
 -- ---- a part of the attribute rows
 module _ (attributes text : List ℕ) (first count : ℕ) where

@@ -1,26 +1,23 @@
 -- The functions that go down the rows of a page: a parent's row copied, a step, and the loop.
 use mathlib.Core.Path.{_≡_, refl, sym, ap, _∙_}
-use mathlib.Core.Bool.{Bool, true, false}
 use mathlib.Core.List.{List, [], _++_, append-assoc}
 use Prim.Native.Nat.{ℕ, zero, suc, _+_, _-_, _*_, _≤_, _<_}
 use native.Mathlib.Omega.{arith}
-use native.Mathlib.Numerals.{add-one}
 use borrow.Author.Tests.{lt-ltb, le-ltb, ltb-true}
 use borrow.Rule.Slice.PartMut.{putMid}
 use lib.Dec.{ltb}
 use lib.ListN.{length, take, drop, length-append, length-take, length-drop}
-use lib.Seq.{sets, sets-eq, length-sets, length-take-le, take-at, drop-at, take-append-le, drop-append-le}
-use Rattle.combinators.specs.Choice.{pick, is}
+use lib.Seq.{sets, sets-eq, length-sets, length-take-le, take-at, drop-at}
 use Rattle.combinators.specs.Part.{part}
 use Rattle.combinators.proofs.Parts.{part-whole}
 use Rattle.combinators.proofs.Rules.{pick-true, pick-false, pick-holds}
 use Rattle.cascade.specs.Row.{styleRowWidth, TwoRooms}
 use Rattle.cascade.proofs.Inheriting.{lent-row, row-returned}
-use Rattle.page.specs.Accepted.{nodeLimit, depthLimit}
+use Rattle.page.specs.Accepted.{nodeLimit}
 use Rattle.page.specs.Ancestors.{depthOf}
 use Rattle.page.specs.Path.{Attribute, Element}
 use Rattle.page.specs.PathOf.{attributesFrom}
-use Rattle.page.specs.Rows.{nodeWidth, nodeCount, nodeAt, attributeWidth, attributeRows, otherKind}
+use Rattle.page.specs.Rows.{nodeWidth, nodeCount, nodeAt, attributeWidth, attributeRows}
 use Rattle.page.proofs.Ancestry.{depth-most}
 use Rattle.page.proofs.RowFacts.{parent-before, shallow}
 use Rattle.styles.specs.declared.settings.Settings.{Settings}

@@ -1,14 +1,14 @@
 -- Returns of the functions of a run: what is left of a page that was styled, and the refusals in their order.
 use mathlib.Core.Path.{_≡_, refl, ap, sym, _∙_}
 use mathlib.Core.Bool.{Bool, true, false}
-use mathlib.Core.List.{List, [], _++_}
+use mathlib.Core.List.{List, _++_}
 use Prim.Native.Nat.{ℕ, suc, _+_, _-_, _*_, _/_, _^_, _≤_, _<_}
 use native.Mathlib.Omega.{arith}
 use borrow.Author.Tests.{leb-true, lt-ltb, le-ltb}
 use lib.Dec.{leb}
 use lib.ListN.{length, take, replicate}
 use lib.Seq.{length-take-le}
-use Rattle.combinators.specs.Choice.{pick, and, is}
+use Rattle.combinators.specs.Choice.{and}
 use Rattle.combinators.specs.LeastLengths.{storesSuffice}
 use Rattle.combinators.specs.Refusal.{noRefusal, refused, refusedAt, tooLong, shortStore, badBytes}
 use Rattle.combinators.specs.declared.refusals.Refusal.{Refusal}

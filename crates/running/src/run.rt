@@ -43,7 +43,7 @@ fn run_answer(texts: usize) -> RunAnswer
     RunAnswer { refusal, texts }
 }
 
-// Zeros throughout the work stores of numbers.
+// Zeros throughout the work stores.
 fn clear_work(rules: &mut [u32], tokens: &mut [u32], brackets: &mut [u8], state: &mut [u8])
     ensures { λ _. ⌜ now (rules .exit) ≡ cleared 0 (now (rules .entry)) ⌝ }
     ensures { λ _. ⌜ now (tokens .exit) ≡ cleared 0 (now (tokens .entry)) ⌝ }
