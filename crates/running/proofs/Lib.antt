@@ -1,0 +1,4 @@
+pub mod Handed
+pub mod RowSteps
+pub mod Enough
+pub mod RunCalls

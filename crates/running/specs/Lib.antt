@@ -1,1 +1,2 @@
 pub mod RunAnswer
+pub mod Ready
