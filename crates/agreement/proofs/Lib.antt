@@ -4,3 +4,6 @@ pub mod PartsFit
 pub mod StepStyle
 pub mod RunRight
 pub mod Demand
+pub mod RowNumbers
+pub mod OwnSlots
+pub mod SameRows
