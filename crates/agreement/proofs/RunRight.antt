@@ -6,9 +6,8 @@ use mathlib.Core.Logic.{_⊎_, inl, inr}
 use mathlib.Core.List.{List, [], _∷_, _++_, append-nil}
 use native.Mathlib.Nat.{not-suc-le-zero}
 use native.Mathlib.Omega.{arith}
-use lib.ListN.{length, take, drop, length-append}
-use lib.Seq.{sets, length-sets, sets-eq, length-take-le, drop-at, drop-drop}
-use Rattle.combinators.specs.Part.{part}
+use lib.ListN.{length, drop, length-append}
+use lib.Seq.{sets, length-sets, drop-drop}
 use Rattle.combinators.proofs.Rules.{lt-or-ge}
 use Rattle.syntax.specs.Selector.{RuleSet}
 use Rattle.cascade.specs.Row.{styleRowWidth, rowOf, styleAt}
@@ -20,7 +19,10 @@ use Rattle.page.specs.Rows.{nodeCount, nodeAt, elementKind, otherKind}
 use Rattle.page.proofs.AcceptedPages.{Accepted}
 use Rattle.page.proofs.Paths.{path-document, path-element}
 use Rattle.page.proofs.RowFacts.{document-kind, parent-kind}
-use Rattle.compiled.specs.Sheet.{encode}
+use Rattle.syntax.specs.Stream.{textsMany}
+use Rattle.compiled.specs.Number.{numberBytes}
+use Rattle.compiled.specs.Sheet.{CompiledSelector, selectorBytes, encode}
+use Rattle.compiled.proofs.NumberBack.{number-some}
 use Rattle.compiled.proofs.Fits.{SheetFits}
 use Rattle.compiled.proofs.RoundTrip.{round-trip}
 use Rattle.styles.specs.Said.{Rules}
@@ -38,33 +40,17 @@ use Rattle.styles.specs.Lent.{Page}
 use Rattle.runner.specs.Run.{noStyle, rowBelow, Stepped, documentStep, elementStep, stepOn, handedAt, Running, styleRowAt, runStep, runFrom, runOf, rowContents, contentsBefore, pageContents}
 use Rattle.agreement.specs.Demand.{sheetsSelectors, AllRows}
 use Rattle.runner.proofs.GroupLaws.{matching-right}
-use Rattle.runner.proofs.StateParts.{part-kept, part-written}
+use Rattle.runner.proofs.StyleRows.{row-written, row-kept, behind-kept}
+use Rattle.runner.proofs.GroupsFit.{groups-fit}
 use Rattle.runner.proofs.OpenRows.{parent-most, kinds}
-use Rattle.runner.proofs.OpenParts.{length-raised, length-opened, Ready, document-ready, other-ready, place-right, bytes-of, element-ready}
-use Rattle.agreement.proofs.PartsFit.{parts-fit}
+use Rattle.runner.proofs.OpenParts.{used, length-raised, length-opened, Ready, document-ready, other-ready, place-right, bytes-of, element-ready}
 use Rattle.agreement.proofs.StepStyle.{RowStyled, document-styled, styled-further, styled-below}
 use Rattle.runner.proofs.Steps.{element-contents, no-contents, other-step, document-step, element-step}
 
--- ---- rows and stores
-module _ (rows row : List ℕ) (i n : ℕ) (there : i < n) (long : n * styleRowWidth ≤ length rows) (whole : length row ≡ styleRowWidth) where
-  -- a row that is written is there
-  row-written : styleRowAt (sets rows (i * styleRowWidth) row) i ≡ row
-  unfolding styleRowAt part
-  row-written = part-written rows row (i * styleRowWidth) (omega arith) styleRowWidth whole
-
-  -- the rows before it stay
-  row-kept : (j : ℕ) → j < i → styleRowAt (sets rows (i * styleRowWidth) row) j ≡ styleRowAt rows j
-  unfolding styleRowAt part
-  row-kept j l = part-kept rows row (i * styleRowWidth) (omega arith) (j * styleRowWidth) styleRowWidth (omega arith)
-
-  -- so does what lies behind it
-  behind-kept : drop (suc i * styleRowWidth) (sets rows (i * styleRowWidth) row) ≡ drop (suc i * styleRowWidth) rows
-  behind-kept =
-      let at : ℕ = i * styleRowWidth in
-      let r : at + length row ≤ length rows = omega arith in
-      let e : suc i * styleRowWidth ≡ at + length row = omega arith in
-      let len : length (take at rows ++ row) ≡ at + length row = length-append (take at rows) row ∙ omega (arith, length-take-le at rows (omega arith)) in
-      rw e (ap (drop (at + length row)) (sets-eq row rows at r) ∙ drop-at (take at rows ++ row) (drop (at + length row) rows) (at + length row) len)
+-- the bytes of a sheet begin with a count
+some-bytes : (ss : List CompiledSelector) → 0 < length (encode ss)
+unfolding encode
+some-bytes ss = omega (arith, length-append (numberBytes (length ss)) (textsMany selectorBytes ss), number-some (length ss))
 
 -- ---- a run
 module _ (rules : Rules RuleSet) (fits : SheetFits (sheetsSelectors rules)) (settings : Settings) (g : Page) (ok : Accepted (g .nodes) (g .attributes) (g .text))
@@ -81,8 +67,12 @@ module _ (rules : Rules RuleSet) (fits : SheetFits (sheetsSelectors rules)) (set
   abbrev pathAt : ℕ → Path
   pathAt i = pathOf (g .nodes) (g .attributes) (g .text) i
 
+  -- a part has room for the bytes of all groups
+  pub groups-there : used (walked code) ≤ partWidth code
+  groups-there = groups-fit code (some-bytes (sheetsSelectors rules))
+
   abbrev ReadyAt : ℕ → List ℕ → Type 0
-  ReadyAt i state = Ready code (walked code) (g .nodes) (g .attributes) (g .text) (parts-fit (sheetsSelectors rules) fits) ok i state
+  ReadyAt i state = Ready code (walked code) (g .nodes) (g .attributes) (g .text) groups-there ok i state
 
   -- a style row is right where the store has these contents
   pub record RowRight (filled row : List ℕ) (i : ℕ) : Type 0 where
@@ -169,7 +159,7 @@ module _ (rules : Rules RuleSet) (fits : SheetFits (sheetsSelectors rules)) (set
           whole = refl;
           right = zeros-right (contentsBefore settings g 1) 0 no;
           state-long = length-opened (r .state) (partPlace code 0) (allGroups [] (walked code) []);
-          ready = document-ready code (walked code) (g .nodes) (g .attributes) (g .text) (parts-fit (sheetsSelectors rules) fits) ok (r .state) long;
+          ready = document-ready code (walked code) (g .nodes) (g .attributes) (g .text) groups-there ok (r .state) long;
           texts = nothing-new 0 (r .texts) no;
         })
 
@@ -190,7 +180,7 @@ module _ (rules : Rules RuleSet) (fits : SheetFits (sheetsSelectors rules)) (set
             whole = refl;
             right = zeros-right (contentsBefore settings g (suc (suc i))) (suc i) no;
             state-long = refl;
-            ready = other-ready code (walked code) (g .nodes) (g .attributes) (g .text) (parts-fit (sheetsSelectors rules) fits) ok i there (r .state) long (b .ready) e;
+            ready = other-ready code (walked code) (g .nodes) (g .attributes) (g .text) groups-there ok i there (r .state) long (b .ready) e;
             texts = nothing-new (suc i) (r .texts) no;
           })
 
@@ -228,7 +218,7 @@ module _ (rules : Rules RuleSet) (fits : SheetFits (sheetsSelectors rules)) (set
         -- the selectors that match, by the bytes
         matching-here : matching (walked code) bytes ≡ matchingAt (e ∷ pathAt p) (walked code)
         matching-here =
-            ap (matching (walked code)) (bytes-of code (walked code) (g .nodes) (g .attributes) (g .text) (parts-fit (sheetsSelectors rules) fits) ok i there (r .state) long (b .ready) element)
+            ap (matching (walked code)) (bytes-of code (walked code) (g .nodes) (g .attributes) (g .text) groups-there ok i there (r .state) long (b .ready) element)
             ∙ matching-right (walked code) (pathAt (suc i))
             ∙ ap (λ (x : Path). matchingAt x (walked code)) path-here
 
@@ -244,7 +234,7 @@ module _ (rules : Rules RuleSet) (fits : SheetFits (sheetsSelectors rules)) (set
         element-after : After (suc i) r (stepAt (suc i) r)
         unfolding elementStep contentsBefore
         element-after =
-            let place = place-right code (walked code) (g .nodes) (g .attributes) (g .text) (parts-fit (sheetsSelectors rules) fits) ok i there (r .state) long (b .ready) element in
+            let place = place-right code (walked code) (g .nodes) (g .attributes) (g .text) groups-there ok i there (r .state) long (b .ready) element in
             let new : rowContents settings g (suc i) ≡ inlineContents settings e = element-contents settings g (suc i) element in
             let at : ℕ = partPlace code (depthOf (g .nodes) p) in
             subst (After (suc i) r) (sym (element-step code settings g parent (r .state) (r .texts) ok i there element place))
@@ -252,7 +242,7 @@ module _ (rules : Rules RuleSet) (fits : SheetFits (sheetsSelectors rules)) (set
               whole = ap length (row-here ∙ below .1) ∙ row-long (below .0) (below .2);
               right = record { styled = λ k. rw (row-here, new, path-here) below; zeros = λ d. absurd (d element) };
               state-long = length-opened (raised (r .state) at) (partPlace code (suc (depthOf (g .nodes) p))) bytes ∙ length-raised (r .state) at;
-              ready = element-ready code (walked code) (g .nodes) (g .attributes) (g .text) (parts-fit (sheetsSelectors rules) fits) ok i there (r .state) long (b .ready) element e refl;
+              ready = element-ready code (walked code) (g .nodes) (g .attributes) (g .text) groups-there ok i there (r .state) long (b .ready) element e refl;
               texts = ap (λ (x : List ℕ). r .texts ++ x) (sym new);
             })
 

@@ -1,1 +1,2 @@
+pub mod SameRow
 pub mod Demand

@@ -5,5 +5,8 @@ pub mod OpenParts
 pub mod Handed
 pub mod RowBelow
 pub mod Steps
+pub mod StyleRows
+pub mod GroupsFit
+pub mod RunFree
 pub mod PageContents
 pub mod Independence
