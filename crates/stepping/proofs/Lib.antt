@@ -1,3 +1,4 @@
 pub mod PieceLaws
+pub mod LeapLaws
 pub mod WalkLaws
 pub mod WeightLaws

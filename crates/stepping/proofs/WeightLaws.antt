@@ -1,8 +1,8 @@
 -- What the components of a selector add up to.
-use Prim.Native.Nat.{ℕ, suc, _+_, _-_, _≤_, _<_, _^_}
+use Prim.Native.Nat.{ℕ, _+_, _-_, _≤_, _<_, _^_}
 use mathlib.Core.Path.{_≡_, refl, sym, ap, _∙_}
 use mathlib.Core.Bool.{false}
-use mathlib.Core.List.{List, [], _∷_}
+use mathlib.Core.List.{List}
 use native.Mathlib.Nat.{add-zero, zero-add, add-assoc}
 use native.Mathlib.Omega.{arith}
 use Rattle.combinators.specs.Choice.{pick, or, is}
@@ -12,7 +12,7 @@ use Rattle.syntax.specs.Selector.{Component, star, class, element, hash, child,
 use Rattle.cascade.specs.Specificity.{specificityOf, noSpecificity, sum, SumFits}
 use Rattle.cascade.specs.declared.specificity.Specificity.{Specificity}
 use Rattle.matching.specs.Specificity.{added, specificity}
-use Rattle.compiled.specs.Decoded.{read, fault, onDecoded, counted}
+use Rattle.compiled.specs.Decoded.{read, onDecoded, counted}
 use Rattle.compiled.specs.Component.{writtenAt, markOf, namedOf, componentAt}
 use Rattle.compiled.specs.Answer.{componentAnswer}
 use Rattle.compiled.specs.declared.components.ComponentAnswer.{ComponentAnswer}

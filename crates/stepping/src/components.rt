@@ -25,12 +25,12 @@ ghost use lib.Seq.{sets};
 ghost use Rattle.combinators.specs.Choice.{and};
 ghost use Rattle.syntax.specs.Signed.{signedOf};
 ghost use Rattle.matching.specs.Nth.{nthMatches};
-ghost use Rattle.matching.specs.Specificity.{added, specificity};
+ghost use Rattle.matching.specs.Specificity.{specificity};
 ghost use Rattle.compiled.specs.Decoded.{read, counted};
 ghost use Rattle.compiled.specs.Component.{namedOf, componentAt};
 ghost use Rattle.compiled.specs.Sheet.{compiledLimit};
 ghost use Rattle.runner.specs.Groups.{pack, combined, tested, groups, combinators};
-ghost use Rattle.stepping.specs.Components.{rowAlone, handedElement, aboveFrom, Reads, componentsFrom, combinatorOf, pieceAt, weightAt, placeLimit, ComponentsLent};
+ghost use Rattle.stepping.specs.Components.{rowAlone, handedElement, aboveFrom, Reads, componentsFrom, combinatorOf, pieceAt, leapAt, nextPiece, weightAt, placeLimit, ComponentsLent};
 
 // What the lower bit of a group's byte says, and what the upper one.
 const MATCHES_HERE: u8 = 1;
@@ -42,12 +42,21 @@ const BOTH_HERE: u8 = 3;
 // How many values the lower bit has.
 const BIT_VALUES: u8 = 2;
 
-// What a component is for a row, each with the place behind it: a test, with whether the tests up to it pass; a combinator, with whether it is `>`. Or the
-// place of the fault.
+// Fewer components are mostly one group, which a leap would only read twice.
+const LEAST_TO_LEAP: u32 = 3;
+
+// What a component is for a row, each with the place behind it: a test, with whether the tests up to it pass; a combinator, with how many components stand
+// behind it and whether it is `>`. Or the place of the fault.
 pub enum Piece {
     Test(usize, bool),
-    Combinator(usize, bool),
+    Combinator(usize, u32, bool),
     Fault(usize),
+}
+
+// Where a group ends at a combinator: the place behind it, how many components stand there, and whether it is `>`. Or it has none.
+pub enum Leap {
+    Behind(usize, u32, bool),
+    Nowhere,
 }
 
 // What a component adds to the specificity of its selector, with the place behind it. Or the place of the fault.
@@ -139,27 +148,51 @@ fn nth_passes(first: u32, second: u32, place: usize) -> bool
     nth(a, b, place)
 }
 
-// The component at `at` for a row. Where the tests so far have failed, and on the document, which passes star alone, a test is only read past.
-fn read_piece(
+// The component at `at`, of which `left` stand behind it, for the document, which passes star alone: a test is only read past.
+fn pass_piece(compiled: &[u8], at: usize, left: u32, ok: bool) -> Piece
+    ensures { λ r. ⌜ r ≡ pieceAt (now (compiled .entry)) [] ok left at ⌝ }
+{
+    match read_component(compiled, at) {
+        ComponentAnswer::Mark(next, kind) => {
+            if kind == STAR {
+                return Piece::Test(next, ok);
+            }
+            return Piece::Combinator(next, left, kind == CHILD);
+        }
+        ComponentAnswer::Name { next, .. } => {
+            return Piece::Test(next, false);
+        }
+        ComponentAnswer::Numbers { next, .. } => {
+            return Piece::Test(next, false);
+        }
+        ComponentAnswer::Names { next, .. } => {
+            return Piece::Test(next, false);
+        }
+        ComponentAnswer::Fault(fault) => {
+            return Piece::Fault(fault);
+        }
+    }
+}
+
+// The same for an element that has passed so far.
+fn test_piece(
     compiled: &[u8],
     at: usize,
-    ok: bool,
-    element: bool,
+    left: u32,
     name: &[u8],
     attributes: &[u32],
     text: &[u8],
     place: usize,
 ) -> Piece
     requires { ⌜ place ≤ placeLimit ⌝ }
-    ensures { λ r. ⌜ r ≡ pieceAt (now (compiled .entry)) (rowAlone element (handedElement (now (name .entry)) (now (attributes .entry)) (now (text .entry)) place)) ok at ⌝ }
+    ensures { λ r. ⌜ r ≡ pieceAt (now (compiled .entry)) (handedElement (now (name .entry)) (now (attributes .entry)) (now (text .entry)) place ∷ []) true left at ⌝ }
 {
-    let asked = both(ok, element);
     match read_component(compiled, at) {
         ComponentAnswer::Mark(next, kind) => {
             if kind == STAR {
-                return Piece::Test(next, ok);
+                return Piece::Test(next, true);
             }
-            return Piece::Combinator(next, kind == CHILD);
+            return Piece::Combinator(next, left, kind == CHILD);
         }
         ComponentAnswer::Name {
             next,
@@ -167,21 +200,15 @@ fn read_piece(
             start,
             size,
         } => {
-            if asked {
-                let word = part_of(compiled, start, size);
-                return Piece::Test(next, name_passes(kind, word, name, attributes, text));
-            }
-            return Piece::Test(next, false);
+            let word = part_of(compiled, start, size);
+            return Piece::Test(next, name_passes(kind, word, name, attributes, text));
         }
         ComponentAnswer::Numbers {
             next,
             first,
             second,
         } => {
-            if asked {
-                return Piece::Test(next, nth_passes(first, second, place));
-            }
-            return Piece::Test(next, false);
+            return Piece::Test(next, nth_passes(first, second, place));
         }
         ComponentAnswer::Names {
             next,
@@ -190,21 +217,121 @@ fn read_piece(
             second_start,
             second_size,
         } => {
-            if asked {
-                let word = part_of(compiled, start, size);
-                let value = part_of(compiled, second_start, second_size);
-                let count = attributes.len() / ATTRIBUTE_WIDTH;
-                return Piece::Test(
-                    next,
-                    attribute_is(attributes, text, 0, count, word, value),
-                );
-            }
-            return Piece::Test(next, false);
+            let word = part_of(compiled, start, size);
+            let value = part_of(compiled, second_start, second_size);
+            let count = attributes.len() / ATTRIBUTE_WIDTH;
+            return Piece::Test(next, attribute_is(attributes, text, 0, count, word, value));
         }
         ComponentAnswer::Fault(fault) => {
             return Piece::Fault(fault);
         }
     }
+}
+
+// The component at `at` for a row. Where the tests so far have failed, a test need not be carried out.
+fn read_piece(
+    compiled: &[u8],
+    at: usize,
+    left: u32,
+    ok: bool,
+    element: bool,
+    name: &[u8],
+    attributes: &[u32],
+    text: &[u8],
+    place: usize,
+) -> Piece
+    requires { ⌜ place ≤ placeLimit ⌝ }
+    ensures { λ r. ⌜ r ≡ pieceAt (now (compiled .entry)) (rowAlone element (handedElement (now (name .entry)) (now (attributes .entry)) (now (text .entry)) place)) ok left at ⌝ }
+{
+    if both(ok, element) {
+        return test_piece(compiled, at, left, name, attributes, text, place);
+    }
+    pass_piece(compiled, at, left, ok)
+}
+
+// Behind the first combinator of the `count` components from `at` on.
+fn leap_group(compiled: &[u8], at: usize, count: u32) -> Leap
+    ensures { λ r. ⌜ r ≡ leapAt (now (compiled .entry)) count at ⌝ }
+{
+    let mut i = at;
+    let mut left = count;
+    while left > 0 {
+        left -= 1;
+        match pass_piece(compiled, i, left, false) {
+            Piece::Test(next, _) => {
+                i = next;
+            }
+            Piece::Combinator(next, others, direct) => {
+                return Leap::Behind(next, others, direct);
+            }
+            Piece::Fault(_) => {
+                return Leap::Nowhere;
+            }
+        }
+    }
+    Leap::Nowhere
+}
+
+// The next piece of the `left` components from `at` on. A group without hope is read past to its combinator at once; the leftmost group has none.
+fn next_piece(
+    compiled: &[u8],
+    at: usize,
+    left: u32,
+    hopeless: bool,
+    ok: bool,
+    element: bool,
+    name: &[u8],
+    attributes: &[u32],
+    text: &[u8],
+    place: usize,
+) -> Piece
+    requires { ⌜ place ≤ placeLimit ⌝ }
+    requires { ⌜ 0 < left ⌝ }
+    ensures { λ r. ⌜ r ≡ nextPiece (now (compiled .entry)) (rowAlone element (handedElement (now (name .entry)) (now (attributes .entry)) (now (text .entry)) place)) hopeless ok left at ⌝ }
+{
+    let behind = left - 1;
+    if hopeless {
+        match leap_group(compiled, at, left) {
+            Leap::Behind(next, others, direct) => {
+                return Piece::Combinator(next, others, direct);
+            }
+            Leap::Nowhere => {
+                return read_piece(
+                    compiled,
+                    at,
+                    behind,
+                    ok,
+                    element,
+                    name,
+                    attributes,
+                    text,
+                    place,
+                );
+            }
+        }
+    }
+    read_piece(
+        compiled,
+        at,
+        behind,
+        ok,
+        element,
+        name,
+        attributes,
+        text,
+        place,
+    )
+}
+
+// Whether a group that begins, with `left` components from it on, cannot match where it has a combinator, by the parent's byte of the group behind it. It may
+// say no where that is so.
+fn without_hope(byte: u8, left: u32) -> bool
+    ensures { λ r. ⌜ (r ≡ true → byte ≡ 0) ⌝ }
+{
+    if left < LEAST_TO_LEAP {
+        return false;
+    }
+    byte == 0
 }
 
 // What the component at `at` adds.
@@ -261,8 +388,8 @@ pub fn specificity_at(compiled: &[u8], at: usize, count: u32) -> Specificity
 }
 
 // The bytes of a selector's groups at a row, one pass over its components: `holds` is what the combinator before a group says, `ok` whether the tests of the
-// group so far pass. A group's byte is written where a combinator or the end is met; the parent's byte of the group behind it says whether the combinator
-// holds.
+// group so far pass, `byte` the parent's of the group behind it, which says whether the combinator between them holds. A group's byte is written where a
+// combinator or the end is met.
 pub fn walk_components(
     compiled: &[u8],
     at: usize,
@@ -287,35 +414,47 @@ pub fn walk_components(
     let mut left = count;
     let mut ok = true;
     let mut holds = false;
-    let mut behind = above + 1;
-    let mut here = own;
+    let mut groups = 0;
+    let mut byte = byte_above(element, state, above + 1);
+    let mut hopeless = without_hope(byte, left);
     while left > 0 {
-        match read_piece(compiled, i, ok, element, name, attributes, text, place) {
+        match next_piece(
+            compiled,
+            i,
+            left,
+            hopeless,
+            ok,
+            element,
+            name,
+            attributes,
+            text,
+            place,
+        ) {
             Piece::Test(next, passes) => {
                 i = next;
+                left -= 1;
                 ok = passes;
+                hopeless = false;
             }
-            Piece::Combinator(next, direct) => {
-                let joins = combines(direct, byte_above(element, state, behind));
-                state[here] = packed(both(ok, joins), holds);
+            Piece::Combinator(next, others, direct) => {
+                let joins = combines(direct, byte);
+                state[own + groups] = packed(both(ok, joins), holds);
                 i = next;
+                left = others;
                 ok = true;
                 holds = joins;
-                behind += 1;
-                here += 1;
+                groups += 1;
+                byte = byte_above(element, state, above + groups + 1);
+                hopeless = without_hope(byte, left);
             }
             Piece::Fault(_) => {
-                return Walked {
-                    next: i,
-                    groups: here - own,
-                };
+                return Walked { next: i, groups };
             }
         }
-        left -= 1;
     }
-    state[here] = packed(ok, holds);
+    state[own + groups] = packed(ok, holds);
     Walked {
         next: i,
-        groups: here - own + 1,
+        groups: groups + 1,
     }
 }

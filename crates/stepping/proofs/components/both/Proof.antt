@@ -1,5 +1,4 @@
 use Rattle.combinators.proofs.Rules.{cases}
-use borrow.Author.Needs.{needs}
 use Rattle.stepping.proofs.components.both.Statement.{statement}
 use Rattle.stepping.proofs.components.both.Tie as tie
 

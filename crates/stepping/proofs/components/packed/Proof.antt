@@ -1,5 +1,4 @@
 use Rattle.stepping.proofs.PieceLaws as laws
-use borrow.Author.Needs.{needs}
 use Rattle.stepping.proofs.components.packed.Statement.{statement}
 use Rattle.stepping.proofs.components.packed.Tie as tie
 

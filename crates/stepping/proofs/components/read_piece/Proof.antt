@@ -1,4 +1,3 @@
-use Rattle.stepping.specs.Components.{handedElement}
 use Rattle.stepping.proofs.PieceLaws as laws
 use borrow.Author.Needs.{needs}
 use Rattle.stepping.proofs.components.read_piece.Statement.{statement}
@@ -7,112 +6,18 @@ use Rattle.stepping.proofs.components.read_piece.Tie as tie
 both-requires : tie.Need-both-requires
 both-requires c κs = search needs
 
-read-component-requires : tie.Need-read-component-requires
-read-component-requires c κs = search needs
-
-enum-known-next : tie.Need-enum-known-next
-enum-known-next c = search needs
+test-piece-requires : tie.Need-test-piece-requires
+test-piece-requires c κs = search needs
 
 returns : tie.Need-returns
-returns c = let n = c .before .before in
-    let k = n .before .before in
-    laws.star-read _ _ _ _ _ _ (k .read-component .ensures .0) _ _ (n .next .given .1) (c .if1 .taken)
+returns c = laws.piece-asked _ _ _ _ _ _ _ (c .before .before .both .ensures) (c .before .if1 .taken) _ (c .test-piece .ensures)
+
+pass-piece-requires : tie.Need-pass-piece-requires
+pass-piece-requires c κs = search needs
 
 returns-2 : tie.Need-returns-2
-returns-2 c = let n = c .before .before in
-    let k = n .before .before in
-    laws.combinator-read _ _ _ _ _ _ (k .read-component .ensures .0) _ _ (n .next .given .1) (c .if1 .left)
-
-enum-known-next-2 : tie.Need-enum-known-next-2
-enum-known-next-2 c = search needs
-
-part-of-requires : tie.Need-part-of-requires
-part-of-requires c κs = search needs
-
-name-passes-requires : tie.Need-name-passes-requires
-name-passes-requires c κs = search needs
-
-returns-3 : tie.Need-returns-3
-returns-3 c = let n = c .before .before .before .before in
-    let k = n .before .before in
-    laws.name-read _ _ _ _ _ _ (k .read-component .ensures .0) _ (k .before .both .ensures) (c .before .before .if2 .taken) _ _ _ _ (n .next2 .given .1) _ (c .before .part-of .ensures) _ (c .name-passes .ensures _)
-
-returns-4 : tie.Need-returns-4
-returns-4 c = let n = c .before .before in
-    let k = n .before .before in
-    laws.name-passed _ _ _ _ _ _ (k .read-component .ensures .0) _ (k .before .both .ensures) (c .if2 .left) _ _ _ _ (n .next2 .given .1)
-
-enum-known-next-3 : tie.Need-enum-known-next-3
-enum-known-next-3 c = search needs
-
-nth-passes-requires : tie.Need-nth-passes-requires
-nth-passes-requires c κs = search needs
-
-returns-5 : tie.Need-returns-5
-unfolding handedElement
-returns-5 c = let n = c .before .before .before in
-    let k = n .before .before in
-    laws.numbers-read _ _ _ _ _ _ (k .read-component .ensures .0) _ (k .before .both .ensures) (c .before .if3 .taken) _ _ _ (n .next3 .given .1) _ (c .nth-passes .ensures)
-
-returns-6 : tie.Need-returns-6
-returns-6 c = let n = c .before .before in
-    let k = n .before .before in
-    laws.numbers-passed _ _ _ _ _ _ (k .read-component .ensures .0) _ (k .before .both .ensures) (c .if3 .left) _ _ _ (n .next3 .given .1)
-
-enum-known-next-4 : tie.Need-enum-known-next-4
-enum-known-next-4 c = search needs
-
-part-of-requires-2 : tie.Need-part-of-requires-2
-part-of-requires-2 c κs = search needs
-
-part-of-requires-3 : tie.Need-part-of-requires-3
-part-of-requires-3 c κs = search needs
-
-attribute-is-requires : tie.Need-attribute-is-requires
-attribute-is-requires c κs = search needs
-
-returns-7 : tie.Need-returns-7
-unfolding handedElement
-returns-7 c = let n = c .before .before .before .before .before in
-    let k = n .before .before in
-    laws.names-read _ _ _ _ _ _ (k .read-component .ensures .0) _ (k .before .both .ensures) (c .before .before .before .if4 .taken) _ _ _ _ _ (n .next4 .given .1) _ (c .before .before .part-of2 .ensures) _ (c .before .part-of3 .ensures) _ (c .attribute-is .ensures)
-
-returns-8 : tie.Need-returns-8
-returns-8 c = let n = c .before .before in
-    let k = n .before .before in
-    laws.names-passed _ _ _ _ _ _ (k .read-component .ensures .0) _ (k .before .both .ensures) (c .if4 .left) _ _ _ _ _ (n .next4 .given .1)
-
-enum-known-fault : tie.Need-enum-known-fault
-enum-known-fault c = search needs
-
-returns-9 : tie.Need-returns-9
-returns-9 c = let n = c .before in
-    let k = n .before .before in
-    laws.fault-read _ _ _ _ _ _ (k .read-component .ensures .0) _ (n .fault .given .1)
+returns-2 c = laws.piece-passed _ _ _ _ _ _ _ (c .before .before .both .ensures) (c .before .if1 .left) _ (c .pass-piece .ensures)
 
 pub read-piece-spec : {M : Type 1} → statement M
 read-piece-spec =
-    tie.close
-    (tie.spec
-    both-requires
-    read-component-requires
-    enum-known-next
-    returns
-    returns-2
-    enum-known-next-2
-    part-of-requires
-    name-passes-requires
-    returns-3
-    returns-4
-    enum-known-next-3
-    nth-passes-requires
-    returns-5
-    returns-6
-    enum-known-next-4
-    part-of-requires-2
-    part-of-requires-3
-    attribute-is-requires
-    returns-7
-    returns-8
-    enum-known-fault
-    returns-9)
+    tie.close (tie.spec both-requires test-piece-requires returns pass-piece-requires returns-2)
