@@ -6,3 +6,5 @@ pub mod Demand
 pub mod RowNumbers
 pub mod OwnSlots
 pub mod SameRows
+pub mod CompileTells
+pub mod StyleTells
