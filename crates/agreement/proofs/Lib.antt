@@ -8,3 +8,5 @@ pub mod OwnSlots
 pub mod SameRows
 pub mod CompileTells
 pub mod StyleTells
+pub mod RunTells
+pub mod Agreeing
