@@ -6,3 +6,7 @@ pub mod Demand
 pub mod RowNumbers
 pub mod OwnSlots
 pub mod SameRows
+pub mod CompileTells
+pub mod StyleTells
+pub mod RunTells
+pub mod Agreeing

@@ -1,5 +1,6 @@
--- Demand 3 in one record: what a run of the bytes of three sheets down a page leaves, all rows together.
-use Prim.Native.Nat.{ℕ, _*_, _<_}
+-- Demand 3: what a run of the bytes of three sheets down a page leaves, all rows together; and in one record the claim about the calls `compile`, `style` and `run`,
+-- for all sheets, pages, settings and buffers.
+use Prim.Native.Nat.{ℕ, _*_, _≤_, _<_}
 use mathlib.Core.Path.{_≡_}
 use mathlib.Core.List.{List, _++_}
 use lib.ListN.{length, drop}
@@ -18,6 +19,12 @@ use Rattle.styles.specs.Computed.{computedStyle}
 use Rattle.styles.specs.Says.{Says}
 use Rattle.styles.specs.Lent.{Page}
 use Rattle.runner.specs.Run.{noStyle, Running, styleRowAt, pageContents}
+use Rattle.combinators.specs.Refusal.{noRefusal, shortStore}
+use Rattle.running.specs.RunAnswer.{RunLeft}
+use Rattle.styles.specs.Lent.{SheetTexts}
+use Rattle.styling.specs.Claim.{rowLeft, textsLeft}
+use Rattle.agreement.specs.Calls.{CompileBuffers, RunBuffers, StyleBuffers, compileWith, runWith, styleWith, codeOf, textsOf}
+use Rattle.agreement.specs.SameRow.{SameRow}
 
 -- the selectors that three sheets are compiled to
 abbrev pub sheetsSelectors : Rules RuleSet → List CompiledSelector
@@ -38,3 +45,25 @@ pub record AllRows (rules : Rules RuleSet) (settings : Settings) (g : Page) (cod
   pub rows-behind : drop (nodeCount (g .nodes) * styleRowWidth) (r .rows) ≡ drop (nodeCount (g .nodes) * styleRowWidth) rows
   -- the texts are the inline contents of the page
   pub texts : r .texts ≡ pageContents settings g
+
+-- ---- a run of compiled bytes, against the style call at each row
+pub record Agreement (settings : Settings) (s : SheetTexts) (g : Page) (code : List ℕ) (r : RunLeft) : Type 0 where
+  -- the run refuses nothing
+  pub answered : r .answer .refusal ≡ noRefusal
+  -- every row that the style call styles is the same, whatever that call is lent: number by number, each content by its text, which is in the compiled bytes
+  -- followed by the run's texts
+  pub styled-rows : (i : ℕ) (v : StyleBuffers) → styleWith settings s g i v .answer .refusal ≡ noRefusal
+      → SameRow (code ++ textsOf r) (textsLeft (styleWith settings s g i v)) (styleRowAt (r .rows) i) (rowLeft (styleWith settings s g i v))
+  -- "rows of other nodes, are zeros"
+  pub other-rows : (i : ℕ) → i < nodeCount (g .nodes) → ¬ (nodeAt (g .nodes) i .kind ≡ elementKind) → styleRowAt (r .rows) i ≡ noStyle
+  -- the texts are the inline contents of the page
+  pub within : r .answer .texts ≤ length (r .texts)
+  pub contents : textsOf r ≡ pageContents settings g
+
+-- sheets that compile, a run of their bytes that is not lent too little, and a page of which the style call styles some row: then the run agrees with every style call
+pub record Demand3 : Type 0 where
+  pub agrees : (s : SheetTexts) (g : Page) (settings : Settings) (b : CompileBuffers) (w : RunBuffers) (j : ℕ) (v : StyleBuffers)
+      → compileWith s b .answer .refusal ≡ noRefusal
+      → ¬ (runWith (codeOf (compileWith s b)) settings g w .answer .refusal .number ≡ shortStore)
+      → styleWith settings s g j v .answer .refusal ≡ noRefusal
+      → Agreement settings s g (codeOf (compileWith s b)) (runWith (codeOf (compileWith s b)) settings g w)

@@ -1,2 +1,3 @@
 pub mod SameRow
+pub mod Calls
 pub mod Demand

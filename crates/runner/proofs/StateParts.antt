@@ -9,7 +9,7 @@ use Rattle.combinators.specs.Part.{part}
 use Rattle.runner.specs.State.{countWidth, byteLimit, countBytes, countAt, raised, groupsFrom}
 
 -- what lies in the first of two lists
-part-left : (x more : List ℕ) (at n : ℕ) → at + n ≤ length x → part (x ++ more) at n ≡ part x at n
+pub part-left : (x more : List ℕ) (at n : ℕ) → at + n ≤ length x → part (x ++ more) at n ≡ part x at n
 unfolding part
 part-left x more at n h =
     let l : n ≤ length (drop at x) = simp length-drop (omega arith) in

@@ -1,14 +1,16 @@
 -- Style rows in a store: one that is written is there, and the others stay.
-use Prim.Native.Nat.{ℕ, zero, suc, _+_, _*_, _≤_, _<_}
+use Prim.Native.Nat.{ℕ, zero, suc, _+_, _-_, _*_, _≤_, _<_}
 use mathlib.Core.Path.{_≡_, refl, ap, ap₂, sym, _∙_}
 use mathlib.Core.List.{List, _++_}
 use native.Mathlib.Omega.{arith}
-use lib.ListN.{length, take, drop, length-append, length-drop}
+use lib.ListN.{length, take, drop, replicate, length-append, length-drop, take-append-drop}
 use lib.Seq.{sets, sets-eq, length-take-le, drop-at, take-add}
 use Rattle.combinators.specs.Part.{part}
+use Rattle.combinators.specs.Store.{cleared}
+use Rattle.combinators.proofs.Cleared.{cleared-is}
 use Rattle.cascade.specs.Row.{styleRowWidth}
 use Rattle.runner.specs.Run.{styleRowAt}
-use Rattle.runner.proofs.StateParts.{part-kept, part-written}
+use Rattle.runner.proofs.StateParts.{part-left, part-kept, part-written}
 
 module _ (rows row : List ℕ) (i n : ℕ) (there : i < n) (long : n * styleRowWidth ≤ length rows) (whole : length row ≡ styleRowWidth) where
   -- a row that is written is there
@@ -45,3 +47,14 @@ rows-alike rows rows′ (suc n) h =
     split l =
         let e : suc n * styleRowWidth ≡ n * styleRowWidth + styleRowWidth = omega arith in
         ap (λ (m : ℕ). take m l) e ∙ unfold styleRowAt in take-add (n * styleRowWidth) styleRowWidth l
+
+-- the rows before the first that is cleared stay
+pub row-uncleared : (rows : List ℕ) (i n : ℕ) → i < n → n * styleRowWidth ≤ length rows → styleRowAt (cleared (n * styleRowWidth) rows) i ≡ styleRowAt rows i
+unfolding styleRowAt part
+row-uncleared rows i n h l =
+    let m : ℕ = n * styleRowWidth in
+    let k : i * styleRowWidth + styleRowWidth ≤ length (take m rows) = omega (arith, length-take-le m rows l) in
+    ap (λ (x : List ℕ). part x (i * styleRowWidth) styleRowWidth) (cleared-is m rows)
+    ∙ part-left (take m rows) (replicate (length rows - m) 0) (i * styleRowWidth) styleRowWidth k
+    ∙ sym (part-left (take m rows) (drop m rows) (i * styleRowWidth) styleRowWidth k)
+    ∙ ap (λ (x : List ℕ). part x (i * styleRowWidth) styleRowWidth) (take-append-drop m rows)

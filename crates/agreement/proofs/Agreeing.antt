@@ -1,0 +1,128 @@
+-- Demand 3 over the calls: where sheets compile, their bytes are run down a page with all that a run needs, and the style call styles some row of that page, the run
+-- agrees with every style call.
+use Prim.Native.Nat.{ℕ, _+_, _-_, _*_, _≤_, _<_}
+use mathlib.Core.Path.{_≡_, refl, ap, ap₂, sym, subst, _∙_}
+use mathlib.Core.Bool.{true}
+use mathlib.Core.List.{List, _++_}
+use native.Mathlib.Omega.{arith}
+use lib.ListN.{length, take, replicate, length-append}
+use Rattle.combinators.specs.Refusal.{noRefusal, shortStore}
+use Rattle.combinators.specs.Store.{cleared}
+use Rattle.syntax.specs.Selector.{RuleSet}
+use Rattle.syntax.specs.declared.styles.Value.{Value}
+use Rattle.sheets.specs.SheetAnswer.{padded}
+use Rattle.origins.specs.Reading.{Sheets, rules, sheetsOf}
+use Rattle.origins.proofs.ChecksLaws.{none-long}
+use Rattle.cascade.specs.declared.slots.Cascade.the-variants.{Crate}
+use Rattle.cascade.specs.Record.{ComputedStyle}
+use Rattle.cascade.specs.Related.{SameStyle}
+use Rattle.cascade.specs.Row.{styleRowWidth, rowOf, styleAt}
+use Rattle.cascade.proofs.RowBack.{row-back, view-formed}
+use Rattle.page.specs.PathOf.{pathOf}
+use Rattle.page.specs.Rows.{nodeCount, nodeAt, elementKind}
+use Rattle.styles.specs.declared.settings.Settings.{Settings}
+use Rattle.styles.specs.Computed.{computedStyle}
+use Rattle.styles.specs.Lent.{SheetTexts, Page}
+use Rattle.styles.specs.Said.{Rules}
+use Rattle.styles.specs.Says.{Says}
+use Rattle.styling.specs.Claim.{rowLeft, textsLeft, RowSays}
+use Rattle.styling.specs.StyleAnswer.{StyleLeft}
+use Rattle.styling.proofs.Claiming as claims
+use Rattle.runner.specs.LeastLengths.{rowsLeast}
+use Rattle.runner.specs.Run.{noStyle, Running, styleRowAt, runOf, pageContents}
+use Rattle.runner.proofs.StyleRows.{row-uncleared}
+use Rattle.running.specs.RunAnswer.{RunLeft, ran}
+use Rattle.agreement.specs.Calls.{CompileBuffers, RunBuffers, StyleBuffers, compileWith, runWith, styleWith, codeOf, textsOf}
+use Rattle.agreement.specs.Demand.{AllRows, Agreement, Demand3}
+use Rattle.agreement.specs.SameRow.{SameRow}
+use Rattle.agreement.proofs.CompileTells.{padded-front, Compiled, compile-tells, bytes-taken}
+use Rattle.agreement.proofs.Demand.{demand-3}
+use Rattle.agreement.proofs.OwnSlots.{computed-own}
+use Rattle.agreement.proofs.RunTells.{RunTakes, run-leaves, run-lent, not-short}
+use Rattle.agreement.proofs.SameRows.{rows-same}
+use Rattle.agreement.proofs.StyleTells.{Asked, style-tells}
+
+-- sheets are read in one way
+read-once : (m : Sheets) (x y : Rules RuleSet) → m ≡ rules (x .agent) (x .user) (x .author) → m ≡ rules (y .agent) (y .user) (y .author) → x ≡ y
+read-once m x y e f =
+    let a : x .agent ≡ y .agent = cc in
+    let u : x .user ≡ y .user = cc in
+    let w : x .author ≡ y .author = cc in
+    ap₂ (λ (p q : List RuleSet). record { agent = p; user = q; author = x .author }) a u ∙ ap (λ (q : List RuleSet). record { agent = y .agent; user = y .user; author = q }) w
+
+-- a store as long as what stands in it, or longer
+padded-long : (xs : List ℕ) (n : ℕ) → length xs ≤ length (padded xs n)
+unfolding padded
+padded-long xs n = omega (arith, length-append xs (replicate (n - length xs) 0))
+
+module _ (s : SheetTexts) (g : Page) (settings : Settings) (code : List ℕ) (c : Compiled s code) (b : RunBuffers) (t : RunTakes code g b) where
+  abbrev r : Running
+  r = runOf code settings g (b .rows) (b .state)
+
+  -- all rows of the run, over the definitions
+  all-rows : AllRows (c .sheets) settings g code (b .rows) r
+  all-rows =
+      let l = none-long (length (s .agent)) (length (s .user)) (length (s .author)) (c .short) in
+      let h = run-lent code settings g b (t .suffices) in
+      let m = c .sheets in
+      rw (c .bytes) (demand-3 (s .agent) (s .user) (s .author) (m .agent) (m .user) (m .author) (c .read) (l .0) (l .1) (l .2) g (t .page) settings (b .rows) (b .state) (rw (c .bytes) at h))
+
+  abbrev leaves : RunLeft
+  leaves = ran (b .rows) (b .texts) (b .state) (b .rules) (b .tokens) (b .brackets) code settings g
+
+  -- the rows of the page are those of the run
+  row-there : (i : ℕ) → i < nodeCount (g .nodes) → styleRowAt (leaves .rows) i ≡ styleRowAt (r .rows) i
+  unfolding ran
+  row-there i h =
+      let l = run-lent code settings g b (t .suffices) in
+      row-uncleared (r .rows) i (nodeCount (g .nodes)) h (omega (arith, l .for-rows, all-rows .rows-long))
+
+  -- and so are the texts
+  texts-there : textsOf leaves ≡ r .texts
+  unfolding ran
+  texts-there = padded-front (r .texts) (length (b .texts))
+
+  -- a row that the style call styles
+  row-same : (i : ℕ) (v : StyleBuffers) → styleWith settings s g i v .answer .refusal ≡ noRefusal
+      → SameRow (code ++ textsOf leaves) (textsLeft (styleWith settings s g i v)) (styleRowAt (leaves .rows) i) (rowLeft (styleWith settings s g i v))
+  row-same i v e =
+      let a = style-tells settings s g i v e in
+      let l = styleWith settings s g i v in
+      let says : RowSays Crate settings s (pathOf (g .nodes) (g .attributes) (g .text) i) l = claims.style-says Crate settings s g i (v .row) (v .texts) (v .rules) (v .tokens) (v .brackets) e in
+      let m = computedStyle Crate (c .sheets) settings (pathOf (g .nodes) (g .attributes) (g .text) i) in
+      let x = styleAt (styleRowAt (r .rows) i) in
+      let y = styleAt (rowLeft l) in
+      let sheets : says .sheets ≡ c .sheets = read-once (sheetsOf (s .agent) (s .user) (s .author)) (says .sheets) (c .sheets) (says .read) (c .read) in
+      let by-style : SameStyle (Says (textsLeft l)) y m = rw sheets at (says .says) in
+      let by-run : SameStyle (Says (code ++ r .texts)) x m = all-rows .element-rows i (a .there) (a .element) in
+      let same : SameRow (code ++ r .texts) (textsLeft l) (rowOf x) (rowOf y) =
+      rows-same (code ++ r .texts) (textsLeft l) x y m (view-formed (styleRowAt (r .rows) i)) (view-formed (rowLeft l)) (computed-own (c .sheets) settings (pathOf (g .nodes) (g .attributes) (g .text) i)) by-run by-style in
+      let left : rowOf x ≡ styleRowAt (leaves .rows) i = sym (row-there i (a .there) ∙ all-rows .element-written i (a .there) (a .element)) in
+      let right : rowOf y ≡ rowLeft l = row-back (rowLeft l) (says .fine) in
+      subst (λ (z : List ℕ). SameRow (code ++ z) (textsLeft l) (styleRowAt (leaves .rows) i) (rowLeft l)) (sym texts-there)
+      (subst (λ (z : List ℕ). SameRow (code ++ r .texts) (textsLeft l) z (rowLeft l)) left
+      (subst (λ (z : List ℕ). SameRow (code ++ r .texts) (textsLeft l) (rowOf x) z) right same))
+
+  -- the run as it leaves
+  leaves-agree : Agreement settings s g code leaves
+  unfolding ran
+  leaves-agree =
+      record {
+        answered = refl;
+        styled-rows = row-same;
+        other-rows = λ i h n. row-there i h ∙ all-rows .other-rows i h n;
+        within = padded-long (r .texts) (length (b .texts));
+        contents = texts-there ∙ all-rows .texts;
+      }
+
+-- the claim
+pub demand3 : Demand3
+demand3 =
+    record {
+      agrees = λ s g settings b w j v e n f.
+          let code = codeOf (compileWith s b) in
+          let c : Compiled s code = compile-tells s b e in
+          let a = style-tells settings s g j v f in
+          let t : RunTakes code g w = record { few = c .few; suffices = not-short code settings g w (c .few) n; page = a .page; bytes = bytes-taken s code c } in
+          subst (Agreement settings s g code) (sym (run-leaves code settings g w t)) (leaves-agree s g settings code c w t);
+    }

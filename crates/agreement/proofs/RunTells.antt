@@ -1,0 +1,172 @@
+-- When a run call refuses nothing, and what it then leaves: nothing of it depends on what its buffers held.
+use Prim.Native.Nat.{ℕ, _+_, _-_, _*_, _≤_, _<_}
+use mathlib.Core.Path.{_≡_, refl, ap, ap₂, sym, _∙_}
+use mathlib.Core.Bool.{Bool, true, false}
+use mathlib.Core.List.{List, [], _∷_, _++_}
+use native.Mathlib.Omega.{arith}
+use borrow.Author.Tests.{leb-true, ltb-false, le-ltb}
+use lib.Dec.{leb, ltb}
+use lib.ListN.{length, take, replicate}
+use Rattle.combinators.specs.Choice.{pick, and, is}
+use Rattle.combinators.specs.LeastLengths.{storesSuffice}
+use Rattle.combinators.specs.Refusal.{noRefusal, refused, refusedAt, tooLong, shortStore, badBytes}
+use Rattle.combinators.specs.Store.{cleared}
+use Rattle.combinators.specs.declared.refusals.Refusal.{Refusal}
+use Rattle.combinators.proofs.Cleared.{cleared-is}
+use Rattle.combinators.proofs.Rules.{pick-holds, pick-true, pick-false, and-true, is-true, is-false, is-yes}
+use Rattle.sheets.specs.SheetAnswer.{padded}
+use Rattle.page.specs.Accepted.{rowsRefusal, pageRefusal}
+use Rattle.page.proofs.AcceptedPages.{accepted}
+use Rattle.compiled.specs.Answer.{bytesRefusal}
+use Rattle.compiled.specs.Decoded.{Decoded, read, fault, onDecoded}
+use Rattle.compiled.specs.Sheet.{CompiledSelector, compiledLimit, decode}
+use Rattle.compiled.proofs.Bounds.{Reaches, sheet-reaches}
+use Rattle.styles.specs.declared.settings.Settings.{Settings}
+use Rattle.styles.specs.Lent.{Page}
+use Rattle.styling.proofs.StyleCalls.{Quiet, quiet}
+use Rattle.runner.specs.LeastLengths.{RunLent, runTextBytes, stateLeast, rowsLeast}
+use Rattle.runner.specs.Run.{Running, runOf}
+use Rattle.runner.proofs.RunFree.{run-rows-long, run-free}
+use Rattle.running.specs.RunAnswer.{RunLeft, unchanged, ran, runSuffices, runBy, runCall}
+use Rattle.agreement.specs.Calls.{RunBuffers, runWith}
+
+-- ---- bytes that are a sheet
+-- of a reading
+quiet-bytes : (d : Decoded (List CompiledSelector)) → onDecoded d (λ _ _. noRefusal) (λ p. refusedAt badBytes p) .number ≡ 0 → onDecoded d (λ _ _. noRefusal) (λ p. refusedAt badBytes p) ≡ noRefusal
+unfolding onDecoded
+quiet-bytes (read n ss) e = refl
+quiet-bytes (fault p) e = absurd (omega (arith, e))
+
+some-read : (t : List ℕ) (d : Decoded (List CompiledSelector)) → Reaches 1 (length t) 0 d → onDecoded d (λ _ _. noRefusal) (λ p. refusedAt badBytes p) ≡ noRefusal → 0 < length t
+unfolding onDecoded Reaches
+some-read t (read n ss) h e = omega (arith, h .0, h .1)
+some-read t (fault p) h e = absurd (let z : badBytes ≡ 0 = ap (λ (r : Refusal). r .number) e in omega (arith, z))
+
+-- there are some
+pub some-bytes : (code : List ℕ) → bytesRefusal code ≡ noRefusal → 0 < length code
+unfolding bytesRefusal
+some-bytes code e = some-read code (decode code) (sheet-reaches code) e
+
+-- ---- a page is never refused for its bytes
+pub page-number : (nodes attributes text : List ℕ) → ¬ (pageRefusal nodes attributes text .number ≡ badBytes)
+unfolding pageRefusal rowsRefusal
+page-number nodes attributes text =
+    pick-holds Other _ _ _
+    (λ _. pick-holds Other _ _ _ (λ _ e. omega (arith, e)) (λ _. pick-holds Other _ _ _ (λ _ e. omega (arith, e)) (λ _. pick-holds Other _ _ _ (λ _ e. omega (arith, e)) (λ _ e. omega (arith, e)))))
+    (λ _ e. omega (arith, e))
+  where
+    Other : Refusal → Type 0
+    Other r = r .number ≡ badBytes → ⊥
+
+-- what a run asks for
+pub record RunTakes (code : List ℕ) (g : Page) (b : RunBuffers) : Type 0 where
+  pub few : length code ≤ compiledLimit
+  pub suffices : runSuffices (b .rows) (b .texts) (b .state) (b .rules) (b .tokens) (b .brackets) code g ≡ true
+  pub page : pageRefusal (g .nodes) (g .attributes) (g .text) ≡ noRefusal
+  pub bytes : bytesRefusal code ≡ noRefusal
+
+module _ (code : List ℕ) (settings : Settings) (g : Page) (b : RunBuffers) where
+  abbrev left : Refusal → RunLeft
+  left r = unchanged (b .rows) (b .texts) (b .state) (b .rules) (b .tokens) (b .brackets) r
+
+  abbrev page : Refusal
+  page = pageRefusal (g .nodes) (g .attributes) (g .text)
+
+  abbrev enough : Bool
+  enough = runSuffices (b .rows) (b .texts) (b .state) (b .rules) (b .tokens) (b .brackets) code g
+
+  abbrev leaves : RunLeft
+  leaves = ran (b .rows) (b .texts) (b .state) (b .rules) (b .tokens) (b .brackets) code settings g
+
+  -- ---- where it refuses nothing
+  abbrev Claimed : RunLeft → Type 0
+  Claimed l = l .answer .refusal ≡ noRefusal → RunTakes code g b
+
+  refusing : (r : Refusal) → ¬ (r .number ≡ 0) → Claimed (left r)
+  unfolding unchanged
+  refusing r n e = absurd (n (ap (λ (q : Refusal). q .number) e))
+
+  takes : length code ≤ compiledLimit → enough ≡ true → is (page .number) (noRefusal .number) ≡ true → is (bytesRefusal code .number) (noRefusal .number) ≡ true → RunTakes code g b
+  unfolding Quiet bytesRefusal
+  takes f e p q =
+      record { few = f; suffices = e; page = quiet (g .nodes) (g .attributes) (g .text) (is-true _ _ p); bytes = quiet-bytes (decode code) (is-true _ _ q) }
+
+  pub run-tells : runWith code settings g b .answer .refusal ≡ noRefusal → RunTakes code g b
+  unfolding runCall runBy
+  run-tells =
+      pick-holds Claimed (ltb compiledLimit (length code)) _ _ (λ _. refusing (refused tooLong) (λ e. omega (arith, e)))
+      (λ f. pick-holds Claimed enough _ _
+      (λ e. pick-holds Claimed (is (page .number) (noRefusal .number)) _ _
+      (λ p. pick-holds Claimed (is (bytesRefusal code .number) (noRefusal .number)) _ _ (λ q _. takes (ltb-false _ _ f) e p q)
+      (λ q. refusing (bytesRefusal code) (is-false (bytesRefusal code .number) 0 q)))
+      (λ p. refusing page (is-false (page .number) 0 p)))
+      (λ _. refusing (refused shortStore) (λ e. omega (arith, e))))
+
+  -- ---- what it leaves there
+  pub run-leaves : RunTakes code g b → runWith code settings g b ≡ leaves
+  unfolding runCall runBy
+  run-leaves t =
+      sym
+      (pick-false leaves _ _ _ (le-ltb _ _ (t .few))
+      (pick-true leaves _ _ _ (t .suffices)
+      (pick-true leaves _ _ _ (is-yes _ _ (ap (λ (r : Refusal). r .number) (t .page)))
+      (pick-true leaves _ _ _ (is-yes _ _ (ap (λ (r : Refusal). r .number) (t .bytes))) refl))))
+
+  -- a run that is not lent too little is lent enough
+  pub not-short : length code ≤ compiledLimit → ¬ (runWith code settings g b .answer .refusal .number ≡ shortStore) → enough ≡ true
+  unfolding runCall unchanged
+  not-short few n = go enough refl
+    where
+      go : (t : Bool) → enough ≡ t → enough ≡ true
+      go true e = e
+      go false e = absurd (n (ap (λ (l : RunLeft). l .answer .refusal .number) (sym (pick-false (left (refused shortStore)) _ _ _ (le-ltb _ _ few) (pick-false (left (refused shortStore)) _ _ _ e refl)))))
+
+  -- bytes that are a sheet are never refused as none
+  pub never-refused : bytesRefusal code ≡ noRefusal → ¬ (runWith code settings g b .answer .refusal .number ≡ badBytes)
+  unfolding runCall runBy unchanged ran
+  never-refused q =
+      pick-holds Other _ _ _ (λ _ e. omega (arith, e))
+      (λ _. pick-holds Other _ _ _
+      (λ _. pick-holds Other _ _ _ (λ _. pick-holds Other _ _ _ (λ _ e. omega (arith, e)) (λ _ e. let z : bytesRefusal code .number ≡ 0 = ap (λ (r : Refusal). r .number) q in omega (arith, e, z)))
+      (λ _. page-number (g .nodes) (g .attributes) (g .text)))
+      (λ _ e. omega (arith, e)))
+    where
+      Other : RunLeft → Type 0
+      Other l = l .answer .refusal .number ≡ badBytes → ⊥
+
+  -- rows and state of the least lengths
+  pub run-lent : enough ≡ true → RunLent code g (b .rows) (b .state)
+  unfolding runSuffices
+  run-lent e = let t = and-true _ _ e in let u = and-true _ _ (t .1) in record { for-rows = leb-true _ _ (t .0); for-state = leb-true _ _ (u .0) }
+
+-- ---- what two runs leave
+pub record SameLengths (b b′ : RunBuffers) : Type 0 where
+  pub rows : length (b .rows) ≡ length (b′ .rows)
+  pub texts : length (b .texts) ≡ length (b′ .texts)
+  pub state : length (b .state) ≡ length (b′ .state)
+  pub rules : length (b .rules) ≡ length (b′ .rules)
+  pub tokens : length (b .tokens) ≡ length (b′ .tokens)
+  pub brackets : length (b .brackets) ≡ length (b′ .brackets)
+
+module _ (code : List ℕ) (settings : Settings) (g : Page) (b b′ : RunBuffers) (same : SameLengths b b′) where
+  -- they are both lent enough
+  other-takes : RunTakes code g b → RunTakes code g b′
+  unfolding runSuffices
+  other-takes t = record { few = t .few; suffices = rw (← same .rows, ← same .state, ← same .rules, ← same .tokens, ← same .brackets, ← same .texts) (t .suffices); page = t .page; bytes = t .bytes }
+
+  -- buffers of the same lengths, whatever they hold: the same answer, and the same in every buffer
+  pub runs-free : runWith code settings g b .answer .refusal ≡ noRefusal → runWith code settings g b ≡ runWith code settings g b′
+  unfolding ran
+  runs-free e =
+      let t = run-tells code settings g b e in
+      let t′ = other-takes t in
+      let r : Running = runOf code settings g (b .rows) (b .state) in
+      let r′ : Running = runOf code settings g (b′ .rows) (b′ .state) in
+      let ok = accepted (g .nodes) (g .attributes) (g .text) (t .page) in
+      let free = run-free code (some-bytes code (t .bytes)) settings g ok (b .rows) (b .state) (b′ .rows) (b′ .state) (run-lent code settings g b (t .suffices)) (run-lent code settings g b′ (t′ .suffices)) in
+      let long : length (r .rows) ≡ length (r′ .rows) = run-rows-long code settings g (b .rows) (b .state) ∙ same .rows ∙ sym (run-rows-long code settings g (b′ .rows) (b′ .state)) in
+      let rows : cleared (rowsLeast g) (r .rows) ≡ cleared (rowsLeast g) (r′ .rows) =
+      cleared-is (rowsLeast g) (r .rows) ∙ ap₂ (λ (x : List ℕ) (n : ℕ). x ++ replicate (n - rowsLeast g) 0) (free .0) long ∙ sym (cleared-is (rowsLeast g) (r′ .rows)) in
+      run-leaves code settings g b t
+      ∙ rw (rows, free .1, same .texts, same .state, same .rules, same .tokens, same .brackets) refl
+      ∙ sym (run-leaves code settings g b′ t′)
