@@ -1,0 +1,4 @@
+pub mod Parts
+pub mod WalkedReads
+pub mod StyleLaws
+pub mod SelectorLaws

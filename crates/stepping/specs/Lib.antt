@@ -1,1 +1,4 @@
+pub mod Components
+pub mod Count
+pub mod Passed
 pub mod Lent
