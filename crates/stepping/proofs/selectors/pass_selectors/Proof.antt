@@ -1,0 +1,52 @@
+use borrow.Author.Needs.{needs}
+use Rattle.stepping.proofs.selectors.pass_selectors.Statement.{statement}
+use Rattle.stepping.proofs.selectors.pass_selectors.Tie as tie
+use Rattle.stepping.proofs.selectors.pass_selectors.Reads as reads
+use Rattle.stepping.proofs.selectors.pass_selectors.Lts as lts
+use Rattle.compiled.proofs.numbers.read_number.Reads as read-number-reads
+use Rattle.stepping.proofs.selectors.pass_counted.Reads as pass-counted-reads
+
+-- src/selectors.rt:157:11
+read-number-requires : tie.Need-read-number-requires
+read-number-requires c κs = search needs
+
+-- src/selectors.rt:158:30
+enum-known-next : tie.Need-enum-known-next
+enum-known-next c = search needs
+
+-- src/selectors.rt:159:13
+pass-counted-requires : tie.Need-pass-counted-requires
+pass-counted-requires c κs = search needs
+
+-- src/selectors.rt:174:13
+same-length : tie.Need-same-length
+same-length c = search needs
+
+-- src/selectors.rt:174:13
+same-length-2 : tie.Need-same-length-2
+same-length-2 c = search needs
+
+-- src/selectors.rt:174:13
+returns : tie.Need-returns
+returns c = search needs
+
+-- src/selectors.rt:177:13
+enum-told : tie.Need-enum-told
+enum-told c = search needs
+
+-- src/selectors.rt:177:13
+returns-2 : tie.Need-returns-2
+returns-2 c = search needs
+
+pub pass-selectors-spec : {M : Type 1} → statement M
+pass-selectors-spec =
+    tie.close
+    (tie.spec
+    read-number-requires
+    enum-known-next
+    pass-counted-requires
+    same-length
+    same-length-2
+    returns
+    enum-told
+    returns-2)
