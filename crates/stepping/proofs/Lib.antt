@@ -2,3 +2,4 @@ pub mod Parts
 pub mod WalkedReads
 pub mod StyleLaws
 pub mod SelectorLaws
+pub mod StepLaws

@@ -124,8 +124,9 @@ module _ (code : List ℕ) (at least place : ℕ) (element : Bool) (state : List
       }
 
   -- a byte that is stored lies within the state
-  pub byte-there : (bytes state₁ : List ℕ) → state₁ ≡ sets state own bytes → own < length state₁
-  byte-there bytes state₁ q = omega (arith, ap length q, length-sets state own bytes, l .room, groups-named)
+  pub byte-there : (row : Path) (lent state₁ : List ℕ) → state₁ ≡ sets state own (groups row true false (componentsFrom code count n) (drop 1 lent)) → own < length state₁
+  byte-there row lent state₁ q =
+      omega (arith, ap length q, length-sets state own (groups row true false (componentsFrom code count n) (drop 1 lent)), l .room, groups-named)
 
   -- its styles
   pub styles-lent : (m : ℕ) → counted (componentAt code) count n ≡ read m (componentsFrom code count n) → StylesLent code m

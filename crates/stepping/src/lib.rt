@@ -3,3 +3,4 @@ pub mod components; // components.rt: the components of a selector
 pub mod state; // state.rt: the count of a part
 pub mod merging; // merging.rt: the styles of a selector
 pub mod selectors; // selectors.rt: the selectors of the sheet
+pub mod step; // step.rt: one row

@@ -27,14 +27,16 @@ pass-selector-requires c κs = let v = c .before .before .before in
 -- src/selectors.rt:132:9
 add-a : tie.Need-add-a Inv-loop μ-loop
 add-a c = let v = c .before .before .before .before .before .before .before .before .before in
-    let q = laws.selecting-room _ _ _ _ _ _ _ _ _ _ _ (c .before .before .before .before .before .before .before .before .before .before .before .before .before .before .before .before .pre .1) _ _ _ _ _ _ _ (v .loop .inv) (c .before .before .before .before .before .before .before .before .loop-test .taken) _ _ _ (c .before .before .before .before .before .pass-selector .ensures) in
-    omega (arith, q .0, q .1, v .loop .inv .long)
+    let s = c .before .before .before .before .before .before .before .before .before .before .before .before .before .before .before .before in
+    let q = laws.selecting-room _ _ _ _ _ _ _ _ _ _ _ (s .pre .1) _ _ _ _ _ _ _ (v .loop .inv) (c .before .before .before .before .before .before .before .before .loop-test .taken) _ _ _ (c .before .before .before .before .before .pass-selector .ensures) in
+    omega (arith, q .0, q .1, v .loop .inv .long, s .good .1 .1 .1 .1 .1 .1 .1 .1 .1 .0)
 
 -- src/selectors.rt:133:9
 add-o : tie.Need-add-o Inv-loop μ-loop
 add-o c = let v = c .before .before .before .before .before .before .before .before .before .before in
-    let q = laws.selecting-room _ _ _ _ _ _ _ _ _ _ _ (c .before .before .before .before .before .before .before .before .before .before .before .before .before .before .before .before .before .pre .1) _ _ _ _ _ _ _ (v .loop .inv) (c .before .before .before .before .before .before .before .before .before .loop-test .taken) _ _ _ (c .before .before .before .before .before .before .pass-selector .ensures) in
-    omega (arith, q .0, q .1, v .loop .inv .long)
+    let s = c .before .before .before .before .before .before .before .before .before .before .before .before .before .before .before .before .before in
+    let q = laws.selecting-room _ _ _ _ _ _ _ _ _ _ _ (s .pre .1) _ _ _ _ _ _ _ (v .loop .inv) (c .before .before .before .before .before .before .before .before .before .loop-test .taken) _ _ _ (c .before .before .before .before .before .before .pass-selector .ensures) in
+    omega (arith, q .0, q .1, v .loop .inv .long, s .good .1 .1 .1 .1 .1 .1 .1 .1 .1 .0)
 
 -- src/selectors.rt:134:9
 sub-left : tie.Need-sub-left Inv-loop μ-loop

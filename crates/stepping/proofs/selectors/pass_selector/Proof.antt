@@ -1,3 +1,4 @@
+use Rattle.stepping.specs.Components.{aboveFrom}
 use Rattle.stepping.proofs.SelectorLaws as laws
 use borrow.Author.Needs.{needs}
 use Rattle.stepping.proofs.selectors.pass_selector.Statement.{statement}
@@ -28,7 +29,7 @@ matches-at-requires : tie.Need-matches-at-requires
 matches-at-requires c κs = let w = c .before .before .before in
     let n = w .before .before .before in
     let a = n .before .before .before .before .before .before .before .before .before in
-    laws.byte-there _ _ _ _ _ _ _ _ (a .pre .1) _ (n .before .before .read-head .ensures .0) _ _ _ _ (n .next .given .1) _ _ (w .walk-components .ensures .0)
+    laws.byte-there _ _ _ _ _ _ _ _ (a .pre .1) _ (n .before .before .read-head .ensures .0) _ _ _ _ (n .next .given .1) _ (aboveFrom (a .args .element) (a .args .state .now) (a .args .above)) _ (w .walk-components .ensures .0)
 
 -- src/selectors.rt:73:17
 pass-styles-requires : tie.Need-pass-styles-requires

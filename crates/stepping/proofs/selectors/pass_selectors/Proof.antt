@@ -1,3 +1,4 @@
+use Rattle.stepping.proofs.SelectorLaws as laws
 use borrow.Author.Needs.{needs}
 use Rattle.stepping.proofs.selectors.pass_selectors.Statement.{statement}
 use Rattle.stepping.proofs.selectors.pass_selectors.Tie as tie
@@ -16,7 +17,9 @@ enum-known-next c = search needs
 
 -- src/selectors.rt:159:13
 pass-counted-requires : tie.Need-pass-counted-requires
-pass-counted-requires c κs = search needs
+pass-counted-requires c κs = let n = c .before .before .before in
+    let a = n .before .before .before .before .before .before .before .before .before in
+    (a .pre .0, laws.selectors-lent _ _ _ _ _ _ (a .pre .1) _ (n .before .before .read-number .ensures .0) _ _ (n .next .given .1))
 
 -- src/selectors.rt:174:13
 same-length : tie.Need-same-length
@@ -28,7 +31,10 @@ same-length-2 c = search needs
 
 -- src/selectors.rt:174:13
 returns : tie.Need-returns
-returns c = search needs
+returns c = let k = c .before .before .before .before in
+    let n = k .before .before .before .before in
+    let a = n .before .before .before .before .before .before .before .before .before in
+    laws.sheet-passed _ _ _ _ _ _ (a .pre .1) _ (n .before .before .read-number .ensures .0) _ _ (n .next .given .1) _ _ _ _ _ (k .pass-counted .ensures)
 
 -- src/selectors.rt:177:13
 enum-told : tie.Need-enum-told
@@ -36,7 +42,8 @@ enum-told c = search needs
 
 -- src/selectors.rt:177:13
 returns-2 : tie.Need-returns-2
-returns-2 c = search needs
+returns-2 c = let k = c .before .before in
+    absurd (laws.sheet-there _ _ _ _ _ _ (k .before .before .before .before .before .before .before .pre .1) _ (k .read-number .ensures .0) _ (c .enum-told .given .1))
 
 pub pass-selectors-spec : {M : Type 1} → statement M
 pass-selectors-spec =
