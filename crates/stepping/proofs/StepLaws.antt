@@ -11,11 +11,12 @@ use Rattle.combinators.specs.Choice.{pick, is}
 use Rattle.combinators.specs.Store.{wiped}
 use Rattle.combinators.proofs.Rules.{pick-true, pick-false, is-yes, is-no}
 use Rattle.combinators.proofs.Wiped.{sets-append, sets-apart}
+use Rattle.syntax.specs.Stream.{textsMany}
 use Rattle.syntax.specs.declared.styles.Value.{Value}
 use Rattle.cascade.specs.declared.slots.Cascade.the-variants.{Crate}
 use Rattle.cascade.specs.Row.{styleRowWidth, RowRoom, Inherited, Emptied, inheritedRow, presentRow}
 use Rattle.page.specs.Accepted.{depthLimit}
-use Rattle.page.specs.Path.{Attribute, Element}
+use Rattle.page.specs.Path.{Attribute, Element, Path}
 use Rattle.page.specs.PathOf.{attributesFrom}
 use Rattle.page.specs.Rows.{otherKind, nodeAt, nameOf, attributeRows}
 use Rattle.attributes.specs.Merging.{InlineRoom}
@@ -29,7 +30,7 @@ use Rattle.runner.specs.Groups.{allGroups, matching, groupsCount}
 use Rattle.runner.specs.LeastLengths.{stateLeast}
 use Rattle.runner.specs.Run.{Handed, Stepped, noStyle, handedFrom, selectorsDeclare, rowBelow, documentStep, elementStep, openStep, stepOn}
 use Rattle.runner.specs.State.{depths, partWidth, partPlace, countBytes, countAt, raised, groupsFrom, opened}
-use Rattle.runner.specs.Walked.{walked}
+use Rattle.runner.specs.Walked.{WalkedSelector, walked}
 use Rattle.runner.proofs.StateParts.{raised-groups}
 use Rattle.stepping.specs.Components.{rowAlone, handedElement, aboveFrom, placeLimit}
 use Rattle.stepping.specs.Count.{CountRoom, countLimit}
@@ -53,6 +54,16 @@ unfolding inheritedRow presentRow
 inherited-long xs ys m = ap length (m .numbers) ∙ simp length-set
 
 -- ---- parts
+-- a state stays as long as it is, where a count is raised
+pub raised-long : (state z : List ℕ) (at : ℕ) → z ≡ raised state at → length z ≡ length state
+unfolding raised
+raised-long state z at e = ap length e ∙ length-sets state at (countBytes (countAt state at + 1))
+
+-- and where selectors are passed
+pub passed-long : (row : Path) (ss : List (WalkedSelector Value)) (above : List ℕ) (own : ℕ) (state out state₁ out₁ : List ℕ) → SelectorsPassed row ss above own state out state₁ out₁
+    → length state₁ ≡ length state
+passed-long row ss above own state out state₁ out₁ p = ap length (p .stored) ∙ length-sets state own (allGroups row ss above)
+
 -- a part and two more, of so many
 parts-fit : (d w n : ℕ) → d + 2 ≤ depths → depths * w ≤ n → d * w + w + w ≤ n
 parts-fit d w n h l =
@@ -71,8 +82,12 @@ module _ (code out state : List ℕ) (l : OpenLent code out state) where
   pub row-there : RowRoom out
   row-there = record { room = omega (arith, l .one-row) }
 
+  -- the row that a child begins with has room too
+  pub inherited-room : (out₁ : List ℕ) → Inherited Crate out out₁ → RowRoom out₁
+  inherited-room out₁ m = record { room = omega (arith, l .one-row, inherited-long out out₁ m) }
+
   -- the bytes of all groups fit a part
-  groups-fit : 2 + groupsCount (walked code) ≤ length code + 1
+  pub groups-fit : 2 + groupsCount (walked code) ≤ length code + 1
   groups-fit = sheet-walked code (l .sheet) .long
 
   -- what passing the selectors at the document asks for
@@ -141,7 +156,7 @@ module _ (code out state : List ℕ) (l : OpenLent code out state) where
       child = childElement node attributes text state parent
 
       bytes-are : allGroups (rowAlone true (handedElement name attributes text (n + 1))) (walked code) (aboveFrom true state₁ (parent + 2)) ≡ childBytes code child state parent
-      unfolding rowAlone aboveFrom childBytes childElement
+      unfolding rowAlone aboveFrom childBytes childElement groupsFrom
       bytes-are = rw (en, named) (ap (allGroups _ (walked code)) (ap (λ (x : List ℕ). groupsFrom x parent) raises ∙ raised-groups state parent))
 
       -- what opening an element leaves
@@ -168,52 +183,54 @@ module _ (code out state : List ℕ) (l : OpenLent code out state) where
           }
 
 -- ---- returns of `merge_inline`
-module _ (settings : Settings) (xs : List Attribute) (base fill : ℕ) (out texts : List ℕ) where
-  -- what attributes give a row and the text store, if document styles are on
-  pub record Inlined (out₁ texts₁ : List ℕ) (r : ℕ) : Type 0 where
-    pub row : out₁ ≡ mergedRow Crate out (lateDeclared Crate (placedAttributes (base + fill) (pick (settings .«document_styles») xs [])))
-    pub texts : take r texts₁ ≡ take fill texts ++ attributesContents (pick (settings .«document_styles») xs [])
-    pub within : r ≤ length texts₁
+-- so many attributes are those that are lent
+pub inline-lent : (attributes text : List ℕ) (n base fill : ℕ) (rules tokens brackets texts : List ℕ) → n ≡ attributeRows attributes
+    → InlineRoom (attributesFrom attributes text (attributeRows attributes) 0) base fill rules tokens brackets texts
+    → InlineRoom (attributesFrom attributes text n 0) base fill rules tokens brackets texts
+inline-lent attributes text n base fill rules tokens brackets texts e l = rw e l
 
-  -- they are on
-  pub inline-on : settings .«document_styles» ≡ true → fill ≤ length texts → (out₁ texts₁ : List ℕ) (r : ℕ)
-      → out₁ ≡ mergedRow Crate out (lateDeclared Crate (placedAttributes (base + fill) xs)) → r ≡ fill + length (attributesContents xs)
-      → take r texts₁ ≡ take fill texts ++ attributesContents xs
-      → (out₁ ≡ mergedRow Crate out (lateDeclared Crate (placedAttributes (base + fill) (pick (settings .«document_styles») xs []))))
-      × ((take r texts₁ ≡ take fill texts ++ attributesContents (pick (settings .«document_styles») xs []))
+module _ (settings : Settings) (attributes text : List ℕ) (base fill : ℕ) (out texts : List ℕ) where
+  abbrev rowAttributes : List Attribute
+  rowAttributes = attributesFrom attributes text (attributeRows attributes) 0
+
+  -- those that count
+  abbrev counting : List Attribute
+  counting = pick (settings .«document_styles») rowAttributes []
+
+  -- they do
+  pub inline-on : settings .«document_styles» ≡ true → fill ≤ length texts → (n : ℕ) → n ≡ attributeRows attributes → (out₁ texts₁ : List ℕ) (r : ℕ)
+      → (out₁ ≡ mergedRow Crate out (lateDeclared Crate (placedAttributes (base + fill) (attributesFrom attributes text n 0))))
+      × ((r ≡ fill + length (attributesContents (attributesFrom attributes text n 0)))
+      × (take r texts₁ ≡ take fill texts ++ attributesContents (attributesFrom attributes text n 0)))
+      → (out₁ ≡ mergedRow Crate out (lateDeclared Crate (placedAttributes (base + fill) counting)))
+      × ((take r texts₁ ≡ take fill texts ++ attributesContents counting)
       × (r ≤ length texts₁))
-  inline-on h f out₁ texts₁ r row e t =
-      let p : pick (settings .«document_styles») xs [] ≡ xs = sym (pick-true xs xs [] _ h refl) in
+  inline-on h f n e out₁ texts₁ r q =
+      let xs : List Attribute = attributesFrom attributes text n 0 in
+      let p : xs ≡ counting = ap (λ (k : ℕ). attributesFrom attributes text k 0) e ∙ pick-true rowAttributes rowAttributes [] _ h refl in
       let long : length (take fill texts) ≡ fill = length-take-le fill texts f in
-      let a : length (take r texts₁) ≡ length (take fill texts) + length (attributesContents xs) = ap length t ∙ length-append (take fill texts) (attributesContents xs) in
+      let a : length (take r texts₁) ≡ length (take fill texts) + length (attributesContents xs) = ap length (q .1 .1) ∙ length-append (take fill texts) (attributesContents xs) in
+      let b = q .1 .0 in
       let m = length-take r texts₁ in
-      (row ∙ ap (λ (ys : List Attribute). mergedRow Crate out (lateDeclared Crate (placedAttributes (base + fill) ys))) (sym p),
-       (t ∙ ap (λ (ys : List Attribute). take fill texts ++ attributesContents ys) (sym p),
+      (q .0 ∙ ap (λ (ys : List Attribute). mergedRow Crate out (lateDeclared Crate (placedAttributes (base + fill) ys))) p,
+       (q .1 .1 ∙ ap (λ (ys : List Attribute). take fill texts ++ attributesContents ys) p,
         omega arith))
 
-  -- they are off
+  -- they do not
   pub inline-off : settings .«document_styles» ≡ false → fill ≤ length texts
-      → (out ≡ mergedRow Crate out (lateDeclared Crate (placedAttributes (base + fill) (pick (settings .«document_styles») xs []))))
-      × ((take fill texts ≡ take fill texts ++ attributesContents (pick (settings .«document_styles») xs []))
+      → (out ≡ mergedRow Crate out (lateDeclared Crate (placedAttributes (base + fill) counting)))
+      × ((take fill texts ≡ take fill texts ++ attributesContents counting)
       × (fill ≤ length texts))
-  unfolding placedAttributes attributesContents
+  unfolding placedAttributes attributesContents textsMany
   inline-off h f =
-      let p : pick (settings .«document_styles») xs [] ≡ [] = sym (pick-false [] xs [] _ h refl) in
-      (sym (merged-none Crate out) ∙ ap (mergedRow Crate out) (sym (late-none Crate)) ∙ ap (λ (ys : List Attribute). mergedRow Crate out (lateDeclared Crate (placedAttributes (base + fill) ys))) (sym p),
-       (sym (append-nil (take fill texts)) ∙ ap (λ (ys : List Attribute). take fill texts ++ attributesContents ys) (sym p),
+      let p : [] ≡ counting = pick-false [] rowAttributes [] _ h refl in
+      (sym (merged-none Crate out) ∙ ap (mergedRow Crate out) (sym (late-none Crate)) ∙ ap (λ (ys : List Attribute). mergedRow Crate out (lateDeclared Crate (placedAttributes (base + fill) ys))) p,
+       (sym (append-nil (take fill texts)) ∙ ap (λ (ys : List Attribute). take fill texts ++ attributesContents ys) p,
         f))
 
--- ---- returns of `step`
--- the parts of what a step leaves
-stepped : (row row₁ state state₁ texts texts₁ : List ℕ) → row ≡ row₁ → state ≡ state₁ → texts ≡ texts₁
-    → _≡_ {A = Stepped} (record { row = row; state = state; texts = texts }) (record { row = row₁; state = state₁; texts = texts₁ })
-stepped row row₁ state state₁ texts texts₁ a b c = rw (a, b, c)
-
-module _ (settings : Settings) (code node attributes text : List ℕ) (depth : ℕ) (out state rules tokens brackets texts : List ℕ) (fill : ℕ)
+-- ---- what a step asks for
+module _ (code attributes text : List ℕ) (depth : ℕ) (out state rules tokens brackets texts : List ℕ) (fill : ℕ)
     (l : StepLent code attributes text depth out state rules tokens brackets texts fill) where
-  abbrev handed : Handed
-  handed = handedFrom node attributes text
-
   -- what is filled lies in the store
   pub filled : fill ≤ length texts
   filled = omega (arith, l .for-attributes .for-texts)
@@ -222,12 +239,59 @@ module _ (settings : Settings) (code node attributes text : List ℕ) (depth : �
   pub open-lent : OpenLent code out state
   open-lent = record { sheet = l .sheet; few = l .few; one-row = l .one-row; for-state = l .for-state }
 
+  -- an element is below the document
+  pub below : ¬ (depth ≡ 0) → Below depth
+  below d = record { deep = omega arith; shallow = l .shallow }
+
+  -- its row has room
+  pub opened-room : (e : Element) (out₁ state₁ : List ℕ) → ElementOpened code e depth out state out₁ state₁ → RowRoom out₁
+  unfolding inheritedRow presentRow
+  opened-room e out₁ state₁ p =
+      let a : length out₁ ≡ length out = ap length (p .row) ∙ merged-long Crate _ (inheritedRow Crate out) ∙ simp length-set in
+      record { room = omega (arith, a, l .one-row) }
+
+-- ---- returns of `step`
+-- the parts of what a step leaves
+stepped : (row row₁ state state₁ texts texts₁ : List ℕ) → row ≡ row₁ → state ≡ state₁ → texts ≡ texts₁
+    → _≡_ {A = Stepped} (record { row = row; state = state; texts = texts }) (record { row = row₁; state = state₁; texts = texts₁ })
+stepped row row₁ state state₁ texts texts₁ a b c = rw (a, b, c)
+
+-- an element below a row of the depth d
+module _ (settings : Settings) (code node attributes text out state texts : List ℕ) (fill d : ℕ) (f : fill ≤ length texts) where
+  abbrev childAt : Element
+  childAt = childElement node attributes text state (partPlace code d)
+
+  element-is : (out₁ state₁ out₂ texts₂ : List ℕ) (r : ℕ)
+      → out₁ ≡ mergedRow Crate (inheritedRow Crate out) (selectorsDeclare (matching (walked code) (childBytes code childAt state (partPlace code d))))
+      → state₁ ≡ opened (raised state (partPlace code d)) (partPlace code (suc d)) (childBytes code childAt state (partPlace code d))
+      → out₂ ≡ mergedRow Crate out₁ (lateDeclared Crate (placedAttributes (length code + fill) (counting settings attributes text (length code) fill out texts)))
+      → take r texts₂ ≡ take fill texts ++ attributesContents (counting settings attributes text (length code) fill out texts)
+      → record { row = out₂; state = state₁; texts = take r texts₂ } ≡ openStep code settings (handedFrom node attributes text) (suc d) out state (take fill texts)
+  unfolding openStep elementStep rowBelow handedFrom childElement handedElement childBytes countedAttributes inlineContents
+  element-is out₁ state₁ out₂ texts₂ r row part row₂ t =
+      let long : length (take fill texts) ≡ fill = length-take-le fill texts f in
+      let xs : List Attribute = counting settings attributes text (length code) fill out texts in
+      let merged : List ℕ = mergedRow Crate (inheritedRow Crate out) (selectorsDeclare (matching (walked code) (childBytes code childAt state (partPlace code d)))) in
+      stepped _ _ _ _ _ _
+      (row₂
+      ∙ ap (λ (x : List ℕ). mergedRow Crate x (lateDeclared Crate (placedAttributes (length code + fill) xs))) row
+      ∙ ap (λ (k : ℕ). mergedRow Crate merged (lateDeclared Crate (placedAttributes (length code + k) xs))) (sym long))
+      part t
+
+module _ (settings : Settings) (code node attributes text : List ℕ) (depth : ℕ) (out state rules tokens brackets texts : List ℕ) (fill : ℕ)
+    (l : StepLent code attributes text depth out state rules tokens brackets texts fill) where
+  abbrev handed : Handed
+  handed = handedFrom node attributes text
+
+  abbrev fits : fill ≤ length texts
+  fits = filled code attributes text depth out state rules tokens brackets texts fill l
+
   -- other content
   pub other-step : (kind : ℕ) → kind ≡ nodeAt node 0 .kind → kind ≡ otherKind → (out₁ : List ℕ) → Emptied out out₁
       → (record { row = out₁; state = state; texts = take fill texts } ≡ stepOn code settings handed depth out state (take fill texts)) × (fill ≤ length texts)
   unfolding stepOn handedFrom
   other-step kind e h out₁ m =
-      (pick-true _ _ _ _ (is-yes _ _ (sym e ∙ h)) (stepped _ _ _ _ _ _ (emptied out out₁ (l .one-row) m) refl refl), filled)
+      (pick-true _ _ _ _ (is-yes _ _ (sym e ∙ h)) (stepped _ _ _ _ _ _ (emptied out out₁ (l .one-row) m) refl refl), fits)
 
   module _ (kind : ℕ) (e : kind ≡ nodeAt node 0 .kind) (h : ¬ (kind ≡ otherKind)) where
     opens : (x : Stepped) → x ≡ openStep code settings handed depth out state (take fill texts) → x ≡ stepOn code settings handed depth out state (take fill texts)
@@ -239,8 +303,20 @@ module _ (settings : Settings) (code node attributes text : List ℕ) (depth : �
         → (record { row = out₁; state = state₁; texts = take fill texts } ≡ stepOn code settings handed depth out state (take fill texts)) × (fill ≤ length texts)
     unfolding openStep documentStep
     document-step d out₁ state₁ p =
-        (opens _ (stepped _ _ _ _ _ _ (p .0) (p .1) refl ∙ ap (λ (x : ℕ). openStep code settings handed x out state (take fill texts)) (sym d)), filled)
+        (opens _ (stepped _ _ _ _ _ _ (p .0) (p .1) refl ∙ ap (λ (x : ℕ). openStep code settings handed x out state (take fill texts)) (sym d)), fits)
 
     -- an element
-    pub below : ¬ (depth ≡ 0) → Below depth
-    below d = record { deep = omega arith; shallow = l .shallow }
+    pub element-step : ¬ (depth ≡ 0) → (out₁ state₁ : List ℕ)
+        → ElementOpened code (childElement node attributes text state (partPlace code (depth - 1))) depth out state out₁ state₁ → (out₂ texts₂ : List ℕ) (r : ℕ)
+        → (out₂ ≡ mergedRow Crate out₁ (lateDeclared Crate (placedAttributes (length code + fill) (counting settings attributes text (length code) fill out texts))))
+        × ((take r texts₂ ≡ take fill texts ++ attributesContents (counting settings attributes text (length code) fill out texts))
+        × (r ≤ length texts₂))
+        → (record { row = out₂; state = state₁; texts = take r texts₂ } ≡ stepOn code settings handed depth out state (take fill texts)) × (r ≤ length texts₂)
+    element-step n out₁ state₁ p out₂ texts₂ r q =
+        let e : suc (depth - 1) ≡ depth = omega arith in
+        (opens _
+         (element-is settings code node attributes text out state texts fill (depth - 1) fits out₁ state₁ out₂ texts₂ r (p .row)
+          (p .part ∙ ap (λ (x : ℕ). opened (raised state (partPlace code (depth - 1))) (partPlace code x) (childBytes code (childElement node attributes text state (partPlace code (depth - 1))) state (partPlace code (depth - 1)))) (sym e))
+          (q .0) (q .1 .0)
+          ∙ ap (λ (x : ℕ). openStep code settings handed x out state (take fill texts)) e),
+         q .1 .1)
