@@ -2,3 +2,8 @@ pub mod PieceLaws
 pub mod LeapLaws
 pub mod WalkLaws
 pub mod WeightLaws
+pub mod Parts
+pub mod WalkedReads
+pub mod StyleLaws
+pub mod SelectorLaws
+pub mod StepLaws

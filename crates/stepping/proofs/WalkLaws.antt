@@ -51,11 +51,11 @@ above-next true state at = sym (drop-drop 1 at state)
 above-next false state at = refl
 
 -- the first of them is the same where the byte is
-above-same : (el : Bool) (s t : List ℕ) (at : ℕ) → getD s at 0 ≡ getD t at 0 → getD (aboveFrom el s at) 0 0 ≡ getD (aboveFrom el t at) 0 0
+above-same : (el : Bool) (s t : List ℕ) (at : ℕ) → (el ≡ true → getD s at 0 ≡ getD t at 0) → getD (aboveFrom el s at) 0 0 ≡ getD (aboveFrom el t at) 0 0
 unfolding aboveFrom
 above-same true s t at e =
     let d : at + 0 ≡ at = omega arith in
-    rw (getD-drop at s 0 0, getD-drop at t 0 0, d) e
+    rw (getD-drop at s 0 0, getD-drop at t 0 0, d) (e refl)
 above-same false s t at e = refl
 
 -- ---- what a piece says of its component
@@ -224,10 +224,11 @@ pub record Walking (code : List ℕ) (at count : ℕ) (row : Path) (el : Bool) (
   pub byte-is : byte ≡ getD (aboveFrom el state (above + g + 1)) 0 0
   pub no-hope : hopeless ≡ true → byte ≡ 0
   pub room : own + suc (combinators (componentsFrom code count at)) ≤ length state₀
-  pub apart : above + suc (combinators (componentsFrom code count at)) ≤ own
+  pub apart : el ≡ true → above + suc (combinators (componentsFrom code count at)) ≤ own
+  pub order : above < own
 
 -- nothing is written yet
-pub walk-begin : (code : List ℕ) (at count place : ℕ) (row : Path) (el : Bool) (state : List ℕ) (above own : ℕ) → ComponentsLent code at count place state above own
+pub walk-begin : (code : List ℕ) (at count place : ℕ) (row : Path) (el : Bool) (state : List ℕ) (above own : ℕ) → ComponentsLent code at count place el state above own
     → (byte : ℕ) → byte ≡ getD (aboveFrom el state (above + 1)) 0 0 → (hopeless : Bool) → (hopeless ≡ true → byte ≡ 0)
     → Walking code at count row el state above own state at count true false 0 byte hopeless
 walk-begin code at count place row el state above own v byte eb hopeless f =
@@ -245,6 +246,7 @@ walk-begin code at count place row el state above own v byte eb hopeless f =
       no-hope = f;
       room = v .room;
       apart = v .apart;
+      order = v .order;
     }
 
 module _ (code : List ℕ) (at count : ℕ) (row : Path) (el : Bool) (state₀ : List ℕ) (above own : ℕ) (state : List ℕ) (i left : ℕ) (ok holds : Bool) (g byte : ℕ)
@@ -296,6 +298,7 @@ module _ (code : List ℕ) (at count : ℕ) (row : Path) (el : Bool) (state₀ :
           no-hope = λ t. never t;
           room = v .room;
           apart = v .apart;
+          order = v .order;
         }
 
     -- a combinator
@@ -307,15 +310,15 @@ module _ (code : List ℕ) (at count : ℕ) (row : Path) (el : Bool) (state₀ :
       pub walk-less : others < left
       walk-less = turn .fewer
 
-      low : above + g + 1 < own
-      low = omega (arith, turn .one-less, v .groups-left, v .apart)
+      low : el ≡ true → above + g + 1 < own
+      low t = omega (arith, turn .one-less, v .groups-left, v .apart t)
 
       byte-before : byte ≡ getD (aboveFrom el state₀ (above + g + 1)) 0 0
-      byte-before = v .byte-is ∙ above-same el state state₀ (above + g + 1) (v .kept (above + g + 1) low)
+      byte-before = v .byte-is ∙ above-same el state state₀ (above + g + 1) (λ t. v .kept (above + g + 1) (low t))
 
       -- the parent's byte of the next group can be read
       pub byte-there : (x : ℕ) → above + (g + 1) + 1 < length (set state (own + g) x)
-      byte-there x = omega (arith, low, length-set state (own + g) x, v .long, v .room)
+      byte-there x = omega (arith, turn .one-less, v .groups-left, v .order, length-set state (own + g) x, v .long, v .room)
 
       pub walk-combinator : (joins : Bool) → joins ≡ combined (combinatorOf d) byte → (m : Bool) → m ≡ and ok joins → (x : ℕ) → x ≡ pack m holds
           → (next : ℕ) → next ≡ getD (aboveFrom el (set state (own + g) x) (above + (g + 1) + 1)) 0 0 → (dim : Bool) → (dim ≡ true → next ≡ 0)
@@ -340,4 +343,5 @@ module _ (code : List ℕ) (at count : ℕ) (row : Path) (el : Bool) (state₀ :
             no-hope = f;
             room = v .room;
             apart = v .apart;
+            order = v .order;
           }

@@ -1,5 +1,5 @@
 -- The components of one selector at one row: the row, the parent's bytes, what a component in compiled bytes is for the row, and what a walk over them asks for.
-use Prim.Native.Nat.{ℕ, zero, suc, _+_, _-_, _≤_}
+use Prim.Native.Nat.{ℕ, zero, suc, _+_, _-_, _≤_, _<_}
 use mathlib.Core.Path.{_≡_}
 use mathlib.Core.Bool.{Bool, true, false}
 use mathlib.Core.List.{List, [], _∷_}
@@ -94,9 +94,10 @@ weightAt code at = onDecoded (componentAt code at) (λ n c. weight.Added n (adde
 abbrev pub placeLimit : ℕ
 placeLimit = 65536
 
--- the components are there, the bytes of their groups have room, and those of the parent stand before them
-pub record ComponentsLent (code : List ℕ) (at count place : ℕ) (state : List ℕ) (above own : ℕ) : Type 0 where
+-- the components are there, the bytes of their groups have room, and those of an element's parent stand before them; above the document there are none
+pub record ComponentsLent (code : List ℕ) (at count place : ℕ) (element : Bool) (state : List ℕ) (above own : ℕ) : Type 0 where
   pub reads : Reads (counted (componentAt code) count at)
   pub room : own + suc (combinators (componentsFrom code count at)) ≤ length state
-  pub apart : above + suc (combinators (componentsFrom code count at)) ≤ own
+  pub apart : element ≡ true → above + suc (combinators (componentsFrom code count at)) ≤ own
+  pub order : above < own
   pub few : place ≤ placeLimit

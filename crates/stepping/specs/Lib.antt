@@ -1,2 +1,5 @@
 pub mod Components
+pub mod Count
+pub mod Passed
+pub mod Opened
 pub mod Lent

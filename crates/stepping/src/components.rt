@@ -403,7 +403,7 @@ pub fn walk_components(
     above: usize,
     own: usize,
 ) -> Walked
-    requires { ⌜ ComponentsLent (now compiled) at count place (now state) above own ⌝ }
+    requires { ⌜ ComponentsLent (now compiled) at count place element (now state) above own ⌝ }
     ensures { λ r. ⌜ now (state .exit) ≡ sets (now (state .entry)) own
         (groups (rowAlone element (handedElement (now (name .entry)) (now (attributes .entry)) (now (text .entry)) place)) true false
         (componentsFrom (now (compiled .entry)) count at) (drop 1 (aboveFrom element (now (state .entry)) above))) ⌝ }

@@ -1,10 +1,145 @@
 // One row of a run.
+use crate::selectors::pass_selectors;
+use crate::state::COUNT_WIDTH;
+use crate::state::count_at;
+use crate::state::raise_count;
+use crate::state::write_count;
+use attributes::merging::merge_attributes;
+use cascade::rows::clear_row;
+use cascade::rows::inherit;
+use cascade::slots::Cascade;
+use page::rows::OTHER;
+use page::rows::attribute_rows;
+use page::rows::kind_of;
+use page::rows::name_of;
 use styles::settings::Settings;
 ghost use mathlib.Core.Path.{_≡_};
-ghost use Prim.Native.Nat.{_≤_};
+ghost use mathlib.Core.List.{[], _++_};
+ghost use Prim.Native.Nat.{_+_, _-_, _≤_};
 ghost use lib.ListN.{length, take};
-ghost use Rattle.runner.specs.Run.{handedFrom, stepOn};
+ghost use Rattle.combinators.specs.Choice.{pick};
+ghost use Rattle.cascade.specs.declared.slots.Cascade.the-variants.{Crate};
+ghost use Rattle.cascade.specs.Row.{RowRoom};
+ghost use Rattle.page.specs.PathOf.{attributesFrom};
+ghost use Rattle.page.specs.Rows.{attributeRows};
+ghost use Rattle.attributes.specs.Merging.{InlineRoom};
+ghost use Rattle.styles.specs.Merged.{mergedRow, lateDeclared};
+ghost use Rattle.styles.specs.StyleCall.{attributesContents, placedAttributes};
+ghost use Rattle.runner.specs.Groups.{allGroups};
+ghost use Rattle.runner.specs.Run.{noStyle, handedFrom, stepOn};
+ghost use Rattle.runner.specs.State.{partPlace, opened};
+ghost use Rattle.runner.specs.Walked.{walked};
 ghost use Rattle.stepping.specs.Lent.{StepLent};
+ghost use Rattle.stepping.specs.Opened.{OpenLent, Below, childElement, ElementOpened};
+
+// The document: its part of the state, and no style.
+fn open_document(
+    compiled: &[u8],
+    attributes: &[u32],
+    text: &[u8],
+    out: &mut [u32],
+    state: &mut [u8],
+)
+    requires { ⌜ OpenLent (now compiled) (now out) (now state) ⌝ }
+    ensures { λ _. ⌜ now (out .exit) ≡ noStyle ⌝ }
+    ensures { λ _. ⌜ now (state .exit) ≡ opened (now (state .entry)) (partPlace (now (compiled .entry)) 0) (allGroups [] (walked (now (compiled .entry))) []) ⌝ }
+{
+    // above the document there is nothing, and it has no name, attributes or place
+    pass_selectors(
+        compiled,
+        false,
+        text,
+        attributes,
+        text,
+        0,
+        state,
+        0,
+        COUNT_WIDTH,
+        out,
+    );
+    write_count(state, 0, 0);
+    clear_row(out);
+}
+
+// An element: its style row without what its attributes say, its own part of the state, and one child more in its parent's.
+fn open_element(
+    compiled: &[u8],
+    node: &[u32],
+    attributes: &[u32],
+    text: &[u8],
+    depth: usize,
+    out: &mut [u32],
+    state: &mut [u8],
+)
+    requires { ⌜ OpenLent (now compiled) (now out) (now state) ⌝ }
+    requires { ⌜ Below depth ⌝ }
+    ensures { λ _. ⌜ ElementOpened (now (compiled .entry))
+        (childElement (now (node .entry)) (now (attributes .entry)) (now (text .entry)) (now (state .entry)) (partPlace (now (compiled .entry)) (depth - 1)))
+        depth (now (out .entry)) (now (state .entry)) (now (out .exit)) (now (state .exit)) ⌝ }
+{
+    let width = compiled.len() + 1;
+    let parent = (depth - 1) * width;
+    let own = parent + width;
+    let place = count_at(state, parent) + 1;
+    raise_count(state, parent);
+    inherit(out, Cascade::Crate);
+    let name = name_of(node, text, 0);
+    pass_selectors(
+        compiled,
+        true,
+        name,
+        attributes,
+        text,
+        place,
+        state,
+        parent + COUNT_WIDTH,
+        own + COUNT_WIDTH,
+        out,
+    );
+    write_count(state, own, 0);
+}
+
+// What the attributes of a row say, if document styles are on; the fill behind their contents, whose starts count from `base` on. What `rules`, `tokens` and
+// `brackets` hold afterwards, and `texts` behind that fill, is left free.
+fn merge_inline(
+    settings: Settings,
+    attributes: &[u32],
+    text: &[u8],
+    base: usize,
+    out: &mut [u32],
+    rules: &mut [u32],
+    tokens: &mut [u32],
+    brackets: &mut [u8],
+    texts: &mut [u8],
+    fill: usize,
+) -> usize
+    requires { ⌜ RowRoom (now out) ⌝ }
+    requires { ⌜ InlineRoom (attributesFrom (now attributes) (now text) (attributeRows (now attributes)) 0) base fill (now rules) (now tokens) (now brackets) (now texts) ⌝ }
+    ensures { λ _. ⌜ now (out .exit) ≡ mergedRow Crate (now (out .entry)) (lateDeclared Crate (placedAttributes (base + fill)
+        (pick (settings .«document_styles») (attributesFrom (now (attributes .entry)) (now (text .entry)) (attributeRows (now (attributes .entry))) 0) []))) ⌝ }
+    ensures { λ r. ⌜ take r (now (texts .exit)) ≡ take fill (now (texts .entry)) ++ attributesContents
+        (pick (settings .«document_styles») (attributesFrom (now (attributes .entry)) (now (text .entry)) (attributeRows (now (attributes .entry))) 0) []) ⌝ }
+    ensures { λ r. ⌜ r ≤ length (now (texts .exit)) ⌝ }
+{
+    if settings.document_styles {
+        let count = attribute_rows(attributes);
+        return merge_attributes(
+            Cascade::Crate,
+            attributes,
+            text,
+            0,
+            count,
+            base,
+            out,
+            rules,
+            tokens,
+            brackets,
+            texts,
+            fill,
+        );
+    }
+    fill
+}
 
 // The step of a row: `node` is its six numbers, `attributes` its attribute rows. `out` is its parent's style row at entry and its own at exit; the fill behind
 // its texts. What `rules`, `tokens` and `brackets` hold afterwards, and `texts` behind that fill, is left free.
@@ -28,5 +163,25 @@ pub fn step(
         ≡ stepOn (now (compiled .entry)) settings (handedFrom (now (node .entry)) (now (attributes .entry)) (now (text .entry))) depth (now (out .entry)) (now (state .entry)) (take fill (now (texts .entry))) ⌝ }
     ensures { λ r. ⌜ r ≤ length (now (texts .exit)) ⌝ }
 {
-    fill
+    if kind_of(node, 0) == OTHER {
+        clear_row(out);
+        return fill;
+    }
+    if depth == 0 {
+        open_document(compiled, attributes, text, out, state);
+        return fill;
+    }
+    open_element(compiled, node, attributes, text, depth, out, state);
+    merge_inline(
+        settings,
+        attributes,
+        text,
+        compiled.len(),
+        out,
+        rules,
+        tokens,
+        brackets,
+        texts,
+        fill,
+    )
 }

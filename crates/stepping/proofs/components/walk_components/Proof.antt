@@ -69,7 +69,7 @@ add-byte-above-2 c = search needs
 add-byte-above-3 : tie.Need-add-byte-above-3 Inv-loop μ-loop
 add-byte-above-3 c = let l = c .before .before .before .before .before .before .before .before .before in
     let v = l .loop .inv in
-    omega (arith, v .groups-left, v .room, v .apart, l .before .before .before .before .before .before .before .before .before .good .1 .1 .1 .1 .1 .1 .1 .1 .0 .0)
+    omega (arith, v .groups-left, v .room, v .order, l .before .before .before .before .before .before .before .before .before .good .1 .1 .1 .1 .1 .1 .1 .1 .0 .0)
 
 byte-above-requires-2 : tie.Need-byte-above-requires-2 Inv-loop μ-loop
 byte-above-requires-2 c κs = let n = c .before .before .before .before .before in
