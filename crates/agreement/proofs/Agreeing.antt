@@ -1,23 +1,20 @@
 -- Demand 3 over the calls: where sheets compile, their bytes are run down a page with all that a run needs, and the style call styles some row of that page, the run
 -- agrees with every style call.
-use Prim.Native.Nat.{ℕ, _+_, _-_, _*_, _≤_, _<_}
+use Prim.Native.Nat.{ℕ, _-_, _≤_, _<_}
 use mathlib.Core.Path.{_≡_, refl, ap, ap₂, sym, subst, _∙_}
-use mathlib.Core.Bool.{true}
 use mathlib.Core.List.{List, _++_}
 use native.Mathlib.Omega.{arith}
-use lib.ListN.{length, take, replicate, length-append}
-use Rattle.combinators.specs.Refusal.{noRefusal, shortStore}
-use Rattle.combinators.specs.Store.{cleared}
+use lib.ListN.{length, replicate, length-append, length-replicate}
+use Rattle.combinators.specs.Refusal.{noRefusal, badBytes}
 use Rattle.syntax.specs.Selector.{RuleSet}
-use Rattle.syntax.specs.declared.styles.Value.{Value}
 use Rattle.sheets.specs.SheetAnswer.{padded}
 use Rattle.origins.specs.Reading.{Sheets, rules, sheetsOf}
 use Rattle.origins.proofs.ChecksLaws.{none-long}
 use Rattle.cascade.specs.declared.slots.Cascade.the-variants.{Crate}
-use Rattle.cascade.specs.Record.{ComputedStyle}
 use Rattle.cascade.specs.Related.{SameStyle}
-use Rattle.cascade.specs.Row.{styleRowWidth, rowOf, styleAt}
+use Rattle.cascade.specs.Row.{rowOf, styleAt}
 use Rattle.cascade.proofs.RowBack.{row-back, view-formed}
+use Rattle.page.specs.Accepted.{pageRefusal}
 use Rattle.page.specs.PathOf.{pathOf}
 use Rattle.page.specs.Rows.{nodeCount, nodeAt, elementKind}
 use Rattle.styles.specs.declared.settings.Settings.{Settings}
@@ -26,21 +23,22 @@ use Rattle.styles.specs.Lent.{SheetTexts, Page}
 use Rattle.styles.specs.Said.{Rules}
 use Rattle.styles.specs.Says.{Says}
 use Rattle.styling.specs.Claim.{rowLeft, textsLeft, RowSays}
-use Rattle.styling.specs.StyleAnswer.{StyleLeft}
 use Rattle.styling.proofs.Claiming as claims
+use Rattle.runner.specs.Run.{Running, styleRowAt, runOf}
 use Rattle.runner.specs.LeastLengths.{rowsLeast}
-use Rattle.runner.specs.Run.{noStyle, Running, styleRowAt, runOf, pageContents}
+use Rattle.runner.proofs.PageContents.{contents-short}
 use Rattle.runner.proofs.StyleRows.{row-uncleared}
+use Rattle.combinators.proofs.Cleared.{length-cleared}
 use Rattle.running.specs.RunAnswer.{RunLeft, ran}
-use Rattle.agreement.specs.Calls.{CompileBuffers, RunBuffers, StyleBuffers, compileWith, runWith, styleWith, codeOf, textsOf}
+use Rattle.agreement.specs.Calls.{CompileBuffers, RunBuffers, StyleBuffers, compileWith, runWith, styleWith, codeOf, textsOf, StyleLent, SameLengths}
 use Rattle.agreement.specs.Demand.{AllRows, Agreement, Demand3}
 use Rattle.agreement.specs.SameRow.{SameRow}
 use Rattle.agreement.proofs.CompileTells.{padded-front, Compiled, compile-tells, bytes-taken}
 use Rattle.agreement.proofs.Demand.{demand-3}
 use Rattle.agreement.proofs.OwnSlots.{computed-own}
-use Rattle.agreement.proofs.RunTells.{RunTakes, run-leaves, run-lent, not-short}
+use Rattle.agreement.proofs.RunTells.{RunTakes, run-tells, run-leaves, run-lent, run-texts-lent, not-short, never-refused, runs-free}
 use Rattle.agreement.proofs.SameRows.{rows-same}
-use Rattle.agreement.proofs.StyleTells.{Asked, style-tells}
+use Rattle.agreement.proofs.StyleTells.{style-tells, element-styled}
 
 -- sheets are read in one way
 read-once : (m : Sheets) (x y : Rules RuleSet) → m ≡ rules (x .agent) (x .user) (x .author) → m ≡ rules (y .agent) (y .user) (y .author) → x ≡ y
@@ -54,6 +52,11 @@ read-once m x y e f =
 padded-long : (xs : List ℕ) (n : ℕ) → length xs ≤ length (padded xs n)
 unfolding padded
 padded-long xs n = omega (arith, length-append xs (replicate (n - length xs) 0))
+
+-- as long as it was, where that fits
+padded-fits : (xs : List ℕ) (n : ℕ) → length xs ≤ n → length (padded xs n) ≡ n
+unfolding padded
+padded-fits xs n h = omega (arith, length-append xs (replicate (n - length xs) 0), length-replicate {A = ℕ} (n - length xs) 0)
 
 module _ (s : SheetTexts) (g : Page) (settings : Settings) (code : List ℕ) (c : Compiled s code) (b : RunBuffers) (t : RunTakes code g b) where
   abbrev r : Running
@@ -81,6 +84,10 @@ module _ (s : SheetTexts) (g : Page) (settings : Settings) (code : List ℕ) (c 
   texts-there : textsOf leaves ≡ r .texts
   unfolding ran
   texts-there = padded-front (r .texts) (length (b .texts))
+
+  -- which fit into the store that is lent
+  texts-fit : length (r .texts) ≤ length (b .texts)
+  texts-fit = rw (all-rows .texts) (omega (arith, contents-short settings g (t .page), run-texts-lent code settings g b (t .suffices)))
 
   -- a row that the style call styles
   row-same : (i : ℕ) (v : StyleBuffers) → styleWith settings s g i v .answer .refusal ≡ noRefusal
@@ -115,6 +122,11 @@ module _ (s : SheetTexts) (g : Page) (settings : Settings) (code : List ℕ) (c 
         contents = texts-there ∙ all-rows .texts;
       }
 
+  -- the stores are as long as they were
+  leaves-long : (length (leaves .rows) ≡ length (b .rows)) × (length (leaves .texts) ≡ length (b .texts))
+  unfolding ran
+  leaves-long = (length-cleared (rowsLeast g) (r .rows) ∙ all-rows .rows-long, padded-fits (r .texts) (length (b .texts)) texts-fit)
+
 -- the claim
 pub demand3 : Demand3
 demand3 =
@@ -126,3 +138,31 @@ demand3 =
           let t : RunTakes code g w = record { few = c .few; suffices = not-short code settings g w (c .few) n; page = a .page; bytes = bytes-taken s code c } in
           subst (Agreement settings s g code) (sym (run-leaves code settings g w t)) (leaves-agree s g settings code c w t);
     }
+
+-- ---- beside it
+-- sheets that compile
+module _ (s : SheetTexts) (b : CompileBuffers) (compiles : compileWith s b .answer .refusal ≡ noRefusal) where
+  -- every element of an accepted page is styled, by every style call that is lent enough: so the rows that `agrees` speaks of are those of all elements
+  pub elements-styled : (settings : Settings) (g : Page) → pageRefusal (g .nodes) (g .attributes) (g .text) ≡ noRefusal
+      → (i : ℕ) → i < nodeCount (g .nodes) → nodeAt (g .nodes) i .kind ≡ elementKind → (v : StyleBuffers) → StyleLent s g v → styleWith settings s g i v .answer .refusal ≡ noRefusal
+  elements-styled settings g page i there element v l =
+      element-styled settings s g i v (codeOf (compileWith s b)) (compile-tells s b compiles) (record { page = page; there = there; element = element }) l
+
+  -- no run refuses their bytes as no sheet
+  pub bytes-never-refused : (settings : Settings) (g : Page) (w : RunBuffers) → ¬ (runWith (codeOf (compileWith s b)) settings g w .answer .refusal .number ≡ badBytes)
+  bytes-never-refused settings g w =
+      never-refused (codeOf (compileWith s b)) settings g w (bytes-taken s (codeOf (compileWith s b)) (compile-tells s b compiles))
+
+  -- a run of them that refuses nothing leaves its rows and its text store as long as they were: all its texts fit
+  pub lengths-kept : (settings : Settings) (g : Page) (w : RunBuffers) → runWith (codeOf (compileWith s b)) settings g w .answer .refusal ≡ noRefusal
+      → (length (runWith (codeOf (compileWith s b)) settings g w .rows) ≡ length (w .rows)) × (length (runWith (codeOf (compileWith s b)) settings g w .texts) ≡ length (w .texts))
+  lengths-kept settings g w e =
+      let code = codeOf (compileWith s b) in
+      let t : RunTakes code g w = run-tells code settings g w e in
+      subst (λ (l : RunLeft). (length (l .rows) ≡ length (w .rows)) × (length (l .texts) ≡ length (w .texts))) (sym (run-leaves code settings g w t))
+      (leaves-long s g settings code (compile-tells s b compiles) w t)
+
+-- what a run leaves, and answers, does not depend on what stood in its buffers, whatever bytes it runs
+pub buffers-free : (code : List ℕ) (settings : Settings) (g : Page) (b b′ : RunBuffers) → SameLengths b b′ → runWith code settings g b .answer .refusal ≡ noRefusal
+    → runWith code settings g b ≡ runWith code settings g b′
+buffers-free code settings g b b′ same e = runs-free code settings g b b′ same e

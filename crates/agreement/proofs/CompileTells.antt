@@ -1,14 +1,13 @@
 -- What a compile call that refuses nothing tells: the three sheets were read, and the bytes that it gives are their selectors, which a run takes.
-use Prim.Native.Nat.{ℕ, zero, suc, _+_, _-_, _≤_, _<_}
-use mathlib.Core.Path.{_≡_, refl, ap, sym, _∙_}
-use mathlib.Core.Bool.{Bool, true, false}
-use mathlib.Core.List.{List, [], _∷_}
+use Prim.Native.Nat.{ℕ, _+_, _-_, _≤_, _<_}
+use mathlib.Core.Path.{_≡_, refl, ap}
+use mathlib.Core.Bool.{true, false}
+use mathlib.Core.List.{List}
 use native.Mathlib.Omega.{arith}
-use borrow.Author.Tests.{leb-true, ltb-true, ltb-false}
+use borrow.Author.Tests.{leb-true, ltb-false}
 use lib.Dec.{leb, ltb}
 use lib.ListN.{length, take, replicate}
 use lib.Seq.{take-at}
-use Rattle.combinators.specs.Choice.{pick}
 use Rattle.combinators.specs.LeastLengths.{storesSuffice}
 use Rattle.combinators.specs.Refusal.{noRefusal, refused, refusedIn, tooLong, shortStore, notUtf8, panic, noRoom}
 use Rattle.combinators.specs.declared.refusals.Refusal.{Refusal}
@@ -22,7 +21,7 @@ use Rattle.origins.proofs.SheetsKnown.{sheets-known}
 use Rattle.compiled.specs.Answer.{bytesRefusal}
 use Rattle.compiled.specs.Decoded.{onDecoded}
 use Rattle.compiled.specs.Sheet.{compiledLimit, encode}
-use Rattle.compiler.specs.CompileAnswer.{roomOf, refusedCompile, CompileLeft, zeroed, unchanged, answered, answeredWithin, compiledLeft, compileOf}
+use Rattle.compiler.specs.CompileAnswer.{roomOf, CompileLeft, zeroed, unchanged, answered, answeredWithin, compiledLeft, compileOf}
 use Rattle.compiler.specs.Selectors.{selectorsOf}
 use Rattle.compiler.proofs.Range.{compiled-back}
 use Rattle.styles.specs.Lent.{SheetTexts}
@@ -56,6 +55,7 @@ module _ (s : SheetTexts) (b : CompileBuffers) where
   unfolding unchanged
   refusing n h e = absurd (let z : n ≡ 0 = ap (λ (r : Refusal). r .number) e in omega arith)
 
+  -- nor does one that clears its buffers
   zeroing : (n which place : ℕ) → 0 < n → Claimed (zeroed (b .compiled) (b .texts) (b .rules) (b .tokens) (b .brackets) (refusedIn n which place))
   unfolding zeroed
   zeroing n which place h e = absurd (let z : n ≡ 0 = ap (λ (r : Refusal). r .number) e in omega arith)
@@ -75,6 +75,7 @@ module _ (s : SheetTexts) (b : CompileBuffers) where
         let front : take (length code) (padded code (length (b .compiled))) ≡ code = padded-front code (length (b .compiled)) in
         record { sheets = record { agent = a; user = u; author = w }; read = read; bytes = front; few = rw front few; short = short; valid = valid }
 
+    -- of sheets that were read, or not
     by-sheets : (m : Sheets) → sheetsOf (s .agent) (s .user) (s .author) ≡ m → Claimed (compiledLeft (b .compiled) (b .texts) (b .rules) (b .tokens) (b .brackets) m)
     unfolding compiledLeft answeredWithin
     by-sheets (rules a u w) read =

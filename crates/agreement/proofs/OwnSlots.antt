@@ -1,6 +1,6 @@
 -- Each slot of a computed style holds a style of its own kind: a colour in the slot of colours, a content in that of contents.
 use Prim.Native.Nat.{ℕ, zero, suc, _<_}
-use mathlib.Core.Path.{_≡_, refl, ap, sym, subst, _∙_}
+use mathlib.Core.Path.{_≡_, refl, sym, subst, _∙_}
 use mathlib.Core.Bool.{Bool, true, false}
 use mathlib.Core.List.{List, [], _∷_, _++_, map, foldl}
 use lib.ListN.{getD, replicate}
@@ -13,7 +13,7 @@ use Rattle.syntax.specs.Style.{Style, StyleDecl, agentOrigin, userOrigin, autho
 use Rattle.cascade.specs.declared.slots.Cascade.the-variants.{Crate}
 use Rattle.cascade.specs.Slot.{Candidate, Slot, empty, held, heldAgainst, maybeUpdate}
 use Rattle.cascade.specs.Specificity.{inlineSpecificity}
-use Rattle.cascade.specs.Record.{slotCount, recordCount, recordIn, slotOf, slotIn, emptyRecord, emptyStyle, ComputedStyle, Styled, RuleStyle, AttributeStyle, Declared, fromRule, fromAttribute, Sources, crateDeclared, cascadeBy, candidatesFor}
+use Rattle.cascade.specs.Record.{slotCount, recordCount, recordIn, slotOf, slotIn, emptyRecord, emptyStyle, ComputedStyle, Styled, RuleStyle, AttributeStyle, Declared, fromRule, fromAttribute, Sources, crateDeclared, candidatesFor}
 use Rattle.cascade.proofs.Cascading.{crate-folds}
 use Rattle.page.specs.Path.{Attribute, Path}
 use Rattle.matching.specs.Matches.{isNamed, matches}
@@ -21,7 +21,7 @@ use Rattle.unicode.specs.Literal.{text}
 use Rattle.compiled.proofs.Following.{all-append}
 use Rattle.styles.specs.declared.settings.Settings.{Settings}
 use Rattle.styles.specs.Computed.{cascaded, sourcesAlong, computedStyle}
-use Rattle.styles.specs.Said.{Rules, StyledRule, ruleStyles, ruleStyle, selectorSays, selectorsSay, rulesSay, attributeStyles, attributeStyle, attributeSays, attributesSay, sourcesFrom, meant, meantRule, meantRules, countedAttributes}
+use Rattle.styles.specs.Said.{Rules, ruleStyles, ruleStyle, selectorSays, selectorsSay, rulesSay, attributeStyles, attributeStyle, attributeSays, attributesSay, sourcesFrom, meant, meantRule, meantRules, countedAttributes}
 use Rattle.styles.proofs.Called.{cascaded-formed}
 
 -- ---- what is said is said of its own slot
@@ -137,6 +137,7 @@ own-none k zero j = tt
 own-none k (suc n) zero = tt
 own-none k (suc n) (suc j) = own-none k n j
 
+-- in each of its records
 empty-own : OwnSlots emptyStyle
 unfolding slotIn slotOf recordIn emptyStyle emptyRecord pick
 empty-own r k h l = go (is r 0) (is r 1)

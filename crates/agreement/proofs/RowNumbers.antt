@@ -1,6 +1,6 @@
 -- The numbers of a written style row, by record and slot.
-use Prim.Native.Nat.{ℕ, zero, suc, _+_, _*_, _≤_, _<_}
-use mathlib.Core.Path.{_≡_, refl, ap, sym, _∙_}
+use Prim.Native.Nat.{ℕ, zero, suc, _+_, _*_, _<_}
+use mathlib.Core.Path.{_≡_, refl, ap, _∙_}
 use mathlib.Core.List.{List, [], _∷_, _++_}
 use native.Mathlib.Nat.{not-suc-le-zero}
 use native.Mathlib.Omega.{arith}
@@ -38,11 +38,13 @@ record-long : (p : Record Value) → length (p .slots) ≡ slotCount → length 
 unfolding recordNumbers
 record-long p h = omega (arith, slots-long (p .slots))
 
+-- a number of one of its slots
 record-number : (p : Record Value) (k n : ℕ) → length (p .slots) ≡ slotCount → k < slotCount → n < slotWidth
     → getD (recordNumbers p) (suc (k * slotWidth + n)) 0 ≡ getD (slotNumbers (slotOf p k)) n 0
 unfolding recordNumbers slotOf
 record-number p k n f h l = slots-number (p .slots) k n l (omega (arith, f))
 
+-- its first number
 record-presence : (p : Record Value) → getD (recordNumbers p) 0 0 ≡ flag (p .present)
 unfolding recordNumbers
 record-presence p = refl

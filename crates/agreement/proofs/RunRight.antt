@@ -26,12 +26,8 @@ use Rattle.compiled.proofs.NumberBack.{number-some}
 use Rattle.compiled.proofs.Fits.{SheetFits}
 use Rattle.compiled.proofs.RoundTrip.{round-trip}
 use Rattle.styles.specs.Said.{Rules}
-use Rattle.styles.specs.Computed.{computedStyle}
 use Rattle.styles.specs.StyleCall.{inlineContents}
-use Rattle.styles.specs.Says.{Says}
 use Rattle.syntax.specs.declared.styles.Value.{Value}
-use Rattle.cascade.specs.declared.slots.Cascade.the-variants.{Crate}
-use Rattle.cascade.specs.Related.{SameStyle}
 use Rattle.styles.specs.declared.settings.Settings.{Settings}
 use Rattle.runner.specs.Walked.{WalkedSelector, walked}
 use Rattle.runner.specs.Groups.{allGroups, matching, matchingAt}

@@ -1,20 +1,20 @@
 -- When a run call refuses nothing, and what it then leaves: nothing of it depends on what its buffers held.
-use Prim.Native.Nat.{ℕ, _+_, _-_, _*_, _≤_, _<_}
+use Prim.Native.Nat.{ℕ, _-_, _≤_, _<_}
 use mathlib.Core.Path.{_≡_, refl, ap, ap₂, sym, _∙_}
 use mathlib.Core.Bool.{Bool, true, false}
-use mathlib.Core.List.{List, [], _∷_, _++_}
+use mathlib.Core.List.{List, _++_}
 use native.Mathlib.Omega.{arith}
 use borrow.Author.Tests.{leb-true, ltb-false, le-ltb}
-use lib.Dec.{leb, ltb}
-use lib.ListN.{length, take, replicate}
-use Rattle.combinators.specs.Choice.{pick, and, is}
-use Rattle.combinators.specs.LeastLengths.{storesSuffice}
+use lib.Dec.{ltb}
+use lib.ListN.{length, replicate}
+use Rattle.combinators.specs.Choice.{is}
+use Rattle.combinators.specs.LeastLengths.{textLeast, storesSuffice}
+use Rattle.combinators.proofs.LeastLaws.{least}
 use Rattle.combinators.specs.Refusal.{noRefusal, refused, refusedAt, tooLong, shortStore, badBytes}
 use Rattle.combinators.specs.Store.{cleared}
 use Rattle.combinators.specs.declared.refusals.Refusal.{Refusal}
 use Rattle.combinators.proofs.Cleared.{cleared-is}
 use Rattle.combinators.proofs.Rules.{pick-holds, pick-true, pick-false, and-true, is-true, is-false, is-yes}
-use Rattle.sheets.specs.SheetAnswer.{padded}
 use Rattle.page.specs.Accepted.{rowsRefusal, pageRefusal}
 use Rattle.page.proofs.AcceptedPages.{accepted}
 use Rattle.compiled.specs.Answer.{bytesRefusal}
@@ -24,11 +24,11 @@ use Rattle.compiled.proofs.Bounds.{Reaches, sheet-reaches}
 use Rattle.styles.specs.declared.settings.Settings.{Settings}
 use Rattle.styles.specs.Lent.{Page}
 use Rattle.styling.proofs.StyleCalls.{Quiet, quiet}
-use Rattle.runner.specs.LeastLengths.{RunLent, runTextBytes, stateLeast, rowsLeast}
+use Rattle.runner.specs.LeastLengths.{RunLent, runTextBytes, rowsLeast}
 use Rattle.runner.specs.Run.{Running, runOf}
 use Rattle.runner.proofs.RunFree.{run-rows-long, run-free}
 use Rattle.running.specs.RunAnswer.{RunLeft, unchanged, ran, runSuffices, runBy, runCall}
-use Rattle.agreement.specs.Calls.{RunBuffers, runWith}
+use Rattle.agreement.specs.Calls.{RunBuffers, runWith, SameLengths}
 
 -- ---- bytes that are a sheet
 -- of a reading
@@ -37,6 +37,7 @@ unfolding onDecoded
 quiet-bytes (read n ss) e = refl
 quiet-bytes (fault p) e = absurd (omega (arith, e))
 
+-- what is read takes a byte
 some-read : (t : List ℕ) (d : Decoded (List CompiledSelector)) → Reaches 1 (length t) 0 d → onDecoded d (λ _ _. noRefusal) (λ p. refusedAt badBytes p) ≡ noRefusal → 0 < length t
 unfolding onDecoded Reaches
 some-read t (read n ss) h e = omega (arith, h .0, h .1)
@@ -82,15 +83,18 @@ module _ (code : List ℕ) (settings : Settings) (g : Page) (b : RunBuffers) whe
   abbrev Claimed : RunLeft → Type 0
   Claimed l = l .answer .refusal ≡ noRefusal → RunTakes code g b
 
+  -- one that refuses claims nothing
   refusing : (r : Refusal) → ¬ (r .number ≡ 0) → Claimed (left r)
   unfolding unchanged
   refusing r n e = absurd (n (ap (λ (q : Refusal). q .number) e))
 
+  -- what the tests before it told
   takes : length code ≤ compiledLimit → enough ≡ true → is (page .number) (noRefusal .number) ≡ true → is (bytesRefusal code .number) (noRefusal .number) ≡ true → RunTakes code g b
   unfolding Quiet bytesRefusal
   takes f e p q =
       record { few = f; suffices = e; page = quiet (g .nodes) (g .attributes) (g .text) (is-true _ _ p); bytes = quiet-bytes (decode code) (is-true _ _ q) }
 
+  -- a call that refuses nothing
   pub run-tells : runWith code settings g b .answer .refusal ≡ noRefusal → RunTakes code g b
   unfolding runCall runBy
   run-tells =
@@ -139,15 +143,12 @@ module _ (code : List ℕ) (settings : Settings) (g : Page) (b : RunBuffers) whe
   unfolding runSuffices
   run-lent e = let t = and-true _ _ e in let u = and-true _ _ (t .1) in record { for-rows = leb-true _ _ (t .0); for-state = leb-true _ _ (u .0) }
 
--- ---- what two runs leave
-pub record SameLengths (b b′ : RunBuffers) : Type 0 where
-  pub rows : length (b .rows) ≡ length (b′ .rows)
-  pub texts : length (b .texts) ≡ length (b′ .texts)
-  pub state : length (b .state) ≡ length (b′ .state)
-  pub rules : length (b .rules) ≡ length (b′ .rules)
-  pub tokens : length (b .tokens) ≡ length (b′ .tokens)
-  pub brackets : length (b .brackets) ≡ length (b′ .brackets)
+  -- and a text store
+  pub run-texts-lent : enough ≡ true → textLeast (runTextBytes g) ≤ length (b .texts)
+  unfolding runSuffices
+  run-texts-lent e = let t = and-true _ _ e in let u = and-true _ _ (t .1) in least {t = storesSuffice (runTextBytes g) (length (b .rules)) (length (b .tokens)) (length (b .brackets)) (length (b .texts))} refl (u .1) .for-texts
 
+-- ---- what two runs leave
 module _ (code : List ℕ) (settings : Settings) (g : Page) (b b′ : RunBuffers) (same : SameLengths b b′) where
   -- they are both lent enough
   other-takes : RunTakes code g b → RunTakes code g b′

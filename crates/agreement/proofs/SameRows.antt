@@ -1,26 +1,26 @@
 -- Written rows that say one computed style, each by its own text, are the same row: number by number, and each content by its text.
-use Prim.Native.Nat.{ℕ, zero, suc, _+_, _-_, _*_, _/_, _%_, _≤_, _<_}
-use mathlib.Core.Path.{_≡_, refl, ap, ap₂, sym, subst, _∙_}
-use mathlib.Core.Bool.{Bool, true, false}
+use Prim.Native.Nat.{ℕ, zero, suc, _+_, _/_, _%_, _≤_, _<_}
+use mathlib.Core.Path.{_≡_, refl, ap, ap₂, sym, _∙_}
+use mathlib.Core.Bool.{true, false}
 use mathlib.Core.Logic.{_⊎_, inl, inr}
-use mathlib.Core.List.{List, [], _∷_, _++_}
+use mathlib.Core.List.{List, [], _∷_}
 use native.Mathlib.Omega.{arith}
 use lib.ListN.{length, getD, getD-replicate, List·getD-append}
 use Rattle.combinators.specs.Choice.{pick, or, is}
 use Rattle.combinators.specs.Part.{part}
 use Rattle.combinators.proofs.Rules.{never, lt-or-ge}
-use Rattle.syntax.specs.Layout.{flag, contentSlot, styleSlotOf, valueFrom, valueNumbers}
+use Rattle.syntax.specs.Layout.{flag, contentSlot, styleSlotOf, valueNumbers}
 use Rattle.syntax.specs.Style as style
 use Rattle.syntax.specs.Style.{Style}
 use Rattle.syntax.specs.declared.styles.Value.{Value}
 use Rattle.cascade.specs.declared.slots.Weight.{Weight}
 use Rattle.cascade.specs.Slot.{Candidate, Slot, empty, held}
 use Rattle.cascade.specs.Record.{slotCount, recordCount, mainRecord, beforeRecord, afterRecord, ComputedStyle, Formed, recordIn, slotOf, slotIn}
-use Rattle.cascade.specs.Related.{SameCandidate, SameSlot, both-empty, both-held, SameRecord, SameStyle}
+use Rattle.cascade.specs.Related.{SameSlot, both-empty, both-held, SameRecord, SameStyle}
 use Rattle.cascade.specs.Row.{filledFlag, slotNumber, slotSecond, slotWidth, recordWidth, styleRowWidth, recordPlace, slotPlace, slotNumbers, rowOf}
 use Rattle.cascade.proofs.Relating.{pick-same, each-get}
 use Rattle.cascade.proofs.RowBack.{row-long}
-use Rattle.styles.specs.Says.{Names, Says}
+use Rattle.styles.specs.Says.{Says}
 use Rattle.agreement.specs.SameRow.{startPlace, lengthPlace, isSpan, namesContent, SameContent, SameRow}
 use Rattle.agreement.proofs.OwnSlots.{Own, OwnSlots}
 use Rattle.agreement.proofs.RowNumbers.{presence-number, slot-number, slot-flag}
@@ -48,6 +48,7 @@ pub data Alike (t u : List ℕ) (k : ℕ) : Slot Value → Slot Value → Type 0
   neither : Alike t u k empty empty
   both : {a b : Candidate Value} → a .weight ≡ b .weight → Agree t u k (a .value) (b .value) → Alike t u k (held a) (held b)
 
+-- two that say one slot
 slots-alike : (t u : List ℕ) (k : ℕ) (a : Slot Value) (c : Slot Style) → SameSlot (Says t) a c → (b : Slot Value) → SameSlot (Says u) b c → Own k c → Alike t u k a b
 slots-alike t u k empty empty both-empty empty both-empty o = neither
 slots-alike t u k (held a) (held c) (both-held p) (held b) (both-held q) o =
@@ -58,6 +59,7 @@ unfoldable weightNumbers : Weight → List ℕ
 weightNumbers w =
     filledFlag ∷ w .origin ∷ flag (w .spec .inline) ∷ w .spec .id ∷ w .spec .class ∷ w .spec .typ ∷ flag (w .important) ∷ []
 
+-- a number of a filled slot before its value
 held-front : (c : Candidate Value) (n : ℕ) → n < slotNumber → getD (slotNumbers (held c)) n 0 ≡ getD (weightNumbers (c .weight)) n 0
 unfolding slotNumbers weightNumbers
 held-front c n h = List·getD-append (weightNumbers (c .weight)) (valueNumbers (c .value)) 0 n h
@@ -87,6 +89,7 @@ record SpanSame (t u : List ℕ) (a b : Slot Value) : Type 0 where
   within-y : getD (slotNumbers b) slotNumber 0 + getD (slotNumbers b) slotSecond 0 ≤ length u
   same : part t (getD (slotNumbers a) slotNumber 0) (getD (slotNumbers a) slotSecond 0) ≡ part u (getD (slotNumbers b) slotNumber 0) (getD (slotNumbers b) slotSecond 0)
 
+-- where they are filled
 spans-same : (t u : List ℕ) (a b : Slot Value) → Alike t u contentSlot a b → getD (slotNumbers a) 0 0 ≡ filledFlag → SpanSame t u a b
 unfolding slotNumbers valueNumbers
 spans-same t u empty empty neither e = absurd (let z : _≡_ {A = ℕ} 0 1 = e in omega (arith, z))
@@ -131,6 +134,7 @@ module _ {A B : Type 0} (R : A → B → Type 0) (x : ComputedStyle A) (y : Comp
 
 module _ (t u : List ℕ) (x y : ComputedStyle Value) (m : ComputedStyle Style) (f : Formed x) (g : Formed y) (own : OwnSlots m)
     (p : SameStyle (Says t) x m) (q : SameStyle (Says u) y m) where
+  -- slots that say one slot of the style
   alike : (r k : ℕ) → r < recordCount → k < slotCount → Alike t u k (slotIn x r k) (slotIn y r k)
   alike r k h l = slots-alike t u k (slotIn x r k) (slotIn m r k) (slots-same (Says t) x m p r k) (slotIn y r k) (slots-same (Says u) y m q r k) (own r k h l)
 

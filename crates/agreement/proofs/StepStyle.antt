@@ -3,18 +3,17 @@
 use Prim.Native.Nat.{ℕ, _+_}
 use mathlib.Core.Path.{_≡_, refl, ap, sym, subst, _∙_}
 use mathlib.Core.Bool.{false}
-use mathlib.Core.List.{List, [], _∷_, _++_, map, foldl, append-assoc}
+use mathlib.Core.List.{List, [], _∷_, _++_, map, append-assoc}
 use native.Mathlib.Omega.{arith}
 use lib.ListN.{length, drop, length-append}
 use lib.Seq.{drop-at}
-use Rattle.syntax.specs.Layout.{flag}
 use Rattle.syntax.specs.Selector.{RuleSet}
 use Rattle.syntax.specs.Style.{agentOrigin, userOrigin, authorOrigin, Style}
 use Rattle.syntax.specs.declared.styles.Value.{Value}
 use Rattle.cascade.specs.declared.slots.Cascade.the-variants.{Crate}
-use Rattle.cascade.specs.Record.{ComputedStyle, Formed, emptyRecord, emptyStyle, Declared, mergeBy, inherit, inheritBy, fromRule, fromAttribute, crateDeclared, declaredBy, cascadeBy}
+use Rattle.cascade.specs.Record.{ComputedStyle, Formed, emptyStyle, Declared, inheritBy, fromRule, fromAttribute, crateDeclared, declaredBy, cascadeBy}
 use Rattle.cascade.specs.Related.{Each, SameStyle}
-use Rattle.cascade.specs.Row.{rowOf, styleAt, recordNumbers, slotsNumbers, slotNumbers}
+use Rattle.cascade.specs.Row.{rowOf}
 use Rattle.cascade.specs.Slot.{updateBy}
 use Rattle.cascade.specs.Specificity.{inlineSpecificity}
 use Rattle.cascade.proofs.Cascading.{inherit-formed, merges-formed}
@@ -30,14 +29,14 @@ use Rattle.styles.specs.StyleCall.{inlineContents, placedAttributes}
 use Rattle.styles.specs.Says.{Says}
 use Rattle.styles.proofs.Lying.{Lies}
 use Rattle.styles.proofs.Placed.{attributes-placed}
-use Rattle.runner.specs.Walked.{WalkedSelector, walked, meantSelector}
+use Rattle.runner.specs.Walked.{walked, meantSelector}
 use Rattle.runner.specs.Groups.{matchingAt}
 use Rattle.runner.specs.Run.{noStyle, selectorsDeclare, rowBelow}
 use Rattle.agreement.specs.Demand.{sheetsSelectors}
 use Rattle.runner.proofs.RowBelow.{declaredBelow, styleBelow, row-below}
 use Rattle.styles.proofs.Called.{empty-row}
 use Rattle.agreement.proofs.WalkedBack.{walked-said}
-use Rattle.agreement.proofs.Declaring.{SameSelector, declared-alike, matching-alike, selectors-declare}
+use Rattle.agreement.proofs.Declaring.{declared-alike, matching-alike, selectors-declare}
 
 module _ (rules : Rules RuleSet) (settings : Settings) where
   abbrev code : List ℕ

@@ -1,15 +1,15 @@
 -- What a style call that refuses nothing tells: the page is accepted and the asked row is an element of it. And every element of an accepted page is styled, by any
 -- call that is lent enough.
-use Prim.Native.Nat.{ℕ, _≤_, _<_}
-use mathlib.Core.Path.{_≡_, refl, ap, sym, subst, _∙_}
-use mathlib.Core.Bool.{Bool, true, false}
+use Prim.Native.Nat.{ℕ, _<_}
+use mathlib.Core.Path.{_≡_, refl, ap, sym, _∙_}
+use mathlib.Core.Bool.{true}
 use mathlib.Core.List.{List}
 use native.Mathlib.Omega.{arith}
 use borrow.Author.Tests.{ltb-true, lt-ltb, le-leb}
-use lib.Dec.{leb, ltb}
+use lib.Dec.{leb}
 use lib.ListN.{length}
-use Rattle.combinators.specs.Choice.{pick, and, is}
-use Rattle.combinators.specs.LeastLengths.{storesSuffice}
+use Rattle.combinators.specs.Choice.{and, is}
+use Rattle.combinators.specs.LeastLengths.{storesSuffice, Least}
 use Rattle.combinators.specs.Refusal.{noRefusal, refused, tooLong, shortStore, notUtf8, noElement}
 use Rattle.combinators.specs.declared.refusals.Refusal.{Refusal}
 use Rattle.combinators.proofs.Rules.{pick-holds, pick-true, pick-false, and-both, and-true, is-true, is-false, is-yes}
@@ -24,7 +24,7 @@ use Rattle.styles.specs.declared.settings.Settings.{Settings}
 use Rattle.styles.specs.Lent.{SheetTexts, Page}
 use Rattle.styling.specs.StyleAnswer.{callBytes, isElement, StyleLeft, unchanged, answered, styledLeft, askedLeft, styleOf}
 use Rattle.styling.proofs.StyleCalls.{Quiet, quiet}
-use Rattle.agreement.specs.Calls.{StyleBuffers, styleWith}
+use Rattle.agreement.specs.Calls.{StyleBuffers, styleWith, StyleLent}
 use Rattle.agreement.proofs.CompileTells.{Compiled}
 
 pub record Asked (g : Page) (row : ℕ) : Type 0 where
@@ -69,25 +69,26 @@ module _ (settings : Settings) (s : SheetTexts) (g : Page) (row : ℕ) (v : Styl
       (λ _. refusing (refused notUtf8) (λ e. omega (arith, e))))
       (λ _. refusing (refused shortStore) (λ e. omega (arith, e))))
 
-  -- "A style row takes 138 numbers", and the least lengths of the stores
-  pub record StyleLent : Type 0 where
-    pub for-row : styleRowWidth ≤ length (v .row)
-    pub for-stores : storesSuffice (callBytes s g) (length (v .rules)) (length (v .tokens)) (length (v .brackets)) (length (v .texts)) ≡ true
-
   -- sheets that were read
   read-styled : (m : Sheets) (a u w : List _) → m ≡ rules a u w
       → styledLeft (v .row) (v .texts) (v .rules) (v .tokens) (v .brackets) Crate settings (pathOf (g .nodes) (g .attributes) (g .text) row) m .answer .refusal ≡ noRefusal
   unfolding styledLeft answered
   read-styled m a u w e = rw e refl
 
+  -- stores of the least lengths suffice
+  enough : (n numbers tokens brackets bytes : ℕ) → Least n numbers tokens brackets bytes → storesSuffice n numbers tokens brackets bytes ≡ true
+  unfolding storesSuffice
+  enough n numbers tokens brackets bytes l =
+      and-both _ _ (le-leb _ _ (l .for-texts)) (and-both _ _ (le-leb _ _ (l .for-brackets)) (and-both _ _ (le-leb _ _ (l .for-rules)) (le-leb _ _ (l .for-tokens))))
+
   -- sheets that compile, and an element of an accepted page: the call, lent enough, refuses nothing
-  pub element-styled : (code : List ℕ) → Compiled s code → Asked g row → StyleLent → styleWith settings s g row v .answer .refusal ≡ noRefusal
+  pub element-styled : (code : List ℕ) → Compiled s code → Asked g row → StyleLent s g v → styleWith settings s g row v .answer .refusal ≡ noRefusal
   unfolding styleOf askedLeft isElement
   element-styled code c a l =
       let p : is (refusal .number) (noRefusal .number) ≡ true = is-yes _ _ (ap (λ (r : Refusal). r .number) (a .page)) in
       let e : isElement (g .nodes) row ≡ true = and-both _ _ (lt-ltb _ _ (a .there)) (is-yes _ _ (a .element)) in
       let m : and (leb styleRowWidth (length (v .row))) (storesSuffice (callBytes s g) (length (v .rules)) (length (v .tokens)) (length (v .brackets)) (length (v .texts))) ≡ true =
-      and-both _ _ (le-leb _ _ (l .for-row)) (l .for-stores) in
+      and-both _ _ (le-leb _ _ (l .for-row)) (enough (callBytes s g) (length (v .rules)) (length (v .tokens)) (length (v .brackets)) (length (v .texts)) (l .for-stores)) in
       let x = styledLeft (v .row) (v .texts) (v .rules) (v .tokens) (v .brackets) Crate settings (pathOf (g .nodes) (g .attributes) (g .text) row) (sheetsOf (s .agent) (s .user) (s .author)) in
       let whole : x ≡ styleWith settings s g row v =
       pick-false x _ _ _ (c .short) (pick-true x _ _ _ m (pick-true x _ _ _ (c .valid) (pick-true x _ _ _ p (pick-true x _ _ _ e refl)))) in

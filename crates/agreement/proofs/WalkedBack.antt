@@ -1,7 +1,7 @@
 -- The pass over the bytes of a sheet meets the selectors that the sheet was made of, and the contents of their styles by places where their texts lie.
 use Prim.Native.Nat.{ℕ, _+_, _≤_, _<_}
 use mathlib.Core.Path.{_≡_, refl, sym, subst, _∙_}
-use mathlib.Core.List.{List, [], _∷_, _++_, map, append-assoc}
+use mathlib.Core.List.{List, [], _∷_, _++_, map}
 use native.Mathlib.Nat.{add-zero}
 use native.Mathlib.Omega.{arith}
 use lib.ListN.{length, length-append}
@@ -13,14 +13,12 @@ use Rattle.syntax.specs.Style as style
 use Rattle.syntax.specs.Style.{agentOrigin, Style, StyleDecl}
 use Rattle.syntax.proofs.Streams.{Held, held-left, held-right}
 use Rattle.syntax.specs.declared.styles.Value.{Value}
-use Rattle.cascade.specs.Record.{Styled}
 use Rattle.cascade.specs.Related.{Each, none, next}
 use Rattle.cascade.proofs.Relating.{SameStyled}
 use Rattle.compiled.specs.Decoded.{Decoded, read, onDecoded, andThen, mapped, counted}
 use Rattle.compiled.specs.Number.{numberLimit, numberBytes, numberAt}
 use Rattle.compiled.specs.Component.{componentBytes, componentAt}
 use Rattle.compiled.specs.Style.{styleBody, styleBytes, styleNumbersAt}
-use Rattle.compiled.specs.Text.{textBytes}
 use Rattle.compiled.specs.Sheet.{CompiledSelector, headBytes, stylesBytes, selectorBytes, encode, headAt}
 use Rattle.compiled.proofs.Fits.{ComponentFits, StyleFits, SelectorFits, NotFalling, SheetFits}
 use Rattle.compiled.proofs.Following.{held-within, then-read, mapped-read, ends-at, counted-back}

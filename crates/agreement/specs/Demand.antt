@@ -17,11 +17,10 @@ use Rattle.styles.specs.declared.settings.Settings.{Settings}
 use Rattle.styles.specs.Said.{Rules}
 use Rattle.styles.specs.Computed.{computedStyle}
 use Rattle.styles.specs.Says.{Says}
-use Rattle.styles.specs.Lent.{Page}
+use Rattle.styles.specs.Lent.{SheetTexts, Page}
 use Rattle.runner.specs.Run.{noStyle, Running, styleRowAt, pageContents}
 use Rattle.combinators.specs.Refusal.{noRefusal, shortStore}
 use Rattle.running.specs.RunAnswer.{RunLeft}
-use Rattle.styles.specs.Lent.{SheetTexts}
 use Rattle.styling.specs.Claim.{rowLeft, textsLeft}
 use Rattle.agreement.specs.Calls.{CompileBuffers, RunBuffers, StyleBuffers, compileWith, runWith, styleWith, codeOf, textsOf}
 use Rattle.agreement.specs.SameRow.{SameRow}

@@ -1,6 +1,5 @@
 -- The bytes used of a part fit into it, whatever bytes a run is given, if there are any: the count of selectors, each selector and each component take a byte.
 use Prim.Native.Nat.{ℕ, zero, suc, _+_, _≤_, _<_}
-use mathlib.Core.Path.{_≡_}
 use mathlib.Core.List.{List, [], _∷_}
 use native.Mathlib.Omega.{arith}
 use lib.ListN.{length}

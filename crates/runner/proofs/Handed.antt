@@ -1,11 +1,11 @@
 -- What a row hands to its step: a part of the node list and one of the attribute list, read from their starts, are the row and its attributes as the page has them.
 use Prim.Native.Nat.{ℕ, zero, suc, _+_, _*_, _≤_, _<_}
-use mathlib.Core.Path.{_≡_, refl, ap, ap₂, sym, _∙_}
+use mathlib.Core.Path.{_≡_, refl, ap, ap₂, _∙_}
 use mathlib.Core.Logic.{_⊎_, inl, inr}
 use mathlib.Core.Bool.{true}
-use mathlib.Core.List.{List, [], _∷_}
+use mathlib.Core.List.{List, _∷_}
 use native.Mathlib.Omega.{arith}
-use lib.ListN.{length, getD, take, drop, length-drop}
+use lib.ListN.{length, getD, drop, length-drop}
 use lib.Seq.{length-take-le, getD-drop, getD-take}
 use Rattle.combinators.specs.Part.{part}
 use Rattle.combinators.proofs.Rules.{and-true, is-true}
@@ -16,7 +16,7 @@ use Rattle.page.specs.Rows.{nodeWidth, nodeCount, nodeNumber, nodeAt, NodeRow, 
 use Rattle.page.proofs.AcceptedPages.{Accepted}
 use Rattle.page.proofs.RowFacts.{document-zeros, kind-of-row, attributes-lent}
 use Rattle.styles.specs.Lent.{Page}
-use Rattle.runner.specs.Run.{Handed, handedFrom, handedAt}
+use Rattle.runner.specs.Run.{handedFrom, handedAt}
 
 -- a number of a part is that of the whole
 part-number : (l : List ℕ) (at n j : ℕ) → j < n → getD (part l at n) j 0 ≡ getD l (at + j) 0
@@ -57,6 +57,7 @@ module _ (attributes text : List ℕ) (first count : ℕ) where
   unfolding attributeName
   name-there j h = ap₂ (part text) (attribute-number j 0 h (omega arith)) (attribute-number j 1 h (omega arith))
 
+  -- and its value
   value-there : (j : ℕ) → j < count → attributeValue owned text j ≡ attributeValue attributes text (first + j)
   unfolding attributeValue
   value-there j h = ap₂ (part text) (attribute-number j 2 h (omega arith)) (attribute-number j 3 h (omega arith))

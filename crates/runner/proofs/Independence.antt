@@ -8,7 +8,7 @@ use native.Mathlib.Omega.{arith}
 use native.Mathlib.Nat.{suc-mul, zero-mul}
 use lib.ListN.{length, getD, take, drop, length-append}
 use lib.Seq.{getD-drop, getD-take, take-nil, take-take}
-use Rattle.combinators.specs.Choice.{pick, and, is}
+use Rattle.combinators.specs.Choice.{and}
 use Rattle.combinators.specs.Part.{part}
 use Rattle.combinators.proofs.Rules.{pick-false, is-no}
 use Rattle.syntax.specs.Selector.{Component}

@@ -1,23 +1,19 @@
 -- How long the contents of a page can be: as long as the texts of its rows, and two bytes more for each attribute. On an accepted page these end within the
 -- text and the attribute rows lent.
 use Prim.Native.Nat.{ℕ, zero, suc, _+_, _*_, _≤_}
-use mathlib.Core.Path.{_≡_, refl, ap}
+use mathlib.Core.Path.{_≡_}
 use mathlib.Core.List.{List, []}
 use native.Mathlib.Omega.{arith}
 use lib.ListN.{length, length-append}
 use Rattle.combinators.specs.Choice.{is}
 use Rattle.combinators.specs.Refusal.{noRefusal}
 use Rattle.combinators.proofs.Rules.{pick-holds}
-use Rattle.syntax.specs.Stream.{textsMany}
-use Rattle.page.specs.Accepted.{attributesBefore, attributesEnd, textsEnd, bytesBefore, pageRefusal}
-use Rattle.page.specs.Path.{Attribute}
-use Rattle.page.specs.PathOf.{attributesFrom, elementAt}
-use Rattle.page.specs.Rows.{nodeCount, nodeAt, elementKind, attributeAt, attributeValue}
+use Rattle.page.specs.Accepted.{attributesBefore, textsEnd, bytesBefore, pageRefusal}
+use Rattle.page.specs.PathOf.{elementAt}
+use Rattle.page.specs.Rows.{nodeCount, nodeAt, elementKind}
 use Rattle.page.proofs.AcceptedPages.{Accepted, accepted}
 use Rattle.page.proofs.Sums.{bytes-within, attributes-before-within}
-use Rattle.compiled.proofs.Written.{part-le}
 use Rattle.styles.specs.StyleCall.{inlineContents}
-use Rattle.styles.specs.Room.{valuesOf}
 use Rattle.styles.proofs.Room.{inline-short, attributes-counted, values-short}
 use Rattle.styles.specs.declared.settings.Settings.{Settings}
 use Rattle.runner.specs.LeastLengths.{runTextBytes}

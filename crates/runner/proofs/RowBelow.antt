@@ -1,13 +1,13 @@
 -- The style row of a step: as long as the parent's, and below a written style the written style of what is inherited and declared.
 use Prim.Native.Nat.{ℕ}
-use mathlib.Core.Path.{_≡_, refl, ap, sym, _∙_}
+use mathlib.Core.Path.{_≡_, ap, sym, _∙_}
 use mathlib.Core.Bool.{false}
 use mathlib.Core.List.{List, _++_, map, foldl}
 use lib.ListN.{length, length-set}
 use Rattle.syntax.specs.declared.styles.Value.{Value}
 use Rattle.cascade.specs.declared.slots.Cascade.the-variants.{Crate}
-use Rattle.cascade.specs.Record.{ComputedStyle, Formed, Declared, fromAttribute, mergeBy, inherit, inheritBy}
-use Rattle.cascade.specs.Row.{rowOf, mergeRowBy, presentRow, inheritedRow}
+use Rattle.cascade.specs.Record.{ComputedStyle, Formed, Declared, fromAttribute, mergeBy, inheritBy}
+use Rattle.cascade.specs.Row.{rowOf, presentRow, inheritedRow}
 use Rattle.cascade.specs.Slot.{updateBy}
 use Rattle.cascade.specs.Specificity.{inlineSpecificity}
 use Rattle.cascade.proofs.Cascading.{inherit-formed}

@@ -42,6 +42,7 @@ unfolding runFrom
 steps-rows-long code settings g zero i r = refl
 steps-rows-long code settings g (suc k) i r = steps-rows-long code settings g k (suc i) (runStep code settings g i r) ∙ step-rows-long code settings g i r
 
+-- from the start
 pub run-rows-long : (code : List ℕ) (settings : Settings) (g : Page) (rows state : List ℕ) → length (runOf code settings g rows state .rows) ≡ length rows
 unfolding runOf
 run-rows-long code settings g rows state = steps-rows-long code settings g (nodeCount (g .nodes)) 0 (record { rows = rows; state = state; texts = [] })
@@ -132,6 +133,7 @@ module _ (code : List ℕ) (some : 0 < length code) (settings : Settings) (g : P
         ready = document-ready code (walked code) (g .nodes) (g .attributes) (g .text) (groups-fit code some) ok (r .state) (b .state-room);
       }
 
+  -- in both runs
   document-after : (r r′ : Running) → Twins 0 r r′ → After 0 r r′ (stepAt 0 r) (stepAt 0 r′)
   unfolding documentStep
   document-after r r′ b =
@@ -147,6 +149,7 @@ module _ (code : List ℕ) (some : 0 < length code) (settings : Settings) (g : P
     abbrev otherOf : Running → Stepped
     otherOf r = record { row = noStyle; state = r .state; texts = r .texts }
 
+    -- in each run
     other-on : (r : Running) → kindAt (suc i) ≡ otherKind → Fit (suc i) r → Stepped-on (suc i) r (otherOf r)
     other-on r e b =
         record {
@@ -155,6 +158,7 @@ module _ (code : List ℕ) (some : 0 < length code) (settings : Settings) (g : P
           ready = other-ready code (walked code) (g .nodes) (g .attributes) (g .text) (groups-fit code some) ok i there (r .state) (b .state-room) (b .ready) e;
         }
 
+    -- in both
     other-after : kindAt (suc i) ≡ otherKind → (r r′ : Running) → Twins (suc i) r r′ → After (suc i) r r′ (stepAt (suc i) r) (stepAt (suc i) r′)
     other-after e r r′ b =
         subst (λ (s : Stepped). After (suc i) r r′ s (stepAt (suc i) r′)) (sym (other-step code settings g (parentOf (suc i) r) (r .state) (r .texts) (suc i) e))
@@ -180,6 +184,7 @@ module _ (code : List ℕ) (some : 0 < length code) (settings : Settings) (g : P
           → allGroups (e ∷ []) (walked code) (groupsFrom (r .state) (partPlace code (depthOf (g .nodes) p))) ≡ allBehind (walked code) (pathOf (g .nodes) (g .attributes) (g .text) (suc i))
       bytes-right r b = bytes-of code (walked code) (g .nodes) (g .attributes) (g .text) (groups-fit code some) ok i there (r .state) (b .state-room) (b .ready) element
 
+      -- in each run
       element-on : (r : Running) → Fit (suc i) r → Stepped-on (suc i) r (elementOf r)
       unfolding elementStep
       element-on r b =
@@ -194,6 +199,7 @@ module _ (code : List ℕ) (some : 0 < length code) (settings : Settings) (g : P
       abbrev rowFrom : List ℕ → List ℕ → List ℕ → List ℕ
       rowFrom bytes texts parent = rowBelow parent (matching (walked code) bytes) settings (length code + length texts) e
 
+      -- the same row in both
       element-row-same : (r r′ : Running) → Twins (suc i) r r′ → elementOf r .row ≡ elementOf r′ .row
       unfolding elementStep
       element-row-same r r′ b =
@@ -202,10 +208,12 @@ module _ (code : List ℕ) (some : 0 < length code) (settings : Settings) (g : P
           ap₂ (λ (x y : List ℕ). rowFrom x y (parentOf (suc i) r)) bytes (b .texts-same)
           ∙ ap (rowFrom (allGroups (e ∷ []) (walked code) (groupsFrom (r′ .state) (partPlace code (depthOf (g .nodes) p)))) (r′ .texts)) parents
 
+      -- the same texts
       element-texts-same : (r r′ : Running) → Twins (suc i) r r′ → elementOf r .texts ≡ elementOf r′ .texts
       unfolding elementStep
       element-texts-same r r′ b = ap (λ (x : List ℕ). x ++ inlineContents settings e) (b .texts-same)
 
+      -- so in both
       element-after : (r r′ : Running) → Twins (suc i) r r′ → After (suc i) r r′ (stepAt (suc i) r) (stepAt (suc i) r′)
       element-after r r′ b =
           subst (λ (s : Stepped). After (suc i) r r′ s (stepAt (suc i) r′)) (sym (is-element r (b .left)))
