@@ -1,32 +1,29 @@
 -- The returns and turns of the functions that pass the selectors of a sheet at a row.
 use mathlib.Core.Path.{_≡_, refl, sym, ap, _∙_}
 use mathlib.Core.Bool.{Bool, true, false}
-use mathlib.Core.List.{List, [], _∷_, _++_, append-assoc}
+use mathlib.Core.List.{List, [], _∷_, _++_}
 use Prim.Native.Nat.{ℕ, zero, suc, _+_, _-_, _%_, _≤_, _<_}
 use native.Mathlib.Omega.{arith}
 use lib.Dec.{eqb}
-use lib.ListN.{length, getD, take, drop, length-append}
+use lib.ListN.{length, getD, take, drop}
 use lib.Seq.{sets, length-sets, drop-at, drop-drop, drop-nil, take-nil, getD-take}
 use Rattle.combinators.specs.Choice.{pick, and, is}
 use Rattle.combinators.specs.Part.{part}
-use Rattle.combinators.specs.Refusal.{noRefusal}
 use Rattle.combinators.proofs.Wiped.{sets-append}
 use Rattle.syntax.specs.Selector.{Component}
 use Rattle.syntax.specs.Style.{agentOrigin}
 use Rattle.syntax.specs.declared.styles.Value.{Value}
-use Rattle.cascade.specs.Record.{Styled, Declared, fromRule}
+use Rattle.cascade.specs.Record.{Declared}
 use Rattle.cascade.specs.Row.{RowRoom}
 use Rattle.cascade.specs.declared.slots.Cascade.the-variants.{Crate}
 use Rattle.cascade.proofs.Rewriting.{sets-there}
 use Rattle.page.specs.Path.{Path}
-use Rattle.matching.specs.Specificity.{specificity}
 use Rattle.styles.specs.Merged.{mergedRow}
-use Rattle.styles.specs.Said.{ruleStyle}
-use Rattle.compiled.specs.Answer.{numberAnswer, headAnswer, bytesRefusal}
-use Rattle.compiled.specs.Decoded.{Decoded, read, fault, onDecoded, andThen, mapped, counted}
+use Rattle.compiled.specs.Answer.{numberAnswer, headAnswer}
+use Rattle.compiled.specs.Decoded.{Decoded, read, onDecoded, mapped, counted}
 use Rattle.compiled.specs.Component.{componentAt}
 use Rattle.compiled.specs.Number.{numberAt}
-use Rattle.compiled.specs.Sheet.{compiledLimit, Head, headAt}
+use Rattle.compiled.specs.Sheet.{Head, headAt}
 use Rattle.compiled.specs.declared.numbers.NumberAnswer.{NumberAnswer}
 use Rattle.compiled.specs.declared.numbers.NumberAnswer.the-variants as number
 use Rattle.compiled.specs.declared.sheets.HeadAnswer.{HeadAnswer}
@@ -39,7 +36,7 @@ use Rattle.runner.specs.Groups.{pack, matchesIn, Combinator, combined, groups, 
 use Rattle.runner.specs.Run.{selectorsDeclare}
 use Rattle.runner.proofs.GroupLaws.{joined, IsTest, by-component, combinators-combinator, combinators-test, groups-combinator, groups-test, length-groups}
 use Rattle.runner.proofs.StateParts.{part-kept}
-use Rattle.stepping.specs.Components.{Reads, componentsFrom, ComponentsLent, aboveFrom, placeLimit}
+use Rattle.stepping.specs.Components.{Reads, componentsFrom, ComponentsLent, aboveFrom}
 use Rattle.stepping.specs.Passed.{listed, stylesDeclare, StylesLent, selectorIn, declaredIf, SelectorLent, SelectorPassed, SelectorsLent, SelectorsPassed, SheetLent}
 use Rattle.stepping.specs.declared.selectors.Passed.{Passed}
 use Rattle.stepping.proofs.StyleLaws.{no-fault, listed-is, listed-at, ends-so, value-so, Merging, merging-begin, merging-more, merging-done}
@@ -56,127 +53,140 @@ components-are : (code : List ℕ) (count at n : ℕ) (cs : List Component) → 
 unfolding componentsFrom onDecoded
 components-are code count at n cs e = rw e
 
-module _ (code : List ℕ) (least at : ℕ) (reads : Reads (walkedSelectorAt code least at)) (r : HeadAnswer) (e : r ≡ headAnswer (headAt code least at)) where
-  -- there are numbers before its components
-  pub head-there : (p : ℕ) → r ≡ head.Fault p → ⊥
-  unfolding walkedSelectorAt
-  head-there p q = no-fault (walkedSelectorAt code least at) _ p _ (reads .told) (then-fault (headAt code least at) _ p (head-fault (headAt code least at) r e p q))
+module _ (code : List ℕ) (origin pseudo count n : ℕ) where
+  -- the numbers before its components
+  abbrev numbers : Head
+  numbers = record { origin = origin; pseudo = pseudo; count = count }
 
-  module _ (n origin pseudo count : ℕ) (p : r ≡ head.Head n origin pseudo count) where
-    abbrev numbers : Head
-    numbers = record { origin = origin; pseudo = pseudo; count = count }
+  -- the selector of so many components and of the styles at a place
+  abbrev selectorOf : ℕ → WalkedSelector Value
+  selectorOf m = record { origin = origin; pseudo = pseudo; components = componentsFrom code count n; styles = listed (walkedStylesAt code m) }
 
-    -- the selector of so many components and of styles behind them
-    abbrev pub selectorOf : ℕ → WalkedSelector Value
-    selectorOf m = record { origin = origin; pseudo = pseudo; components = componentsFrom code count n; styles = listed (walkedStylesAt code m) }
-
-    parts-behind : walkedSelectorAt code least at ≡ walkedPartsAt code numbers n
-    unfolding walkedSelectorAt
-    parts-behind = then-read (headAt code least at) _ n numbers (head-read (headAt code least at) r e n origin pseudo count p)
-
+  module _ (reads : Reads (walkedPartsAt code numbers n)) where
     -- its components are there
-    pub components-there : Reads (counted (componentAt code) count n)
+    components-there : Reads (counted (componentAt code) count n)
     unfolding walkedPartsAt
     components-there =
-        let w = steps (counted (componentAt code) count n) _ (reads .end) (reads .value) (sym parts-behind ∙ reads .told) in
+        let w = steps (counted (componentAt code) count n) _ (reads .end) (reads .value) (reads .told) in
         record { end = w .place; value = w .value; told = w .first }
 
     module _ (m : ℕ) (c : counted (componentAt code) count n ≡ read m (componentsFrom code count n)) where
-      styles-behind : walkedSelectorAt code least at ≡ mapped (λ ds. record { origin = origin; pseudo = pseudo; components = componentsFrom code count n; styles = ds }) (walkedStylesAt code m)
+      -- what is read is what its styles make of it
+      styles-behind : walkedPartsAt code numbers n ≡ mapped (λ ds. record { origin = origin; pseudo = pseudo; components = componentsFrom code count n; styles = ds }) (walkedStylesAt code m)
       unfolding walkedPartsAt
-      styles-behind = parts-behind ∙ then-read (counted (componentAt code) count n) _ m (componentsFrom code count n) c
+      styles-behind = then-read (counted (componentAt code) count n) _ m (componentsFrom code count n) c
 
       -- its styles are there
-      pub styles-there : Reads (walkedStylesAt code m)
+      styles-there : Reads (walkedStylesAt code m)
       styles-there =
           let w = source _ (walkedStylesAt code m) (reads .end) (reads .value) (sym styles-behind ∙ reads .told) in
           record { end = reads .end; value = w .value; told = w .first }
 
       -- it is the selector of both, and ends behind its styles
-      pub selector-ends : (end : ℕ) → walkedStylesAt code m ≡ read end (listed (walkedStylesAt code m)) → walkedSelectorAt code least at ≡ read end (selectorOf m)
+      selector-ends : (end : ℕ) → walkedStylesAt code m ≡ read end (listed (walkedStylesAt code m)) → walkedPartsAt code numbers n ≡ read end (selectorOf m)
       selector-ends end s = styles-behind ∙ mapped-read _ (walkedStylesAt code m) end (listed (walkedStylesAt code m)) s
 
-      pub selector-named : selectorIn (walkedSelectorAt code least at) ≡ selectorOf m
+      -- the selector that is read
+      selector-named : selectorIn (walkedPartsAt code numbers n) ≡ selectorOf m
       selector-named = let w = styles-there in selector-is _ _ _ (selector-ends (w .end) (listed-at _ _ _ (w .told)))
 
     -- its components
-    pub components-named : selectorIn (walkedSelectorAt code least at) .components ≡ componentsFrom code count n
+    components-named : selectorIn (walkedPartsAt code numbers n) .components ≡ componentsFrom code count n
     components-named =
         let w = components-there in
         let c = w .told ∙ ap (read (w .end)) (sym (components-are code count n _ _ (w .told))) in
         ap (λ (s : WalkedSelector Value). s .components) (selector-named (w .end) c)
 
--- ---- the needs and the return of `pass_selector`
-module _ (code : List ℕ) (at least place : ℕ) (element : Bool) (state : List ℕ) (above own : ℕ) (l : SelectorLent code at least place element state above own)
-    (r : HeadAnswer) (e : r ≡ headAnswer (headAt code least at)) (n origin pseudo count : ℕ) (p : r ≡ head.Head n origin pseudo count) where
-  groups-named : groupCount (selectorIn (walkedSelectorAt code least at)) ≡ suc (combinators (componentsFrom code count n))
-  unfolding groupCount
-  groups-named = ap (λ (cs : List Component). suc (combinators cs)) (components-named code least at (l .reads) r e n origin pseudo count p)
+  -- ---- the needs and the return of `pass_parts`
+  module _ (place : ℕ) (element : Bool) (state : List ℕ) (above own : ℕ) (l : SelectorLent code (walkedPartsAt code numbers n) place element state above own) where
+    -- how many groups it has, by its components
+    groups-named : groupCount (selectorIn (walkedPartsAt code numbers n)) ≡ suc (combinators (componentsFrom code count n))
+    unfolding groupCount
+    groups-named = ap (λ (cs : List Component). suc (combinators cs)) (components-named (l .reads))
 
-  -- what the walk over its components asks for
-  pub components-lent : ComponentsLent code n count place element state above own
-  components-lent =
-      record {
-        reads = components-there code least at (l .reads) r e n origin pseudo count p;
-        room = omega (arith, l .room, groups-named);
-        apart = λ t. omega (arith, l .apart t, groups-named);
-        few = l .few;
-      }
+    -- what the walk over its components asks for
+    pub components-lent : ComponentsLent code n count place element state above own
+    components-lent =
+        record {
+          reads = components-there (l .reads);
+          room = omega (arith, l .room, groups-named);
+          apart = λ t. omega (arith, l .apart t, groups-named);
+          order = l .order;
+          few = l .few;
+        }
 
-  -- a byte that is stored lies within the state
-  pub byte-there : (row : Path) (lent state₁ : List ℕ) → state₁ ≡ sets state own (groups row true false (componentsFrom code count n) (drop 1 lent)) → own < length state₁
-  byte-there row lent state₁ q =
-      omega (arith, ap length q, length-sets state own (groups row true false (componentsFrom code count n) (drop 1 lent)), l .room, groups-named)
+    -- a byte that is stored lies within the state
+    pub byte-there : (row : Path) (lent state₁ : List ℕ) → state₁ ≡ sets state own (groups row true false (componentsFrom code count n) (drop 1 lent)) → own < length state₁
+    byte-there row lent state₁ q =
+        omega (arith, ap length q, length-sets state own (groups row true false (componentsFrom code count n) (drop 1 lent)), l .room, groups-named)
 
-  -- its styles
-  pub styles-lent : (m : ℕ) → counted (componentAt code) count n ≡ read m (componentsFrom code count n) → StylesLent code m
-  styles-lent m c = record { few = l .few-bytes; reads = styles-there code least at (l .reads) r e n origin pseudo count p m c }
+    -- its styles, and its components for its specificity
+    pub styles-lent : (m : ℕ) → counted (componentAt code) count n ≡ read m (componentsFrom code count n) → Reads (counted (componentAt code) count n) × StylesLent code m
+    styles-lent m c = (components-there (l .reads), record { few = l .few-bytes; reads = styles-there (l .reads) m c })
+
+    module _ (row : Path) (lent state₁ : List ℕ) (stored : state₁ ≡ sets state own (groups row true false (componentsFrom code count n) (drop 1 lent)))
+        (g m : ℕ) (counts : g ≡ suc (combinators (componentsFrom code count n))) (c : counted (componentAt code) count n ≡ read m (componentsFrom code count n)) where
+      -- the bytes of its groups
+      abbrev bytes : List ℕ
+      bytes = groups row true false (componentsFrom code count n) (drop 1 lent)
+
+      -- the first of them is the first that was stored
+      first-byte : getD state₁ own 0 ≡ getD bytes 0 0
+      first-byte =
+          let long : length bytes ≡ suc (combinators (componentsFrom code count n)) = length-groups (componentsFrom code count n) row true false (drop 1 lent) in
+          let named = groups-named in
+          let room = l .room in
+          let z : own + 0 ≡ own = omega arith in
+          ap (λ (x : List ℕ). getD x own 0) stored
+          ∙ ap (λ (x : ℕ). getD (sets state own bytes) x 0) (sym z)
+          ∙ sets-there bytes state own 0 (omega arith) (omega arith)
+
+      module _ (b : Bool) (q : b ≡ matchesIn (getD state₁ own 0)) (out z : List ℕ) (merged : z ≡ mergedRow Crate out (declaredIf b (selectorOf m))) (end : ℕ)
+          (s : walkedStylesAt code m ≡ read end (listed (walkedStylesAt code m))) where
+        -- what passing it leaves, by the selector of both
+        passed-met : SelectorPassed (walkedPartsAt code numbers n) row lent own state out (selectorOf m) state₁ z (record { next = end; origin = origin; groups = g })
+        unfolding groupCount
+        passed-met =
+            record {
+              stored = stored;
+              merged = merged ∙ ap (λ (x : Bool). mergedRow Crate out (declaredIf x (selectorOf m))) (q ∙ ap matchesIn first-byte);
+              counted = counts;
+              ended = selector-ends (l .reads) m c end s;
+              origin = refl;
+            }
+
+        -- what passing it leaves
+        pub parts-passed : SelectorPassed (walkedPartsAt code numbers n) row lent own state out (selectorIn (walkedPartsAt code numbers n)) state₁ z (record { next = end; origin = origin; groups = g })
+        parts-passed = rw (selector-named (l .reads) m c) passed-met
 
 -- the first byte of a group says whether it matches
 pub byte-told : (b : ℕ) → eqb (b % 2) 1 ≡ matchesIn b
 unfolding matchesIn is
 byte-told b = refl
 
--- what passing it leaves
-module _ (code : List ℕ) (at least place : ℕ) (element : Bool) (state : List ℕ) (above own : ℕ) (l : SelectorLent code at least place element state above own)
-    (r : HeadAnswer) (e : r ≡ headAnswer (headAt code least at)) (n origin pseudo count : ℕ) (p : r ≡ head.Head n origin pseudo count)
-    (row : Path) (lent state₁ : List ℕ) (stored : state₁ ≡ sets state own (groups row true false (componentsFrom code count n) (drop 1 lent)))
-    (g m : ℕ) (counts : g ≡ suc (combinators (componentsFrom code count n))) (c : counted (componentAt code) count n ≡ read m (componentsFrom code count n)) where
-  abbrev bytes : List ℕ
-  bytes = groups row true false (componentsFrom code count n) (drop 1 lent)
+-- ---- `pass_selector`
+module _ (code : List ℕ) (least at place : ℕ) (element : Bool) (state : List ℕ) (above own : ℕ) (l : SelectorLent code (walkedSelectorAt code least at) place element state above own)
+    (r : HeadAnswer) (e : r ≡ headAnswer (headAt code least at)) where
+  -- there are numbers before its components
+  pub head-there : (p : ℕ) → r ≡ head.Fault p → ⊥
+  unfolding walkedSelectorAt
+  head-there p q = no-fault (walkedSelectorAt code least at) _ p _ (l .reads .told) (then-fault (headAt code least at) _ p (head-fault (headAt code least at) r e p q))
 
-  first-byte : getD state₁ own 0 ≡ getD bytes 0 0
-  first-byte =
-      let long : length bytes ≡ suc (combinators (componentsFrom code count n)) = length-groups (componentsFrom code count n) row true false (drop 1 lent) in
-      let named = groups-named code at least place element state above own l r e n origin pseudo count p in
-      let room = l .room in
-      let z : own + 0 ≡ own = omega arith in
-      ap (λ (x : List ℕ). getD x own 0) stored
-      ∙ ap (λ (x : ℕ). getD (sets state own bytes) x 0) (sym z)
-      ∙ sets-there bytes state own 0 (omega arith) (omega arith)
+  module _ (n origin pseudo count : ℕ) (p : r ≡ head.Head n origin pseudo count) where
+    -- what is read is what its parts are read as
+    parts-behind : walkedSelectorAt code least at ≡ walkedPartsAt code (numbers code origin pseudo count n) n
+    unfolding walkedSelectorAt
+    parts-behind = then-read (headAt code least at) _ n (numbers code origin pseudo count n) (head-read (headAt code least at) r e n origin pseudo count p)
 
-  -- the selector that was read
-  abbrev met : WalkedSelector Value
-  met = selectorOf code least at (l .reads) r e n origin pseudo count p m
+    -- behind them the rest of the selector
+    pub parts-lent : SelectorLent code (walkedPartsAt code (numbers code origin pseudo count n) n) place element state above own
+    parts-lent = rw parts-behind at l
 
-  passed-met : (b : Bool) → b ≡ matchesIn (getD state₁ own 0) → (out z : List ℕ) → z ≡ mergedRow Crate out (declaredIf b met) → (end : ℕ)
-      → walkedStylesAt code m ≡ read end (listed (walkedStylesAt code m))
-      → SelectorPassed code at least row lent own state out met state₁ z (record { next = end; origin = origin; groups = g })
-  unfolding groupCount
-  passed-met b q out z merged end s =
-      record {
-        stored = stored;
-        merged = merged ∙ ap (λ (x : Bool). mergedRow Crate out (declaredIf x met)) (q ∙ ap matchesIn first-byte);
-        counted = counts;
-        ended = selector-ends code least at (l .reads) r e n origin pseudo count p m c end s;
-        origin = refl;
-      }
-
-  pub selector-passed : (b : Bool) → b ≡ matchesIn (getD state₁ own 0) → (out z : List ℕ) → z ≡ mergedRow Crate out (declaredIf b met) → (end : ℕ)
-      → walkedStylesAt code m ≡ read end (listed (walkedStylesAt code m))
-      → SelectorPassed code at least row lent own state out (selectorIn (walkedSelectorAt code least at)) state₁ z (record { next = end; origin = origin; groups = g })
-  selector-passed b q out z merged end s =
-      rw (selector-named code least at (l .reads) r e n origin pseudo count p m c) (passed-met b q out z merged end s)
+    -- what passing them leaves is what passing the selector leaves
+    pub selector-passed : (row : Path) (lent out state₁ out₁ : List ℕ) (x : Passed)
+        → SelectorPassed (walkedPartsAt code (numbers code origin pseudo count n) n) row lent own state out (selectorIn (walkedPartsAt code (numbers code origin pseudo count n) n)) state₁ out₁ x
+        → SelectorPassed (walkedSelectorAt code least at) row lent own state out (selectorIn (walkedSelectorAt code least at)) state₁ out₁ x
+    selector-passed row lent out state₁ out₁ x q = rw parts-behind q
 
 -- ---- the bytes of a selector depend on no more of the parent's bytes than it has combinators
 first-same : (n : ℕ) (x y : List ℕ) → take (suc n) x ≡ take (suc n) y → getD x 0 0 ≡ getD y 0 0
@@ -187,9 +197,11 @@ behind-first : (n : ℕ) (x : List ℕ) → take n (drop 1 x) ≡ drop 1 (take (
 behind-first n [] = take-nil n
 behind-first n (x ∷ xs) = refl
 
+-- lists that begin with the same have the same behind the first
 rest-same : (n : ℕ) (x y : List ℕ) → take (suc n) x ≡ take (suc n) y → take n (drop 1 x) ≡ take n (drop 1 y)
 rest-same n x y e = behind-first n x ∙ ap (drop 1) e ∙ sym (behind-first n y)
 
+-- the same bytes of groups from lists that begin with the same
 Same : Path → List Component → Type 0
 Same row cs = (ok holds : Bool) (x y : List ℕ) → take (combinators cs) x ≡ take (combinators cs) y → groups row ok holds cs x ≡ groups row ok holds cs y
 
@@ -213,6 +225,7 @@ same-next row c cs ih = by-component (λ c. Same row (c ∷ cs)) at-combinator a
         ap (λ (n : ℕ). take n x) (sym (combinators-test cs c u)) ∙ e ∙ ap (λ (n : ℕ). take n y) (combinators-test cs c u) in
         groups-test row ok holds cs x c u ∙ ih (and ok (tested row c)) holds x y f ∙ sym (groups-test row ok holds cs y c u)
 
+-- so it is for every selector
 groups-same : (row : Path) (cs : List Component) → Same row cs
 groups-same row [] = unfold Same groups in λ ok holds x y e. refl
 groups-same row (c ∷ cs) = same-next row c cs (groups-same row cs)
@@ -259,6 +272,7 @@ pub record FirstWalked (code : List ℕ) (left before i end : ℕ) (others : Lis
   pub told : walkedSelectorsAt (left - 1) code (met .origin) place ≡ read end rest
   pub split : others ≡ met ∷ rest
 
+-- selectors that are walked have a first while any is left
 first-walked : (code : List ℕ) (left before i end : ℕ) (others : List (WalkedSelector Value)) → 0 < left → walkedSelectorsAt left code before i ≡ read end others
     → FirstWalked code left before i end others
 unfolding walkedSelectorsAt
@@ -277,6 +291,7 @@ none-walked code (suc k) before i end others h e = absurd (omega arith)
 
 -- ---- turns of `pass_counted`
 module _ (code : List ℕ) (count at least place : ℕ) (element : Bool) (row : Path) (state₀ : List ℕ) (above own : ℕ) (out₀ : List ℕ) where
+  -- all selectors that are to be passed
   abbrev all : List (WalkedSelector Value)
   all = listed (walkedSelectorsAt count code least at)
 
@@ -284,6 +299,7 @@ module _ (code : List ℕ) (count at least place : ℕ) (element : Bool) (row : 
   abbrev bytesOf : List (WalkedSelector Value) → ℕ → List ℕ
   bytesOf ss a = allGroups row ss (aboveFrom element state₀ a)
 
+  -- what they declare
   abbrev declaredOf : List (WalkedSelector Value) → ℕ → List (Declared Value)
   declaredOf ss a = selectorsDeclare (matching ss (bytesOf ss a))
 
@@ -298,7 +314,7 @@ module _ (code : List ℕ) (count at least place : ℕ) (element : Bool) (row : 
     pub kept : (p n : ℕ) → p + n ≤ own → part state p n ≡ part state₀ p n
     pub room : o + groupsCount others ≤ length state
     pub apart : element ≡ true → a + groupsCount others ≤ own
-    pub order : a ≤ o
+    pub order : a < o
     pub behind : own ≤ o
 
   -- nothing is passed yet
@@ -319,9 +335,11 @@ module _ (code : List ℕ) (count at least place : ℕ) (element : Bool) (row : 
       }
 
   module _ (l : SelectorsLent code count at least place element state₀ above own) (left before i a o : ℕ) (state out : List ℕ) (s : Selecting left before i a o state out) (h : 0 < left) where
+    -- the first of those that are left
     abbrev first : FirstWalked code left before i (s .end) (s .others)
     first = first-walked code left before i (s .end) (s .others) h (s .told)
 
+    -- its groups and those of the others are the groups that are left
     counts : groupsCount (s .others) ≡ groupCount (first .met) + groupsCount (first .rest)
     unfolding groupsCount
     counts = ap groupsCount (first .split)
@@ -331,7 +349,7 @@ module _ (code : List ℕ) (count at least place : ℕ) (element : Bool) (row : 
     named = selector-is _ _ _ (first .first)
 
     -- what passing it asks for
-    pub selecting-lent : SelectorLent code i before place element state a o
+    pub selecting-lent : SelectorLent code (walkedSelectorAt code before i) place element state a o
     selecting-lent =
         let n : groupCount (selectorIn (walkedSelectorAt code before i)) ≡ groupCount (first .met) = ap groupCount named in
         record {
@@ -339,21 +357,25 @@ module _ (code : List ℕ) (count at least place : ℕ) (element : Bool) (row : 
           reads = record { end = first .place; value = first .met; told = first .first };
           room = omega (arith, s .room, counts, n);
           apart = λ t. omega (arith, s .apart t, s .behind, counts, n);
+          order = s .order;
           few = l .few;
         }
 
     module _ (state₁ out₁ : List ℕ) (r : Passed)
-        (p : SelectorPassed code i before row (aboveFrom element state a) o state out (selectorIn (walkedSelectorAt code before i)) state₁ out₁ r) where
-      known : SelectorPassed code i before row (aboveFrom element state a) o state out (first .met) state₁ out₁ r
+        (p : SelectorPassed (walkedSelectorAt code before i) row (aboveFrom element state a) o state out (selectorIn (walkedSelectorAt code before i)) state₁ out₁ r) where
+      -- what passing it left
+      known : SelectorPassed (walkedSelectorAt code before i) row (aboveFrom element state a) o state out (first .met) state₁ out₁ r
       known = rw named at p
 
       -- the numbers that go on fit
       pub selecting-room : (a + r .groups ≤ o + r .groups) × (o + r .groups ≤ length state)
       selecting-room = (omega (arith, s .order), omega (arith, s .room, counts, known .counted))
 
+      -- its bytes by the state at the start
       abbrev stored-bytes : List ℕ
       stored-bytes = groups row true false (first .met .components) (drop 1 (aboveFrom element state₀ a))
 
+      -- as many as it has groups
       long-bytes : length stored-bytes ≡ groupCount (first .met)
       unfolding groupCount
       long-bytes = length-groups (first .met .components) row true false (drop 1 (aboveFrom element state₀ a))
@@ -365,21 +387,25 @@ module _ (code : List ℕ) (count at least place : ℕ) (element : Bool) (row : 
           above-same element row (first .met .components) state state₀ a own (s .kept)
           (λ t. omega (arith, s .apart t, counts))
 
+      -- the bytes that are left are its bytes and those of the others
       bytes-split : bytesOf (s .others) a ≡ stored-bytes ++ bytesOf (first .rest) (a + r .groups)
       unfolding allGroups
       bytes-split =
           ap (λ (ss : List (WalkedSelector Value)). bytesOf ss a) (first .split)
           ∙ ap (λ (x : List ℕ). stored-bytes ++ allGroups row (first .rest) x) (above-next element state₀ a (groupCount (first .met)) ∙ ap (λ (k : ℕ). aboveFrom element state₀ (a + k)) (sym (known .counted)))
 
+      -- its bytes are stored
       state-is : state₁ ≡ sets state o stored-bytes
       state-is = known .stored ∙ ap (sets state o) bytes-same
 
+      -- what is left to declare is what it declares and what the others do
       declared-split : declaredOf (s .others) a ≡ declaredIf (matchesIn (getD stored-bytes 0 0)) (first .met) ++ declaredOf (first .rest) (a + r .groups)
       declared-split =
           ap (λ (x : List ℕ). selectorsDeclare (matching (s .others) x)) bytes-split
           ∙ ap (λ (ss : List (WalkedSelector Value)). selectorsDeclare (matching ss (stored-bytes ++ bytesOf (first .rest) (a + r .groups)))) (first .split)
           ∙ declared-first (first .met) (first .rest) stored-bytes (bytesOf (first .rest) (a + r .groups)) long-bytes
 
+      -- the others are read behind it
       next-told : walkedSelectorsAt (left - 1) code (r .origin) (r .next) ≡ read (s .end) (first .rest)
       next-told =
           ap (λ (x : ℕ). walkedSelectorsAt (left - 1) code x (r .next)) (known .origin)
@@ -431,6 +457,7 @@ module _ (code : List ℕ) (place : ℕ) (element : Bool) (state : List ℕ) (ab
   sheet-there p q = no-fault (numberAt code 0) _ p _ (sheet-walked code (l .sheet) .count-read) (number-fault (numberAt code 0) r e p q)
 
   module _ (n k : ℕ) (p : r ≡ number.Number n k) where
+    -- behind the count stand the selectors of the sheet, to its end
     sheet-told : walkedSelectorsAt k code agentOrigin n ≡ read (length code) (walked code)
     sheet-told =
         let w = sheet-walked code (l .sheet) in
@@ -439,6 +466,7 @@ module _ (code : List ℕ) (place : ℕ) (element : Bool) (state : List ℕ) (ab
         ∙ ap (walkedSelectorsAt (w .count) code agentOrigin) (ends-so _ _ _ _ _ c (w .count-read))
         ∙ w .told
 
+    -- they are the selectors of the sheet
     all-named : listed (walkedSelectorsAt k code agentOrigin n) ≡ walked code
     all-named = listed-is _ _ _ sheet-told
 

@@ -1,13 +1,13 @@
 -- The needs and returns of the functions that open a row, merge its attributes and make its step.
-use mathlib.Core.Path.{_≡_, refl, sym, ap, ap₂, _∙_}
-use mathlib.Core.Bool.{Bool, true, false}
-use mathlib.Core.List.{List, [], _∷_, _++_, append-nil}
-use Prim.Native.Nat.{ℕ, zero, suc, _+_, _-_, _*_, _^_, _≤_, _<_}
+use mathlib.Core.Path.{_≡_, refl, sym, ap, _∙_}
+use mathlib.Core.Bool.{true, false}
+use mathlib.Core.List.{List, [], _++_, append-nil}
+use Prim.Native.Nat.{ℕ, zero, suc, _+_, _-_, _*_, _≤_, _<_}
 use native.Mathlib.Nat.{suc-mul, add-mul, mul-le-mul-right}
 use native.Mathlib.Omega.{arith}
-use lib.ListN.{length, take, drop, set, replicate, length-set, length-append, length-replicate, drop-of-length-le, length-take}
+use lib.ListN.{length, take, replicate, length-set, length-append, length-replicate, drop-of-length-le, length-take}
 use lib.Seq.{sets, sets-eq, length-sets, length-take-le}
-use Rattle.combinators.specs.Choice.{pick, is}
+use Rattle.combinators.specs.Choice.{pick}
 use Rattle.combinators.specs.Store.{wiped}
 use Rattle.combinators.proofs.Rules.{pick-true, pick-false, is-yes, is-no}
 use Rattle.combinators.proofs.Wiped.{sets-append, sets-apart}
@@ -15,7 +15,6 @@ use Rattle.syntax.specs.Stream.{textsMany}
 use Rattle.syntax.specs.declared.styles.Value.{Value}
 use Rattle.cascade.specs.declared.slots.Cascade.the-variants.{Crate}
 use Rattle.cascade.specs.Row.{styleRowWidth, RowRoom, Inherited, Emptied, inheritedRow, presentRow}
-use Rattle.page.specs.Accepted.{depthLimit}
 use Rattle.page.specs.Path.{Attribute, Element, Path}
 use Rattle.page.specs.PathOf.{attributesFrom}
 use Rattle.page.specs.Rows.{otherKind, nodeAt, nameOf, attributeRows}
@@ -24,15 +23,13 @@ use Rattle.styles.specs.declared.settings.Settings.{Settings}
 use Rattle.styles.specs.Merged.{mergedRow, lateDeclared}
 use Rattle.styles.specs.Said.{countedAttributes}
 use Rattle.styles.specs.StyleCall.{attributesContents, inlineContents, placedAttributes}
-use Rattle.styles.specs.Room.{valuesOf}
 use Rattle.styles.proofs.Merging.{merged-none, merged-long, late-none}
 use Rattle.runner.specs.Groups.{allGroups, matching, groupsCount}
-use Rattle.runner.specs.LeastLengths.{stateLeast}
 use Rattle.runner.specs.Run.{Handed, Stepped, noStyle, handedFrom, selectorsDeclare, rowBelow, documentStep, elementStep, openStep, stepOn}
-use Rattle.runner.specs.State.{depths, partWidth, partPlace, countBytes, countAt, raised, groupsFrom, opened}
+use Rattle.runner.specs.State.{depths, partPlace, countBytes, countAt, raised, groupsFrom, opened}
 use Rattle.runner.specs.Walked.{WalkedSelector, walked}
 use Rattle.runner.proofs.StateParts.{raised-groups}
-use Rattle.stepping.specs.Components.{rowAlone, handedElement, aboveFrom, placeLimit}
+use Rattle.stepping.specs.Components.{rowAlone, handedElement, aboveFrom}
 use Rattle.stepping.specs.Count.{CountRoom, countLimit}
 use Rattle.stepping.specs.Lent.{StepLent}
 use Rattle.stepping.specs.Opened.{OpenLent, Below, childElement, childBytes, ElementOpened}
@@ -114,13 +111,14 @@ module _ (code out state : List ℕ) (l : OpenLent code out state) where
   document-opened e state₁ out₁ state₂ out₂ p w m =
       let z : partPlace code 0 ≡ 0 = omega arith in
       let long : length out₁ ≡ length out = ap length (p .merged) ∙ merged-long Crate _ out in
-      let bytes : List ℕ = allGroups [] (walked code) [] in
-      (emptied out₁ out₂ (long ∙ l .one-row) m,
-       w
-       ∙ ap (λ (x : List ℕ). sets x 0 (countBytes 0)) (p .stored)
-       ∙ sets-apart state 0 2 (countBytes 0) bytes (omega arith)
-       ∙ sym (sets-append state 0 (countBytes 0) bytes)
-       ∙ ap (λ (x : ℕ). sets state x (countBytes 0 ++ bytes)) (sym z))
+      let bytes : List ℕ = allGroups [] (walked code) [] in (
+        emptied out₁ out₂ (long ∙ l .one-row) m,
+        w
+            ∙ ap (λ (x : List ℕ). sets x 0 (countBytes 0)) (p .stored)
+            ∙ sets-apart state 0 2 (countBytes 0) bytes (omega arith)
+            ∙ sym (sets-append state 0 (countBytes 0) bytes)
+            ∙ ap (λ (x : ℕ). sets state x (countBytes 0 ++ bytes)) (sym z),
+      )
 
   module _ (depth : ℕ) (b : Below depth) where
     -- the parts of a row and of its parent lie in the state
@@ -131,6 +129,7 @@ module _ (code out state : List ℕ) (l : OpenLent code out state) where
     pub parent-count : (state₁ : List ℕ) → length state₁ ≡ length state → CountRoom state₁ ((depth - 1) * (length code + 1))
     parent-count state₁ e = record { room = omega (arith, e, parts-there, groups-fit) }
 
+    -- its own count
     pub own-count : (state₁ : List ℕ) → length state₁ ≡ length state → CountRoom state₁ ((depth - 1) * (length code + 1) + (length code + 1))
     own-count state₁ e = record { room = omega (arith, e, parts-there, groups-fit) }
 
@@ -149,12 +148,15 @@ module _ (code out state : List ℕ) (l : OpenLent code out state) where
 
     module _ (node attributes text name : List ℕ) (n : ℕ) (en : n ≡ countAt state ((depth - 1) * (length code + 1))) (named : name ≡ nameOf node text 0)
         (state₁ out₁ : List ℕ) (raises : state₁ ≡ raised state ((depth - 1) * (length code + 1))) (inherits : Inherited Crate out out₁) where
+      -- where the part of its parent begins
       abbrev parent : ℕ
       parent = (depth - 1) * (length code + 1)
 
+      -- the element that is opened
       abbrev child : Element
       child = childElement node attributes text state parent
 
+      -- raising the count of the parent leaves its bytes of groups, so these are those of the element
       bytes-are : allGroups (rowAlone true (handedElement name attributes text (n + 1))) (walked code) (aboveFrom true state₁ (parent + 2)) ≡ childBytes code child state parent
       unfolding rowAlone aboveFrom childBytes childElement groupsFrom
       bytes-are = rw (en, named) (ap (allGroups _ (walked code)) (ap (λ (x : List ℕ). groupsFrom x parent) raises ∙ raised-groups state parent))
@@ -190,6 +192,7 @@ pub inline-lent : (attributes text : List ℕ) (n base fill : ℕ) (rules tokens
 inline-lent attributes text n base fill rules tokens brackets texts e l = rw e l
 
 module _ (settings : Settings) (attributes text : List ℕ) (base fill : ℕ) (out texts : List ℕ) where
+  -- the attributes of the row
   abbrev rowAttributes : List Attribute
   rowAttributes = attributesFrom attributes text (attributeRows attributes) 0
 
@@ -211,10 +214,13 @@ module _ (settings : Settings) (attributes text : List ℕ) (base fill : ℕ) (o
       let long : length (take fill texts) ≡ fill = length-take-le fill texts f in
       let a : length (take r texts₁) ≡ length (take fill texts) + length (attributesContents xs) = ap length (q .1 .1) ∙ length-append (take fill texts) (attributesContents xs) in
       let b = q .1 .0 in
-      let m = length-take r texts₁ in
-      (q .0 ∙ ap (λ (ys : List Attribute). mergedRow Crate out (lateDeclared Crate (placedAttributes (base + fill) ys))) p,
-       (q .1 .1 ∙ ap (λ (ys : List Attribute). take fill texts ++ attributesContents ys) p,
-        omega arith))
+      let m = length-take r texts₁ in (
+        q .0 ∙ ap (λ (ys : List Attribute). mergedRow Crate out (lateDeclared Crate (placedAttributes (base + fill) ys))) p,
+        (
+          q .1 .1 ∙ ap (λ (ys : List Attribute). take fill texts ++ attributesContents ys) p,
+          omega arith,
+        ),
+      )
 
   -- they do not
   pub inline-off : settings .«document_styles» ≡ false → fill ≤ length texts
@@ -223,10 +229,13 @@ module _ (settings : Settings) (attributes text : List ℕ) (base fill : ℕ) (o
       × (fill ≤ length texts))
   unfolding placedAttributes attributesContents textsMany
   inline-off h f =
-      let p : [] ≡ counting = pick-false [] rowAttributes [] _ h refl in
-      (sym (merged-none Crate out) ∙ ap (mergedRow Crate out) (sym (late-none Crate)) ∙ ap (λ (ys : List Attribute). mergedRow Crate out (lateDeclared Crate (placedAttributes (base + fill) ys))) p,
-       (sym (append-nil (take fill texts)) ∙ ap (λ (ys : List Attribute). take fill texts ++ attributesContents ys) p,
-        f))
+      let p : [] ≡ counting = pick-false [] rowAttributes [] _ h refl in (
+        sym (merged-none Crate out) ∙ ap (mergedRow Crate out) (sym (late-none Crate)) ∙ ap (λ (ys : List Attribute). mergedRow Crate out (lateDeclared Crate (placedAttributes (base + fill) ys))) p,
+        (
+          sym (append-nil (take fill texts)) ∙ ap (λ (ys : List Attribute). take fill texts ++ attributesContents ys) p,
+          f,
+        ),
+      )
 
 -- ---- what a step asks for
 module _ (code attributes text : List ℕ) (depth : ℕ) (out state rules tokens brackets texts : List ℕ) (fill : ℕ)
@@ -258,9 +267,11 @@ stepped row row₁ state state₁ texts texts₁ a b c = rw (a, b, c)
 
 -- an element below a row of the depth d
 module _ (settings : Settings) (code node attributes text out state texts : List ℕ) (fill d : ℕ) (f : fill ≤ length texts) where
+  -- the element itself
   abbrev childAt : Element
   childAt = childElement node attributes text state (partPlace code d)
 
+  -- its row, its part of the state and its texts are those of the step
   element-is : (out₁ state₁ out₂ texts₂ : List ℕ) (r : ℕ)
       → out₁ ≡ mergedRow Crate (inheritedRow Crate out) (selectorsDeclare (matching (walked code) (childBytes code childAt state (partPlace code d))))
       → state₁ ≡ opened (raised state (partPlace code d)) (partPlace code (suc d)) (childBytes code childAt state (partPlace code d))
@@ -280,9 +291,11 @@ module _ (settings : Settings) (code node attributes text out state texts : List
 
 module _ (settings : Settings) (code node attributes text : List ℕ) (depth : ℕ) (out state rules tokens brackets texts : List ℕ) (fill : ℕ)
     (l : StepLent code attributes text depth out state rules tokens brackets texts fill) where
+  -- the row as it is handed to its step
   abbrev handed : Handed
   handed = handedFrom node attributes text
 
+  -- what is filled lies in the store
   abbrev fits : fill ≤ length texts
   fits = filled code attributes text depth out state rules tokens brackets texts fill l
 
@@ -294,6 +307,7 @@ module _ (settings : Settings) (code node attributes text : List ℕ) (depth : �
       (pick-true _ _ _ _ (is-yes _ _ (sym e ∙ h)) (stepped _ _ _ _ _ _ (emptied out out₁ (l .one-row) m) refl refl), fits)
 
   module _ (kind : ℕ) (e : kind ≡ nodeAt node 0 .kind) (h : ¬ (kind ≡ otherKind)) where
+    -- a row that is no other content is opened
     opens : (x : Stepped) → x ≡ openStep code settings handed depth out state (take fill texts) → x ≡ stepOn code settings handed depth out state (take fill texts)
     unfolding stepOn handedFrom
     opens x q = pick-false _ _ _ _ (is-no _ _ (λ z. h (e ∙ z))) q
@@ -313,10 +327,11 @@ module _ (settings : Settings) (code node attributes text : List ℕ) (depth : �
         × (r ≤ length texts₂))
         → (record { row = out₂; state = state₁; texts = take r texts₂ } ≡ stepOn code settings handed depth out state (take fill texts)) × (r ≤ length texts₂)
     element-step n out₁ state₁ p out₂ texts₂ r q =
-        let e : suc (depth - 1) ≡ depth = omega arith in
-        (opens _
-         (element-is settings code node attributes text out state texts fill (depth - 1) fits out₁ state₁ out₂ texts₂ r (p .row)
-          (p .part ∙ ap (λ (x : ℕ). opened (raised state (partPlace code (depth - 1))) (partPlace code x) (childBytes code (childElement node attributes text state (partPlace code (depth - 1))) state (partPlace code (depth - 1)))) (sym e))
-          (q .0) (q .1 .0)
-          ∙ ap (λ (x : ℕ). openStep code settings handed x out state (take fill texts)) e),
-         q .1 .1)
+        let e : suc (depth - 1) ≡ depth = omega arith in (
+          opens _
+              (element-is settings code node attributes text out state texts fill (depth - 1) fits out₁ state₁ out₂ texts₂ r (p .row)
+              (p .part ∙ ap (λ (x : ℕ). opened (raised state (partPlace code (depth - 1))) (partPlace code x) (childBytes code (childElement node attributes text state (partPlace code (depth - 1))) state (partPlace code (depth - 1)))) (sym e))
+              (q .0) (q .1 .0)
+              ∙ ap (λ (x : ℕ). openStep code settings handed x out state (take fill texts)) e),
+          q .1 .1,
+        )

@@ -1,7 +1,7 @@
 -- Declarations merged into a row one after the other, and the returns and turns of the functions that merge or pass over the styles of a selector.
 use mathlib.Core.Path.{_≡_, refl, sym, ap, _∙_}
 use mathlib.Core.Bool.{Bool, true, false}
-use mathlib.Core.List.{List, [], _∷_, _++_, map}
+use mathlib.Core.List.{List, [], _∷_, _++_}
 use Prim.Native.Nat.{ℕ, zero, suc, _+_, _-_, _≤_, _<_}
 use native.Mathlib.Omega.{arith}
 use lib.ListN.{length}
@@ -17,10 +17,10 @@ use Rattle.styles.specs.Merged.{mergedRow}
 use Rattle.styles.specs.Said.{ruleStyle}
 use Rattle.styles.specs.StyleCall.{inNumbers}
 use Rattle.styles.proofs.Merging.{merged-none, merged-more, merged-append, merged-long}
-use Rattle.compiled.specs.Decoded.{Decoded, read, fault, onDecoded, andThen, mapped, counted}
-use Rattle.compiled.specs.Number.{numberAt, numberLimit}
+use Rattle.compiled.specs.Decoded.{Decoded, read, fault, onDecoded, counted}
+use Rattle.compiled.specs.Number.{numberAt}
 use Rattle.compiled.specs.Style.{styleNumbersAt}
-use Rattle.compiled.specs.Sheet.{compiledLimit, stylesAt}
+use Rattle.compiled.specs.Sheet.{stylesAt}
 use Rattle.compiled.specs.Answer.{numberAnswer, placeAnswer, styleAnswer}
 use Rattle.compiled.specs.declared.numbers.NumberAnswer.{NumberAnswer}
 use Rattle.compiled.specs.declared.numbers.NumberAnswer.the-variants as number
@@ -32,7 +32,6 @@ use Rattle.compiled.proofs.Answers.{number-read, number-fault, place-read, plac
 use Rattle.compiled.proofs.Following.{then-read, then-fault, mapped-read, mapped-fault}
 use Rattle.compiled.proofs.Walking.{counted-first, counted-none}
 use Rattle.runner.specs.Walked.{WalkedSelector, walkedStylesAt}
-use Rattle.stepping.specs.Components.{Reads}
 use Rattle.stepping.specs.Passed.{listed, walkedStyleAt, stylesDeclare, CountedLent, StylesLent, declaredIf}
 use Rattle.stepping.proofs.WalkedReads.{styles-place}
 
@@ -162,6 +161,7 @@ module _ (code : List ℕ) (count at origin pseudo : ℕ) (spec : Specificity) (
   unfolding stylesDeclare
   one-declared others rest x e = rw e
 
+  -- no style declares nothing
   none-declared : (others : List (Styled Value)) → others ≡ [] → stylesDeclare origin pseudo spec others ≡ []
   unfolding stylesDeclare
   none-declared others e = rw e

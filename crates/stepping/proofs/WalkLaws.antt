@@ -50,7 +50,7 @@ unfolding aboveFrom
 above-next true state at = sym (drop-drop 1 at state)
 above-next false state at = refl
 
--- the first of them is the same where the byte is
+-- the first of them is the same where an element's byte is
 above-same : (el : Bool) (s t : List ℕ) (at : ℕ) → (el ≡ true → getD s at 0 ≡ getD t at 0) → getD (aboveFrom el s at) 0 0 ≡ getD (aboveFrom el t at) 0 0
 unfolding aboveFrom
 above-same true s t at e =
@@ -310,11 +310,8 @@ module _ (code : List ℕ) (at count : ℕ) (row : Path) (el : Bool) (state₀ :
       pub walk-less : others < left
       walk-less = turn .fewer
 
-      low : el ≡ true → above + g + 1 < own
-      low t = omega (arith, turn .one-less, v .groups-left, v .apart t)
-
       byte-before : byte ≡ getD (aboveFrom el state₀ (above + g + 1)) 0 0
-      byte-before = v .byte-is ∙ above-same el state state₀ (above + g + 1) (λ t. v .kept (above + g + 1) (low t))
+      byte-before = v .byte-is ∙ above-same el state state₀ (above + g + 1) (λ t. v .kept (above + g + 1) (omega (arith, turn .one-less, v .groups-left, v .apart t)))
 
       -- the parent's byte of the next group can be read
       pub byte-there : (x : ℕ) → above + (g + 1) + 1 < length (set state (own + g) x)

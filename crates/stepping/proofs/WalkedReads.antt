@@ -17,14 +17,13 @@ use Rattle.compiled.specs.Component.{componentAt}
 use Rattle.compiled.specs.Style.{styleNumbersAt, styleAt}
 use Rattle.compiled.specs.Sheet.{CompiledSelector, stylesAt, selectorAt, selectorsAt, headAt, decode}
 use Rattle.compiled.specs.Answer.{placeAnswer, bytesRefusal}
-use Rattle.compiled.specs.declared.places.PlaceAnswer.{PlaceAnswer}
 use Rattle.compiled.specs.declared.places.PlaceAnswer.the-variants as place
 use Rattle.compiled.proofs.Answers.{place-mapped, place-read}
 use Rattle.compiled.proofs.Bounds.{reaches-end, number-reaches}
 use Rattle.compiled.proofs.Following.{then-read, mapped-read}
 use Rattle.compiled.proofs.Walking.{selector-steps, selector-long, selectors-first, selectors-none, sheet-steps}
 use Rattle.runner.specs.Walked.{WalkedSelector, walkedStylesAt, walkedPartsAt, walkedSelectorAt, walkedSelectorsAt, walked}
-use Rattle.runner.specs.Groups.{combinators, groupCount, groupsCount}
+use Rattle.runner.specs.Groups.{groupCount, groupsCount}
 use Rattle.runner.proofs.GroupLaws.{combinators-most}
 
 -- ---- styles in numbers take the bytes of the styles that they say
@@ -72,6 +71,7 @@ pub record SelectorWalked (t : List ℕ) (least i m : ℕ) (s : CompiledSelector
   pub origin : met .origin ≡ s .origin
   pub components : met .components ≡ s .components
 
+-- a selector that is read is walked
 pub selector-walked : (t : List ℕ) (least i m : ℕ) (s : CompiledSelector) → selectorAt t least i ≡ read m s → SelectorWalked t least i m s
 unfolding walkedSelectorAt walkedPartsAt placeAnswer
 selector-walked t least i m s e =

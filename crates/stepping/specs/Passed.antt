@@ -2,7 +2,7 @@
 use Prim.Native.Nat.{ℕ, _+_, _≤_, _<_}
 use mathlib.Core.Path.{_≡_}
 use mathlib.Core.Bool.{Bool, true, false}
-use mathlib.Core.List.{List, [], _∷_, map}
+use mathlib.Core.List.{List, [], map}
 use lib.ListN.{length, getD, drop}
 use lib.Seq.{sets}
 use Rattle.combinators.specs.Choice.{pick}
@@ -21,7 +21,7 @@ use Rattle.compiled.specs.Decoded.{Decoded, read, onDecoded, mapped, counted}
 use Rattle.compiled.specs.Number.{numberLimit}
 use Rattle.compiled.specs.Style.{styleNumbersAt}
 use Rattle.compiled.specs.Sheet.{compiledLimit}
-use Rattle.runner.specs.Walked.{WalkedSelector, walkedStylesAt, walkedSelectorAt, walkedSelectorsAt, walked}
+use Rattle.runner.specs.Walked.{WalkedSelector, walkedStylesAt, walkedSelectorsAt, walked}
 use Rattle.runner.specs.Groups.{matchesIn, groups, groupCount, allGroups, matching, groupsCount}
 use Rattle.runner.specs.Run.{selectorsDeclare}
 use Rattle.stepping.specs.Components.{Reads, placeLimit}
@@ -59,21 +59,22 @@ selectorIn d = onDecoded d (λ _ s. s) (λ _. record { origin = 0; pseudo = 0; c
 unfoldable pub declaredIf : Bool → WalkedSelector Value → List (Declared Value)
 declaredIf matched s = pick matched (stylesDeclare (s .origin) (s .pseudo) (specificity (s .components)) (s .styles)) []
 
--- the selector at a place, behind one of the origin `least`, is there; the bytes of its groups have room, and those of the parent lie before them
-pub record SelectorLent (code : List ℕ) (at least place : ℕ) (element : Bool) (state : List ℕ) (above own : ℕ) : Type 0 where
+-- a selector is read; the bytes of its groups have room, and those of an element's parent lie before them
+pub record SelectorLent (code : List ℕ) (d : Decoded (WalkedSelector Value)) (place : ℕ) (element : Bool) (state : List ℕ) (above own : ℕ) : Type 0 where
   pub few-bytes : length code ≤ compiledLimit
-  pub reads : Reads (walkedSelectorAt code least at)
-  pub room : own + groupCount (selectorIn (walkedSelectorAt code least at)) ≤ length state
-  pub apart : element ≡ true → above + groupCount (selectorIn (walkedSelectorAt code least at)) ≤ own
+  pub reads : Reads d
+  pub room : own + groupCount (selectorIn d) ≤ length state
+  pub apart : element ≡ true → above + groupCount (selectorIn d) ≤ own
+  pub order : above < own
   pub few : place ≤ placeLimit
 
 -- what passing it at a row leaves, where `above` are the parent's bytes: the bytes of its groups, its styles merged where it matches, and its end
-pub record SelectorPassed (code : List ℕ) (at least : ℕ) (row : Path) (above : List ℕ) (own : ℕ) (state out : List ℕ) (s : WalkedSelector Value) (state₁ out₁ : List ℕ) (r : Passed)
+pub record SelectorPassed (d : Decoded (WalkedSelector Value)) (row : Path) (above : List ℕ) (own : ℕ) (state out : List ℕ) (s : WalkedSelector Value) (state₁ out₁ : List ℕ) (r : Passed)
     : Type 0 where
   pub stored : state₁ ≡ sets state own (groups row true false (s .components) (drop 1 above))
   pub merged : out₁ ≡ mergedRow Crate out (declaredIf (matchesIn (getD (groups row true false (s .components) (drop 1 above)) 0 0)) s)
   pub counted : r .groups ≡ groupCount s
-  pub ended : walkedSelectorAt code least at ≡ read (r .next) s
+  pub ended : d ≡ read (r .next) s
   pub origin : r .origin ≡ s .origin
 
 -- ---- so many selectors from a place on, behind one of the origin `least`
@@ -82,7 +83,7 @@ pub record SelectorsLent (code : List ℕ) (count at least place : ℕ) (element
   pub reads : Reads (walkedSelectorsAt count code least at)
   pub room : own + groupsCount (listed (walkedSelectorsAt count code least at)) ≤ length state
   pub apart : element ≡ true → above + groupsCount (listed (walkedSelectorsAt count code least at)) ≤ own
-  pub order : above ≤ own
+  pub order : above < own
   pub few : place ≤ placeLimit
 
 -- what passing them at a row leaves
@@ -96,5 +97,5 @@ pub record SheetLent (code : List ℕ) (place : ℕ) (element : Bool) (state : L
   pub sheet : bytesRefusal code ≡ noRefusal
   pub room : own + groupsCount (walked code) ≤ length state
   pub apart : element ≡ true → above + groupsCount (walked code) ≤ own
-  pub order : above ≤ own
+  pub order : above < own
   pub few : place ≤ placeLimit

@@ -11,7 +11,7 @@ ghost use Prim.Native.Nat.{_<_};
 ghost use lib.ListN.{length, getD};
 ghost use Rattle.cascade.specs.Row.{RowRoom};
 ghost use Rattle.runner.specs.Groups.{matchesIn};
-ghost use Rattle.runner.specs.Walked.{walkedSelectorAt, walkedSelectorsAt, walked};
+ghost use Rattle.runner.specs.Walked.{walkedPartsAt, walkedSelectorAt, walkedSelectorsAt, walked};
 ghost use Rattle.stepping.specs.Components.{rowAlone, handedElement, aboveFrom};
 ghost use Rattle.stepping.specs.Passed.{listed, selectorIn, SelectorLent, SelectorPassed, SelectorsLent, SelectorsPassed, SheetLent};
 
@@ -36,6 +36,53 @@ fn matches_at(state: &[u8], at: usize) -> bool
     state[at] % BIT_VALUES == MATCHES_HERE
 }
 
+// Passes the `count` components at `at` and the styles behind them, as those of a selector.
+fn pass_parts(
+    compiled: &[u8],
+    at: usize,
+    origin: u32,
+    pseudo: u32,
+    count: u32,
+    element: bool,
+    name: &[u8],
+    attributes: &[u32],
+    text: &[u8],
+    place: usize,
+    state: &mut [u8],
+    above: usize,
+    own: usize,
+    out: &mut [u32],
+) -> Passed
+    requires { ⌜ RowRoom (now out) ⌝ }
+    requires { ⌜ SelectorLent (now compiled) (walkedPartsAt (now compiled) (record { origin = origin; pseudo = pseudo; count = count }) at) place element (now state) above own ⌝ }
+    ensures { λ r. ⌜ SelectorPassed (walkedPartsAt (now (compiled .entry)) (record { origin = origin; pseudo = pseudo; count = count }) at)
+        (rowAlone element (handedElement (now (name .entry)) (now (attributes .entry)) (now (text .entry)) place))
+        (aboveFrom element (now (state .entry)) above) own (now (state .entry)) (now (out .entry))
+        (selectorIn (walkedPartsAt (now (compiled .entry)) (record { origin = origin; pseudo = pseudo; count = count }) at)) (now (state .exit)) (now (out .exit)) r ⌝ }
+{
+    let walked = walk_components(
+        compiled,
+        at,
+        count,
+        element,
+        name,
+        attributes,
+        text,
+        place,
+        state,
+        above,
+        own,
+    );
+    let matched = matches_at(state, own);
+    let end = walked.next;
+    let next = pass_styles(compiled, at, count, end, matched, origin, pseudo, out);
+    Passed {
+        next,
+        origin,
+        groups: walked.groups,
+    }
+}
+
 // Passes the selector at `at`, behind one of the origin `least`: the bytes of its groups go to `own`, by the parent's from `above` on, and where it matches its
 // styles are merged.
 fn pass_selector(
@@ -53,8 +100,8 @@ fn pass_selector(
     out: &mut [u32],
 ) -> Passed
     requires { ⌜ RowRoom (now out) ⌝ }
-    requires { ⌜ SelectorLent (now compiled) at least place element (now state) above own ⌝ }
-    ensures { λ r. ⌜ SelectorPassed (now (compiled .entry)) at least
+    requires { ⌜ SelectorLent (now compiled) (walkedSelectorAt (now compiled) least at) place element (now state) above own ⌝ }
+    ensures { λ r. ⌜ SelectorPassed (walkedSelectorAt (now (compiled .entry)) least at)
         (rowAlone element (handedElement (now (name .entry)) (now (attributes .entry)) (now (text .entry)) place))
         (aboveFrom element (now (state .entry)) above) own (now (state .entry)) (now (out .entry))
         (selectorIn (walkedSelectorAt (now (compiled .entry)) least at)) (now (state .exit)) (now (out .exit)) r ⌝ }
@@ -66,29 +113,26 @@ fn pass_selector(
             pseudo,
             count,
         } => {
-            let walked = walk_components(
-                compiled, next, count, element, name, attributes, text, place, state, above, own,
-            );
-            let matched = matches_at(state, own);
-            let end = pass_styles(
+            return pass_parts(
                 compiled,
                 next,
-                count,
-                walked.next,
-                matched,
                 origin,
                 pseudo,
+                count,
+                element,
+                name,
+                attributes,
+                text,
+                place,
+                state,
+                above,
+                own,
                 out,
             );
-            return Passed {
-                next: end,
-                origin,
-                groups: walked.groups,
-            };
         }
-        HeadAnswer::Fault(fault) => {
+        HeadAnswer::Fault(next) => {
             return Passed {
-                next: fault,
+                next,
                 origin: least,
                 groups: 0,
             };
@@ -125,7 +169,18 @@ fn pass_counted(
     let mut left = count;
     while left > 0 {
         let passed = pass_selector(
-            compiled, i, before, element, name, attributes, text, place, state, a, o, out,
+            compiled,
+            i,
+            before,
+            element,
+            name,
+            attributes,
+            text,
+            place,
+            state,
+            a,
+            o,
+            out,
         );
         i = passed.next;
         before = passed.origin;

@@ -61,10 +61,14 @@ slice-write-state : tie.Need-slice-write-state Inv-loop μ-loop
 slice-write-state c = search needs
 
 add-groups : tie.Need-add-groups Inv-loop μ-loop
-add-groups c = search needs
+add-groups c = let l = c .before .before .before .before .before .before .before .before in
+    let v = l .loop .inv in
+    omega (arith, v .groups-left, v .room, v .order, l .before .before .before .before .before .before .before .before .before .good .1 .1 .1 .1 .1 .1 .1 .1 .0 .0)
 
 add-byte-above-2 : tie.Need-add-byte-above-2 Inv-loop μ-loop
-add-byte-above-2 c = search needs
+add-byte-above-2 c = let l = c .before .before .before .before .before .before .before .before .before in
+    let v = l .loop .inv in
+    omega (arith, v .groups-left, v .room, v .order, l .before .before .before .before .before .before .before .before .before .good .1 .1 .1 .1 .1 .1 .1 .1 .0 .0)
 
 add-byte-above-3 : tie.Need-add-byte-above-3 Inv-loop μ-loop
 add-byte-above-3 c = let l = c .before .before .before .before .before .before .before .before .before in

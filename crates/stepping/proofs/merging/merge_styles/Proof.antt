@@ -1,39 +1,29 @@
+-- Behind the count the styles are those that were asked for.
 use Rattle.stepping.proofs.StyleLaws as laws
 use borrow.Author.Needs.{needs}
 use Rattle.stepping.proofs.merging.merge_styles.Statement.{statement}
 use Rattle.stepping.proofs.merging.merge_styles.Tie as tie
-use Rattle.stepping.proofs.merging.merge_styles.Reads as reads
-use Rattle.stepping.proofs.merging.merge_styles.Lts as lts
-use Rattle.compiled.proofs.numbers.read_number.Reads as read-number-reads
-use Rattle.stepping.proofs.merging.merge_counted.Reads as merge-counted-reads
 
--- src/merging.rt:68:11
 read-number-requires : tie.Need-read-number-requires
 read-number-requires c κs = search needs
 
--- src/merging.rt:69:30
 enum-known-next : tie.Need-enum-known-next
 enum-known-next c = search needs
 
--- src/merging.rt:70:13
 merge-counted-requires : tie.Need-merge-counted-requires
 merge-counted-requires c κs = let a = c .before .before .before .before .before .before .before in let n = c .before .before in
     (a .pre .0, laws.counted-lent _ _ _ (n .before .before .read-number .ensures .0) (a .pre .1) _ _ (n .next .given .1))
 
--- src/merging.rt:70:13
 same-length : tie.Need-same-length
 same-length c = search needs
 
--- src/merging.rt:70:13
 returns : tie.Need-returns
 returns c = let n = c .before .before .before .before .before in
     laws.styles-merged _ _ _ (n .before .before .read-number .ensures .0) (n .before .before .before .before .before .pre .1) _ _ (n .next .given .1) _ _ _ _ _ _ (c .before .before .merge-counted .ensures)
 
--- src/merging.rt:72:29
 enum-known-place : tie.Need-enum-known-place
 enum-known-place c = search needs
 
--- src/merging.rt:73:13
 returns-2 : tie.Need-returns-2
 returns-2 c = let n = c .before in
     absurd (laws.count-there _ _ _ (n .before .before .read-number .ensures .0) (n .before .before .before .before .before .pre .1) _ (n .place .given .1))

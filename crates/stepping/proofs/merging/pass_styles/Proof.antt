@@ -1,26 +1,18 @@
+-- Styles that are passed over take the bytes of those that would be merged.
 use Rattle.stepping.proofs.StyleLaws as laws
 use borrow.Author.Needs.{needs}
 use Rattle.stepping.proofs.merging.pass_styles.Statement.{statement}
 use Rattle.stepping.proofs.merging.pass_styles.Tie as tie
-use Rattle.stepping.proofs.merging.pass_styles.Reads as reads
-use Rattle.stepping.proofs.merging.pass_styles.Lts as lts
-use Rattle.compiled.proofs.styles.skip_styles.Reads as skip-styles-reads
-use Rattle.stepping.proofs.components.specificity_at.Reads as specificity-at-reads
-use Rattle.stepping.proofs.merging.merge_styles.Reads as merge-styles-reads
 
--- src/merging.rt:97:13
 specificity-at-requires : tie.Need-specificity-at-requires
 specificity-at-requires c κs = search needs
 
--- src/merging.rt:98:9
 merge-styles-requires : tie.Need-merge-styles-requires
 merge-styles-requires c κs = search needs
 
--- src/merging.rt:98:9
 same-length : tie.Need-same-length
 same-length c = search needs
 
--- src/merging.rt:98:9
 returns : tie.Need-returns
 returns c = let m = c .before .before in
     let s = m .before .before in
@@ -28,15 +20,12 @@ returns c = let m = c .before .before in
     let a = t .before .before .before in
     (laws.passed-merged _ _ (t .if1 .taken) _ (s .specificity-at .ensures) _ _ (m .merge-styles .ensures .0), m .merge-styles .ensures .1)
 
--- src/merging.rt:100:11
 skip-styles-requires : tie.Need-skip-styles-requires
 skip-styles-requires c κs = search needs
 
--- src/merging.rt:101:25
 enum-known-next : tie.Need-enum-known-next
 enum-known-next c = search needs
 
--- src/merging.rt:102:13
 returns-2 : tie.Need-returns-2
 returns-2 c = let n = c .before in
     let k = n .before .before in
@@ -44,11 +33,9 @@ returns-2 c = let n = c .before in
     let a = t .before .before .before in
     (laws.passed-over _ _ (t .if1 .left) _, laws.passed-behind _ _ (a .pre .1 .1) _ (k .skip-styles .ensures) _ (n .next .given .1))
 
--- src/merging.rt:104:28
 enum-known-place : tie.Need-enum-known-place
 enum-known-place c = search needs
 
--- src/merging.rt:105:13
 returns-3 : tie.Need-returns-3
 returns-3 c = let n = c .before in
     let k = n .before .before in

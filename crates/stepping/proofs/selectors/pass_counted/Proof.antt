@@ -1,12 +1,10 @@
+-- Each turn passes the first of the selectors that are left, by bytes of the parent that no turn changes.
 use native.Mathlib.Omega.{arith}
 use Rattle.stepping.proofs.SelectorLaws as laws
 use Rattle.stepping.specs.Components.{rowAlone, handedElement}
 use borrow.Author.Needs.{needs}
 use Rattle.stepping.proofs.selectors.pass_counted.Statement.{statement}
 use Rattle.stepping.proofs.selectors.pass_counted.Tie as tie
-use Rattle.stepping.proofs.selectors.pass_counted.Reads as reads
-use Rattle.stepping.proofs.selectors.pass_counted.Lts as lts
-use Rattle.stepping.proofs.selectors.pass_selector.Reads as pass-selector-reads
 
 abbrev Inv-loop : tie.InvT-loop
 Inv-loop compiled at count least element name attributes text place state₀ above own out₀ i₀ before₀ a₀ o₀ left₀ state out i before a o left =
@@ -15,51 +13,41 @@ Inv-loop compiled at count least element name attributes text place state₀ abo
 abbrev μ-loop : tie.MeasureT-loop
 μ-loop compiled at count least element name attributes text place state₀ above own out₀ i₀ before₀ a₀ o₀ left₀ state out i before a o left = left
 
--- src/selectors.rt:126:5
 loop-holds : tie.Need-loop-holds Inv-loop μ-loop
 loop-holds c = let s = c .before .before .before .before .before .before in laws.selecting-begin _ _ _ _ _ _ _ _ _ _ _ (s .pre .0) (s .pre .1)
 
--- src/selectors.rt:127:13
 pass-selector-requires : tie.Need-pass-selector-requires Inv-loop μ-loop
 pass-selector-requires c κs = let v = c .before .before .before in
     (v .loop .inv .merging .room, laws.selecting-lent _ _ _ _ _ _ _ _ _ _ _ (c .before .before .before .before .before .before .before .before .before .before .pre .1) _ _ _ _ _ _ _ (v .loop .inv) (c .before .before .loop-test .taken))
 
--- src/selectors.rt:132:9
 add-a : tie.Need-add-a Inv-loop μ-loop
 add-a c = let v = c .before .before .before .before .before .before .before .before .before in
     let s = c .before .before .before .before .before .before .before .before .before .before .before .before .before .before .before .before in
     let q = laws.selecting-room _ _ _ _ _ _ _ _ _ _ _ (s .pre .1) _ _ _ _ _ _ _ (v .loop .inv) (c .before .before .before .before .before .before .before .before .loop-test .taken) _ _ _ (c .before .before .before .before .before .pass-selector .ensures) in
     omega (arith, q .0, q .1, v .loop .inv .long, s .good .1 .1 .1 .1 .1 .1 .1 .1 .1 .0)
 
--- src/selectors.rt:133:9
 add-o : tie.Need-add-o Inv-loop μ-loop
 add-o c = let v = c .before .before .before .before .before .before .before .before .before .before in
     let s = c .before .before .before .before .before .before .before .before .before .before .before .before .before .before .before .before .before in
     let q = laws.selecting-room _ _ _ _ _ _ _ _ _ _ _ (s .pre .1) _ _ _ _ _ _ _ (v .loop .inv) (c .before .before .before .before .before .before .before .before .before .loop-test .taken) _ _ _ (c .before .before .before .before .before .before .pass-selector .ensures) in
     omega (arith, q .0, q .1, v .loop .inv .long, s .good .1 .1 .1 .1 .1 .1 .1 .1 .1 .0)
 
--- src/selectors.rt:134:9
 sub-left : tie.Need-sub-left Inv-loop μ-loop
 sub-left c = search needs
 
--- src/selectors.rt:126:5
 loop-less : tie.Need-loop-less Inv-loop μ-loop
 loop-less c = search needs
 
--- src/selectors.rt:126:5
 loop-again : tie.Need-loop-again Inv-loop μ-loop
 loop-again c = let v = c .before .before .before .before .before .before .before .before .before .before in
     laws.selecting-more _ _ _ _ _ _ _ _ _ _ _ (c .before .before .before .before .before .before .before .before .before .before .before .before .before .before .before .before .before .pre .1) _ _ _ _ _ _ _ (v .loop .inv) (c .before .before .before .before .before .before .before .before .before .loop-test .taken) _ _ _ (c .before .before .before .before .before .before .pass-selector .ensures)
 
--- src/selectors.rt:100:1
 same-length : tie.Need-same-length Inv-loop μ-loop
 same-length c = search needs
 
--- src/selectors.rt:100:1
 same-length-2 : tie.Need-same-length-2 Inv-loop μ-loop
 same-length-2 c = search needs
 
--- src/selectors.rt:100:1
 returns : tie.Need-returns Inv-loop μ-loop
 returns c = laws.selecting-done _ _ _ _ _ _ _ _ _ _ _ _ _ _ _ _ _ _ (c .before .loop .inv) (c .loop-test .left)
 

@@ -1,81 +1,58 @@
+-- The parts of the parent and of the element do not meet, so the order of the stores does not matter.
 use native.Mathlib.Omega.{arith}
 use mathlib.Core.Path.{refl, _∙_}
 use Rattle.stepping.proofs.StepLaws as laws
 use borrow.Author.Needs.{needs}
 use Rattle.stepping.proofs.step.open_element.Statement.{statement}
 use Rattle.stepping.proofs.step.open_element.Tie as tie
-use Rattle.stepping.proofs.step.open_element.Reads as reads
-use Rattle.stepping.proofs.step.open_element.Lts as lts
-use Rattle.cascade.proofs.rows.inherit.Reads as inherit-reads
-use Rattle.page.proofs.rows.name_of.Reads as name-of-reads
-use Rattle.stepping.proofs.selectors.pass_selectors.Reads as pass-selectors-reads
-use Rattle.stepping.proofs.state.count_at.Reads as count-at-reads
-use Rattle.stepping.proofs.state.raise_count.Reads as raise-count-reads
-use Rattle.stepping.proofs.state.write_count.Reads as write-count-reads
 
--- src/step.rt:80:17
 add-width : tie.Need-add-width
 add-width c = search needs
 
--- src/step.rt:81:19
 sub-parent : tie.Need-sub-parent
 sub-parent c = search needs
 
--- src/step.rt:81:18
 mul-parent : tie.Need-mul-parent
 mul-parent c = let s = c .before .before .before .before .before .before in omega (arith, laws.parts-there _ _ _ (s .pre .0) _ (s .pre .1), laws.groups-fit _ _ _ (s .pre .0), s .good .1 .1 .1 .1 .1 .1 .0)
 
--- src/step.rt:82:15
 add-own : tie.Need-add-own
 add-own c = let s = c .before .before .before .before .before .before in omega (arith, laws.parts-there _ _ _ (s .pre .0) _ (s .pre .1), laws.groups-fit _ _ _ (s .pre .0), s .good .1 .1 .1 .1 .1 .1 .0)
 
--- src/step.rt:83:17
 count-at-requires : tie.Need-count-at-requires
 count-at-requires c κs = let s = c .before .before .before .before .before .before .before in laws.parent-count _ _ _ (s .pre .0) _ (s .pre .1) _ refl
 
--- src/step.rt:83:17
 add-place : tie.Need-add-place
 add-place c = search needs
 
--- src/step.rt:84:5
 raise-count-requires : tie.Need-raise-count-requires
 raise-count-requires c κs = let s = c .before .before .before .before .before .before .before .before .before in laws.parent-count _ _ _ (s .pre .0) _ (s .pre .1) _ refl
 
--- src/step.rt:85:5
 inherit-requires : tie.Need-inherit-requires
 inherit-requires c κs = search needs
 
--- src/step.rt:86:9
 name-of-requires : tie.Need-name-of-requires
 name-of-requires c κs = search needs
 
--- src/step.rt:95:9
 add-pass-selectors : tie.Need-add-pass-selectors
 add-pass-selectors c = let s = c .before .before .before .before .before .before .before .before .before .before .before .before .before .before .before .before .before .before in omega (arith, laws.parts-there _ _ _ (s .pre .0) _ (s .pre .1), laws.groups-fit _ _ _ (s .pre .0), s .good .1 .1 .1 .1 .1 .1 .0)
 
--- src/step.rt:96:9
 add-pass-selectors-2 : tie.Need-add-pass-selectors-2
 add-pass-selectors-2 c = let s = c .before .before .before .before .before .before .before .before .before .before .before .before .before .before .before .before .before .before in omega (arith, laws.parts-there _ _ _ (s .pre .0) _ (s .pre .1), laws.groups-fit _ _ _ (s .pre .0), s .good .1 .1 .1 .1 .1 .1 .0)
 
--- src/step.rt:87:5
 pass-selectors-requires : tie.Need-pass-selectors-requires
 pass-selectors-requires c κs = let s = c .before .before .before .before .before .before .before .before .before .before .before .before .before .before .before .before .before .before .before in
     (laws.inherited-room _ _ _ (s .pre .0) _ (c .before .before .before .before .before .inherit .ensures), laws.element-lent _ _ _ (s .pre .0) _ (s .pre .1) _ (c .before .before .before .before .before .before .before .before .before .before .before .count-at .ensures .1) _ (laws.raised-long _ _ _ (c .before .before .before .before .before .before .before .before .before .raise-count .ensures)))
 
--- src/step.rt:99:5
 write-count-requires : tie.Need-write-count-requires
 write-count-requires c κs = let s = c .before .before .before .before .before .before .before .before .before .before .before .before .before .before .before .before .before .before .before .before .before .before .before .before .before in
     laws.own-count _ _ _ (s .pre .0) _ (s .pre .1) _ (laws.passed-long _ _ _ _ _ _ _ _ (c .before .before .before .before .before .pass-selectors .ensures) ∙ laws.raised-long _ _ _ (c .before .before .before .before .before .before .before .before .before .before .before .before .before .before .before .raise-count .ensures))
 
--- src/step.rt:65:1
 same-length : tie.Need-same-length
 same-length c = search needs
 
--- src/step.rt:65:1
 same-length-2 : tie.Need-same-length-2
 same-length-2 c = search needs
 
--- src/step.rt:65:1
 returns : tie.Need-returns
 returns c = let s = c .before .before .before .before .before .before .before .before .before .before .before .before .before .before .before .before .before .before .before .before .before .before .before .before .before .before .before .before in
     laws.element-opened _ _ _ (s .pre .0) _ (s .pre .1) _ _ _ _ _ (c .before .before .before .before .before .before .before .before .before .before .before .before .before .before .before .before .before .before .before .before .count-at .ensures .0) (c .before .before .before .before .before .before .before .before .before .before .before .name-of .ensures) _ _ (c .before .before .before .before .before .before .before .before .before .before .before .before .before .before .before .before .before .before .raise-count .ensures) (c .before .before .before .before .before .before .before .before .before .before .before .before .before .before .inherit .ensures) _ _ _ (c .before .before .before .before .before .before .before .before .pass-selectors .ensures) (c .before .before .write-count .ensures)
