@@ -78,11 +78,11 @@ const COMPILED: usize = 80000;
 // The style rows of a page of so many nodes.
 const OUT: usize = 128 * STYLE_ROW_WIDTH;
 
-// For a run, the style rows of one node more than a page may have, and some numbers beyond them; or the state of one byte more than a compiled sheet may have, and
-// some beyond it. With either, all texts of a vector have less together, so that the stack holds it.
+// For a run, the style rows of one node more than a page may have, and some numbers beyond them; or the state of a sheet of 8,192 bytes, and some beyond it. With either, all
+// texts of a vector have less together.
 const MANY_ROWS: usize = 4097 * STYLE_ROW_WIDTH + 100;
 
-const LONG_STATE: usize = 65 * 65538 + 100;
+const LONG_STATE: usize = 65 * 8193 + 100;
 
 const SHORTER: usize = 16384;
 
