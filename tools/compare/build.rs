@@ -5,7 +5,8 @@ use std::process::Command;
 use std::{env, fs};
 
 // Functions that need not be there yet, and the name under which the code asks for them.
-const LATER: [(&str, &str); 3] = [("hicsolmab_compile", "compiler"), ("hicsolmab_style", "style_call"), ("hicsolmab_style_book", "book_call")];
+const LATER: [(&str, &str); 4] =
+    [("hicsolmab_compile", "compiler"), ("hicsolmab_style", "style_call"), ("hicsolmab_style_book", "book_call"), ("hicsolmab_run", "run_call")];
 
 // Links the archive of a crate, which the variable may name, and gives its path.
 fn link(name: &str, variable: &str) -> PathBuf {

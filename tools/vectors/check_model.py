@@ -1,9 +1,9 @@
 #!/usr/bin/env python3
-"""Holds model.py, a second writing of the style call, against every vector of crates/replay/stdin that it can answer; prints those where they differ.
+"""Holds model.py, a second writing of the calls, against every vector of crates/replay/stdin that it can answer; prints those where they differ.
 
     python3 tools/vectors/check_model.py
 
-Of sheets it has the count of rules, the first byte not read and the texts; pages, attributes and style calls it has whole. What a vector leaves open is not held."""
+Of sheets it has the count of rules, the first byte not read and the texts; compiled bytes, pages, attributes, style calls and runs it has whole. What a vector leaves open is not held."""
 import sys
 
 import model
@@ -65,7 +65,29 @@ def style(book):
     return held
 
 
-HELD = {CALLS["read_sheet"]: sheet, CALLS["check_page"]: page, CALLS["style_attribute"]: style_attribute, CALLS["color_attribute"]: color_attribute,
+def compiled(read, rows, q):
+    if q["results"][0]:
+        return True  # refusals are those of reading, which sheets and styles ask for, and 10
+    agent, user, author = q["arguments"][OWN_ARGUMENTS:]
+    return model.compile_sheets([read[:agent], read[agent:agent + user], read[agent + user:agent + user + author]]) == joined(q["bytes"][0], b"")
+
+
+def compiled_bytes(read, rows, q):
+    if q["results"][0] in NOT_MODELLED:
+        return True
+    return agrees(q["results"], model.bytes_refusal(read[:q["arguments"][OWN_ARGUMENTS]]) or (0, 0))
+
+
+def run(read, rows, q):
+    nodes, attributes, text, sheet_bytes, switch = q["arguments"][OWN_ARGUMENTS:]
+    lent = dict(zip(vectors.BUFFERS, q["arguments"][1:OWN_ARGUMENTS]))
+    number, *came = model.run_call(read[text:text + sheet_bytes], rows[:nodes], rows[nodes:nodes + attributes], read[:text], switch != 0, lent)
+    if number:
+        return q["results"][:3] == [number, *came, 0]
+    return q["results"][:3] == [0, 0, len(came[1])] and [sum(came[0], []), came[1]] == [joined(q["out"][0], []), joined(q["texts"][0], b"")]
+
+
+HELD = {CALLS["read_sheet"]: sheet, CALLS["compile"]: compiled, CALLS["check_bytes"]: compiled_bytes, CALLS["run"]: run, CALLS["check_page"]: page, CALLS["style_attribute"]: style_attribute, CALLS["color_attribute"]: color_attribute,
         CALLS["style"]: style(False), CALLS["style_book"]: style(True)}
 
 

@@ -1,12 +1,13 @@
 #!/usr/bin/env python3
-"""A second writing of what the style call answers, in plain Python, from the papers and from html2text's text; nothing of this project's code is in it.
+"""A second writing of what the style call, the compiler and the run answer, in plain Python, from the papers and from html2text's text; nothing of this project's code is in it.
 
-`style_call` gives all that a call leaves: the refusal with its text and place, or the numbers of the row and the bytes of the text store. vectors.py takes from it
-what html2text's answers do not say, the places of contents in the store; and `vectors.py model` holds it against all that is written down elsewhere."""
+`style_call` gives all that a call leaves: the refusal with its text and place, or the numbers of the row and the bytes of the text store; `run_call` the refusal with its
+place, or a row for each node and the store. vectors.py takes from it what html2text's answers do not say, the places of contents; and check_model.py holds it against
+all that is written down elsewhere."""
 import fractions
 
-LONGEST_SHEET, MOST_NODES, MOST_ATTRIBUTES, MOST_NAME_BYTES, DEEPEST = 32768, 4096, 16384, 65536, 64
-TOO_LONG, TOO_SHORT, NO_TEXT, PANIC, TOO_MANY, BAD_ROW, BAD_NAME, NO_ELEMENT = 1, 2, 3, 4, 5, 6, 7, 8
+LONGEST_SHEET, LONGEST_COMPILED, MOST_NODES, MOST_ATTRIBUTES, MOST_NAME_BYTES, DEEPEST = 32768, 65536, 4096, 16384, 65536, 64
+TOO_LONG, TOO_SHORT, NO_TEXT, PANIC, TOO_MANY, BAD_ROW, BAD_NAME, NO_ELEMENT, NO_SHEET = 1, 2, 3, 4, 5, 6, 7, 8, 9
 DOCUMENT, ELEMENT, OTHER = 0, 1, 2
 NODE_WIDTH, ATTRIBUTE_WIDTH = 6, 4
 AGENT, USER, AUTHOR = 1, 2, 3
@@ -755,3 +756,163 @@ def style_call(sheets, nodes, attributes, text, row, on, book, lent=None):
     for r in line:
         records = element_style(page, r, records, rules, inline, on, book)
     return 0, row_numbers(records), store.bytes
+
+
+# ---- the compiled sheet
+
+KINDS = ("star", "class", "element", "hash", "child", "descendant", "nth", "attribute", "equal")
+MOST_GROUPS, NUMBER_END, COLOUR_END, LAST_WHITE_SPACE, LAST_PSEUDO = 5, 2 ** 32, 2 ** 24, 2, 2
+
+
+class Fault(Exception):
+    """The byte where what cannot be read starts."""
+
+
+def number_bytes(n):
+    out = b""
+    while n > 127:
+        out, n = out + bytes([n % 128 + 128]), n // 128
+    return out + bytes([n])
+
+
+def text_bytes(t):
+    t = t.encode()
+    return number_bytes(len(t)) + t
+
+
+def component_bytes(c):
+    rest = c[1:]
+    if c[0] == "nth":
+        return number_bytes(KINDS.index("nth")) + b"".join(number_bytes(2 * v if v >= 0 else -2 * v - 1) for v in rest)
+    return number_bytes(KINDS.index(c[0])) + b"".join(map(text_bytes, rest))
+
+
+def style_bytes(style):
+    slot, what, important = style
+    value = b"" if slot == DISPLAY else text_bytes(what) if slot == CONTENT else number_bytes(what)
+    return number_bytes(int(important)) + number_bytes(slot) + value
+
+
+def selector_bytes(origin, components, pseudo, styles):
+    head = number_bytes(origin) + number_bytes(pseudo) + number_bytes(len(components))
+    return head + b"".join(map(component_bytes, components[::-1])) + number_bytes(len(styles)) + b"".join(map(style_bytes, styles))
+
+
+def compile_sheets(sheets):
+    """The bytes of three sheets that read."""
+    found = []
+    for k, s in enumerate(sheets):
+        for selectors, declared in sheet(s.decode())[0]:
+            styles = styles_of(declared)
+            if styles:
+                found += [selector_bytes(k + 1, components, pseudo, styles) for components, pseudo in selectors]
+    return number_bytes(len(found)) + b"".join(found)
+
+
+class Compiled:
+    """Reads compiled bytes from front to back."""
+
+    def __init__(self, data):
+        self.data, self.at = data, 0
+
+    def number(self, least=0, end=NUMBER_END):
+        start, value = self.at, 0
+        for group in range(MOST_GROUPS):
+            if self.at == len(self.data):
+                raise Fault(start)
+            b = self.data[self.at]
+            self.at += 1
+            value += (b % 128) << (7 * group)
+            if b < 128:
+                break
+        else:
+            raise Fault(start)
+        if value >= NUMBER_END or not least <= value < end:
+            raise Fault(start)
+        return value
+
+    def text(self):
+        """Where the text starts, and its length."""
+        start = self.at
+        length = self.number()
+        if self.at + length > len(self.data):
+            raise Fault(start)
+        self.at += length
+        return self.at - length, length
+
+    def name(self):
+        start, length = self.text()
+        # what is not UTF-8 is like no name of a page
+        return self.data[start:start + length].decode("utf-8", "surrogateescape")
+
+    def signed(self):
+        n = self.number()
+        return -(n + 1) // 2 if n % 2 else n // 2
+
+    def component(self):
+        kind = KINDS[self.number(0, len(KINDS))]
+        if kind == "nth":
+            return kind, self.signed(), self.signed()
+        if kind in ("star", "child", "descendant"):
+            return (kind,)
+        return (kind, self.name(), self.name()) if kind == "equal" else (kind, self.name())
+
+    def style(self):
+        important, slot = self.number(0, 2), self.number(0, SLOTS)
+        if slot == CONTENT:
+            what = self.text()
+        else:
+            what = 0 if slot == DISPLAY else self.number(0, LAST_WHITE_SPACE + 1 if slot == WHITE_SPACE else COLOUR_END), 0
+        return slot, what, important
+
+    def sheet(self):
+        """For each selector what element_style takes: origin, components in reading order with the pseudo element, and styles, contents by their place in the bytes."""
+        found, origin = [], AGENT
+        for _ in range(self.number()):
+            origin, pseudo = self.number(origin, AUTHOR + 1), self.number(0, LAST_PSEUDO + 1)
+            components = [self.component() for _ in range(self.number())]
+            found.append((origin, [(components[::-1], pseudo)], [self.style() for _ in range(self.number())]))
+        if self.at < len(self.data):
+            raise Fault(self.at)
+        return found
+
+
+def bytes_refusal(data):
+    """Refusal and place, or None."""
+    try:
+        Compiled(data).sheet()
+        return None
+    except Fault as fault:
+        return NO_SHEET, fault.args[0]
+
+
+# ---- the run
+
+def run_least(compiled, nodes, attributes, text):
+    rows = ROW_WIDTH * (len(nodes) // NODE_WIDTH)
+    return dict(least_lengths((), attributes, text), out=rows, bytes=(DEEPEST + 1) * (len(compiled) + 1))
+
+
+def run_call(compiled, nodes, attributes, text, on, lent=None):
+    """Refusal and place; or 0, the numbers of the row of each node, and the bytes of the store. `lent` has the state as `bytes` and the rows as `out`."""
+    if len(compiled) > LONGEST_COMPILED:
+        return TOO_LONG, 0
+    if lent is not None and any(lent.get(name, 0) < n for name, n in run_least(compiled, nodes, attributes, text).items()):
+        return TOO_SHORT, 0
+    refused = page_refusal(nodes, attributes, text) or bytes_refusal(compiled)
+    if refused:
+        return refused
+    rules, page, store = Compiled(compiled).sheet(), Page(nodes, attributes, text), Store()
+    records = []
+    for row, kind in enumerate(page.nodes):
+        if kind != ELEMENT:
+            records.append([[0, [None] * SLOTS] for _ in range(RECORDS)])
+            continue
+        inline = {}
+        for k, (name, t) in enumerate(page.attributes[row]):
+            if on and name == "style":
+                kept = store.kept(styles_of(declarations(t, 0)[0]))
+                placed = lambda slot, what: (what[0] + len(compiled), what[1]) if slot == CONTENT else what
+                inline[row, k] = [(slot, placed(slot, what), important) for slot, what, important in kept]
+        records.append(element_style(page, row, records[page.parents[row]], rules, inline, on, False))
+    return 0, [row_numbers(r) for r in records], store.bytes

@@ -16,14 +16,16 @@ import model
 HERE = os.path.dirname(os.path.abspath(__file__))
 CASES = os.path.join(HERE, "cases")
 REPLAY = os.path.join(HERE, "..", "..", "crates", "replay")
-LISTS = ["sheets", "compiled sheets", "compiled bytes", "pages", "attributes", "classes", "styles"]
+LISTS = ["sheets", "compiled sheets", "compiled bytes", "pages", "attributes", "classes", "styles", "runs"]
 RECORDED = {"vectors": "html2text's sheets, attributes and selectors", "compile_vectors": "html2text's compiled sheets", "style_vectors": "html2text's computed styles"}
 
 IN_BOOK_ORDER = "computed styles in the book order"
+BY_RUNS = "html2text's computed styles by runs"
 
 # The calls, as crates/replay/src/calls.rt has them.
-CALLS = {"read_sheet": 1, "compile": 2, "check_page": 3, "style": 4, "style_book": 5, "check_bytes": 7, "style_attribute": 8, "color_attribute": 9, "matches": 10, "rows": 11, "selector": 12}
+CALLS = {"read_sheet": 1, "compile": 2, "check_page": 3, "style": 4, "style_book": 5, "run": 6, "check_bytes": 7, "style_attribute": 8, "color_attribute": 9, "matches": 10, "rows": 11, "selector": 12}
 BUFFERS = ["rules", "tokens", "brackets", "texts", "bytes", "out"]
+RUN_BUFFERS = {"state": "bytes", "rows": "out"}  # what `bytes` and `out` are in a run
 NUMBER_BUFFERS = ("rules", "tokens", "out")
 OWN_ARGUMENTS = 1 + len(BUFFERS)  # those of every call stand before them
 RESULTS = 6
@@ -190,6 +192,33 @@ def style_left(row, texts):
     return {"all": "zero", "out": (runs(row), 0), "texts": (texts, 0), "bytes": "unchanged"}
 
 
+LONGEST_PERIOD = 4
+
+
+def row_parts(rows):
+    """The rows of a page as parts; rows that come again and again, one or a few together, are written once."""
+    parts, at = [], 0
+    while at < len(rows):
+        def coverage(period):
+            end = at + period
+            while end < len(rows) and rows[end] == rows[end - period]:
+                end += 1
+            return end - at
+        best = max(range(1, LONGEST_PERIOD + 1), key=lambda p: (coverage(p), -p))
+        if coverage(best) > LEAST_RUN * best:
+            parts.append((model.ROW_WIDTH * coverage(best), sum(rows[at:at + best], [])))
+            at += coverage(best)
+        else:
+            parts += runs(rows[at])
+            at += 1
+    return parts
+
+
+def run_left(rows, texts):
+    """What an answered run leaves: its rows, the parts of its texts, and zeros."""
+    return {"all": "zero", "out": (row_parts(rows), 0), "texts": (texts, 0)}
+
+
 # ---- html2text's answers
 
 def recorded_sheet(r):
@@ -297,6 +326,24 @@ def in_book_order(data):
         if answer != style_question(read, rows, q, False)[0]:
             questions.append(asked)
     return [Vector("", "style_book", v["read"], v["rows"], *questions).bytes()] if questions else []
+
+
+def by_run(data):
+    """The page of a style vector in one run over the compiled sheets, whose rows say of each element what the questions of the vector say."""
+    _, _, v = Reader(data).vector()
+    read, numbers_read = joined(v["read"], b""), joined(v["rows"], [])
+    nodes, attributes, page, agent, user, author, _, on = v["questions"][0]["arguments"][OWN_ARGUMENTS:]
+    bounds = list(itertools.accumulate([page, agent, user, author]))
+    compiled = model.compile_sheets([read[a:b] for a, b in itertools.pairwise(bounds)])
+    asked = numbers_read[:nodes], numbers_read[nodes:nodes + attributes], read[:page]
+    number_, rows, texts = model.run_call(compiled, *asked, on)
+    assert number_ == 0, "a run refuses what a style call answers"
+    for q in v["questions"]:
+        if q["results"][0] == 0:
+            told = slots_of(joined(q["out"][0], []), joined(q["texts"][0], b""))
+            assert slots_of(rows[q["arguments"][-2]], compiled + texts) == told, "a row of a run is another than the style call's"
+    asking = Question(model.run_least(compiled, *asked), FULL, [nodes, attributes, page, len(compiled), on], [0, 0, len(texts)], run_left(rows, whole(texts)))
+    return Vector("", "run", whole(read[:page] + compiled), v["rows"], asking).bytes()
 
 
 RECORDED_KINDS = {1: recorded_sheet, 2: recorded_style, 3: recorded_colour, 4: recorded_selector, 5: recorded_compile, 6: recorded_styles}
@@ -434,11 +481,11 @@ class Field:
                     page += word.encode() + value
         return runs(nodes), runs(attributes), whole(page)
 
-    def lengths(self, n, row=0):
-        """`least` or `plenty` for n bytes of text, and then buffers with a length of their own."""
+    def lengths(self, n, **own):
+        """`least` or `plenty` for n bytes of text and for the call's own buffers, and then buffers with a length of their own."""
         first, *others = self.value.split()
-        lent = {"least": dict(least(n), out=row), "plenty": dict(least(n + MORE), out=row + MORE if row else 0), "nothing": {}}[first]
-        return dict(lent, **{name: int(length) for name, length in (o.split("=") for o in others)})
+        lent = {"least": dict(least(n), **own), "plenty": dict(least(n + MORE), **{name: length + MORE for name, length in own.items()}), "nothing": {}}[first]
+        return dict(lent, **{RUN_BUFFERS.get(name, name): int(length) for name, length in (o.split("=") for o in others)})
 
 
 def fields(line, words):
@@ -457,7 +504,7 @@ def fields(line, words):
 
 
 WORDS = {"sheet", "agent", "user", "author", "lent", "filled", "nodes", "attributes", "text", "selector", "bytes", "value",
-         "page", "row", "switch", "main", "before", "after", "refused", "in", "at", "rules", "stop", "numbers", "texts", "matches", "misses", "compiled", "accepted", "styles", "colour", "none"}
+         "page", "row", "rows", "switch", "main", "before", "after", "refused", "in", "at", "rules", "stop", "numbers", "texts", "matches", "misses", "compiled", "accepted", "styles", "colour", "none"}
 
 
 def total(parts):
@@ -588,7 +635,7 @@ def style_case(call):
             results, after = [0, 0, 0, total(names)], style_left(style_rows(f), names)
         lengths = [total(p) for p in (nodes, attributes, page, *sheets)]
         arguments = lengths + [int(f["row"].value), int(f["switch"].value) if "switch" in f else 1]
-        lent = f.get("lent", Field("plenty")).lengths(n, model.ROW_WIDTH)
+        lent = f.get("lent", Field("plenty")).lengths(n, out=model.ROW_WIDTH)
         return Vector(words, call, page + sum(sheets, []), nodes + attributes, Question(lent, filling(f), arguments, results, after))
     return case
 
@@ -597,9 +644,38 @@ def both_case(words, f):
     return [style_case("style")(words, f), style_case("style_book")(words + ", in the book order", f)]
 
 
+def said_rows(count, is_element, said):
+    """`[1 color:.. / content:.. / -] [2-300:3 ..]`: of a row, or of some from the first to the last, the slots of main, of before and of after, `-` where there is
+    none of the two; an element that is not named has an empty main."""
+    rows = [[int(element)] + [0] * (model.ROW_WIDTH - 1) for element in is_element]
+    for which, first, last, step, records in re.findall(r"\[((\d+)(?:-(\d+))?(?::(\d+))?)([^\]]*)\]", said):
+        main, *others = records.split("/")
+        told = {"main": Field(main)}
+        told.update({name: Field(record) for name, record in zip(("before", "after"), others) if record.strip() != "-"})
+        for row in range(int(first), int(last or first) + 1, int(step or 1)):
+            rows[row] = style_rows(told)
+    return rows
+
+
+def run_case(words, f):
+    nodes, attributes, page = f["page"].tree() if "page" in f else page_of(f)
+    sheets = [joined(f[word].texts(), b"") if word in f else b"" for word in ("agent", "user", "author")]
+    compiled = f["bytes"].hexadecimal() if "bytes" in f else whole(model.compile_sheets(sheets))
+    n, rows = total(page) + 2 * (total(attributes) // ATTRIBUTE_WIDTH), total(nodes) // NODE_WIDTH
+    number_, _, place = refusal(f)
+    results, after = [number_, place, 0], left_by(number_)
+    if number_ == 0:
+        names, kinds = f["texts"].texts() if "texts" in f else [], joined(nodes, [])[::NODE_WIDTH]
+        said = said_rows(rows, [kind == model.ELEMENT for kind in kinds], f["rows"].value)
+        results, after = [0, 0, total(names)], run_left(said, names)
+    arguments = [total(p) for p in (nodes, attributes, page, compiled)] + [int(f["switch"].value) if "switch" in f else 1]
+    lent = f.get("lent", Field("plenty")).lengths(n, out=model.ROW_WIDTH * rows, bytes=(model.DEEPEST + 1) * (total(compiled) + 1))
+    return Vector(words, "run", page + compiled, nodes + attributes, Question(lent, filling(f), arguments, results, after))
+
+
 KINDS = {"read_sheet": sheet_case, "compile": compile_case, "check_page": page_case, "check_bytes": bytes_case, "prefixes": prefixes_case,
          "style_attribute": style_attribute_case, "color_attribute": colour_case, "class": class_case, "style": style_case("style"),
-         "style_book": style_case("style_book"), "both": both_case}
+         "style_book": style_case("style_book"), "both": both_case, "run": run_case}
 
 
 def cases(name):
@@ -627,6 +703,7 @@ def join(folder):
     kept = stdin_lists() if folder is None else None
     for file, words in RECORDED.items():
         lists[words] = recorded(os.path.join(folder, file)) if folder else kept[words]
+    lists[BY_RUNS] = [by_run(data) for data in lists[RECORDED["style_vectors"]]]
     lists[IN_BOOK_ORDER] = [made for data in lists[RECORDED["style_vectors"]] for made in in_book_order(data)]
     with open(os.path.join(REPLAY, "stdin"), "wb") as file:
         file.write(b"".join(list_bytes(words, vectors) for words, vectors in lists.items()))

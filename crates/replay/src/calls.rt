@@ -12,7 +12,8 @@ pub const STYLE: u32 = 4;
 
 pub const STYLE_BOOK: u32 = 5;
 
-// Number 6 is kept for run.
+// The styles of all elements of a page. `out` holds its rows, and in place of the compiled bytes, which it only reads, its state is lent.
+pub const RUN: u32 = 6;
 
 // What only the comparison asks.
 pub const CHECK_BYTES: u32 = 7;
@@ -74,3 +75,8 @@ pub const AUTHOR: u32 = 12;
 pub const ROW: u32 = 13;
 
 pub const DOCUMENT_STYLES: u32 = 14;
+
+// Behind a page, for a run: the compiled bytes, and whether document styles are on.
+pub const SHEET: u32 = 10;
+
+pub const RUN_DOCUMENT_STYLES: u32 = 11;

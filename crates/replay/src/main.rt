@@ -5,6 +5,7 @@ mod calls; // calls.rt: the calls, and where their arguments stand
 mod content; // content.rt: what stands in a buffer
 mod pages; // pages.rt: calls with a page or with compiled bytes
 mod reading; // reading.rt: calls with sheets and attributes
+mod run_calls; // run_calls.rt: the styles of all elements of a page
 mod stream; // stream.rt: numbers and texts of a vector
 mod style_calls; // style_calls.rt: the style of an element
 mod tally; // tally.rt: counts, and what is printed
@@ -23,6 +24,7 @@ use calls::READ_SHEET;
 use calls::RESULTS;
 use calls::ROWS;
 use calls::RULES_LENT;
+use calls::RUN;
 use calls::SELECTOR;
 use calls::STYLE;
 use calls::STYLE_ATTRIBUTE;
@@ -47,6 +49,7 @@ use reading::ask_colour;
 use reading::ask_compile;
 use reading::ask_sheet;
 use reading::ask_style_attribute;
+use run_calls::ask_run;
 use stream::argument;
 use stream::behind_numbers;
 use stream::number_argument;
@@ -72,8 +75,20 @@ const TEXTS: usize = 2 * LONGEST + 12;
 // More than any compiled sheet has.
 const COMPILED: usize = 80000;
 
-// A style row, and as much beyond it.
-const OUT: usize = 2 * STYLE_ROW_WIDTH;
+// The style rows of a page of so many nodes.
+const OUT: usize = 128 * STYLE_ROW_WIDTH;
+
+// For a run, the style rows of one node more than a page may have, and some numbers beyond them; or the state of a sheet of 8,192 bytes, and some beyond it. With either, all
+// texts of a vector have less together.
+const MANY_ROWS: usize = 4097 * STYLE_ROW_WIDTH + 100;
+
+const LONG_STATE: usize = 65 * 8193 + 100;
+
+const SHORTER: usize = 16384;
+
+const FEWER_NUMBERS: usize = 8 * SHORTER + 64;
+
+const SHORTER_TEXTS: usize = 2 * SHORTER + 12;
 
 // What is lent to read: bytes of sheets or of a page, and numbers of a page and a selector.
 const INPUT: usize = 98304;
@@ -123,7 +138,7 @@ fn ask_page_call(
     }
 }
 
-// Asks by a call's number; `bytes` are the compiled ones.
+// Asks by a call's number; `bytes` are the compiled ones, or the state of a run.
 fn ask(
     s: &[u8],
     arguments: usize,
@@ -150,6 +165,18 @@ fn ask(
             tokens,
             brackets,
             texts,
+            out,
+        ),
+        RUN => ask_run(
+            s,
+            arguments,
+            input,
+            numbers,
+            rules,
+            tokens,
+            brackets,
+            texts,
+            bytes,
             out,
         ),
         STYLE_ATTRIBUTE => ask_style_attribute(s, arguments, input, rules, tokens, brackets, texts),
@@ -344,8 +371,8 @@ fn lend_numbers(
     )
 }
 
-// Lends buffers that are full of the value that the vector says.
-fn lend(
+// Lends buffers that are full of the value that the vector says: of the lengths that most vectors ask for.
+fn lend_for_texts(
     s: &[u8],
     arguments: usize,
     call: u32,
@@ -375,6 +402,90 @@ fn lend(
         &mut compiled,
         &mut out,
     )
+}
+
+// The same with room for the style rows of many nodes.
+fn lend_for_rows(
+    s: &[u8],
+    arguments: usize,
+    call: u32,
+    at: usize,
+    input: &[u8],
+    numbers: &[u32],
+) -> Verdict {
+    let value = number_argument(s, arguments, FILLING);
+    let byte = byte_of(value);
+    let mut rules = [value; FEWER_NUMBERS];
+    let mut tokens = [value; FEWER_NUMBERS];
+    let mut brackets = [byte; SHORTER];
+    let mut texts = [byte; SHORTER_TEXTS];
+    let mut compiled = [byte; COMPILED];
+    let mut out = [value; MANY_ROWS];
+    lend_numbers(
+        s,
+        arguments,
+        call,
+        at,
+        input,
+        numbers,
+        &mut rules,
+        &mut tokens,
+        &mut brackets,
+        &mut texts,
+        &mut compiled,
+        &mut out,
+    )
+}
+
+// The same with room for the state of a long sheet.
+fn lend_for_state(
+    s: &[u8],
+    arguments: usize,
+    call: u32,
+    at: usize,
+    input: &[u8],
+    numbers: &[u32],
+) -> Verdict {
+    let value = number_argument(s, arguments, FILLING);
+    let byte = byte_of(value);
+    let mut rules = [value; FEWER_NUMBERS];
+    let mut tokens = [value; FEWER_NUMBERS];
+    let mut brackets = [byte; SHORTER];
+    let mut texts = [byte; SHORTER_TEXTS];
+    let mut compiled = [byte; LONG_STATE];
+    let mut out = [value; OUT];
+    lend_numbers(
+        s,
+        arguments,
+        call,
+        at,
+        input,
+        numbers,
+        &mut rules,
+        &mut tokens,
+        &mut brackets,
+        &mut texts,
+        &mut compiled,
+        &mut out,
+    )
+}
+
+// Lends what the vector asks for.
+fn lend(
+    s: &[u8],
+    arguments: usize,
+    call: u32,
+    at: usize,
+    input: &[u8],
+    numbers: &[u32],
+) -> Verdict {
+    if argument(s, arguments, BYTES_LENT) > COMPILED {
+        return lend_for_state(s, arguments, call, at, input, numbers);
+    }
+    if argument(s, arguments, OUT_LENT) > OUT {
+        return lend_for_rows(s, arguments, call, at, input, numbers);
+    }
+    lend_for_texts(s, arguments, call, at, input, numbers)
 }
 
 // Replays the question at `at`: a list of arguments, and what is expected.

@@ -6,6 +6,7 @@ use crate::calls::COMPILE;
 use crate::calls::MATCHES;
 use crate::calls::READ_SHEET;
 use crate::calls::ROWS;
+use crate::calls::RUN;
 use crate::calls::SELECTOR;
 use crate::calls::STYLE;
 use crate::calls::STYLE_ATTRIBUTE;
@@ -30,6 +31,7 @@ fn print_call(call: u32) {
         CHECK_BYTES => print(b"compiled bytes"),
         STYLE => print(b"style"),
         STYLE_BOOK => print(b"style in the book order"),
+        RUN => print(b"run"),
         STYLE_ATTRIBUTE => print(b"style attribute"),
         COLOUR => print(b"colour attribute"),
         MATCHES => print(b"selector"),

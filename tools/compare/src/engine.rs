@@ -66,6 +66,37 @@ pub struct StyleResult {
     pub texts: usize,
 }
 
+#[repr(C)]
+#[derive(Debug, Clone, Copy, PartialEq, Eq)]
+pub struct RunResult {
+    pub refusal: u32,
+    pub place: usize,
+    pub texts: usize,
+}
+
+#[repr(C)]
+#[derive(Debug, Clone, Copy, PartialEq, Eq)]
+pub struct BytesResult {
+    pub refusal: u32,
+    pub place: usize,
+}
+
+/// The styles of all elements of a page by a compiled sheet, with the switch of document styles, to `rows` and `texts`; the others are work stores.
+#[rustfmt::skip]
+pub type RunFunction = unsafe extern "C" fn(
+    compiled: *const u8, compiled_length: usize,
+    nodes: *const u32, nodes_length: usize,
+    attributes: *const u32, attributes_length: usize,
+    text: *const u8, text_length: usize,
+    document_styles: u32,
+    rows: *mut u32, rows_length: usize,
+    texts: *mut u8, texts_length: usize,
+    state: *mut u8, state_length: usize,
+    rules: *mut u32, rules_length: usize,
+    tokens: *mut u32, tokens_length: usize,
+    brackets: *mut u8, brackets_length: usize,
+) -> RunResult;
+
 /// The style of an element: of sheets and page, the row, and the switch of document styles, to `out` and `texts`; the others are work stores.
 #[rustfmt::skip]
 pub type StyleFunction = unsafe extern "C" fn(
@@ -126,6 +157,23 @@ unsafe extern "C" {
         row: usize,
     ) -> MatchResult;
 
+    fn comparison_check_bytes(bytes: *const u8, bytes_length: usize) -> BytesResult;
+
+    #[cfg(run_call)]
+    fn hicsolmab_run(
+        compiled: *const u8, compiled_length: usize,
+        nodes: *const u32, nodes_length: usize,
+        attributes: *const u32, attributes_length: usize,
+        text: *const u8, text_length: usize,
+        document_styles: u32,
+        rows: *mut u32, rows_length: usize,
+        texts: *mut u8, texts_length: usize,
+        state: *mut u8, state_length: usize,
+        rules: *mut u32, rules_length: usize,
+        tokens: *mut u32, tokens_length: usize,
+        brackets: *mut u8, brackets_length: usize,
+    ) -> RunResult;
+
     #[cfg(compiler)]
     fn hicsolmab_compile(
         agent: *const u8, agent_length: usize,
@@ -182,6 +230,12 @@ pub const STYLE_CALL: Option<StyleFunction> = None;
 pub const BOOK_CALL: Option<StyleFunction> = Some(hicsolmab_style_book);
 #[cfg(not(book_call))]
 pub const BOOK_CALL: Option<StyleFunction> = None;
+
+/// The run: None where the engine does not export it yet.
+#[cfg(run_call)]
+pub const RUN_CALL: Option<RunFunction> = Some(hicsolmab_run);
+#[cfg(not(run_call))]
+pub const RUN_CALL: Option<RunFunction> = None;
 
 /// Stores of the least lengths for `n` bytes of text.
 pub struct Stores {
@@ -327,5 +381,97 @@ pub fn matches(components: &[u32], count: usize, texts: &[u8], page: &Page, row:
             page.text.as_ptr(), page.text.len(),
             row,
         )
+    }
+}
+
+/// Whether bytes are a compiled sheet.
+pub fn check_bytes(bytes: &[u8]) -> BytesResult {
+    unsafe { comparison_check_bytes(bytes.as_ptr(), bytes.len()) }
+}
+
+// ---- a run
+
+/// A part of the state for each depth from 0 to 64.
+const PARTS: usize = 65;
+
+/// What a run reads: a compiled sheet and a page.
+#[derive(Clone, Copy)]
+pub struct Run<'a> {
+    pub compiled: &'a [u8],
+    pub nodes: &'a [u32],
+    pub attributes: &'a [u32],
+    pub text: &'a [u8],
+}
+
+/// What it writes.
+pub struct Lent<'a> {
+    pub rows: &'a mut [u32],
+    pub texts: &'a mut [u8],
+    pub state: &'a mut [u8],
+    pub rules: &'a mut [u32],
+    pub tokens: &'a mut [u32],
+    pub brackets: &'a mut [u8],
+}
+
+/// The lengths of what a run writes.
+#[derive(Debug, Clone, Copy)]
+pub struct Lengths {
+    pub rows: usize,
+    pub texts: usize,
+    pub state: usize,
+    pub rules: usize,
+    pub tokens: usize,
+    pub brackets: usize,
+}
+
+impl Lengths {
+    /// So many numbers or bytes more of each.
+    pub fn longer(self, more: usize) -> Lengths {
+        Lengths {
+            rows: self.rows + more,
+            texts: self.texts + more,
+            state: self.state + more,
+            rules: self.rules + more,
+            tokens: self.tokens + more,
+            brackets: self.brackets + more,
+        }
+    }
+}
+
+impl Run<'_> {
+    pub fn new<'a>(compiled: &'a [u8], page: &'a Page) -> Run<'a> {
+        Run { compiled, nodes: &page.nodes, attributes: &page.attributes, text: &page.text }
+    }
+
+    /// The least lengths of what it writes.
+    pub fn least(&self) -> Lengths {
+        let n = self.text.len() + 2 * (self.attributes.len() / judge::answers::ATTRIBUTE_WIDTH);
+        Lengths {
+            rows: judge::answers::STYLE_ROW_WIDTH * (self.nodes.len() / judge::answers::NODE_WIDTH),
+            texts: 2 * n + 12,
+            state: PARTS * (self.compiled.len() + 1),
+            rules: 8 * n + 64,
+            tokens: 8 * n + 64,
+            brackets: n,
+        }
+    }
+
+    #[rustfmt::skip]
+    pub fn run(&self, function: RunFunction, document_styles: u32, lent: Lent) -> RunResult {
+        unsafe {
+            function(
+                self.compiled.as_ptr(), self.compiled.len(),
+                self.nodes.as_ptr(), self.nodes.len(),
+                self.attributes.as_ptr(), self.attributes.len(),
+                self.text.as_ptr(), self.text.len(),
+                document_styles,
+                lent.rows.as_mut_ptr(), lent.rows.len(),
+                lent.texts.as_mut_ptr(), lent.texts.len(),
+                lent.state.as_mut_ptr(), lent.state.len(),
+                lent.rules.as_mut_ptr(), lent.rules.len(),
+                lent.tokens.as_mut_ptr(), lent.tokens.len(),
+                lent.brackets.as_mut_ptr(), lent.brackets.len(),
+            )
+        }
     }
 }

@@ -3,8 +3,10 @@
 pub mod book;
 pub mod engine;
 pub mod generate;
+pub mod guarded;
 pub mod pages;
 pub mod questions;
+pub mod ran;
 pub mod random;
 pub mod short;
 pub mod shrink;

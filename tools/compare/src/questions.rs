@@ -2,6 +2,7 @@
 use crate::engine::{self, Stores};
 use crate::generate;
 use crate::pages::{self, Tree};
+use crate::ran::ASK_RUN;
 use crate::random::Random;
 use crate::styled::{ASK_BOOK, ASK_COMPUTED};
 use judge::answers::{Component, Rows, Selector};
@@ -31,7 +32,8 @@ pub struct Question {
 }
 
 // `computed` and `styled` ask the same of each element, the style by html2text's cascade: of short sheets and small pages, from which vectors are chosen, and of
-// sheets and pages in which more contends; `book` asks for the style in book order, which is held against src/book.rs.
+// sheets and pages in which more contends; `book` asks for the style in book order, which is held against src/book.rs. `run` and `run styled` ask for all elements of
+// the same pages in one run over the compiled sheets.
 pub const QUESTIONS: &[Question] = &[
     Question { name: "sheet", generate: a_sheet, ask: Some(ask_sheet) },
     Question { name: "style", generate: a_style_attribute, ask: Some(ask_style_attribute) },
@@ -41,6 +43,8 @@ pub const QUESTIONS: &[Question] = &[
     Question { name: "computed", generate: three_sheets_and_page, ask: ASK_COMPUTED },
     Question { name: "styled", generate: styled_page, ask: ASK_COMPUTED },
     Question { name: "book", generate: styled_page, ask: ASK_BOOK },
+    Question { name: "run", generate: three_sheets_and_page, ask: ASK_RUN },
+    Question { name: "run styled", generate: styled_page, ask: ASK_RUN },
 ];
 
 // What the stores hold before a call, so that a byte left as it was is seen.
@@ -49,8 +53,7 @@ const FILLING: u8 = 0xa5;
 pub const PANICS: u32 = 4;
 #[cfg(compiler)]
 const TOO_LONG_COMPILED: u32 = 10;
-#[cfg(compiler)]
-const COMPILED_LIMIT: usize = 65536;
+pub const COMPILED_LIMIT: usize = 65536;
 
 fn text_input(text: String) -> Input {
     Input { texts: vec![text], tree: Tree::new() }

@@ -38,6 +38,21 @@ pub struct Said {
     pub stores: Stores,
 }
 
+/// A row with its contents by their texts, which `text_at` gives; None where it gives none.
+pub fn row_by_texts<'a>(numbers: &[u32], text_at: impl Fn(usize, usize) -> Option<&'a [u8]>) -> Option<StyleRow> {
+    let mut row = StyleRow { numbers: numbers.to_vec(), contents: vec![] };
+    for record in row.numbers.chunks_mut(RECORD_WIDTH) {
+        let slot = &mut record[1 + CONTENT_SLOT * SLOT_WIDTH..];
+        let [start, length] = [slot[SLOT_WIDTH - 2] as usize, slot[SLOT_WIDTH - 1] as usize];
+        // Where there is no content its numbers stay in the row, to be seen.
+        if slot[0] == 1 {
+            slot[SLOT_WIDTH - 2..].fill(0);
+        }
+        row.contents.push(text_at(start, length)?.to_vec());
+    }
+    Some(row)
+}
+
 /// A call that is lent `more` numbers or bytes in each buffer than the least.
 pub fn say(function: StyleFunction, styled: &Styled, row: usize, document_styles: u32, more: usize) -> Said {
     let mut stores = Stores::longer(styled.bytes(), more, FILLING);
@@ -66,20 +81,10 @@ impl Said {
         work && is_clear(&self.out[STYLE_ROW_WIDTH..]) && is_clear(&self.stores.texts[self.result.texts..])
     }
 
-    // The row, contents by their texts; None where one does not lie within the texts.
-    fn style_row(&self) -> Option<StyleRow> {
+    /// The row, contents by their texts; None where one does not lie within the texts.
+    pub fn style_row(&self) -> Option<StyleRow> {
         let texts = &self.stores.texts[..self.result.texts];
-        let mut row = StyleRow { numbers: self.out[..STYLE_ROW_WIDTH].to_vec(), contents: vec![] };
-        for record in row.numbers.chunks_mut(RECORD_WIDTH) {
-            let slot = &mut record[1 + CONTENT_SLOT * SLOT_WIDTH..];
-            let [start, length] = [slot[SLOT_WIDTH - 2] as usize, slot[SLOT_WIDTH - 1] as usize];
-            // Where there is no content its numbers stay in the row, to be seen.
-            if slot[0] == 1 {
-                slot[SLOT_WIDTH - 2..].fill(0);
-            }
-            row.contents.push(texts.get(start..start + length)?.to_vec());
-        }
-        Some(row)
+        row_by_texts(&self.out[..STYLE_ROW_WIDTH], |start, length| texts.get(start..start + length))
     }
 
     /// None where the row and the texts are the expected ones and all else is zero, else what is wrong.
@@ -109,7 +114,7 @@ impl Said {
 }
 
 // The slots that are not all zeros.
-fn show(row: &StyleRow) -> String {
+pub fn show(row: &StyleRow) -> String {
     let mut text = String::new();
     for (i, record) in row.numbers.chunks(RECORD_WIDTH).enumerate() {
         text += &format!("record {i} present {}", record[0]);
@@ -130,8 +135,8 @@ fn sheet_texts(sheet: &str) -> Vec<u8> {
     read.rules.iter().flat_map(|r| &r.declarations).flat_map(|d| content(&d.decl)).collect()
 }
 
-// Those of the style attributes of an element.
-fn attribute_texts(page: &Page, row: usize) -> Vec<u8> {
+/// Those of the style attributes of an element.
+pub fn attribute_texts(page: &Page, row: usize) -> Vec<u8> {
     let content = |style: Style| if let Style::Content(text) = style { text } else { vec![] };
     let styles = |value: &str| html2text::style_attribute(value).expect("a style attribute never panics");
     let attributes = page.attributes_of(row).into_iter().filter(|(name, _)| *name == "style");
