@@ -375,6 +375,45 @@ impl Path {
     }
 }
 
+/// Three sheets that are read and the nodes of a page, for the styles of all its elements to be measured.
+pub struct Whole {
+    data: StyleData,
+    handles: Vec<Handle>,
+    parents: Vec<Option<usize>>,
+}
+
+/// Sheets and a page; an element has its parent's row, another node none.
+pub fn whole(sheets: [&str; 3], page: &Page) -> Whole {
+    let [agent, user, author] = sheets;
+    let parents = (0..page.rows()).map(|row| (page.kind(row) == answers::ELEMENT_KIND).then(|| page.parent(row))).collect();
+    Whole { data: style_data(agent, user, author), handles: tree(page), parents }
+}
+
+impl Whole {
+    fn computed(&self, document_styles: bool) -> Vec<ComputedStyle> {
+        let mut styles = Vec::with_capacity(self.parents.len());
+        for (handle, parent) in self.handles.iter().zip(&self.parents) {
+            let style = match *parent {
+                Some(parent) => self.data.computed_style(&styles[parent], handle, document_styles),
+                None => ComputedStyle::default(),
+            };
+            styles.push(style);
+        }
+        styles
+    }
+
+    /// `computed_style` of all elements in page order, each with its parent's result, and nothing but it.
+    pub fn style(&self, document_styles: bool) {
+        std::hint::black_box(self.computed(document_styles));
+    }
+
+    /// The styles of the elements, as rows.
+    pub fn style_rows(&self, document_styles: bool) -> Vec<StyleRow> {
+        let styles = self.computed(document_styles);
+        self.parents.iter().zip(&styles).filter(|(parent, _)| parent.is_some()).map(|(_, style)| style_row(style)).collect()
+    }
+}
+
 /// `computed_style` of each element of a page, in row order.
 pub fn computed_styles(sheets: [&str; 3], page: &Page, document_styles: bool) -> Option<Vec<StyleRow>> {
     let [agent, user, author] = sheets;
@@ -438,6 +477,7 @@ mod tests {
         let rows = computed_styles(sheets, &page, true).unwrap();
         assert_eq!(rows[0].numbers[..10], [1, 1, 3, 0, 0, 1, 0, 0, 0xff0000, 0]);
         assert_eq!(path(&page, 1).style_row(sheets, true), rows[0]);
+        assert_eq!(whole(sheets, &page).style_rows(true), rows);
         let applied = applied_rules(["q{color:red}", "*{content:''}", ".k,div{color:red}"], &page).unwrap();
         let said: Vec<(u32, u32)> = applied[0].iter().map(|a| (a.origin, a.specificity.classes)).collect();
         assert_eq!(said, [(2, 0), (3, 1), (3, 0)]);

@@ -5,7 +5,7 @@
     cd FOLDER && rt check held
 
 FOLDER, outside this repository, becomes one: the crates of this one, what target/ holds of them, and a crate `held`, where each vector is a case that `refl`
-has to prove. A case says that the sheets are read, that the page is accepted, and what the style of each element is; rows, state and store of a run have the
+has to prove. A case says that the sheets are read, that the page is accepted, and what the style of each element is; rows and state of a run have the
 least lengths and are full of 255. The vectors are taken in order of size, COUNT of them from the FIRST on; a run costs some ten times a style."""
 import pathlib
 import re
@@ -34,7 +34,6 @@ use mathlib.Core.Bool.{Bool, true, false}
 use mathlib.Core.List.{List, [], _∷_, _++_, map}
 use lib.ListN.{replicate}
 use Rattle.combinators.specs.Choice.{and}
-use Rattle.combinators.specs.LeastLengths.{textLeast}
 use Rattle.combinators.specs.Refusal.{noRefusal}
 use Rattle.combinators.specs.declared.refusals.Refusal.{Refusal}
 use Rattle.syntax.specs.Layout.{styleOf}
@@ -54,8 +53,9 @@ use Rattle.compiler.specs.Selectors.{selectorsOf}
 use Rattle.styles.specs.Computed.{computedStyle}
 use Rattle.styles.specs.Said.{Rules}
 use Rattle.styles.specs.declared.settings.Settings.{Settings}
-use Rattle.runner.specs.LeastLengths.{runTextBytes, stateLeast, rowsLeast}
-use Rattle.runner.specs.Run.{Page, Running, runOf, styleRowAt}
+use Rattle.styles.specs.Lent.{Page}
+use Rattle.runner.specs.LeastLengths.{stateLeast, rowsLeast}
+use Rattle.runner.specs.Run.{Running, runOf, styleRowAt}
 
 pub record Answer : Type 0 where
   pub read : Bool
@@ -106,11 +106,11 @@ unfoldable pub styleSeen : List ℕ → ComputedStyle Value → ComputedStyle St
 styleSeen t s = record { main = recordSeen t (s .main); before = recordSeen t (s .before); after = recordSeen t (s .after) }
 
 unfoldable pub seen : List ℕ → Running → List ℕ → List (ComputedStyle Style)
-seen code r elements = map (λ i. styleSeen (code ++ r .store) (styleAt (styleRowAt (r .rows) i))) elements
+seen code r elements = map (λ i. styleSeen (code ++ r .texts) (styleAt (styleRowAt (r .rows) i))) elements
 
 unfoldable pub ran : List ℕ → Page → Bool → Running
 ran code g on =
-    runOf code (settings on) g (replicate (rowsLeast g) 255) (replicate (stateLeast code) 255) (replicate (textLeast (runTextBytes g)) 255)
+    runOf code (settings on) g (replicate (rowsLeast g) 255) (replicate (stateLeast code) 255)
 
 unfoldable pub seenInRun : List ℕ → Page → Bool → List ℕ → List (ComputedStyle Style)
 seenInRun code g on elements = seen code (ran code g on) elements

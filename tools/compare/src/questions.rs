@@ -32,7 +32,7 @@ pub struct Question {
 }
 
 // `computed` and `styled` ask the same of each element, the style by html2text's cascade: of short sheets and small pages, from which vectors are chosen, and of
-// sheets and pages in which more contends; `book` asks for the style in book order, which is held against src/book.rs. `run` and `run styled` ask for all elements of
+// sheets and pages in which more contends; `book` asks for the style in book order, which is held against src/book.rs. `run` and `styled_run` ask for all elements of
 // the same pages in one run over the compiled sheets.
 pub const QUESTIONS: &[Question] = &[
     Question { name: "sheet", generate: a_sheet, ask: Some(ask_sheet) },
@@ -44,7 +44,7 @@ pub const QUESTIONS: &[Question] = &[
     Question { name: "styled", generate: styled_page, ask: ASK_COMPUTED },
     Question { name: "book", generate: styled_page, ask: ASK_BOOK },
     Question { name: "run", generate: three_sheets_and_page, ask: ASK_RUN },
-    Question { name: "run styled", generate: styled_page, ask: ASK_RUN },
+    Question { name: "styled_run", generate: styled_page, ask: ASK_RUN },
 ];
 
 // What the stores hold before a call, so that a byte left as it was is seen.

@@ -135,7 +135,9 @@ fn ask_with_too_little(function: RunFunction, asked: &Asked) -> Result<(), Strin
         };
         if *length > 0 {
             *length -= 1;
-            run_with(function, &run, 1, lengths, filling).refuses(nothing_but(TOO_SHORT), filling).map_err(|how| format!("  buffer {short} is too short\n{how}"))?;
+            run_with(function, &run, 1, lengths, filling)
+                .refuses(nothing_but(TOO_SHORT), filling)
+                .map_err(|how| format!("  buffer {short} is too short\n{how}"))?;
         }
     }
     Ok(())
