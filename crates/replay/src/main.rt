@@ -138,6 +138,48 @@ fn ask_page_call(
     }
 }
 
+// Asks for styles: of a page in a run, or of one of its elements.
+fn ask_styles(
+    s: &[u8],
+    arguments: usize,
+    call: u32,
+    input: &[u8],
+    numbers: &[u32],
+    rules: &mut [u32],
+    tokens: &mut [u32],
+    brackets: &mut [u8],
+    texts: &mut [u8],
+    state: &mut [u8],
+    out: &mut [u32],
+) -> [usize; RESULTS] {
+    match call {
+        RUN => ask_run(
+            s,
+            arguments,
+            input,
+            numbers,
+            rules,
+            tokens,
+            brackets,
+            texts,
+            state,
+            out,
+        ),
+        _ => ask_style(
+            s,
+            arguments,
+            call,
+            input,
+            numbers,
+            rules,
+            tokens,
+            brackets,
+            texts,
+            out,
+        ),
+    }
+}
+
 // Asks by a call's number; `bytes` are the compiled ones, or the state of a run.
 fn ask(
     s: &[u8],
@@ -155,21 +197,10 @@ fn ask(
     match call {
         READ_SHEET => ask_sheet(s, arguments, input, rules, tokens, brackets, texts),
         COMPILE => ask_compile(s, arguments, input, rules, tokens, brackets, texts, bytes),
-        STYLE | STYLE_BOOK => ask_style(
+        STYLE | STYLE_BOOK | RUN => ask_styles(
             s,
             arguments,
             call,
-            input,
-            numbers,
-            rules,
-            tokens,
-            brackets,
-            texts,
-            out,
-        ),
-        RUN => ask_run(
-            s,
-            arguments,
             input,
             numbers,
             rules,
