@@ -21,8 +21,10 @@ trap 'rm -rf "$work"' EXIT
 
 # ---- the gate
 gate=$work/gate.log
+gate_note="run for this archive"
 if [ $# -gt 0 ]; then
     cp "$1" "$gate"
+    gate_note="from a log given by hand"
 else
     bash .ci/run | tee "$gate"
 fi
@@ -31,7 +33,7 @@ gate_line=$(tail -n 1 "$gate")
 
 # ---- the library
 library=${HICSOLMAB_LIBRARY:-}
-library_line="given by hand, not built from this commit"
+library_line="a file given by hand"
 if [ -z "$library" ]; then
     rt staticlib engine > /dev/null
     library=target/staticlib/libengine.a
@@ -56,7 +58,7 @@ git archive HEAD:examples | tar -x -C "$folder/examples"
     echo "# $name"
     echo "# commit: $commit"
     echo "# toolchain: $(rt version)"
-    echo "# gate: $gate_line"
+    echo "# gate: $gate_line ($gate_note)"
     echo "# library: $library_line"
     (cd "$folder" && find . -type f ! -name MANIFEST -printf '%P\0' | sort -z | xargs -0 sha256sum)
 } > "$work/MANIFEST"

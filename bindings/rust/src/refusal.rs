@@ -22,7 +22,7 @@ pub enum Reason {
     Panic,
     /// A page is over a limit, or has a list that is no whole count of rows.
     TooLarge,
-    /// A row of a page is against the rules, for one too deep.
+    /// A row of a page is against the rules; it may be too deep.
     BadRow,
     /// A name or value of a page ends beyond its text, or is not UTF-8.
     BadText,

@@ -121,8 +121,9 @@ type Value = (u32, u32);
 
 /// What is declared for an element, or for its `::before` or `::after`.
 ///
-/// Each property has two getters: one for the value, and one for the whole [`Declaration`] that it is from.
-#[derive(Debug, Clone, Copy)]
+/// Each property has two getters: one for the value, and one for the whole [`Declaration`] that it is from. Two records are equal where all of these are, contents
+/// by their bytes.
+#[derive(Clone, Copy)]
 pub struct Record<'a> {
     numbers: &'a [u32],
     contents: Contents<'a>,
@@ -217,8 +218,36 @@ impl<'a> Record<'a> {
     }
 }
 
+impl PartialEq for Record<'_> {
+    fn eq(&self, other: &Self) -> bool {
+        self.color_declaration() == other.color_declaration()
+            && self.background_color_declaration() == other.background_color_declaration()
+            && self.display_declaration() == other.display_declaration()
+            && self.white_space_declaration() == other.white_space_declaration()
+            && self.content_declaration() == other.content_declaration()
+    }
+}
+
+impl Eq for Record<'_> {}
+
+impl fmt::Debug for Record<'_> {
+    /// What is declared, in place of the numbers.
+    fn fmt(&self, f: &mut fmt::Formatter<'_>) -> fmt::Result {
+        let content = self.content_declaration().map(|declaration| declaration.map(String::from_utf8_lossy));
+        f.debug_struct("Record")
+            .field("color", &self.color_declaration())
+            .field("background_color", &self.background_color_declaration())
+            .field("display", &self.display_declaration())
+            .field("white_space", &self.white_space_declaration())
+            .field("content", &content)
+            .finish()
+    }
+}
+
 /// The style of an element: what is declared for itself, for its `::before` and for its `::after`.
-#[derive(Debug, Clone, Copy)]
+///
+/// Two styles are equal where these are, wherever their contents lie: a run and a style call give equal styles.
+#[derive(Clone, Copy)]
 pub struct Style<'a> {
     numbers: &'a [u32],
     contents: Contents<'a>,
@@ -288,13 +317,28 @@ impl<'a> Style<'a> {
     }
 }
 
+impl PartialEq for Style<'_> {
+    fn eq(&self, other: &Self) -> bool {
+        self.main() == other.main() && self.before() == other.before() && self.after() == other.after()
+    }
+}
+
+impl Eq for Style<'_> {}
+
+impl fmt::Debug for Style<'_> {
+    /// What is declared, in place of the numbers.
+    fn fmt(&self, f: &mut fmt::Formatter<'_>) -> fmt::Result {
+        f.debug_struct("Style").field("main", &self.main()).field("before", &self.before()).field("after", &self.after()).finish()
+    }
+}
+
 /// Whether a style row has a record.
 fn is_present(numbers: &[u32], record: usize) -> bool {
     numbers[record_place(record)] != 0
 }
 
 /// The style of one element, as [`Sheets::style`](crate::Sheets::style) and [`Sheets::style_book`](crate::Sheets::style_book) give it.
-#[derive(Debug, Clone)]
+#[derive(Clone)]
 pub struct StyledElement {
     numbers: Vec<u32>,
     texts: Vec<u8>,
@@ -312,13 +356,20 @@ impl StyledElement {
     }
 }
 
+impl fmt::Debug for StyledElement {
+    /// Its style.
+    fn fmt(&self, f: &mut fmt::Formatter<'_>) -> fmt::Result {
+        self.style().fmt(f)
+    }
+}
+
 /// The style of one element, of a style call's answer.
 pub(crate) fn style_of<'a>(numbers: &'a [u32], texts: &'a [u8]) -> Style<'a> {
     Style { numbers, contents: Contents { compiled: &[], texts } }
 }
 
 /// The styles of all elements of a page, as [`Compiled::run`](crate::Compiled::run) gives them.
-#[derive(Debug, Clone)]
+#[derive(Clone)]
 pub struct Styles<'a> {
     compiled: &'a [u8],
     rows: Cow<'a, [u32]>,
@@ -356,8 +407,15 @@ impl<'a> Styles<'a> {
     }
 }
 
+impl fmt::Debug for Styles<'_> {
+    /// The styles by their rows.
+    fn fmt(&self, f: &mut fmt::Formatter<'_>) -> fmt::Result {
+        f.debug_map().entries(self.elements()).finish()
+    }
+}
+
 /// The elements of [`Styles`] in page order, each with its row in the page.
-#[derive(Debug, Clone)]
+#[derive(Clone)]
 pub struct Elements<'s> {
     rows: Enumerate<ChunksExact<'s, u32>>,
     contents: Contents<'s>,
@@ -377,3 +435,10 @@ impl<'s> Iterator for Elements<'s> {
 }
 
 impl FusedIterator for Elements<'_> {}
+
+impl fmt::Debug for Elements<'_> {
+    /// Those that are still to come.
+    fn fmt(&self, f: &mut fmt::Formatter<'_>) -> fmt::Result {
+        f.debug_map().entries(self.clone()).finish()
+    }
+}

@@ -189,6 +189,31 @@ fn a_run_gives_what_style_calls_give() {
 }
 
 #[test]
+fn styles_are_equal_by_what_they_say() {
+    let page = page();
+    let (with, without) = (Settings::default(), Settings::default().with_document_styles(false));
+    let compiled = sheets().compile().unwrap();
+    let styles = compiled.run(&page, with).unwrap();
+    assert_eq!(styles.get(STYLED).unwrap(), sheets().style(&page, STYLED, with).unwrap().style());
+    assert_ne!(styles.get(STYLED).unwrap(), sheets().style(&page, STYLED, without).unwrap().style());
+    assert_ne!(styles.get(FIRST).unwrap().before(), styles.get(FIRST).unwrap().after());
+}
+
+#[test]
+fn styles_are_shown_by_what_they_say() {
+    let page = page();
+    let called = sheets().style(&page, FIRST, Settings::default()).unwrap();
+    let shown = format!("{called:?}");
+    for part in ["Style { main: Record { color: Some(Declaration { value: Color { red: 255, green: 0, blue: 0 }", "display: None", "PreWrap", "\"main\""] {
+        assert!(shown.contains(part), "{shown}");
+    }
+    let compiled = sheets().compile().unwrap();
+    let styles = compiled.run(&page, Settings::default()).unwrap();
+    assert_eq!(format!("{styles:?}"), format!("{:?}", styles.elements()));
+    assert!(format!("{styles:?}").starts_with("{1: Style {"));
+}
+
+#[test]
 fn colours_are_written_as_in_a_sheet() {
     assert_eq!(Color { red: 1, green: 0xab, blue: 0 }.to_string(), "#01ab00");
 }
