@@ -43,7 +43,12 @@ cargo test --locked > "$built/tests" 2>&1 || {
     cat "$built/tests" >&2
     exit 1
 }
-echo "check-bindings: $(grep -c '^test .* ok$' "$built/tests" || true) tests of the crate passed"
+passed=$(awk '/^test result: ok/ { passed += $4 } END { print passed + 0 }' "$built/tests")
+[ "$passed" -gt 0 ] || {
+    echo "check-bindings: no test of the crate was run" >&2
+    exit 1
+}
+echo "check-bindings: $passed tests of the crate passed"
 
 # ---- both examples
 bash "$root/examples/run.sh"
