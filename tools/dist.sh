@@ -39,7 +39,7 @@ if [ -z "$library" ]; then
     library=target/staticlib/libengine.a
     library_line="rt staticlib engine"
 fi
-python3 tools/check-bindings/check.py "$library"
+python3 tools/check-bindings/check.py "$library" --alone
 
 # ---- what is in it
 commit=$(git rev-parse HEAD)

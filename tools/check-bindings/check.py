@@ -1,12 +1,13 @@
 #!/usr/bin/env python3
 """Compares what the header and the Rust bindings declare with what the engine exports, and fails on a difference.
 
-    python3 tools/check-bindings/check.py [LIBRARY]
+    python3 tools/check-bindings/check.py [LIBRARY [--alone]]
 
 The signatures and result structs of crates/engine/src are compared with those of include/hicsolmab.h and bindings/rust/src/calls.rs: names, order, types and
 fields. (tools/compare/src/engine.rs, which declares them once more, may leave functions out.) Each constant of the header and of bindings/rust/src/layout.rs is
 compared with the one in the source that it repeats, and the least lengths of both with the formulas over these. With LIBRARY its exported symbols are compared
-too. A linker notices none of these.
+too; with --alone it is also to have no variables and to call nothing outside but what moves bytes, for the header says that calls keep and allocate nothing. A linker
+notices none of these.
 
 What the check does not understand is a difference as well: each file is read whole, and what is left of it in the end must be nothing.
 """
@@ -64,6 +65,9 @@ SAMPLES = [[0, 0, 0, 0, 0], [1, 2, 3, 4, 5], [7, 11, 13, 17, 19], [100, 1000, 50
 
 # Helpers of the header: they name no function of the library, and the compiler sees them whole.
 INLINE = {"hicsolmab_has_record", "hicsolmab_slot_of", "hicsolmab_is_hidden", "hicsolmab_content"}
+
+# What a compiler calls for loops over bytes.
+MOVERS = {"memset", "memcpy", "memmove", "memcmp", "bcmp"}
 
 # How a parameter of a signature passes.
 C_TYPES = {"u32": "uint32_t", "u8": "uint8_t", "usize": "size_t"}
@@ -360,6 +364,18 @@ def symbols(library, engine):
             for name in sorted(engine.functions.keys() ^ {name for name in found if name.startswith(PREFIX)})]
 
 
+def alone(library):
+    """What a library needs beside itself, or keeps. A letter of nm in lower case is local."""
+    listed = subprocess.run(["nm", library], capture_output=True, text=True, check=True)
+    out = []
+    for kind, name in re.findall(r"^(?:[0-9a-f]{16}| {16}) (\w) (\S+)$", listed.stdout, flags=re.M):
+        if kind in "bBdDC":
+            out.append(f"{library}: {name} is a variable")
+        elif kind == "U" and name not in MOVERS:
+            out.append(f"{library}: {name} is called, which is not its own")
+    return out
+
+
 def read_files():
     paths = [HEADER, CALLS, LAYOUT, LENGTHS, COMPARE, *CONSTANTS]
     paths += [str(path.relative_to(ROOT)) for path in sorted((ROOT / ENGINE).glob("*.rt"))]
@@ -370,8 +386,10 @@ def main():
     files = read_files()
     try:
         out = differences(files)
-        for library in sys.argv[1:]:
-            out += symbols(library, exports(files))
+        if sys.argv[1:]:
+            out += symbols(sys.argv[1], exports(files))
+        if sys.argv[2:] == ["--alone"]:
+            out += alone(sys.argv[1])
     except ValueError as error:
         out = [str(error)]
     for line in out:
