@@ -2,22 +2,24 @@
 #include <hicsolmab.h>
 #include <stdio.h>
 
-/* The bytes that a sheet may have. One more is read, to see whether the input goes on. */
-#define SHEET_LIMIT 32768
+/* One byte more than a sheet may have is read, to see whether the input goes on. */
+#define INPUT (HICSOLMAB_SHEET_LIMIT + 1)
 
-/* The least lengths of the slices for a sheet of that size; zeros at the start, as any contents would do. */
-static uint8_t sheet[SHEET_LIMIT + 1];
-static uint32_t rules[8 * SHEET_LIMIT + 64];
-static uint32_t tokens[8 * SHEET_LIMIT + 64];
-static uint8_t brackets[SHEET_LIMIT];
-static uint8_t texts[2 * SHEET_LIMIT + 12];
+/* The least lengths of the slices for the longest sheet; zeros at the start, as any contents would do. */
+#define BYTES HICSOLMAB_READ_SHEET_BYTES(HICSOLMAB_SHEET_LIMIT)
+
+static uint8_t sheet[INPUT];
+static uint32_t rules[HICSOLMAB_RULES_LEAST(BYTES)];
+static uint32_t tokens[HICSOLMAB_TOKENS_LEAST(BYTES)];
+static uint8_t brackets[HICSOLMAB_BRACKETS_LEAST(BYTES)];
+static uint8_t texts[HICSOLMAB_TEXTS_LEAST(BYTES)];
 
 int main(void)
 {
     size_t length = fread(sheet, 1, sizeof sheet, stdin);
     hicsolmab_sheet_result read = hicsolmab_read_sheet(sheet, length, rules, sizeof rules / sizeof *rules, tokens, sizeof tokens / sizeof *tokens,
                                                        brackets, sizeof brackets, texts, sizeof texts);
-    if (read.refusal != 0) {
+    if (read.refusal != HICSOLMAB_NO_REFUSAL) {
         printf("refused %u at %zu\n", (unsigned)read.refusal, read.place);
         return 1;
     }
