@@ -1,13 +1,20 @@
 //! A program that keeps its page, its compiled sheet and its workspace allocates nothing per page.
 //!
-//! Alone in its file, for it counts what the whole process allocates.
+//! Counted is what the test's own thread allocates: that of the test harness may allocate beside it.
 #![allow(unsafe_code)]
 use std::alloc::{GlobalAlloc, Layout, System};
-use std::sync::atomic::{AtomicUsize, Ordering};
+use std::cell::Cell;
 
 use hicsolmab::{Compiled, Page, Refusal, Settings, Sheets, Workspace, read_sheet_in};
 
-static ALLOCATIONS: AtomicUsize = AtomicUsize::new(0);
+thread_local! {
+    static ALLOCATIONS: Cell<usize> = const { Cell::new(0) };
+}
+
+/// How often this thread has allocated.
+fn allocations() -> usize {
+    ALLOCATIONS.get()
+}
 
 /// The system's allocator, which counts.
 struct Counting;
@@ -15,7 +22,7 @@ struct Counting;
 // SAFETY: everything is handed on to the system's allocator, which keeps the rules of one.
 unsafe impl GlobalAlloc for Counting {
     unsafe fn alloc(&self, layout: Layout) -> *mut u8 {
-        ALLOCATIONS.fetch_add(1, Ordering::Relaxed);
+        ALLOCATIONS.set(ALLOCATIONS.get() + 1);
         // SAFETY: the caller keeps the rules of this function, which are the same.
         unsafe { System.alloc(layout) }
     }
@@ -61,18 +68,18 @@ fn nothing_is_allocated_once_buffers_have_grown() {
     let mut viewer = Viewer { page: Page::new(), compiled: Compiled::default(), workspace: Workspace::new() };
     let long = b".note { display: none } p::before { content: 'a long one' }";
     assert_eq!(viewer.show(50, long), Ok(50));
-    let before = ALLOCATIONS.load(Ordering::Relaxed);
+    let before = allocations();
     for paragraphs in (1..=50).rev() {
         let hidden = viewer.show(paragraphs, b".note { display: none }");
         assert_eq!(hidden, Ok(paragraphs));
         let shown = viewer.show(paragraphs, b".other { display: none }");
         assert_eq!(shown, Ok(0));
     }
-    assert_eq!(ALLOCATIONS.load(Ordering::Relaxed), before);
+    assert_eq!(allocations(), before);
 
     // With a workspace for the limits there is nothing to grow in it, even at the first page.
     let mut viewer = Viewer { workspace: Workspace::for_limits(), ..viewer };
-    let before = ALLOCATIONS.load(Ordering::Relaxed);
+    let before = allocations();
     assert_eq!(viewer.show(50, long), Ok(50));
-    assert_eq!(ALLOCATIONS.load(Ordering::Relaxed), before);
+    assert_eq!(allocations(), before);
 }
