@@ -62,8 +62,10 @@ returns c =
     let a = c .before .before .before .before .before .before .before .before .before .before .before .before .before .before .before .before .before .before .before .before .before .before .before .before .before .before .before .before .before .before .before .before .before .before .before .before .before .before .before .before .before .before .before .before .before .before .before .before .before .before .before .before .before .before .before .before .before .before .before .before .before .before .before .before .before .before .before .before .before .before .before .before .before .before .args in
     let compiled = c .before .before .before .before .before .before .before .before .before .before .before .before .before .before .before .before .before .before .before .before .before .before .before .before .before .before .before .before .before .before .before .before .before .before .before .before .before .before .before .before .compile-and-run .ensures in
     let styled = c .before .before .before .before .before .before .before .before .before .before .before .before .style .ensures in (
-      compiled .0, (
-        compiled .1, (
+      compiled .0,
+      (
+        compiled .1,
+        (
           styled,
           laws.calls-agree (record { agent = a .agent .now; user = a .user .now; author = a .author .now }) (record { nodes = a .nodes .now; attributes = a .attributes .now; text = a .text .now }) (a .settings)
               (record { compiled = a .compiled .now; texts = a .compile-texts .now; rules = a .compile-rules .now; tokens = a .compile-tokens .now; brackets = a .compile-brackets .now })
