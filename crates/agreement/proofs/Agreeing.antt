@@ -31,6 +31,7 @@ use Rattle.runner.proofs.StyleRows.{row-uncleared}
 use Rattle.combinators.proofs.Cleared.{length-cleared}
 use Rattle.running.specs.RunAnswer.{RunLeft, ran}
 use Rattle.agreement.specs.Calls.{CompileBuffers, RunBuffers, StyleBuffers, compileWith, runWith, styleWith, codeOf, textsOf, StyleLent, SameLengths}
+use Rattle.agreement.specs.ComputedRows.{ComputedRows}
 use Rattle.agreement.specs.Demand.{AllRows, Agreement, Demand3}
 use Rattle.agreement.specs.SameRow.{SameRow}
 use Rattle.agreement.proofs.CompileTells.{padded-front, Compiled, compile-tells, bytes-taken}
@@ -49,7 +50,7 @@ read-once m x y e f =
     ap₂ (λ (p q : List RuleSet). record { agent = p; user = q; author = x .author }) a u ∙ ap (λ (q : List RuleSet). record { agent = y .agent; user = y .user; author = q }) w
 
 -- a store as long as what stands in it, or longer
-padded-long : (xs : List ℕ) (n : ℕ) → length xs ≤ length (padded xs n)
+pub padded-long : (xs : List ℕ) (n : ℕ) → length xs ≤ length (padded xs n)
 unfolding padded
 padded-long xs n = omega (arith, length-append xs (replicate (n - length xs) 0))
 
@@ -89,6 +90,18 @@ module _ (s : SheetTexts) (g : Page) (settings : Settings) (code : List ℕ) (c 
   texts-fit : length (r .texts) ≤ length (b .texts)
   texts-fit = rw (all-rows .texts) (omega (arith, contents-short settings g (t .page), run-texts-lent code settings g b (t .suffices)))
 
+  -- the row of an element is the style computed from the sheets
+  computed : ComputedRows settings s g code leaves
+  computed =
+      record {
+        sheets = c .sheets;
+        read-texts = c .read;
+        element-rows = λ i h k.
+            let m = computedStyle Crate (c .sheets) settings (pathOf (g .nodes) (g .attributes) (g .text) i) in
+            subst (λ (z : List ℕ). SameStyle (Says (code ++ z)) (styleAt (styleRowAt (leaves .rows) i)) m) (sym texts-there)
+            (subst (λ (z : List ℕ). SameStyle (Says (code ++ r .texts)) (styleAt z) m) (sym (row-there i h)) (all-rows .element-rows i h k));
+      }
+
   -- a row that the style call styles
   row-same : (i : ℕ) (v : StyleBuffers) → styleWith settings s g i v .answer .refusal ≡ noRefusal
       → SameRow (code ++ textsOf leaves) (textsLeft (styleWith settings s g i v)) (styleRowAt (leaves .rows) i) (rowLeft (styleWith settings s g i v))
@@ -116,6 +129,7 @@ module _ (s : SheetTexts) (g : Page) (settings : Settings) (code : List ℕ) (c 
   leaves-agree =
       record {
         answered = refl;
+        computed-rows = computed;
         styled-rows = row-same;
         other-rows = λ i h n. row-there i h ∙ all-rows .other-rows i h n;
         within = padded-long (r .texts) (length (b .texts));

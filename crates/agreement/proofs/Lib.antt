@@ -10,3 +10,4 @@ pub mod CompileTells
 pub mod StyleTells
 pub mod RunTells
 pub mod Agreeing
+pub mod Returning

@@ -23,6 +23,7 @@ use Rattle.combinators.specs.Refusal.{noRefusal, shortStore}
 use Rattle.running.specs.RunAnswer.{RunLeft}
 use Rattle.styling.specs.Claim.{rowLeft, textsLeft}
 use Rattle.agreement.specs.Calls.{CompileBuffers, RunBuffers, StyleBuffers, compileWith, runWith, styleWith, codeOf, textsOf}
+use Rattle.agreement.specs.ComputedRows.{ComputedRows}
 use Rattle.agreement.specs.SameRow.{SameRow}
 
 -- the selectors that three sheets are compiled to
@@ -45,10 +46,12 @@ pub record AllRows (rules : Rules RuleSet) (settings : Settings) (g : Page) (cod
   -- the texts are the inline contents of the page
   pub texts : r .texts ≡ pageContents settings g
 
--- ---- a run of compiled bytes, against the style call at each row
+-- ---- a run of compiled bytes, against the sheets' texts, and against the style call at each row
 pub record Agreement (settings : Settings) (s : SheetTexts) (g : Page) (code : List ℕ) (r : RunLeft) : Type 0 where
   -- the run refuses nothing
   pub answered : r .answer .refusal ≡ noRefusal
+  -- every element's row equals the style computed from the sheets
+  pub computed-rows : ComputedRows settings s g code r
   -- every row that the style call styles is the same, whatever that call is lent: number by number, each content by its text, which is in the compiled bytes
   -- followed by the run's texts
   pub styled-rows : (i : ℕ) (v : StyleBuffers) → styleWith settings s g i v .answer .refusal ≡ noRefusal

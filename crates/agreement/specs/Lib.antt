@@ -1,3 +1,5 @@
 pub mod SameRow
 pub mod Calls
+pub mod ComputedRows
 pub mod Demand
+pub mod Agreed
