@@ -1,4 +1,4 @@
--- The loop of `read_number`: what is left to read at a group is what was to be read; and the choice of `read_ranged`.
+-- The loop of `read_groups`: what is left to read at a group is what was to be read; and the choice of `read_ranged`.
 use mathlib.Core.Path.{_≡_, refl, sym, ap, _∙_}
 use mathlib.Core.List.{List}
 use Prim.Native.Nat.{ℕ, zero, suc, _+_, _-_, _*_, _≤_, _<_}
@@ -29,7 +29,7 @@ pub limited-no : (i n v : ℕ) → numberLimit ≤ v → number.Fault i ≡ numb
 unfolding limited numberAnswer
 limited-no i n v h = ap numberAnswer (pick-false _ _ _ _ (le-ltb v numberLimit h) refl)
 
--- ---- `read_number`
+-- ---- `read_groups`
 -- how many values k groups have
 abbrev pub power : ℕ → ℕ
 power zero = 1
@@ -121,6 +121,14 @@ reading-none s at value scale i left c h =
     none : (k : ℕ) → k ≤ 0 → fault at ≡ groupsAt k s at value scale i
     none zero h = refl
     none (suc k) h = absurd (omega arith)
+
+-- ---- `read_number`
+-- a number of one group
+pub reading-one : (s : List ℕ) (at b : ℕ) → b ≡ getD s at 0 → at < length s → b < groupValues → (r : NumberAnswer) → r ≡ number.Number (at + 1) b
+    → (r ≡ numberAnswer (numberAt s at)) × numberWithin (length s) r
+reading-one s at b e l h r p =
+    let v : 0 + b * 1 ≡ b = omega arith in
+    reading-last s at 0 1 at mostGroups (reading-begin s at) (omega arith) b e l h r (p ∙ limited-yes at (at + 1) b (omega arith) ∙ ap (λ (n : ℕ). numberAnswer (limited at (at + 1) n)) (sym v))
 
 -- ---- `read_ranged`
 module _ (s : List ℕ) (at lo hi : ℕ) (r : NumberAnswer) (e : r ≡ numberAnswer (numberAt s at)) where

@@ -39,8 +39,8 @@ fn limited(at: usize, next: usize, value: u64) -> NumberAnswer
     NumberAnswer::Fault(at)
 }
 
-// The number that starts at `start`.
-pub fn read_number(s: &[u8], start: usize) -> NumberAnswer
+// The number that starts at `start`, group by group.
+fn read_groups(s: &[u8], start: usize) -> NumberAnswer
     ensures { λ r. ⌜ r ≡ numberAnswer (numberAt (now (s .entry)) start) ⌝ }
     ensures { λ r. ⌜ numberWithin (length (now (s .entry))) r ⌝ }
 {
@@ -62,6 +62,20 @@ pub fn read_number(s: &[u8], start: usize) -> NumberAnswer
         left -= 1;
     }
     NumberAnswer::Fault(start)
+}
+
+// The number that starts at `start`. Most have one group, which is told at once.
+pub fn read_number(s: &[u8], start: usize) -> NumberAnswer
+    ensures { λ r. ⌜ r ≡ numberAnswer (numberAt (now (s .entry)) start) ⌝ }
+    ensures { λ r. ⌜ numberWithin (length (now (s .entry))) r ⌝ }
+{
+    if start < s.len() {
+        let b = wide(s[start]);
+        if b < GROUP_VALUES {
+            return NumberAnswer::Number(start + 1, b as u32);
+        }
+    }
+    read_groups(s, start)
 }
 
 // The number at `at`, where it is from `lo` to `hi`.
