@@ -1,5 +1,5 @@
 pub mod PieceLaws
-pub mod LeapLaws
+pub mod GroupReading
 pub mod WalkLaws
 pub mod WeightLaws
 pub mod Parts

@@ -10,7 +10,7 @@ use lib.Seq.{getD-drop}
 use Rattle.combinators.specs.Choice.{pick, and, is}
 use Rattle.combinators.specs.Part.{part}
 use Rattle.combinators.specs.Word.{sameText}
-use Rattle.combinators.proofs.Rules.{never, pick-holds, and-right, is-no}
+use Rattle.combinators.proofs.Rules.{pick-holds, is-no}
 use Rattle.syntax.specs.Layout.{flag}
 use Rattle.syntax.specs.RuleLayout.{starKind, classKind, elementKind, hashKind, childKind}
 use Rattle.syntax.specs.Selector.{Component, star, class, element, hash, child, descendant, nth, attribute, attributeEqual}
@@ -151,9 +151,9 @@ unfolding tested step here attributeIs
 equal-tested x y e = sym (and-yes _)
 
 -- ---- what a component is for a row
-module _ (row : Path) (ok : Bool) (left n : ℕ) where
+module _ (row : Path) (ok : Bool) (n : ℕ) where
   -- a test
-  pub piece-test : (c : Component) → IsTest c → pieceOf row ok left n c ≡ piece.Test n (and ok (tested row c))
+  pub piece-test : (c : Component) → IsTest c → pieceOf row ok n c ≡ piece.Test n (and ok (tested row c))
   unfolding pieceOf onComponent
   piece-test star u = refl
   piece-test (class x) u = refl
@@ -166,127 +166,80 @@ module _ (row : Path) (ok : Bool) (left n : ℕ) where
   piece-test (attributeEqual x y) u = refl
 
   -- a combinator
-  pub piece-combinator : (k : Combinator) → pieceOf row ok left n (joined k) ≡ piece.Combinator n left (isDirect k)
+  pub piece-combinator : (k : Combinator) → pieceOf row ok n (joined k) ≡ piece.Combinator n (isDirect k)
   unfolding pieceOf onComponent joined
   piece-combinator direct = refl
   piece-combinator anywhere = refl
 
   -- the same by whether it is `>`
-  mark-piece : (d : Bool) → piece.Combinator n left d ≡ pieceOf row ok left n (pick d child descendant)
+  mark-piece : (d : Bool) → piece.Combinator n d ≡ pieceOf row ok n (pick d child descendant)
   unfolding pieceOf onComponent isDirect pick
   mark-piece true = refl
   mark-piece false = refl
 
--- a star passes
-star-passes : (row : Path) (ok : Bool) → ok ≡ and ok (tested row star)
-unfolding tested step
-star-passes row ok = sym (and-yes ok)
-
 -- what is read of it
-pub piece-read : (code : List ℕ) (row : Path) (ok : Bool) (left at n : ℕ) (c : Component) → componentAt code at ≡ read n c → pieceAt code row ok left at ≡ pieceOf row ok left n c
+pub piece-read : (code : List ℕ) (row : Path) (ok : Bool) (at n : ℕ) (c : Component) → componentAt code at ≡ read n c → pieceAt code row ok at ≡ pieceOf row ok n c
 unfolding pieceAt onDecoded
-piece-read code row ok left at n c e = rw e
+piece-read code row ok at n c e = rw e
 
--- ---- the returns of `pass_piece` and `test_piece`
-module _ (code : List ℕ) (row : Path) (ok : Bool) (left at : ℕ) (r : ComponentAnswer) (er : r ≡ componentAnswer (writtenAt code at)) where
-  -- what is to be returned
-  abbrev Is : Piece → Type 0
-  Is p = p ≡ pieceAt code row ok left at
+-- ---- the returns of `mark_piece`
+module _ (n kind : ℕ) (ok : Bool) where
+  -- a star passes
+  pub star-piece : kind ≡ starKind → (row : Path) → piece.Test n ok ≡ pieceOf row ok n (markOf kind)
+  unfolding markOf pieceOf onComponent tested step pick is
+  star-piece e row = rw e (ap (piece.Test n) (sym (and-yes ok)))
 
-  -- of a test
-  test-is : (n : ℕ) (c : Component) → componentAt code at ≡ read n c → IsTest c → (b : Bool) → b ≡ and ok (tested row c) → Is (piece.Test n b)
-  test-is n c e u b p = ap (piece.Test n) p ∙ sym (piece-test row ok left n c u) ∙ sym (piece-read code row ok left at n c e)
-
-  -- a star
-  pub star-read : (n kind : ℕ) → r ≡ component.Mark n kind → kind ≡ starKind → Is (piece.Test n ok)
-  star-read n kind p e = test-is n star (at-mark code at r er n kind p ∙ ap (read n) (as-star kind e)) tt ok (star-passes row ok)
-    where
-      as-star : (kind : ℕ) → kind ≡ starKind → markOf kind ≡ star
-      as-star kind e = unfold markOf pick is in rw e
-
-  -- a combinator
-  pub combinator-read : (n kind : ℕ) → r ≡ component.Mark n kind → ¬ (kind ≡ starKind) → Is (piece.Combinator n left (eqb kind childKind))
-  combinator-read n kind p e =
-      mark-piece row ok left n (eqb kind childKind)
-      ∙ sym (piece-read code row ok left at n _ (at-mark code at r er n kind p ∙ ap (read n) (as-combinator kind e)))
+  -- any other mark is a combinator
+  pub combinator-piece : ¬ (kind ≡ starKind) → (row : Path) → piece.Combinator n (eqb kind childKind) ≡ pieceOf row ok n (markOf kind)
+  combinator-piece e row = mark-piece row ok n (eqb kind childKind) ∙ sym (ap (pieceOf row ok n) (as-combinator kind e))
     where
       as-combinator : (kind : ℕ) → ¬ (kind ≡ starKind) → markOf kind ≡ pick (eqb kind childKind) child descendant
       as-combinator kind e = unfold markOf pick in rw (is-no kind starKind e) (unfold is in refl)
 
+-- ---- whether a row passes a test that the document fails, where `a` says whether it is asked
+row-asked : (x : Element) (c : Component) → FailsThere c → (a ok el : Bool) → a ≡ and ok el → (b : Bool) → b ≡ and a (tested (x ∷ []) c) → b ≡ and ok (tested (rowAlone el x) c)
+unfolding and rowAlone
+row-asked x c f a true true ea b eb = rw ea at eb
+row-asked x c f a true false ea b eb = (rw ea at eb) ∙ sym f
+row-asked x c f a false el ea b eb = rw ea at eb
+
+-- ---- the returns of `read_piece`
+module _ (code : List ℕ) (x : Element) (ok el : Bool) (at : ℕ) (r : ComponentAnswer) (er : r ≡ componentAnswer (writtenAt code at)) where
+  -- what is to be returned
+  abbrev Is : Piece → Type 0
+  Is p = p ≡ pieceAt code (rowAlone el x) ok at
+
+  -- of a test
+  test-is : (n : ℕ) (c : Component) → componentAt code at ≡ read n c → IsTest c → FailsThere c → (a : Bool) → a ≡ and ok el → (b : Bool) → b ≡ and a (tested (x ∷ []) c)
+      → Is (piece.Test n b)
+  test-is n c e u f a ea b eb =
+      ap (piece.Test n) (row-asked x c f a ok el ea b eb) ∙ sym (piece-test (rowAlone el x) ok n c u) ∙ sym (piece-read code (rowAlone el x) ok at n c e)
+
+  -- a star or a combinator
+  pub mark-read : (n kind : ℕ) → r ≡ component.Mark n kind → (q : Piece) → q ≡ pieceOf (rowAlone el x) ok n (markOf kind) → Is q
+  mark-read n kind p q e = e ∙ sym (piece-read code (rowAlone el x) ok at n (markOf kind) (at-mark code at r er n kind p))
+
   -- a text
-  named-is : (n kind start size : ℕ) → r ≡ component.Name n kind start size → (b : Bool) → b ≡ and ok (tested row (namedOf kind (part code start size))) → Is (piece.Test n b)
-  named-is n kind start size p b q = test-is n (namedOf kind (part code start size)) (at-name code at r er n kind start size p) (named-test kind _) b q
+  pub name-read : (a : Bool) → a ≡ and ok el → (n kind start size : ℕ) → r ≡ component.Name n kind start size → (w : List ℕ) → w ≡ part code start size
+      → (b : Bool) → b ≡ and a (tested (x ∷ []) (namedOf kind w)) → Is (piece.Test n b)
+  name-read a ea n kind start size p w ew b eb =
+      test-is n (namedOf kind (part code start size)) (at-name code at r er n kind start size p) (named-test kind _) (named-fails kind _) a ea b
+      (eb ∙ ap (λ (y : List ℕ). and a (tested (x ∷ []) (namedOf kind y))) ew)
 
   -- an nth-child
-  nth-is : (n a b : ℕ) → r ≡ component.Numbers n a b → (t : Bool) → t ≡ and ok (tested row (nth (signedOf a) (signedOf b))) → Is (piece.Test n t)
-  nth-is n a b p t q = test-is n (nth (signedOf a) (signedOf b)) (at-numbers code at r er n a b p) tt t q
+  pub numbers-read : (a : Bool) → a ≡ and ok el → (n f g : ℕ) → r ≡ component.Numbers n f g → (b : Bool) → b ≡ and a (nthMatches (signedOf f) (signedOf g) (x .place))
+      → Is (piece.Test n b)
+  numbers-read a ea n f g p b eb =
+      test-is n (nth (signedOf f) (signedOf g)) (at-numbers code at r er n f g p) tt (nth-fails f g) a ea b (eb ∙ ap (and a) (nth-tested f g x))
 
   -- an attribute of a value
-  equal-is : (n a b f g : ℕ) → r ≡ component.Names n a b f g → (t : Bool) → t ≡ and ok (tested row (attributeEqual (part code a b) (part code f g))) → Is (piece.Test n t)
-  equal-is n a b f g p t q = test-is n (attributeEqual (part code a b) (part code f g)) (at-names code at r er n a b f g p) tt t q
+  pub names-read : (a : Bool) → a ≡ and ok el → (n s m t k : ℕ) → r ≡ component.Names n s m t k → (w : List ℕ) → w ≡ part code s m → (y : List ℕ) → y ≡ part code t k
+      → (b : Bool) → b ≡ and a (firstIs w y (x .attributes)) → Is (piece.Test n b)
+  names-read a ea n s m t k p w ew y ey b eb =
+      test-is n (attributeEqual (part code s m) (part code t k)) (at-names code at r er n s m t k p) tt (equal-fails _ _) a ea b
+      (rw (← ew, ← ey) (eb ∙ ap (and a) (equal-tested w y x)))
 
   -- a fault
   pub fault-read : (q : ℕ) → r ≡ component.Fault q → Is (piece.Fault q)
   unfolding pieceAt onDecoded
   fault-read q p = rw (at-fault code at r er q p)
-
--- a test that the document fails
-failed : (ok : Bool) (c : Component) → FailsThere c → false ≡ and ok (tested [] c)
-failed ok c e = sym (and-right ok (tested [] c) e)
-
--- ---- those of `pass_piece`
-module _ (code : List ℕ) (ok : Bool) (left at : ℕ) (r : ComponentAnswer) (er : r ≡ componentAnswer (writtenAt code at)) where
-  -- a text
-  pub name-passed : (n kind start size : ℕ) → r ≡ component.Name n kind start size → piece.Test n false ≡ pieceAt code [] ok left at
-  name-passed n kind start size p = named-is code [] ok left at r er n kind start size p false (failed ok _ (named-fails kind _))
-
-  -- an nth-child
-  pub numbers-passed : (n a b : ℕ) → r ≡ component.Numbers n a b → piece.Test n false ≡ pieceAt code [] ok left at
-  numbers-passed n a b p = nth-is code [] ok left at r er n a b p false (failed ok _ (nth-fails a b))
-
-  -- an attribute of a value
-  pub names-passed : (n a b f g : ℕ) → r ≡ component.Names n a b f g → piece.Test n false ≡ pieceAt code [] ok left at
-  names-passed n a b f g p = equal-is code [] ok left at r er n a b f g p false (failed ok _ (equal-fails _ _))
-
--- ---- those of `test_piece`
-module _ (code : List ℕ) (x : Element) (left at : ℕ) (r : ComponentAnswer) (er : r ≡ componentAnswer (writtenAt code at)) where
-  -- a text
-  pub name-tested : (n kind start size : ℕ) → r ≡ component.Name n kind start size → (w : List ℕ) → w ≡ part code start size
-      → (b : Bool) → b ≡ tested (x ∷ []) (namedOf kind w) → piece.Test n b ≡ pieceAt code (x ∷ []) true left at
-  unfolding and
-  name-tested n kind start size p w ew b eb =
-      named-is code (x ∷ []) true left at r er n kind start size p b (eb ∙ ap (λ (y : List ℕ). tested (x ∷ []) (namedOf kind y)) ew)
-
-  -- an nth-child
-  pub numbers-tested : (n a b : ℕ) → r ≡ component.Numbers n a b → (t : Bool) → t ≡ nthMatches (signedOf a) (signedOf b) (x .place)
-      → piece.Test n t ≡ pieceAt code (x ∷ []) true left at
-  unfolding and
-  numbers-tested n a b p t et = nth-is code (x ∷ []) true left at r er n a b p t (et ∙ nth-tested a b x)
-
-  -- an attribute of a value
-  pub names-tested : (n a b f g : ℕ) → r ≡ component.Names n a b f g → (w : List ℕ) → w ≡ part code a b → (y : List ℕ) → y ≡ part code f g
-      → (t : Bool) → t ≡ firstIs w y (x .attributes) → piece.Test n t ≡ pieceAt code (x ∷ []) true left at
-  unfolding and
-  names-tested n a b f g p w ew y ey t et =
-      equal-is code (x ∷ []) true left at r er n a b f g p t (rw (← ew, ← ey) (et ∙ equal-tested w y x))
-
--- ---- the returns of `read_piece`
-module _ (code : List ℕ) (x : Element) (left at : ℕ) where
-  -- where the tests so far have failed, the row does not matter
-  all-failed : (row : Path) → pieceAt code [] false left at ≡ pieceAt code row false left at
-  unfolding pieceAt pieceOf and
-  all-failed row = refl
-
-  -- an element that has passed so far is asked
-  pub piece-asked : (a ok el : Bool) → a ≡ and ok el → a ≡ true → (r : Piece) → r ≡ pieceAt code (x ∷ []) true left at → r ≡ pieceAt code (rowAlone el x) ok left at
-  unfolding and rowAlone
-  piece-asked a true true ea et r p = p
-  piece-asked a true false ea et r p = never (sym ea ∙ et)
-  piece-asked a false el ea et r p = never (sym ea ∙ et)
-
-  -- where it has not, or on the document, no test passes
-  pub piece-passed : (a ok el : Bool) → a ≡ and ok el → a ≡ false → (r : Piece) → r ≡ pieceAt code [] ok left at → r ≡ pieceAt code (rowAlone el x) ok left at
-  unfolding and rowAlone
-  piece-passed a true true ea et r p = never (sym (sym ea ∙ et))
-  piece-passed a true false ea et r p = p
-  piece-passed a false el ea et r p = p ∙ all-failed (rowAlone el x)

@@ -1,5 +1,5 @@
 -- The components of one selector at one row: the row, the parent's bytes, what a component in compiled bytes is for the row, and what a walk over them asks for.
-use Prim.Native.Nat.{ℕ, zero, suc, _+_, _-_, _≤_, _<_}
+use Prim.Native.Nat.{ℕ, zero, suc, _+_, _≤_, _<_}
 use mathlib.Core.Path.{_≡_}
 use mathlib.Core.Bool.{Bool, true, false}
 use mathlib.Core.List.{List, [], _∷_}
@@ -15,8 +15,8 @@ use Rattle.compiled.specs.Component.{componentAt}
 use Rattle.runner.specs.Groups.{Combinator, direct, anywhere, onComponent, tested, combinators}
 use Rattle.stepping.specs.declared.components.Piece.{Piece}
 use Rattle.stepping.specs.declared.components.Piece.the-variants as piece
-use Rattle.stepping.specs.declared.components.Leap.{Leap}
-use Rattle.stepping.specs.declared.components.Leap.the-variants as leap
+use Rattle.stepping.specs.declared.components.Group.{Group}
+use Rattle.stepping.specs.declared.components.Group.the-variants as group
 use Rattle.stepping.specs.declared.components.Weight.{Weight}
 use Rattle.stepping.specs.declared.components.Weight.the-variants as weight
 
@@ -59,30 +59,20 @@ isDirect anywhere = false
 unfoldable pub combinatorOf : Bool → Combinator
 combinatorOf d = pick d direct anywhere
 
--- what a component that ends at n, with `left` behind it, is for a row, where `ok` says whether the tests so far pass: a test with whether they still pass, or
--- a combinator
-unfoldable pub pieceOf : Path → Bool → ℕ → ℕ → Component → Piece
-pieceOf row ok left n c = onComponent c (λ k. piece.Combinator n left (isDirect k)) (λ test. piece.Test n (and ok (tested row test)))
+-- what a component that ends at n is for a row, where `ok` says whether the tests so far pass: a test with whether they still pass, or a combinator
+unfoldable pub pieceOf : Path → Bool → ℕ → Component → Piece
+pieceOf row ok n c = onComponent c (λ k. piece.Combinator n (isDirect k)) (λ test. piece.Test n (and ok (tested row test)))
 
-unfoldable pub pieceAt : List ℕ → Path → Bool → ℕ → ℕ → Piece
-pieceAt code row ok left at = onDecoded (componentAt code at) (pieceOf row ok left) (λ p. piece.Fault p)
+unfoldable pub pieceAt : List ℕ → Path → Bool → ℕ → Piece
+pieceAt code row ok at = onDecoded (componentAt code at) (pieceOf row ok) (λ p. piece.Fault p)
 
--- ---- a group that cannot match
-
--- behind the first combinator of so many components, or nowhere
-unfoldable pub leapAt : List ℕ → ℕ → ℕ → Leap
-leapAt code zero at = leap.Nowhere
-leapAt code (suc k) at = onDecoded (componentAt code at) (λ n c. onComponent c (λ d. leap.Behind n k (isDirect d)) (λ _. leapAt code k n)) (λ _. leap.Nowhere)
-
-unfoldable pub onLeap : {A : Type 0} → Leap → (ℕ → ℕ → Bool → A) → A → A
-onLeap (leap.Behind n left d) f a = f n left d
-onLeap leap.Nowhere f a = a
-
--- the next piece of `left` components; of a group without hope its combinator, where it has one
-unfoldable pub nextPiece : List ℕ → Path → Bool → Bool → ℕ → ℕ → Piece
-nextPiece code row hopeless ok left at =
-    let p = pieceAt code row ok (left - 1) at in
-    pick hopeless (onLeap (leapAt code left at) (λ n others d. piece.Combinator n others d) p) p
+-- the group that so many components begin with: whether its tests pass, up to a combinator, with how many components stand behind it, or to the end
+unfoldable pub groupAt : List ℕ → Path → ℕ → Bool → ℕ → Group
+groupAt code row zero ok at = group.Ended at ok
+groupAt code row (suc k) ok at =
+    onDecoded (componentAt code at)
+    (λ n c. onComponent c (λ d. group.Joined n k (isDirect d) ok) (λ test. groupAt code row k (and ok (tested row test)) n))
+    (λ p. group.Fault p)
 
 -- what a component adds to the specificity of its selector
 unfoldable pub weightAt : List ℕ → ℕ → Weight

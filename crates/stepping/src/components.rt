@@ -19,18 +19,22 @@ use syntax::rows::STAR;
 ghost use mathlib.Core.Path.{_≡_};
 ghost use mathlib.Core.Bool.{true, false};
 ghost use mathlib.Core.List.{_∷_, []};
-ghost use Prim.Native.Nat.{ℕ, suc, _+_, _≤_, _<_};
+ghost use Prim.Native.Nat.{ℕ, suc, _≤_, _<_};
 ghost use lib.ListN.{length, getD, drop};
 ghost use lib.Seq.{sets};
 ghost use Rattle.combinators.specs.Choice.{and};
 ghost use Rattle.syntax.specs.Signed.{signedOf};
+ghost use Rattle.page.specs.Path.{Path};
+ghost use Rattle.page.specs.PathOf.{attributesFrom};
+ghost use Rattle.page.specs.Rows.{attributeRows};
+ghost use Rattle.matching.specs.Matches.{firstIs};
 ghost use Rattle.matching.specs.Nth.{nthMatches};
 ghost use Rattle.matching.specs.Specificity.{specificity};
 ghost use Rattle.compiled.specs.Decoded.{read, counted};
-ghost use Rattle.compiled.specs.Component.{namedOf, componentAt};
+ghost use Rattle.compiled.specs.Component.{markOf, namedOf, componentAt};
 ghost use Rattle.compiled.specs.Sheet.{compiledLimit};
 ghost use Rattle.runner.specs.Groups.{pack, combined, tested, groups, combinators};
-ghost use Rattle.stepping.specs.Components.{rowAlone, handedElement, aboveFrom, Reads, componentsFrom, combinatorOf, pieceAt, leapAt, nextPiece, weightAt, placeLimit, ComponentsLent};
+ghost use Rattle.stepping.specs.Components.{rowAlone, handedElement, aboveFrom, Reads, componentsFrom, combinatorOf, pieceOf, pieceAt, groupAt, weightAt, placeLimit, ComponentsLent};
 
 // What the lower bit of a group's byte says, and what the upper one.
 const MATCHES_HERE: u8 = 1;
@@ -42,21 +46,23 @@ const BOTH_HERE: u8 = 3;
 // How many values the lower bit has.
 const BIT_VALUES: u8 = 2;
 
-// Fewer components are mostly one group, which a leap would only read twice.
-const LEAST_TO_LEAP: u32 = 3;
+// Fewer components are mostly one group, which would only be read twice.
+const LEAST_TO_PUT_OFF: u32 = 3;
 
-// What a component is for a row, each with the place behind it: a test, with whether the tests up to it pass; a combinator, with how many components stand
-// behind it and whether it is `>`. Or the place of the fault.
+// What a component is for a row, each with the place behind it: a test, with whether the tests up to it pass; a combinator, with whether it is `>`. Or the
+// place of the fault.
 pub enum Piece {
     Test(usize, bool),
-    Combinator(usize, u32, bool),
+    Combinator(usize, bool),
     Fault(usize),
 }
 
-// Where a group ends at a combinator: the place behind it, how many components stand there, and whether it is `>`. Or it has none.
-pub enum Leap {
-    Behind(usize, u32, bool),
-    Nowhere,
+// A group up to its combinator: the place behind it, how many components stand there, whether it is `>`, and whether the tests pass. Or up to the end: that
+// place, and whether they pass. Or the place of the fault.
+pub enum Group {
+    Joined(usize, u32, bool, bool),
+    Ended(usize, bool),
+    Fault(usize),
 }
 
 // What a component adds to the specificity of its selector, with the place behind it. Or the place of the fault.
@@ -148,51 +154,73 @@ fn nth_passes(first: u32, second: u32, place: usize) -> bool
     nth(a, b, place)
 }
 
-// The component at `at`, of which `left` stand behind it, for the document, which passes star alone: a test is only read past.
-fn pass_piece(compiled: &[u8], at: usize, left: u32, ok: bool) -> Piece
-    ensures { λ r. ⌜ r ≡ pieceAt (now (compiled .entry)) [] ok left at ⌝ }
+// Star, which passes, or a combinator.
+fn mark_piece(next: usize, kind: u32, ok: bool) -> Piece
+    ensures { λ r. ⌜ ((row : Path) → r ≡ pieceOf row ok next (markOf kind)) ⌝ }
 {
-    match read_component(compiled, at) {
-        ComponentAnswer::Mark(next, kind) => {
-            if kind == STAR {
-                return Piece::Test(next, ok);
-            }
-            return Piece::Combinator(next, left, kind == CHILD);
-        }
-        ComponentAnswer::Name { next, .. } => {
-            return Piece::Test(next, false);
-        }
-        ComponentAnswer::Numbers { next, .. } => {
-            return Piece::Test(next, false);
-        }
-        ComponentAnswer::Names { next, .. } => {
-            return Piece::Test(next, false);
-        }
-        ComponentAnswer::Fault(fault) => {
-            return Piece::Fault(fault);
-        }
+    if kind == STAR {
+        return Piece::Test(next, ok);
     }
+    Piece::Combinator(next, kind == CHILD)
 }
 
-// The same for an element that has passed so far.
-fn test_piece(
+// The same where it is asked for.
+fn name_asked(
+    asked: bool,
+    kind: u32,
+    word: &[u8],
+    name: &[u8],
+    attributes: &[u32],
+    text: &[u8],
+) -> bool
+    ensures { λ r. ⌜ ((place : ℕ) → r ≡ and asked (tested (handedElement (now (name .entry)) (now (attributes .entry)) (now (text .entry)) place ∷ []) (namedOf kind (now (word .entry))))) ⌝ }
+{
+    if asked {
+        return name_passes(kind, word, name, attributes, text);
+    }
+    false
+}
+
+// Whether an nth-child holds, where it is asked for.
+fn place_asked(asked: bool, first: u32, second: u32, place: usize) -> bool
+    requires { ⌜ place ≤ placeLimit ⌝ }
+    ensures { λ r. ⌜ r ≡ and asked (nthMatches (signedOf first) (signedOf second) place) ⌝ }
+{
+    if asked {
+        return nth_passes(first, second, place);
+    }
+    false
+}
+
+// Whether an attribute has a value, where it is asked for.
+fn value_asked(asked: bool, word: &[u8], value: &[u8], attributes: &[u32], text: &[u8]) -> bool
+    ensures { λ r. ⌜ r ≡ and asked (firstIs (now (word .entry)) (now (value .entry)) (attributesFrom (now (attributes .entry)) (now (text .entry)) (attributeRows (now (attributes .entry))) 0)) ⌝ }
+{
+    if asked {
+        let count = attributes.len() / ATTRIBUTE_WIDTH;
+        return attribute_is(attributes, text, 0, count, word, value);
+    }
+    false
+}
+
+// The component at `at` for a row. Where the tests so far have failed, and on the document, which passes star alone, a test is only read past.
+fn read_piece(
     compiled: &[u8],
     at: usize,
-    left: u32,
+    ok: bool,
+    element: bool,
     name: &[u8],
     attributes: &[u32],
     text: &[u8],
     place: usize,
 ) -> Piece
     requires { ⌜ place ≤ placeLimit ⌝ }
-    ensures { λ r. ⌜ r ≡ pieceAt (now (compiled .entry)) (handedElement (now (name .entry)) (now (attributes .entry)) (now (text .entry)) place ∷ []) true left at ⌝ }
+    ensures { λ r. ⌜ r ≡ pieceAt (now (compiled .entry)) (rowAlone element (handedElement (now (name .entry)) (now (attributes .entry)) (now (text .entry)) place)) ok at ⌝ }
 {
+    let asked = both(ok, element);
     match read_component(compiled, at) {
         ComponentAnswer::Mark(next, kind) => {
-            if kind == STAR {
-                return Piece::Test(next, true);
-            }
-            return Piece::Combinator(next, left, kind == CHILD);
+            return mark_piece(next, kind, ok);
         }
         ComponentAnswer::Name {
             next,
@@ -201,14 +229,14 @@ fn test_piece(
             size,
         } => {
             let word = part_of(compiled, start, size);
-            return Piece::Test(next, name_passes(kind, word, name, attributes, text));
+            return Piece::Test(next, name_asked(asked, kind, word, name, attributes, text));
         }
         ComponentAnswer::Numbers {
             next,
             first,
             second,
         } => {
-            return Piece::Test(next, nth_passes(first, second, place));
+            return Piece::Test(next, place_asked(asked, first, second, place));
         }
         ComponentAnswer::Names {
             next,
@@ -219,8 +247,7 @@ fn test_piece(
         } => {
             let word = part_of(compiled, start, size);
             let value = part_of(compiled, second_start, second_size);
-            let count = attributes.len() / ATTRIBUTE_WIDTH;
-            return Piece::Test(next, attribute_is(attributes, text, 0, count, word, value));
+            return Piece::Test(next, value_asked(asked, word, value, attributes, text));
         }
         ComponentAnswer::Fault(fault) => {
             return Piece::Fault(fault);
@@ -228,110 +255,54 @@ fn test_piece(
     }
 }
 
-// The component at `at` for a row. Where the tests so far have failed, a test need not be carried out.
-fn read_piece(
+// The group that `count` components from `at` on begin with. Where `hope` is not given, it is only read past.
+fn read_group(
     compiled: &[u8],
     at: usize,
-    left: u32,
-    ok: bool,
+    count: u32,
+    hope: bool,
     element: bool,
     name: &[u8],
     attributes: &[u32],
     text: &[u8],
     place: usize,
-) -> Piece
+) -> Group
     requires { ⌜ place ≤ placeLimit ⌝ }
-    ensures { λ r. ⌜ r ≡ pieceAt (now (compiled .entry)) (rowAlone element (handedElement (now (name .entry)) (now (attributes .entry)) (now (text .entry)) place)) ok left at ⌝ }
-{
-    if both(ok, element) {
-        return test_piece(compiled, at, left, name, attributes, text, place);
-    }
-    pass_piece(compiled, at, left, ok)
-}
-
-// Behind the first combinator of the `count` components from `at` on.
-fn leap_group(compiled: &[u8], at: usize, count: u32) -> Leap
-    ensures { λ r. ⌜ r ≡ leapAt (now (compiled .entry)) count at ⌝ }
+    ensures { λ r. ⌜ r ≡ groupAt (now (compiled .entry)) (rowAlone element (handedElement (now (name .entry)) (now (attributes .entry)) (now (text .entry)) place)) count hope at ⌝ }
 {
     let mut i = at;
     let mut left = count;
+    let mut ok = hope;
     while left > 0 {
         left -= 1;
-        match pass_piece(compiled, i, left, false) {
-            Piece::Test(next, _) => {
+        match read_piece(compiled, i, ok, element, name, attributes, text, place) {
+            Piece::Test(next, passes) => {
                 i = next;
+                ok = passes;
             }
-            Piece::Combinator(next, others, direct) => {
-                return Leap::Behind(next, others, direct);
+            Piece::Combinator(next, direct) => {
+                return Group::Joined(next, left, direct, ok);
             }
-            Piece::Fault(_) => {
-                return Leap::Nowhere;
-            }
-        }
-    }
-    Leap::Nowhere
-}
-
-// The next piece of the `left` components from `at` on. A group without hope is read past to its combinator at once; the leftmost group has none.
-fn next_piece(
-    compiled: &[u8],
-    at: usize,
-    left: u32,
-    hopeless: bool,
-    ok: bool,
-    element: bool,
-    name: &[u8],
-    attributes: &[u32],
-    text: &[u8],
-    place: usize,
-) -> Piece
-    requires { ⌜ place ≤ placeLimit ⌝ }
-    requires { ⌜ 0 < left ⌝ }
-    ensures { λ r. ⌜ r ≡ nextPiece (now (compiled .entry)) (rowAlone element (handedElement (now (name .entry)) (now (attributes .entry)) (now (text .entry)) place)) hopeless ok left at ⌝ }
-{
-    let behind = left - 1;
-    if hopeless {
-        match leap_group(compiled, at, left) {
-            Leap::Behind(next, others, direct) => {
-                return Piece::Combinator(next, others, direct);
-            }
-            Leap::Nowhere => {
-                return read_piece(
-                    compiled,
-                    at,
-                    behind,
-                    ok,
-                    element,
-                    name,
-                    attributes,
-                    text,
-                    place,
-                );
+            Piece::Fault(fault) => {
+                return Group::Fault(fault);
             }
         }
     }
-    read_piece(
-        compiled,
-        at,
-        behind,
-        ok,
-        element,
-        name,
-        attributes,
-        text,
-        place,
-    )
+    Group::Ended(i, ok)
 }
 
-// Whether a group that begins, with `left` components from it on, cannot match where it has a combinator, by the parent's byte of the group behind it. It may
-// say no where that is so.
-fn without_hope(byte: u8, left: u32) -> bool
-    ensures { λ r. ⌜ (r ≡ true → byte ≡ 0) ⌝ }
+// Whether the tests of a group that begins, with `left` components from it on, are carried out at once: where the parent's byte of the group behind it is 0,
+// they matter only if it is the leftmost group.
+fn has_hope(byte: u8, left: u32) -> bool
+    ensures { λ r. ⌜ (r ≡ false → byte ≡ 0) ⌝ }
 {
-    if left < LEAST_TO_LEAP {
+    if left < LEAST_TO_PUT_OFF {
+        return true;
+    }
+    if byte == 0 {
         return false;
     }
-    byte == 0
+    true
 }
 
 // What the component at `at` adds.
@@ -387,9 +358,9 @@ pub fn specificity_at(compiled: &[u8], at: usize, count: u32) -> Specificity
     result
 }
 
-// The bytes of a selector's groups at a row, one pass over its components: `holds` is what the combinator before a group says, `ok` whether the tests of the
-// group so far pass, `byte` the parent's of the group behind it, which says whether the combinator between them holds. A group's byte is written where a
-// combinator or the end is met.
+// The bytes of a selector's groups at a row, group by group: `holds` is what the combinator before a group says, `byte` the parent's of the group behind it,
+// which says whether the combinator between them holds. Where that is 0, no combinator holds, and the tests of the group are put off until it turns out to be
+// the leftmost, which has none.
 pub fn walk_components(
     compiled: &[u8],
     at: usize,
@@ -411,50 +382,37 @@ pub fn walk_components(
     ensures { λ r. ⌜ counted (componentAt (now (compiled .entry))) count at ≡ read (r .next) (componentsFrom (now (compiled .entry)) count at) ⌝ }
 {
     let mut i = at;
-    let mut left = count;
-    let mut ok = true;
+    let mut n = count;
     let mut holds = false;
     let mut groups = 0;
     let mut byte = byte_above(element, state, above + 1);
-    let mut hopeless = without_hope(byte, left);
-    while left > 0 {
-        match next_piece(
-            compiled,
-            i,
-            left,
-            hopeless,
-            ok,
-            element,
-            name,
-            attributes,
-            text,
-            place,
-        ) {
-            Piece::Test(next, passes) => {
-                i = next;
-                left -= 1;
-                ok = passes;
-                hopeless = false;
-            }
-            Piece::Combinator(next, others, direct) => {
+    let mut ok = has_hope(byte, n);
+    while n > 0 {
+        match read_group(compiled, i, n, ok, element, name, attributes, text, place) {
+            Group::Joined(next, left, direct, passes) => {
                 let joins = combines(direct, byte);
-                state[own + groups] = packed(both(ok, joins), holds);
+                state[own + groups] = packed(both(passes, joins), holds);
                 i = next;
-                left = others;
-                ok = true;
+                n = left;
                 holds = joins;
                 groups += 1;
                 byte = byte_above(element, state, above + groups + 1);
-                hopeless = without_hope(byte, left);
+                ok = has_hope(byte, n);
             }
-            Piece::Fault(_) => {
+            Group::Ended(next, passes) => {
+                if ok {
+                    state[own + groups] = packed(passes, holds);
+                    groups += 1;
+                    return Walked { next, groups };
+                }
+                ok = true;
+            }
+            Group::Fault(_) => {
                 return Walked { next: i, groups };
             }
         }
     }
-    state[own + groups] = packed(ok, holds);
-    Walked {
-        next: i,
-        groups: groups + 1,
-    }
+    state[own + groups] = packed(true, holds);
+    groups += 1;
+    Walked { next: i, groups }
 }

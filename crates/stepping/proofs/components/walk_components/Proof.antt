@@ -1,15 +1,15 @@
-use native.Mathlib.Omega.{arith}
 use Rattle.stepping.specs.Components.{rowAlone, handedElement}
+use native.Mathlib.Omega.{arith}
 use Rattle.stepping.proofs.WalkLaws as laws
 use borrow.Author.Needs.{needs}
 use Rattle.stepping.proofs.components.walk_components.Statement.{statement}
 use Rattle.stepping.proofs.components.walk_components.Tie as tie
 
 abbrev Inv-loop : tie.InvT-loop
-Inv-loop compiled at count element name attributes text place state₀ above own i₀ left₀ ok₀ holds₀ groups₀ byte₀ hopeless₀ state i left ok holds groups byte hopeless = laws.Walking compiled at count (rowAlone element (handedElement name attributes text place)) element state₀ above own state i left ok holds groups byte hopeless
+Inv-loop compiled at count element name attributes text place state₀ above own i₀ n₀ holds₀ groups₀ byte₀ ok₀ state i n holds groups byte ok = laws.Walking compiled at count (rowAlone element (handedElement name attributes text place)) element state₀ above own state i n holds groups byte ok
 
 abbrev μ-loop : tie.MeasureT-loop
-μ-loop compiled at count element name attributes text place state₀ above own i₀ left₀ ok₀ holds₀ groups₀ byte₀ hopeless₀ state i left ok holds groups byte hopeless = left
+μ-loop compiled at count element name attributes text place state₀ above own i₀ n₀ holds₀ groups₀ byte₀ ok₀ state i n holds groups byte ok = laws.turns n ok
 
 add-byte-above : tie.Need-add-byte-above Inv-loop μ-loop
 add-byte-above c = search needs
@@ -17,31 +17,17 @@ add-byte-above c = search needs
 byte-above-requires : tie.Need-byte-above-requires Inv-loop μ-loop
 byte-above-requires c κs = search needs
 
-without-hope-requires : tie.Need-without-hope-requires Inv-loop μ-loop
-without-hope-requires c κs = search needs
+has-hope-requires : tie.Need-has-hope-requires Inv-loop μ-loop
+has-hope-requires c κs = search needs
 
 loop-holds : tie.Need-loop-holds Inv-loop μ-loop
-loop-holds c = laws.walk-begin _ _ _ _ _ _ _ _ _ (c .before .before .before .before .before .before .before .before .pre) _ (c .before .byte-above .ensures) _ (c .without-hope .ensures)
+loop-holds c = laws.walk-begin _ _ _ _ _ _ _ _ _ (c .before .before .before .before .before .before .before .before .pre) _ (c .before .byte-above .ensures) _ (c .has-hope .ensures)
 
-next-piece-requires : tie.Need-next-piece-requires Inv-loop μ-loop
-next-piece-requires c κs = search needs
+read-group-requires : tie.Need-read-group-requires Inv-loop μ-loop
+read-group-requires c κs = search needs
 
 enum-known-next : tie.Need-enum-known-next Inv-loop μ-loop
 enum-known-next c = search needs
-
-sub-left : tie.Need-sub-left Inv-loop μ-loop
-sub-left c = search needs
-
-loop-less : tie.Need-loop-less Inv-loop μ-loop
-loop-less c = search needs
-
-loop-again : tie.Need-loop-again Inv-loop μ-loop
-loop-again c = let n = c .before in
-    let k = n .before .before in
-    laws.walk-test _ _ _ _ _ _ _ _ _ _ _ _ _ _ _ _ (k .before .before .loop .inv) (k .before .loop-test .taken) _ (k .next-piece .ensures) _ _ (n .next .given .1)
-
-enum-known-next-2 : tie.Need-enum-known-next-2 Inv-loop μ-loop
-enum-known-next-2 c = search needs
 
 combines-requires : tie.Need-combines-requires Inv-loop μ-loop
 combines-requires c κs = search needs
@@ -61,12 +47,14 @@ slice-write-state : tie.Need-slice-write-state Inv-loop μ-loop
 slice-write-state c = search needs
 
 add-groups : tie.Need-add-groups Inv-loop μ-loop
-add-groups c = let l = c .before .before .before .before .before .before .before .before in
+add-groups c =
+    let l = c .before .before .before .before .before .before .before .before in
     let v = l .loop .inv in
-    omega (arith, v .groups-left, v .room, v .order, l .before .before .before .before .before .before .before .before .before .good .1 .1 .1 .1 .1 .1 .1 .1 .0 .0)
+    omega (arith, v .groups-left, v .room, l .before .before .before .before .before .before .before .before .before .good .1 .1 .1 .1 .1 .1 .1 .1 .0 .0)
 
 add-byte-above-2 : tie.Need-add-byte-above-2 Inv-loop μ-loop
-add-byte-above-2 c = let l = c .before .before .before .before .before .before .before .before .before in
+add-byte-above-2 c =
+    let l = c .before .before .before .before .before .before .before .before .before in
     let v = l .loop .inv in
     omega (arith, v .groups-left, v .room, v .order, l .before .before .before .before .before .before .before .before .before .good .1 .1 .1 .1 .1 .1 .1 .1 .0 .0)
 
@@ -78,30 +66,23 @@ add-byte-above-3 c = let l = c .before .before .before .before .before .before .
 byte-above-requires-2 : tie.Need-byte-above-requires-2 Inv-loop μ-loop
 byte-above-requires-2 c κs = let n = c .before .before .before .before .before in
     let k = n .before .before in
-    laws.byte-there _ _ _ _ _ _ _ _ _ _ _ _ _ _ _ _ (k .before .before .loop .inv) (k .before .loop-test .taken) _ (k .next-piece .ensures) _ _ _ (n .next2 .given .1) _
+    laws.byte-there _ _ _ _ _ _ _ _ _ _ _ _ _ _ _ (k .before .before .loop .inv) _ (k .read-group .ensures) _ _ _ _ (n .next .given .1) _
 
-without-hope-requires-2 : tie.Need-without-hope-requires-2 Inv-loop μ-loop
-without-hope-requires-2 c κs = search needs
+has-hope-requires-2 : tie.Need-has-hope-requires-2 Inv-loop μ-loop
+has-hope-requires-2 c κs = search needs
 
-loop-less-2 : tie.Need-loop-less-2 Inv-loop μ-loop
-loop-less-2 c = let n = c .before .before .before .before .before .before .before in
+loop-less : tie.Need-loop-less Inv-loop μ-loop
+loop-less c = let n = c .before .before .before .before .before .before .before in
     let k = n .before .before in
-    laws.walk-less _ _ _ _ _ _ _ _ _ _ _ _ _ _ _ _ (k .before .before .loop .inv) (k .before .loop-test .taken) _ (k .next-piece .ensures) _ _ _ (n .next2 .given .1)
+    laws.walk-less _ _ _ _ _ _ _ _ _ _ _ _ _ _ _ (k .before .before .loop .inv) _ (k .read-group .ensures) _ _ _ _ (n .next .given .1) _ _
 
-loop-again-2 : tie.Need-loop-again-2 Inv-loop μ-loop
-loop-again-2 c = let n = c .before .before .before .before .before .before .before in
+loop-again : tie.Need-loop-again Inv-loop μ-loop
+loop-again c = let n = c .before .before .before .before .before .before .before in
     let k = n .before .before in
-    laws.walk-combinator _ _ _ _ _ _ _ _ _ _ _ _ _ _ _ _ (k .before .before .loop .inv) (k .before .loop-test .taken) _ (k .next-piece .ensures) _ _ _ (n .next2 .given .1) _ (c .before .before .before .before .before .combines .ensures) _ (c .before .before .before .before .both .ensures) _ (c .before .before .before .packed .ensures) _ (c .before .byte-above2 .ensures) _ (c .without-hope2 .ensures)
+    laws.walk-joined _ _ _ _ _ _ _ _ _ _ _ _ _ _ _ (k .before .before .loop .inv) _ (k .read-group .ensures) _ _ _ _ (n .next .given .1) _ (c .before .before .before .before .before .combines .ensures) _ (c .before .before .before .before .both .ensures) _ (c .before .before .before .packed .ensures) _ (c .before .byte-above2 .ensures) _ (c .has-hope2 .ensures)
 
-enum-told : tie.Need-enum-told Inv-loop μ-loop
-enum-told c = search needs
-
-same-length : tie.Need-same-length Inv-loop μ-loop
-same-length c = search needs
-
-returns : tie.Need-returns Inv-loop μ-loop
-returns c = let k = c .before .before in
-    absurd (laws.walk-fault _ _ _ _ _ _ _ _ _ _ _ _ _ _ _ _ (k .before .before .loop .inv) (k .before .loop-test .taken) _ (k .next-piece .ensures) _ (c .enum-told .given .1))
+enum-known-next-2 : tie.Need-enum-known-next-2 Inv-loop μ-loop
+enum-known-next-2 c = search needs
 
 packed-requires-2 : tie.Need-packed-requires-2 Inv-loop μ-loop
 packed-requires-2 c κs = search needs
@@ -112,14 +93,52 @@ add-state-2 c = search needs
 slice-write-state-2 : tie.Need-slice-write-state-2 Inv-loop μ-loop
 slice-write-state-2 c = search needs
 
-add-t27 : tie.Need-add-t27 Inv-loop μ-loop
-add-t27 c = search needs
+add-groups-2 : tie.Need-add-groups-2 Inv-loop μ-loop
+add-groups-2 c = search needs
+
+same-length : tie.Need-same-length Inv-loop μ-loop
+same-length c = search needs
+
+returns : tie.Need-returns Inv-loop μ-loop
+returns c = let n = c .before .before .before in
+    let k = n .before .before in
+    laws.walk-ended _ _ _ _ _ _ _ _ _ _ _ _ _ _ _ (k .before .before .loop .inv) _ (k .read-group .ensures) _ _ (n .next2 .given .1) (c .before .if1 .taken) _ (c .packed2 .ensures)
+
+loop-less-2 : tie.Need-loop-less-2 Inv-loop μ-loop
+loop-less-2 c = laws.turns-again _ _ (c .if1 .left)
+
+loop-again-2 : tie.Need-loop-again-2 Inv-loop μ-loop
+loop-again-2 c = let n = c .before .before in
+    let k = n .before .before in
+    laws.walk-again _ _ _ _ _ _ _ _ _ _ _ _ _ _ _ (k .before .before .loop .inv)
+
+enum-told : tie.Need-enum-told Inv-loop μ-loop
+enum-told c = search needs
 
 same-length-2 : tie.Need-same-length-2 Inv-loop μ-loop
 same-length-2 c = search needs
 
 returns-2 : tie.Need-returns-2 Inv-loop μ-loop
-returns-2 c = laws.walk-end _ _ _ _ _ _ _ _ _ _ _ _ _ _ _ _ (c .before .before .loop .inv) (c .before .loop-test .left) _ (c .packed2 .ensures)
+returns-2 c = let k = c .before .before in
+    absurd (laws.walk-fault _ _ _ _ _ _ _ _ _ _ _ _ _ _ _ (k .before .before .loop .inv) _ (k .read-group .ensures) _ (c .enum-told .given .1))
+
+packed-requires-3 : tie.Need-packed-requires-3 Inv-loop μ-loop
+packed-requires-3 c κs = search needs
+
+add-state-3 : tie.Need-add-state-3 Inv-loop μ-loop
+add-state-3 c = search needs
+
+slice-write-state-3 : tie.Need-slice-write-state-3 Inv-loop μ-loop
+slice-write-state-3 c = search needs
+
+add-groups-3 : tie.Need-add-groups-3 Inv-loop μ-loop
+add-groups-3 c = search needs
+
+same-length-3 : tie.Need-same-length-3 Inv-loop μ-loop
+same-length-3 c = search needs
+
+returns-3 : tie.Need-returns-3 Inv-loop μ-loop
+returns-3 c = laws.walk-end _ _ _ _ _ _ _ _ _ _ _ _ _ _ _ (c .before .before .loop .inv) (c .before .loop-test .left) _ (c .packed3 .ensures)
 
 pub walk-components-spec : {M : Type 1} → statement M
 walk-components-spec =
@@ -129,14 +148,10 @@ walk-components-spec =
     μ-loop
     add-byte-above
     byte-above-requires
-    without-hope-requires
+    has-hope-requires
     loop-holds
-    next-piece-requires
+    read-group-requires
     enum-known-next
-    sub-left
-    loop-less
-    loop-again
-    enum-known-next-2
     combines-requires
     both-requires
     packed-requires
@@ -146,15 +161,24 @@ walk-components-spec =
     add-byte-above-2
     add-byte-above-3
     byte-above-requires-2
-    without-hope-requires-2
-    loop-less-2
-    loop-again-2
-    enum-told
-    same-length
-    returns
+    has-hope-requires-2
+    loop-less
+    loop-again
+    enum-known-next-2
     packed-requires-2
     add-state-2
     slice-write-state-2
-    add-t27
+    add-groups-2
+    same-length
+    returns
+    loop-less-2
+    loop-again-2
+    enum-told
     same-length-2
-    returns-2)
+    returns-2
+    packed-requires-3
+    add-state-3
+    slice-write-state-3
+    add-groups-3
+    same-length-3
+    returns-3)
