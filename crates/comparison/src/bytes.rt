@@ -1,8 +1,8 @@
 // `comparison_check_bytes`: whether bytes are a compiled sheet.
 use combinators::refusals::TOO_LONG;
+use compiled::sheets::COMPILED_LIMIT;
 use compiled::sheets::check_sheet;
 use compiled::sheets::refusal_of;
-use compiled::sheets::COMPILED_LIMIT;
 ghost use mathlib.Core.Path.{_≡_};
 ghost use Rattle.comparison.specs.Bytes.{refusalIn, bytesCalled};
 

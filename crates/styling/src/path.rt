@@ -1,7 +1,5 @@
 // The style of an element and of those above it, from the top down.
 use crate::rules::merge_rules;
-use rule_styles::styled::StyledSheet;
-use rule_styles::styled::StyledSheets;
 use attributes::merging::merge_attributes;
 use attributes::merging::merge_early_attributes;
 use cascade::rows::clear_row;
@@ -10,6 +8,8 @@ use cascade::slots::Cascade;
 use page::rows::attribute_count;
 use page::rows::first_attribute;
 use page::rows::parent_of;
+use rule_styles::styled::StyledSheet;
+use rule_styles::styled::StyledSheets;
 use styles::settings::Settings;
 use syntax::rows::AGENT_ORIGIN;
 use syntax::rows::AUTHOR_ORIGIN;

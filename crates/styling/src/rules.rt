@@ -1,6 +1,4 @@
 // What the rules of a sheet say of an element, merged into its row. The styles of each rule are those that the call keeps for it.
-use rule_styles::rows::KEPT_COUNT;
-use rule_styles::rows::KEPT_HEAD;
 use cascade::rows::AFTER;
 use cascade::rows::BEFORE;
 use cascade::rows::MAIN;
@@ -12,6 +10,8 @@ use matching::components::specificity;
 use matching::matcher::do_matches;
 use origins::walk::skip_rule;
 use origins::walk::skip_selector;
+use rule_styles::rows::KEPT_COUNT;
+use rule_styles::rows::KEPT_HEAD;
 use syntax::rows::DECLARATION_WIDTH;
 use syntax::rows::PSEUDO_BEFORE;
 use syntax::rows::PSEUDO_NONE;
