@@ -11,3 +11,4 @@ pub mod StyleTells
 pub mod RunTells
 pub mod Agreeing
 pub mod Returning
+pub mod Sufficing

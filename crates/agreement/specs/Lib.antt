@@ -3,3 +3,4 @@ pub mod Calls
 pub mod ComputedRows
 pub mod Demand
 pub mod Agreed
+pub mod LeastSuffice
