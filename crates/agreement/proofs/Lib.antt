@@ -12,3 +12,4 @@ pub mod RunTells
 pub mod Agreeing
 pub mod Returning
 pub mod Sufficing
+pub mod StepAlone
