@@ -16,9 +16,9 @@
  *   - A call asks nothing of what its arguments hold. What it cannot serve it refuses, with one of the numbers below.
  *   - What a work store (`state`, `rules`, `tokens`, `brackets`) held before a call does not matter. After an answer all work stores are zero, and what is
  *     lent for the answer is zero beyond it. So a call takes time for each byte lent: lend the least lengths, even of larger arrays.
- *   - Of the stack a call takes little, and no more for longer sheets, more brackets or longer attributes. Only hicsolmab_style and hicsolmab_style_book take
- *     more where the element is deeper, some 930 bytes for each level. Below, "Stack" is the most that was measured with its arguments, over the longest sheets
- *     and attributes, the deepest pages and 32,768 open brackets, on a stack that ends in a page without access (tools/stack). */
+ *   - Of the stack a call takes little. Below, "Stack" is the most that was measured for it, with its arguments, over the longest sheets and attributes, the
+ *     deepest pages and selectors and 32,768 open brackets, on a stack that ends in a page without access (tools/stack). hicsolmab_style and
+ *     hicsolmab_style_book go down to their element by calling themselves, some 930 bytes for each level of the page. */
 #ifndef HICSOLMAB_H
 #define HICSOLMAB_H
 
