@@ -3,10 +3,10 @@
 
     bash tools/crate/build.sh FOLDER                 once: the crate
     rt staticlib engine; rt staticlib comparison     once: this engine, and what only the comparison asks
-    python3 tools/compare/faults.py [PART]           PART of the names of faults; without it all
+    python3 tools/compare/faults.py [PART ..]        parts of the names of faults; without them all
 
 Faults of the crate are changes of its text. Those of the engine are made by a layer between it and the comparison (faults/shim.c), for the engine's text cannot be built where
-it is wrong. For each fault every question is asked until its first difference, at most 500 inputs with one seed, and 6,000 where none differs; a fault that makes a question crash or last too long is noticed too.
+it is wrong. For each fault every question is asked until its first difference, at most 500 inputs with one seed, and 6,000 where none differs, and then all short texts of src/short.rs; a fault that makes a question crash or last too long is noticed too.
 All is built in target/faults; target/crate stays as it is. What is printed is a table for docs/DIFFERENCES.md.
 """
 import os
@@ -42,8 +42,8 @@ CRATE_FAULTS = [
     ("parser_odd", PARSER, 'map(tag("odd"), |_| (2, 1))', 1, 'map(tag("odd"), |_| (2, -1))', "`odd` is 2n-1"),
     ("parser_sign", PARSER, "let b = <i32 as FromStr>::from_str(b_val).unwrap() * b_sign.val();\n            (0, b)", 1,
      "let b = <i32 as FromStr>::from_str(b_val).unwrap() * (b_sign.val() * b_sign.val());\n            (0, b)", "the sign of a lone number is lost"),
-    ("parser_leading_space", PARSER, "components.reverse();\n    if let Some(&SelectorComponent::CombDescendant) = components.last() {\n        components.pop();\n    }", 1,
-     "components.reverse();", "white space before a selector is a descendant step"),
+    ("parser_trailing_space", PARSER, "    if let Some(&SelectorComponent::CombDescendant) = components.last() {\n        components.pop();\n    }\n    components.reverse();", 1,
+     "    components.reverse();", "white space behind a selector is a descendant step"),
     ("parser_semicolon", PARSER, 'opt(tag(";"))', 1, 'opt(tag(";;"))', "no `;` may stand behind the last declaration"),
     ("parser_at_rule", PARSER, "parse_to_end_of_statement(rest, None, true)", 1, "parse_to_end_of_statement(rest, None, false)", "the `;` of an at-rule is left"),
     ("css_class_case", CSS, "if cls == class {", 1, "if cls.eq_ignore_ascii_case(class) {", "classes match in either case"),
@@ -167,16 +167,23 @@ def ask(fault="", counts=COUNTS):
         noticed = ask_so_many(fault, count)
         if noticed:
             return noticed
-    return []
+    return ask_with(fault, "short") if len(counts) > 1 else []
 
 
 def ask_so_many(fault, count):
     """What notices a fault with so many inputs for each question."""
+    return ask_with(fault, "notice", SEED, count)
+
+
+def ask_with(fault, *words):
+    """What notices a fault when the comparison is started so."""
     try:
-        done = subprocess.run([CRATE / "target/release/compare", "notice", SEED, count], env=os.environ | {"FAULT": fault}, capture_output=True, text=True, timeout=SECONDS)
+        done = subprocess.run([CRATE / "target/release/compare", *words], env=os.environ | {"FAULT": fault}, capture_output=True, text=True, timeout=SECONDS)
     except subprocess.TimeoutExpired:
         return ["lasts too long"]
-    noticed = done.stdout.splitlines()
+    if words[0] == "short" and done.returncode == 1:
+        return ["all short texts"]
+    noticed = done.stdout.splitlines() if words[0] == "notice" else []
     return noticed + ["crashes"] if done.returncode not in (0, 1) else noticed
 
 
@@ -205,7 +212,7 @@ def row(side, name, words, noticed):
 
 
 def main():
-    part = sys.argv[1] if len(sys.argv) > 1 else ""
+    parts = sys.argv[1:] or [""]
     FAULTS.mkdir(parents=True, exist_ok=True)
     make_archives()
     make_workspace()
@@ -219,7 +226,7 @@ def main():
     planted = [("engine", name, words, lambda name=name: ask(name)) for name, words in ENGINE_FAULTS]
     planted += [("crate", fault[0], fault[-1], lambda fault=fault: ask_crate(fault)) for fault in CRATE_FAULTS]
     for side, name, words, plant in planted:
-        if part in name:
+        if any(part in name for part in parts):
             noticed = plant()
             found[side][0] += 1
             found[side][1] += bool(noticed)
