@@ -6,7 +6,7 @@
     python3 tools/compare/faults.py [PART ..]        parts of the names of faults; without them all
 
 Faults of the crate are changes of its text. Those of the engine are made by a layer between it and the comparison (faults/shim.c), for the engine's text cannot be built where
-it is wrong. For each fault every question is asked until its first difference, at most 500 inputs with one seed, and 6,000 where none differs, and then all short texts of src/short.rs; a fault that makes a question crash or last too long is noticed too.
+it is wrong. For each fault every question is asked until its first difference, at most 500 inputs with one seed, and 4,000 where none differs, and then all short texts of src/short.rs; a fault that makes a question crash or last too long is noticed too.
 All is built in target/faults; target/crate stays as it is. What is printed is a table for docs/DIFFERENCES.md.
 """
 import os
@@ -17,7 +17,7 @@ from pathlib import Path
 
 SEED = "1"
 # Inputs for each question: first so many, and where nothing notices the fault so many.
-COUNTS = ("500", "6000")
+COUNTS = ("500", "4000")
 SECONDS = 600
 ROOT = Path(__file__).resolve().parents[2]
 FAULTS = ROOT / "target/faults"
@@ -142,8 +142,10 @@ def make_archives():
 
 def make_workspace():
     """The crate and the comparison, laid out as in the repository, so that the paths between them hold."""
-    for folder in ("judge", "nom", "tendril", ".cargo"):
+    for folder in ("nom", "tendril", ".cargo"):
         shutil.copytree(ROOT / "target/crate" / folder, CRATE / folder, dirs_exist_ok=True)
+    # With the time of now, so that cargo builds again what an earlier start may have left with a fault.
+    shutil.copytree(ROOT / "target/crate/judge", CRATE / "judge", dirs_exist_ok=True, copy_function=shutil.copy)
     shutil.copytree(ROOT / "tools/compare", FAULTS / "tools/compare", dirs_exist_ok=True)
     shutil.copy(ROOT / "target/crate/Cargo.lock", CRATE / "Cargo.lock")
     workspace = (ROOT / "tools/crate/workspace.toml").read_text().splitlines()
