@@ -15,7 +15,10 @@
  *   - No call allocates memory, keeps anything after it returns, or uses a static variable: calls may be made from any thread at any time.
  *   - A call asks nothing of what its arguments hold. What it cannot serve it refuses, with one of the numbers below.
  *   - What a work store (`state`, `rules`, `tokens`, `brackets`) held before a call does not matter. After an answer all work stores are zero, and what is
- *     lent for the answer is zero beyond it. So a call takes time for each byte lent: lend the least lengths, even of larger arrays. */
+ *     lent for the answer is zero beyond it. So a call takes time for each byte lent: lend the least lengths, even of larger arrays.
+ *   - Of the stack a call takes little. Below, "Stack" is the most that was measured for it, with its arguments, over the longest sheets and attributes, the
+ *     deepest pages and selectors and 32,768 open brackets, on a stack that ends in a page without access (tools/stack). hicsolmab_style and
+ *     hicsolmab_style_book go down to their element by calling themselves, some 930 bytes for each level of the page. */
 #ifndef HICSOLMAB_H
 #define HICSOLMAB_H
 
@@ -227,7 +230,7 @@ typedef struct {
 /* Reads a sheet: how many rules it has, and where reading stopped. Like html2text, a reader stops for good at the first rule that it cannot read; that is an
  * answer and no refusal. `rules` and `texts` get the rules (crates/syntax/specs/RuleLayout.antt says how they lie there).
  *
- * Least lengths for HICSOLMAB_READ_SHEET_BYTES. Refuses TOO_LONG, SHORT_STORE, NOT_UTF8, PANIC. */
+ * Least lengths for HICSOLMAB_READ_SHEET_BYTES. Refuses TOO_LONG, SHORT_STORE, NOT_UTF8, PANIC. Stack: 2,368 bytes. */
 hicsolmab_sheet_result hicsolmab_read_sheet(const uint8_t *sheet, size_t sheet_length,
                                             uint32_t *rules, size_t rules_length,
                                             uint32_t *tokens, size_t tokens_length,
@@ -247,7 +250,7 @@ typedef struct {
  * crates/compiled/specs/Sheet.antt. What `texts` gets, the texts that rules name, a caller need not look at.)
  *
  * Least lengths for HICSOLMAB_COMPILE_BYTES; `compiled` may have any length, and is too short where NO_ROOM says so. Refuses TOO_LONG, SHORT_STORE, NOT_UTF8,
- * PANIC, NO_ROOM. */
+ * PANIC, NO_ROOM. Stack: 2,896 bytes. */
 hicsolmab_compile_result hicsolmab_compile(const uint8_t *agent, size_t agent_length,
                                            const uint8_t *user, size_t user_length,
                                            const uint8_t *author, size_t author_length,
@@ -263,7 +266,8 @@ typedef struct {
     size_t place; /* of BAD_ROW and BAD_TEXT the row */
 } hicsolmab_page_result;
 
-/* Whether a page is accepted. Nothing is written. The calls below check their page themselves, by the same rules. Refuses TOO_LARGE, BAD_ROW, BAD_TEXT. */
+/* Whether a page is accepted. Nothing is written. The calls below check their page themselves, by the same rules. Refuses TOO_LARGE, BAD_ROW, BAD_TEXT.
+ * Stack: 336 bytes. */
 hicsolmab_page_result hicsolmab_check_page(const uint32_t *nodes, size_t nodes_length,
                                            const uint32_t *attributes, size_t attributes_length,
                                            const uint8_t *text, size_t text_length);
@@ -283,7 +287,7 @@ typedef struct {
  * its parent has, display and contents too.
  *
  * Least lengths for HICSOLMAB_STYLE_BYTES, and HICSOLMAB_STYLE_ROW_WIDTH for `out`. Refuses TOO_LONG, SHORT_STORE, NOT_UTF8, TOO_LARGE, BAD_ROW, BAD_TEXT,
- * NO_ELEMENT, PANIC. */
+ * NO_ELEMENT, PANIC. Stack: 60,624 bytes. */
 hicsolmab_style_result hicsolmab_style(const uint8_t *agent, size_t agent_length,
                                        const uint8_t *user, size_t user_length,
                                        const uint8_t *author, size_t author_length,
@@ -299,7 +303,7 @@ hicsolmab_style_result hicsolmab_style(const uint8_t *agent, size_t agent_length
                                        uint8_t *brackets, size_t brackets_length);
 
 /* The same in the order of CSS Cascading Level 3: importance and origin decide first, then whether it is a `style` attribute, then
- * specificity, then what stands later. */
+ * specificity, then what stands later. Stack: 60,624 bytes. */
 hicsolmab_style_result hicsolmab_style_book(const uint8_t *agent, size_t agent_length,
                                             const uint8_t *user, size_t user_length,
                                             const uint8_t *author, size_t author_length,
@@ -329,7 +333,7 @@ typedef struct {
  * `compiled`, a text that starts below c lies at compiled + start, any other at texts + (start - c). hicsolmab_content finds it.
  *
  * Least lengths for HICSOLMAB_RUN_BYTES, and HICSOLMAB_ROWS_LEAST and HICSOLMAB_STATE_LEAST. Refuses TOO_LONG, SHORT_STORE, TOO_LARGE, BAD_ROW, BAD_TEXT,
- * BAD_BYTES. */
+ * BAD_BYTES. Stack: 2,624 bytes. */
 hicsolmab_run_result hicsolmab_run(const uint8_t *compiled, size_t compiled_length,
                                    const uint32_t *nodes, size_t nodes_length,
                                    const uint32_t *attributes, size_t attributes_length,

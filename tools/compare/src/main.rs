@@ -2,6 +2,7 @@
 //! difference with the smallest input that was found. tools/compare/run.sh builds and runs it.
 //!
 //!     compare SEED COUNT [QUESTION]
+//!     compare notice SEED COUNT        each question until its first difference: which of them noticed one
 //!     compare short                    all short texts of src/short.rs
 //!     compare replay FILE              asks the engine what a file of vectors asks
 use compare::questions::{Answer, Input, QUESTIONS};
@@ -63,7 +64,7 @@ fn exit_code(differences: usize) -> ExitCode {
 
 fn generated(seed: u64, count: usize, only: Option<&str>) -> ExitCode {
     let mut differences = 0;
-    println!("| question | seed | {COLUMNS}");
+    println!("| question | seed | call | {COLUMNS}---|");
     for question in QUESTIONS.iter().filter(|q| only.is_none_or(|name| name == q.name)) {
         let Some(ask) = question.ask else {
             println!("| {} | not exported by the engine yet |", question.name);
@@ -75,9 +76,28 @@ fn generated(seed: u64, count: usize, only: Option<&str>) -> ExitCode {
             tally.add(question.name, ask, (question.generate)(&mut random));
         }
         differences += tally.different;
-        println!("| {} | {seed} | {} |", question.name, tally.columns());
+        println!("| {} | {seed} | `{}` | {} |", question.name, question.call, tally.columns());
     }
     exit_code(differences)
+}
+
+// The number of inputs, counted from 1, with which a question first meets a difference.
+fn first_difference(ask: fn(&Input) -> Answer, generate: fn(&mut Random) -> Input, seed: u64, count: usize) -> Option<usize> {
+    let mut random = Random::new(seed);
+    (1..=count).find(|_| matches!(ask(&generate(&mut random)), Answer::Different(_)))
+}
+
+// Which questions notice a difference, each with the inputs that it took. A fault may make this side leave its memory or never end: whoever starts this limits its time.
+fn notice(seed: u64, count: usize) -> ExitCode {
+    let mut noticed = 0;
+    for question in QUESTIONS {
+        let found = question.ask.and_then(|ask| first_difference(ask, question.generate, seed, count));
+        if let Some(inputs) = found {
+            noticed += 1;
+            println!("{} {inputs}", question.name);
+        }
+    }
+    exit_code(noticed)
 }
 
 fn short() -> ExitCode {
@@ -107,6 +127,11 @@ fn work(words: &[String]) -> ExitCode {
     match &words[..] {
         [word] if word == "short" => return short(),
         [word, file] if word == "replay" => return replay(file),
+        [word, seed, count] if word == "notice" => {
+            if let (Ok(seed), Ok(count)) = (seed.parse(), count.parse()) {
+                return notice(seed, count);
+            }
+        }
         [seed, count, only @ ..] => {
             if let (Ok(seed), Ok(count)) = (seed.parse(), count.parse()) {
                 return generated(seed, count, only.first().map(String::as_str));
@@ -114,7 +139,7 @@ fn work(words: &[String]) -> ExitCode {
         }
         _ => {}
     }
-    eprintln!("compare SEED COUNT [QUESTION] | short | replay FILE");
+    eprintln!("compare SEED COUNT [QUESTION] | notice SEED COUNT | short | replay FILE");
     ExitCode::from(2)
 }
 

@@ -26,6 +26,8 @@ pub enum Answer {
 
 pub struct Question {
     pub name: &'static str,
+    /// What is asked of this engine, by the name of its function.
+    pub call: &'static str,
     pub generate: fn(&mut Random) -> Input,
     /// None where the engine does not export what is asked yet.
     pub ask: Option<fn(&Input) -> Answer>,
@@ -35,16 +37,16 @@ pub struct Question {
 // sheets and pages in which more contends; `book` asks for the style in book order, which is held against src/book.rs. `run` and `styled_run` ask for all elements of
 // the same pages in one run over the compiled sheets.
 pub const QUESTIONS: &[Question] = &[
-    Question { name: "sheet", generate: a_sheet, ask: Some(ask_sheet) },
-    Question { name: "style", generate: a_style_attribute, ask: Some(ask_style_attribute) },
-    Question { name: "colour", generate: a_color_attribute, ask: Some(ask_color_attribute) },
-    Question { name: "matches", generate: a_sheet_and_page, ask: Some(ask_matches) },
-    Question { name: "compile", generate: three_sheets, ask: ASK_COMPILE },
-    Question { name: "computed", generate: three_sheets_and_page, ask: ASK_COMPUTED },
-    Question { name: "styled", generate: styled_page, ask: ASK_COMPUTED },
-    Question { name: "book", generate: styled_page, ask: ASK_BOOK },
-    Question { name: "run", generate: three_sheets_and_page, ask: ASK_RUN },
-    Question { name: "styled_run", generate: styled_page, ask: ASK_RUN },
+    Question { name: "sheet", call: "hicsolmab_read_sheet", generate: a_sheet, ask: Some(ask_sheet) },
+    Question { name: "style", call: "comparison_style_attribute", generate: a_style_attribute, ask: Some(ask_style_attribute) },
+    Question { name: "colour", call: "comparison_color_attribute", generate: a_color_attribute, ask: Some(ask_color_attribute) },
+    Question { name: "matches", call: "comparison_matches", generate: a_sheet_and_page, ask: Some(ask_matches) },
+    Question { name: "compile", call: "hicsolmab_compile", generate: three_sheets, ask: ASK_COMPILE },
+    Question { name: "computed", call: "hicsolmab_style", generate: three_sheets_and_page, ask: ASK_COMPUTED },
+    Question { name: "styled", call: "hicsolmab_style", generate: styled_page, ask: ASK_COMPUTED },
+    Question { name: "book", call: "hicsolmab_style_book", generate: styled_page, ask: ASK_BOOK },
+    Question { name: "run", call: "hicsolmab_run", generate: three_sheets_and_page, ask: ASK_RUN },
+    Question { name: "styled_run", call: "hicsolmab_run", generate: styled_page, ask: ASK_RUN },
 ];
 
 // What the stores hold before a call, so that a byte left as it was is seen.
@@ -254,5 +256,26 @@ fn ask_compile(input: &Input) -> Answer {
     if this.refusal == 0 && !is_clear(&compiled[this.bytes..]) {
         return different("this leaves something beyond the compiled bytes");
     }
+    if let Err(how) = ask_compile_with_little([agent, user, author], &bytes) {
+        return different(&how);
+    }
     same_or((0, &bytes[..]), (this.refusal, &compiled[..this.bytes]))
+}
+
+// Lent exactly the bytes that the sheet takes, it compiles; lent one less, it refuses and leaves zeros.
+#[cfg(compiler)]
+fn ask_compile_with_little(sheets: [&String; 3], bytes: &[u8]) -> Result<(), String> {
+    let mut stores = Stores::new(sheets.iter().map(|s| s.len()).sum(), FILLING);
+    let mut compiled = vec![FILLING; bytes.len()];
+    let exact = stores.compile(sheets.map(|s| s.as_bytes()), &mut compiled);
+    if exact.refusal != 0 || compiled != bytes {
+        return Err(format!("lent {} bytes, this answers {exact:?}", bytes.len()));
+    }
+    compiled.pop();
+    compiled.fill(FILLING);
+    let less = stores.compile(sheets.map(|s| s.as_bytes()), &mut compiled);
+    if less.refusal != TOO_LONG_COMPILED || !is_clear(&compiled) || !all_clear(&stores) {
+        return Err(format!("lent a byte less than {}, this answers {less:?} or leaves something", bytes.len()));
+    }
+    Ok(())
 }

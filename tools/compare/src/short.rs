@@ -14,6 +14,8 @@ const SHEET: [&str; 26] =
     ["p", " ", "{", "}", ":", ";", ",", ".", "#", "[", "]", "=", "\"", "*", ">", "/*", "*/", "\\", "1", "-", "+", "@", "(", ")", "é", "!"];
 const VALUE: [&str; 24] =
     ["a", "red", " ", "{", "}", ";", ",", "#", "f0", "[", "]", "\"", "'", "/", "*", "\\", "0", "-", "+", ".", "%", "(", ")", "!important"];
+// What opens and closes a comment of HTML, and parts of both.
+const MARKS: [&str; 10] = ["<", "!", "-", ">", "a", " ", ";", "(", ")", "1"];
 const HEIGHT: [&str; 10] = ["0", "1", ".", "+", "-", " ", "px", "e", "/**/", "%"];
 const NTH: [&str; 11] = ["0", "2", "2147483647", "8", "n", "+", "-", " ", "even", "odd", ")"];
 const ATTRIBUTE: [&str; 10] = ["a", "=", "\"", "'", "]", " ", "\\", "-", "1", "\n"];
@@ -23,11 +25,12 @@ const RGB: [&str; 8] = ["1", "255", "6", ",", " ", "+", "-", ")"];
 const COLOUR: [&str; 12] = ["0", "a", "g", "#", "+", " ", "\u{a0}", ";", "}", "(", "!important", "é"];
 const DECLARATIONS: [&str; 10] = ["a", ":", ";", " ", "color:red", "/**/", "}", "\\", "!important", "1"];
 
-pub const FRAMES: [Frame; 20] = [
+pub const FRAMES: [Frame; 21] = [
     Frame { question: "sheet", before: "", behind: "", pieces: &SHEET, length: 4 },
     Frame { question: "sheet", before: "p{color:red}", behind: "q{}", pieces: &SHEET, length: 3 },
     Frame { question: "sheet", before: "p{", behind: "}q{}", pieces: &DECLARATIONS, length: 5 },
     Frame { question: "sheet", before: "p{color:", behind: "}q{}", pieces: &VALUE, length: 4 },
+    Frame { question: "sheet", before: "p{a:", behind: ";b:c}q{}", pieces: &MARKS, length: 5 },
     Frame { question: "sheet", before: "p{background:", behind: "}", pieces: &VALUE, length: 3 },
     Frame { question: "sheet", before: "p{content:", behind: "}", pieces: &VALUE, length: 3 },
     Frame { question: "sheet", before: "p{height:", behind: "}", pieces: &HEIGHT, length: 5 },
