@@ -6,8 +6,8 @@
     python3 tools/compare/faults.py [PART ..]        parts of the names of faults; without them all
 
 Faults of the crate are changes of its text. Those of the engine are made by a layer between it and the comparison (faults/shim.c), for the engine's text cannot be built where
-it is wrong. For each fault every question is asked until its first difference, at most 500 inputs with one seed, and 4,000 where none differs, and then all short texts of src/short.rs; a fault that makes a question crash or last too long is noticed too.
-All is built in target/faults; target/crate stays as it is. What is printed is a table for docs/DIFFERENCES.md.
+it is wrong. For each fault every question is asked until its first difference, at most 500 inputs with one seed; where none differs all short texts of src/short.rs are asked, and then 4,000 inputs. A fault that makes a question crash or last too long is noticed too.
+All is built in target/faults; target/crate stays as it is. It takes half an hour. What is printed is a table.
 """
 import os
 import shutil
@@ -16,8 +16,8 @@ import sys
 from pathlib import Path
 
 SEED = "1"
-# Inputs for each question: first so many, and where nothing notices the fault so many.
-COUNTS = ("500", "4000")
+# How a fault is asked for, one after the other until something notices it: so many inputs for each question, all short texts, more inputs.
+STAGES = (("notice", SEED, "500"), ("short",), ("notice", SEED, "4000"))
 SECONDS = 600
 ROOT = Path(__file__).resolve().parents[2]
 FAULTS = ROOT / "target/faults"
@@ -163,18 +163,13 @@ def build():
     return "" if done.returncode == 0 else done.stderr
 
 
-def ask(fault="", counts=COUNTS):
+def ask(fault="", stages=None):
     """What notices a fault: questions, each with the inputs that it took."""
-    for count in counts:
-        noticed = ask_so_many(fault, count)
+    for words in STAGES[:stages]:
+        noticed = ask_with(fault, *words)
         if noticed:
             return noticed
-    return ask_with(fault, "short") if len(counts) > 1 else []
-
-
-def ask_so_many(fault, count):
-    """What notices a fault with so many inputs for each question."""
-    return ask_with(fault, "notice", SEED, count)
+    return []
 
 
 def ask_with(fault, *words):
@@ -221,7 +216,7 @@ def main():
     told = build()
     if told:
         sys.exit(f"faults.py: the comparison does not build\n{told}")
-    if ask(counts=COUNTS[:1]):
+    if ask(stages=1):
         sys.exit("faults.py: there are differences before a fault is planted")
     found = {"engine": [0, 0], "crate": [0, 0]}
     print("| in | fault | what it does | noticed by (inputs) |\n|---|---|---|---|", flush=True)

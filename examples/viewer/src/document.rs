@@ -68,3 +68,32 @@ fn rules_of(sheet: &str) -> Result<&str, Refusal> {
     }
     Ok(part)
 }
+
+#[cfg(test)]
+mod tests {
+    use super::*;
+
+    fn of(sheets: &[&str]) -> String {
+        joined(&sheets.iter().map(ToString::to_string).collect::<Vec<_>>()).expect("sheets that are read")
+    }
+
+    #[test]
+    fn a_sheet_that_stops_does_not_end_the_next() {
+        assert_eq!(of(&["p{color:red} q{color} a{color:lime}", "b{color:blue}"]), "p{color:red}b{color:blue}");
+    }
+
+    #[test]
+    fn an_at_rule_that_is_open_swallows_nothing() {
+        assert_eq!(of(&["p{color:red} @x{} @y (", "b{color:blue}\n"]), "p{color:red}b{color:blue}");
+        assert_eq!(of(&["@x{p{}} ", "", "b{}"]), "b{}");
+    }
+
+    #[test]
+    fn rows() {
+        let document = Document::new(&crate::dom::parse(b"<!DOCTYPE html><p class=k>a<!-- b --><b>c</b>")).expect("a page that is accepted");
+        let names: Vec<Option<&str>> = (0..document.page.row_count()).map(|row| document.page.name(row)).collect();
+        assert_eq!(names, [None, None, Some("html"), Some("head"), Some("body"), Some("p"), None, None, Some("b"), None]);
+        let texts: Vec<&str> = document.texts.iter().flatten().map(String::as_str).collect();
+        assert_eq!(texts, ["a", "c"]);
+    }
+}
