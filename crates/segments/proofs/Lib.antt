@@ -1,1 +1,2 @@
 pub mod SegmentLaws
+pub mod SweepLaws
