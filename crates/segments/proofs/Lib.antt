@@ -1,2 +1,3 @@
 pub mod SegmentLaws
 pub mod SweepLaws
+pub mod BeforeLaws

@@ -1,2 +1,3 @@
 pub mod Segments
 pub mod Sweep
+pub mod Before
