@@ -1,3 +1,4 @@
 pub mod SegmentLaws
 pub mod SweepLaws
 pub mod BeforeLaws
+pub mod VisitLaws

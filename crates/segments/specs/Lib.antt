@@ -1,3 +1,4 @@
 pub mod Segments
 pub mod Sweep
 pub mod Before
+pub mod Visits
