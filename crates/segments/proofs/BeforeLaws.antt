@@ -75,6 +75,40 @@ place-past code k [] i s h = absurd (unfold steps in omega arith)
 place-past code k (x ∷ ws) i s h =
     rw (place-less code x ws k i (s .0) (s .1) h) (let a = piece-ends code i (s .0) x (s .1) .0 in let b = place-from code k ws (s .0) (s .2) in omega arith)
 
+-- a segment is no longer than all
+pub length-segment : (k : ℕ) (ws : List Piece) → length (segment k ws) ≤ length ws
+unfolding segment
+length-segment k [] = omega arith
+length-segment k (x ∷ ws) =
+    pick-holds (λ l. length l ≤ suc (length ws)) (is (steps (x ∷ ws)) k) (x ∷ ws) (segment k ws) (λ _. omega arith) (λ _. let h = length-segment k ws in omega arith)
+
+-- the place behind all pieces
+unfoldable pub behindAll : List ℕ → List Piece → ℕ → ℕ
+behindAll code [] i = i
+behindAll code (x ∷ ws) i = behindAll code ws (behind code i)
+
+-- one piece more
+behind-more : (code : List ℕ) (x : Piece) (ws : List Piece) (i n : ℕ) → pieceAt code i ≡ read n x → behindAll code (x ∷ ws) i ≡ behindAll code ws n
+unfolding behindAll
+behind-more code x ws i n e = rw (behind-piece code i n x e)
+
+-- a piece takes a byte
+pub behind-from : (code : List ℕ) (ws : List Piece) (i : ℕ) → Lies code i ws → i + length ws ≤ behindAll code ws i
+behind-from code [] i s = unfold behindAll in omega arith
+behind-from code (x ∷ ws) i s =
+    rw (behind-more code x ws i (s .0) (s .1)) (let a = piece-ends code i (s .0) x (s .1) .0 in let b = behind-from code ws (s .0) (s .2) in omega arith)
+
+-- no segment begins behind all
+pub place-to : (code : List ℕ) (k : ℕ) (ws : List Piece) (i : ℕ) → Lies code i ws → segmentPlace code k ws i ≤ behindAll code ws i
+unfolding segmentPlace
+place-to code k [] i s = unfold behindAll in omega arith
+place-to code k (x ∷ ws) i s =
+    let a = piece-ends code i (s .0) x (s .1) .0 in
+    let b = behind-from code ws (s .0) (s .2) in
+    let c = place-to code k ws (s .0) (s .2) in
+    rw (behind-more code x ws i (s .0) (s .1))
+    (pick-holds (λ m. m ≤ behindAll code ws (s .0)) (is (steps (x ∷ ws)) k) i (segmentPlace code k ws (behind code i)) (λ _. omega arith) (λ _. rw (behind-piece code i (s .0) x (s .1)) c))
+
 -- ---- what is read of a segment
 
 -- the first of these pieces, s being read before them

@@ -22,7 +22,7 @@ use Rattle.segments.specs.Before.{Segment, beginning, segmentBefore, noP
 use Rattle.segments.specs.Visits.{toNext, toAwaited, toFlags, Visited, awaits, endedBy, endedAt, decided, visitAt}
 use Rattle.segments.proofs.SegmentLaws.{asks, asks-right, left, allowed, Arrived, at-top, asks-last, asks-other, stays, goes-on}
 use Rattle.segments.proofs.SweepLaws.{Lies, Holds, pairValues, told, sweep-told}
-use Rattle.segments.proofs.BeforeLaws.{segmentPlace, place-all, segment-lies, place-past, reading, next-segment, leftmost-segment}
+use Rattle.segments.proofs.BeforeLaws.{segmentPlace, behindAll, place-all, length-segment, segment-lies, place-past, reading, next-segment, leftmost-segment}
 
 -- ---- a segment of which nothing has begun
 
@@ -69,6 +69,7 @@ pub record Lying (code : List ℕ) (from : ℕ) (s : Placed) : Type 0 where
   pub head-read : headAt code agentOrigin (s .place) ≡ read (s .first) head
   pub count : head .count ≡ length (piecesOf s)
   pub lies : Lies code (s .first) (piecesOf s)
+  pub inside : behindAll code (piecesOf s) (s .first) < s .end
   pub room : s .place + 6 + length (piecesOf s) ≤ s .end
   pub ends : s .end ≤ length code
 
@@ -83,3 +84,104 @@ pub record Tells (code : List ℕ) (s : Placed) (p : Path) (awaited : ℕ) (flag
 same-told : (ws : List Piece) (s : State) (p : Path) → Arrived ws s p → Arrived ws (record { done = s .done; may = allowed (segment (s .done) ws) p }) p
 unfolding awaiting
 same-told ws s p a = record { bound = a .bound; begun = a .begun; undone = a .undone; others = []; told = sym (append-nil _) }
+
+-- a segment of which nothing has begun tells right where the machine awaits it
+awaits-tells : (code : List ℕ) (s : Placed) (q : Path) (k : ℕ) → Arrived (piecesOf s) (awaiting k (piecesOf s)) q
+    → let v = awaits (reading (beginning (segmentPlace code k (piecesOf s) (s .first))) (segment k (piecesOf s))) in Tells code s q (v .awaited) (v .flags)
+unfolding awaits awaiting beginning
+awaits-tells code s q k a =
+    record {
+      done = k;
+      arrived = same-told (piecesOf s) _ q a;
+      place = reading-start (segment k (piecesOf s)) _;
+      right = fresh-told (segment k (piecesOf s)) q (a .others) _ (a .told);
+    }
+
+-- ---- what is decided by what was swept
+module _ (code : List ℕ) (p awaited : ℕ) (flags : List ℕ) where
+  -- the segment does not end here
+  decided-no : decided code p awaited (flag false ∷ flags) ≡ record { matched = false; awaited = awaited; flags = flags }
+  unfolding decided
+  decided-no = sym (pick-false _ _ _ _ (flag-back false) refl)
+
+  module _ (first : ℕ) (head : Head) (e : headAt code agentOrigin p ≡ read first head) where
+    -- it does
+    decided-yes : decided code p awaited (flag true ∷ flags) ≡ endedBy code awaited flags first (head .count)
+    unfolding decided endedAt onDecoded
+    decided-yes = sym (pick-true _ _ _ _ (flag-back true) (rw e))
+
+    -- and is the last
+    decided-last : awaited ≡ first → decided code p awaited (flag true ∷ flags) ≡ record { matched = true; awaited = awaited; flags = flags }
+    unfolding endedBy
+    decided-last h = decided-yes ∙ sym (pick-true _ _ _ _ (is-yes awaited first h) refl)
+
+    -- or another
+    decided-next : ¬ (awaited ≡ first) → decided code p awaited (flag true ∷ flags) ≡ awaits (segmentBefore code awaited (head .count) (beginning first) first)
+    unfolding endedBy
+    decided-next h = decided-yes ∙ sym (pick-false _ _ _ _ (is-no awaited first h) refl)
+
+-- ---- a visit
+
+-- what is right of one
+pub record Right (code : List ℕ) (s : Placed) (p : Path) (e : Element) (v : Visited) : Type 0 where
+  pub matched : v .matched ≡ asks (piecesOf s) p
+  pub tells : Tells code s (e ∷ p) (v .awaited) (v .flags)
+
+module _ (code : List ℕ) (s : Placed) (p : Path) (e : Element) (from : ℕ) (y : Lying code from s) (k : ℕ)
+    (a : Arrived (piecesOf s) (record { done = k; may = allowed (segment k (piecesOf s)) p }) p) where
+  abbrev swept : Bool → List ℕ
+  swept b = flag b ∷ told 0 (segment k (piecesOf s)) (e ∷ p)
+
+  abbrev begins : ℕ
+  begins = segmentPlace code k (piecesOf s) (s .first)
+
+  -- the flags swept, of a segment that is awaited on
+  right-stays : (m : Bool) → m ≡ asks (piecesOf s) p → (k < steps (piecesOf s) → asks (segment k (piecesOf s)) p ≡ false)
+      → Right code s p e (record { matched = m; awaited = begins; flags = told 0 (segment k (piecesOf s)) (e ∷ p) })
+  right-stays m h u = record { matched = h; tells = record { done = k; arrived = stays (piecesOf s) _ p a e u; place = refl; right = refl } }
+
+  right-no : asks (segment k (piecesOf s)) p ≡ false → (k < steps (piecesOf s)) ⊎ (steps (piecesOf s) ≤ k) → Right code s p e (decided code (s .place) begins (swept false))
+  right-no h (inl l) = rw decided-no (right-stays false (sym (asks-other (piecesOf s) _ p a l)) (λ _. h))
+  right-no h (inr l) =
+      let b = a .bound in
+      let d : k ≡ steps (piecesOf s) = omega arith in
+      rw decided-no (right-stays false (sym h ∙ asks-last (piecesOf s) _ p a d) (λ _. h))
+
+  right-yes : asks (segment k (piecesOf s)) p ≡ true → (k < steps (piecesOf s)) ⊎ (steps (piecesOf s) ≤ k) → Right code s p e (decided code (s .place) begins (swept true))
+  right-yes h (inl l) =
+      let z = place-past code k (piecesOf s) (s .first) (y .lies) l in
+      rw (decided-next code (s .place) begins (told 0 (segment k (piecesOf s)) (e ∷ p)) (s .first) (y .head) (y .head-read) (λ q. omega arith), y .count, next-segment code k (piecesOf s) (s .first) (y .lies) l)
+      (record {
+        matched = unfold awaits in sym (asks-other (piecesOf s) _ p a l);
+        tells = awaits-tells code s (e ∷ p) (suc k) (goes-on (piecesOf s) _ p a e l h);
+      })
+  right-yes h (inr l) =
+      let b = a .bound in
+      let d : k ≡ steps (piecesOf s) = omega arith in
+      rw (decided-last code (s .place) begins (told 0 (segment k (piecesOf s)) (e ∷ p)) (s .first) (y .head) (y .head-read) (ap (λ (n : ℕ). segmentPlace code n (piecesOf s) (s .first)) d ∙ place-all code (piecesOf s) (s .first)))
+      (right-stays true (sym h ∙ asks-last (piecesOf s) _ p a d) (λ m. absurd (omega arith)))
+
+  right-swept : (b : Bool) → asks (segment k (piecesOf s)) p ≡ b → Right code s p e (decided code (s .place) begins (swept b))
+  right-swept true h = right-yes h (lt-or-ge k (steps (piecesOf s)))
+  right-swept false h = right-no h (lt-or-ge k (steps (piecesOf s)))
+
+-- what a part says of a selector
+pub record ToldAt (code part : List ℕ) (s : Placed) (p : Path) : Type 0 where
+  pub flags : List ℕ
+  pub tells : Tells code s p (pairAt part (s .place + toAwaited)) flags
+  pub held : Holds part (s .place + toFlags) flags
+
+-- a node that is told right says whether a selector matches, and tells its children right
+pub visit-right : (code part : List ℕ) (s : Placed) (p : Path) (e : Element) (from : ℕ) → length code ≤ pairValues → Lying code from s → ToldAt code part s p
+    → Right code s p e (visitAt code (alone p) part (s .place))
+unfolding visitAt
+visit-right code part s p e from c y t =
+    let k = t .tells .done in
+    let a = t .tells .arrived in
+    let l = length-segment k (piecesOf s) in
+    let r = y .room in
+    let m = y .ends in
+    rw (t .tells .place,
+      sweep-told code part p e (length code) (segment k (piecesOf s)) (s .place + toFlags) (segmentPlace code k (piecesOf s) (s .first)) (segment-lies code k (piecesOf s) (s .first) (y .lies))
+      (omega arith) (omega arith) (omega arith) (a .begun) (rw (t .tells .right) at (t .held)))
+    (right-swept code s p e from y k a (asks (segment k (piecesOf s)) p) refl)
