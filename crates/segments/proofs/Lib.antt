@@ -2,3 +2,4 @@ pub mod SegmentLaws
 pub mod SweepLaws
 pub mod BeforeLaws
 pub mod VisitLaws
+pub mod PartLaws

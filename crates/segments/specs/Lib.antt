@@ -2,3 +2,4 @@ pub mod Segments
 pub mod Sweep
 pub mod Before
 pub mod Visits
+pub mod Pass
