@@ -3,3 +3,4 @@ pub mod SweepLaws
 pub mod BeforeLaws
 pub mod VisitLaws
 pub mod PartLaws
+pub mod PassLaws
