@@ -23,6 +23,11 @@ use Rattle.segments.proofs.PartLaws.{sets-before, sets-held, held-same,
 
 -- ---- a block
 
+-- it leaves the length of the part
+pub length-block : (v : Visited) (next p : ℕ) (own : List ℕ) → length (blockSet v next p own) ≡ length own
+unfolding blockSet
+length-block v next p own = length-sets own (p + toNext) (blockBytes next (v .awaited) (v .flags))
+
 module _ (code : List ℕ) (c : length code ≤ pairValues) (s : Placed) (q : Path) (from : ℕ) (y : Lying code from s) (v : Visited) (t : Tells code s q (v .awaited) (v .flags)) where
   -- it ends before the block of a selector that lies behind
   block-fits : (next : ℕ) → s .place + toNext + length (blockBytes next (v .awaited) (v .flags)) ≤ s .end + toNext
@@ -100,3 +105,57 @@ pub record Passes (code : List ℕ) (path : Path) (e : Element) (from p : ℕ) (
 first-low : (code part : List ℕ) (from p : ℕ) (ss : List Placed) (path : Path) → length code ≤ pairValues → Laid code from ss → ToldAll code part p ss path → p < pairValues
 first-low code part from p [] path c y t = rw t (let z : noPlace < pairValues = omega arith in z)
 first-low code part from p (s ∷ others) path c y t = rw (t .0) (let a = y .0 .room in let b = y .0 .ends in let z : s .place < pairValues = omega arith in z)
+
+-- ---- a pass
+
+-- no selector is left
+pass-none : (code above : List ℕ) (row : Path) (k : ℕ) (own : List ℕ) → passFrom code row above k noPlace own ≡ record { part = own; matched = [] }
+unfolding passFrom
+pass-none code above row zero own = refl
+pass-none code above row (suc k) own = sym (pick-true _ _ _ _ (is-yes noPlace noPlace refl) refl)
+
+-- one selector, then the others
+pass-more : (code above : List ℕ) (row : Path) (k p : ℕ) (own : List ℕ) → 0 < p
+    → let next = pairAt above (p + toNext) in
+      let others = passFrom code row above k next (blockSet (visitAt code row above p) next p own) in
+      passFrom code row above (suc k) p own ≡ record { part = others .part; matched = matchedHere (visitAt code row above p) p ++ others .matched }
+unfolding passFrom
+pass-more code above row k p own h = sym (pick-false _ _ _ _ (is-no p noPlace (λ e. omega arith)) refl)
+
+module _ (code above : List ℕ) (path : Path) (e : Element) (c : length code ≤ pairValues) where
+  -- the first selector of a pass
+  pass-one : (k from : ℕ) (s : Placed) (others : List Placed) (own : List ℕ) → 0 < from → Laid code from (s ∷ others) → ToldAt code above s path
+      → ToldAll code above (pairAt above (s .place + toNext)) others path → length code < length own
+      → let v = visitAt code (alone path) above (s .place) in
+        let next = pairAt above (s .place + toNext) in
+        Passes code path e (s .end) next others (blockSet v next (s .place) own) (passFrom code (alone path) above k next (blockSet v next (s .place) own))
+      → Passes code path e from (s .place) (s ∷ others) own (passFrom code (alone path) above (suc k) (s .place) own)
+  pass-one k from s others own h y t u l ih =
+      let v : Visited = visitAt code (alone path) above (s .place) in
+      let next = pairAt above (s .place + toNext) in
+      let r : Right code s path e v = visit-right code above s path e from c (y .0) t in
+      let a = y .0 .after in
+      let low = first-low code above (s .end) next others path c (y .1) u in
+      let part = passFrom code (alone path) above k next (blockSet v next (s .place) own) .part in
+      let g = block-told code c s (e ∷ path) from (y .0) v (r .tells) next low own part l (ih .before) in
+      let b = block-next code c s (e ∷ path) from (y .0) v (r .tells) next low own part l (ih .before) in
+      rw (pass-more code above (alone path) k (s .place) own (let z : 0 < s .place = omega arith in z))
+      (record {
+        matched = unfold matchedHere matchingPlaces in ap₂ _++_ (ap (λ (x : Bool). pick x (s .place ∷ []) []) (r .matched ∙ asks-right (s .components) path)) (ih .matched);
+        told = (refl, g, rw b (ih .told));
+        before = λ m n. let z = y .0 .room in ih .before m (omega arith) ∙ unfold blockSet in sets-before (blockBytes next (v .awaited) (v .flags)) own (s .place + toNext) m (omega arith);
+        long = ih .long ∙ length-block v next (s .place) own;
+      })
+
+  -- it finds the selectors that match, and the own part tells the children right
+  pub pass-right : (ss : List Placed) (k from p : ℕ) (own : List ℕ) → length ss ≤ k → 0 < from → Laid code from ss → ToldAll code above p ss path → length code < length own
+      → Passes code path e from p ss own (passFrom code (alone path) above k p own)
+  pass-right [] k from p own h f y t l =
+      rw (t, pass-none code above (alone path) k own)
+      (record { matched = unfold matchingPlaces in refl; told = refl; before = λ m n. refl; long = refl })
+  pass-right (s ∷ others) zero from p own h f y t l = absurd (omega arith)
+  pass-right (s ∷ others) (suc k) from p own h f y t l =
+      rw (t .0)
+      (pass-one k from s others own f y (t .1) (t .2) l
+      (pass-right others k (s .end) _ _ (omega arith) (let a = y .0 .room in omega arith) (y .1) (t .2)
+      (let z = length-block (visitAt code (alone path) above (s .place)) (pairAt above (s .place + toNext)) (s .place) own in omega arith)))
