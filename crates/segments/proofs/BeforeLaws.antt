@@ -88,7 +88,7 @@ behindAll code [] i = i
 behindAll code (x ∷ ws) i = behindAll code ws (behind code i)
 
 -- one piece more
-behind-more : (code : List ℕ) (x : Piece) (ws : List Piece) (i n : ℕ) → pieceAt code i ≡ read n x → behindAll code (x ∷ ws) i ≡ behindAll code ws n
+pub behind-more : (code : List ℕ) (x : Piece) (ws : List Piece) (i n : ℕ) → pieceAt code i ≡ read n x → behindAll code (x ∷ ws) i ≡ behindAll code ws n
 unfolding behindAll
 behind-more code x ws i n e = rw (behind-piece code i n x e)
 

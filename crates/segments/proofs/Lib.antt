@@ -4,3 +4,4 @@ pub mod BeforeLaws
 pub mod VisitLaws
 pub mod PartLaws
 pub mod PassLaws
+pub mod PlacedLaws

@@ -13,12 +13,13 @@ use Rattle.matching.specs.Matches.{matches}
 use Rattle.segments.specs.Segments.{Piece, piece, segment, alone}
 use Rattle.segments.specs.Sweep.{pairAt, pairBytes}
 use Rattle.segments.specs.Before.{noPlace}
+use Rattle.segments.specs.Placed.{Placed, piecesOf, matchingPlaces}
 use Rattle.segments.specs.Visits.{toNext, toAwaited, toFlags, blockBytes, Visited, visitAt}
 use Rattle.segments.specs.Pass.{Passed, matchedHere, blockSet, passFrom}
 use Rattle.segments.proofs.SegmentLaws.{asks, asks-right}
 use Rattle.segments.proofs.SweepLaws.{Holds, pairValues, pair-back, told}
 use Rattle.segments.proofs.BeforeLaws.{segmentPlace, length-segment, place-to}
-use Rattle.segments.proofs.VisitLaws.{Placed, piecesOf, Lying, Tells, Right, ToldAt, visit-right}
+use Rattle.segments.proofs.VisitLaws.{Lying, Tells, Right, ToldAt, visit-right}
 use Rattle.segments.proofs.PartLaws.{sets-before, sets-held, held-same, held-pair, length-flags}
 
 -- ---- a block
@@ -58,12 +59,12 @@ module _ (code : List ℕ) (c : length code ≤ pairValues) (s : Placed) (q : Pa
         (sets-held (blockBytes next (v .awaited) (v .flags)) own (s .place + toNext) (omega arith))
 
     -- the place of the next selector is read back
-    block-next : pairAt part (s .place + toNext) ≡ next
+    pub block-next : pairAt part (s .place + toNext) ≡ next
     unfolding blockBytes
     block-next = pair-back part (s .place + toNext) next n (held-pair next _ part (s .place + toNext) block-held .0)
 
     -- and so is what is told of this one
-    block-told : ToldAt code part s q
+    pub block-told : ToldAt code part s q
     unfolding blockBytes
     block-told =
         let i : s .place + toNext + 2 ≡ s .place + toAwaited = omega arith in
@@ -89,11 +90,6 @@ abbrev pub ToldAll : List ℕ → List ℕ → ℕ → List Placed → Path → 
 ToldAll code part p [] path = p ≡ noPlace
 ToldAll code part p (s ∷ others) path = (p ≡ s .place) × ToldAt code part s path × ToldAll code part (pairAt part (s .place + toNext)) others path
 
--- the places of those that match, in reading order
-unfoldable pub matchingPlaces : Path → List Placed → List ℕ
-matchingPlaces path [] = []
-matchingPlaces path (s ∷ others) = pick (matches (s .components) path) (s .place ∷ []) [] ++ matchingPlaces path others
-
 -- what a pass comes to
 pub record Passes (code : List ℕ) (path : Path) (e : Element) (from p : ℕ) (ss : List Placed) (own : List ℕ) (r : Passed) : Type 0 where
   pub matched : r .matched ≡ matchingPlaces path ss
@@ -102,7 +98,7 @@ pub record Passes (code : List ℕ) (path : Path) (e : Element) (from p : ℕ) (
   pub long : length (r .part) ≡ length own
 
 -- the place of the first is low
-first-low : (code part : List ℕ) (from p : ℕ) (ss : List Placed) (path : Path) → length code ≤ pairValues → Laid code from ss → ToldAll code part p ss path → p < pairValues
+pub first-low : (code part : List ℕ) (from p : ℕ) (ss : List Placed) (path : Path) → length code ≤ pairValues → Laid code from ss → ToldAll code part p ss path → p < pairValues
 first-low code part from p [] path c y t = rw t (let z : noPlace < pairValues = omega arith in z)
 first-low code part from p (s ∷ others) path c y t = rw (t .0) (let a = y .0 .room in let b = y .0 .ends in let z : s .place < pairValues = omega arith in z)
 

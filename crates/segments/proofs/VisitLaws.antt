@@ -19,6 +19,7 @@ use Rattle.compiled.specs.Sheet.{Head, headAt}
 use Rattle.segments.specs.Segments.{Piece, test, direct, anywhere, piece, steps, segment, alone, fresh, State, awaiting}
 use Rattle.segments.specs.Sweep.{pairAt, markBytes, sweepAt}
 use Rattle.segments.specs.Before.{Segment, beginning, segmentBefore, noPlace, freshBytes}
+use Rattle.segments.specs.Placed.{Placed, piecesOf}
 use Rattle.segments.specs.Visits.{toNext, toAwaited, toFlags, Visited, awaits, endedBy, endedAt, decided, visitAt}
 use Rattle.segments.proofs.SegmentLaws.{asks, asks-right, left, allowed, Arrived, at-top, asks-last, asks-other, stays, goes-on}
 use Rattle.segments.proofs.SweepLaws.{Lies, Holds, pairValues, told, sweep-told}
@@ -52,16 +53,6 @@ reading-start (anywhere ∷ ws) s = refl
 
 -- ---- a selector
 
--- its place, that of its first component, that behind it, and its components
-pub record Placed : Type 0 where
-  pub place : ℕ
-  pub first : ℕ
-  pub end : ℕ
-  pub components : List Component
-
-abbrev pub piecesOf : Placed → List Piece
-piecesOf s = map piece (s .components)
-
 -- it lies in the bytes from a place on, and has a style: its head takes three bytes, the styles with their count three, a component one
 pub record Lying (code : List ℕ) (from : ℕ) (s : Placed) : Type 0 where
   pub after : from ≤ s .place
@@ -86,7 +77,7 @@ unfolding awaiting
 same-told ws s p a = record { bound = a .bound; begun = a .begun; undone = a .undone; others = []; told = sym (append-nil _) }
 
 -- a segment of which nothing has begun tells right where the machine awaits it
-awaits-tells : (code : List ℕ) (s : Placed) (q : Path) (k : ℕ) → Arrived (piecesOf s) (awaiting k (piecesOf s)) q
+pub awaits-tells : (code : List ℕ) (s : Placed) (q : Path) (k : ℕ) → Arrived (piecesOf s) (awaiting k (piecesOf s)) q
     → let v = awaits (reading (beginning (segmentPlace code k (piecesOf s) (s .first))) (segment k (piecesOf s))) in Tells code s q (v .awaited) (v .flags)
 unfolding awaits awaiting beginning
 awaits-tells code s q k a =

@@ -3,3 +3,4 @@ pub mod Sweep
 pub mod Before
 pub mod Visits
 pub mod Pass
+pub mod Placed
