@@ -5,3 +5,4 @@ pub mod VisitLaws
 pub mod PartLaws
 pub mod PassLaws
 pub mod PlacedLaws
+pub mod DocumentLaws

@@ -120,7 +120,7 @@ module _ (code : List ℕ) where
       }
 
   -- ---- all of them
-  laid-from : (i n : ℕ) (ss : List Placed) → i ≤ n → Laid code n ss → Laid code i ss
+  pub laid-from : (i n : ℕ) (ss : List Placed) → i ≤ n → Laid code n ss → Laid code i ss
   laid-from i n [] h y = tt
   laid-from i n (s ∷ others) h y =
       let a = y .0 in

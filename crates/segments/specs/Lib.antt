@@ -4,3 +4,4 @@ pub mod Before
 pub mod Visits
 pub mod Pass
 pub mod Placed
+pub mod Document
