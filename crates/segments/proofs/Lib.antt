@@ -6,3 +6,4 @@ pub mod PartLaws
 pub mod PassLaws
 pub mod PlacedLaws
 pub mod DocumentLaws
+pub mod DownLaws

@@ -5,3 +5,4 @@ pub mod Visits
 pub mod Pass
 pub mod Placed
 pub mod Document
+pub mod Down
