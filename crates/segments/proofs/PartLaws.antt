@@ -32,6 +32,11 @@ pub held-same : (bs part other : List ℕ) (j n : ℕ) → j + length bs ≤ n �
 held-same [] part other j n h f s = tt
 held-same (b ∷ bs) part other j n h f s = (f j (omega arith) ∙ s .0, held-same bs part other (j + 1) n (omega arith) f (s .1))
 
+-- or only between two places
+pub held-between : (bs part other : List ℕ) (j i n : ℕ) → i ≤ j → j + length bs ≤ n → ((m : ℕ) → i ≤ m → m < n → getD other m 0 ≡ getD part m 0) → Holds part j bs → Holds other j bs
+held-between [] part other j i n l h f s = tt
+held-between (b ∷ bs) part other j i n l h f s = (f j l (omega arith) ∙ s .0, held-between bs part other (j + 1) i n (omega arith) (omega arith) f (s .1))
+
 -- two bytes, and what is behind them
 pub held-pair : (n : ℕ) (bs part : List ℕ) (j : ℕ) → Holds part j (pairBytes n ++ bs) → Holds part j (pairBytes n) × Holds part (j + 2) bs
 unfolding pairBytes
