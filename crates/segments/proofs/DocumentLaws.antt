@@ -31,7 +31,7 @@ use Rattle.segments.proofs.PlacedLaws.{selector-lies, laid-from}
 module _ (code : List ℕ) (k i : ℕ) where
   -- it ends at a fault
   module _ (q : ℕ) (e : selectorAt code agentOrigin i ≡ fault q) where
-    placed-fault : placedFrom code (suc k) i ≡ []
+    pub placed-fault : placedFrom code (suc k) i ≡ []
     unfolding placedFrom onDecoded
     placed-fault = rw e
 
@@ -50,7 +50,7 @@ module _ (code : List ℕ) (k i : ℕ) where
 
     -- one that has a style
     module _ (h : hasStyle (s .styles) ≡ true) where
-      placed-styled : placedFrom code (suc k) i ≡ placedAt code i n s ∷ placedFrom code k n
+      pub placed-styled : placedFrom code (suc k) i ≡ placedAt code i n s ∷ placedFrom code k n
       unfolding placedFrom onDecoded
       placed-styled = rw e (sym (pick-true _ _ _ _ h refl))
 
@@ -64,7 +64,7 @@ module _ (code : List ℕ) (k i : ℕ) where
 
     -- one that has none
     module _ (h : hasStyle (s .styles) ≡ false) where
-      placed-bare : placedFrom code (suc k) i ≡ placedFrom code k n
+      pub placed-bare : placedFrom code (suc k) i ≡ placedFrom code k n
       unfolding placedFrom onDecoded
       placed-bare = rw e (sym (pick-false _ _ _ _ h refl))
 

@@ -7,3 +7,4 @@ pub mod PassLaws
 pub mod PlacedLaws
 pub mod DocumentLaws
 pub mod DownLaws
+pub mod SheetLaws

@@ -6,3 +6,4 @@ pub mod Pass
 pub mod Placed
 pub mod Document
 pub mod Down
+pub mod Cases

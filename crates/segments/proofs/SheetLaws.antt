@@ -1,0 +1,131 @@
+-- The selectors found at the places that a node collects are those of the sheet that have a style and match, in reading order.
+use Prim.Native.Nat.{ℕ, zero, suc, _+_, _≤_, _<_}
+use mathlib.Core.Path.{_≡_, refl, ap, ap₂, sym, _∙_}
+use mathlib.Core.Bool.{Bool, true, false}
+use mathlib.Core.List.{List, [], _∷_, _++_}
+use native.Mathlib.Omega.{arith}
+use lib.ListN.{length}
+use Rattle.combinators.specs.Choice.{pick, within}
+use Rattle.combinators.proofs.Rules.{pick-true, pick-false, pick-holds, within-true, within-yes}
+use Rattle.syntax.specs.RuleLayout.{pseudoNumber}
+use Rattle.syntax.specs.Selector.{none, after}
+use Rattle.syntax.specs.Style.{agentOrigin, authorOrigin}
+use Rattle.page.specs.Path.{Path}
+use Rattle.matching.specs.Matches.{matches}
+use Rattle.compiled.specs.Decoded.{Decoded, read, fault, onDecoded, andThen, mapped}
+use Rattle.compiled.specs.Number.{numberAt, rangedAt}
+use Rattle.compiled.specs.Sheet.{CompiledSelector, Head, countAt, pseudoAt, headAt, selectorOf, partsAt, selectorAt, selectorsAt, decode}
+use Rattle.compiled.proofs.Walking.{Steps, steps, Source, source, SelectorSteps, selector-steps, FirstSelector, selectors-first, selectors-none, SheetSteps, sheet-steps}
+use Rattle.segments.specs.Placed.{Placed, hasStyle, placedAt, placedFrom, matchingPlaces}
+use Rattle.segments.specs.Down.{placedIn, passedDown, withStyle, matchingOf, selectorsIn}
+use Rattle.segments.proofs.SweepLaws.{pairValues}
+use Rattle.segments.proofs.DocumentLaws.{placed-styled, placed-bare}
+use Rattle.segments.proofs.DownLaws.{matched-down}
+
+-- ---- a selector is read as well where less is asked of its origin
+
+-- a number that is in a range is in a wider one
+ranged-lower : (t : List ℕ) (i low least most n v : ℕ) → low ≤ least → rangedAt t i least most ≡ read n v → (rangedAt t i low most ≡ read n v) × (least ≤ v)
+unfolding rangedAt andThen
+ranged-lower t i low least most n v l e =
+    let w = steps (numberAt t i) (λ m x. pick (within x least most) (read m x) (fault i)) n v e in
+    go (w .place) (w .value) (w .first) (w .rest)
+  where
+    inside : (m x : ℕ) (b : Bool) → within x least most ≡ b → pick b (read m x) (fault i) ≡ read n v → (least ≤ x) × (x ≤ most) × (read m x ≡ read n v)
+    inside m x true h r = let a = within-true x least most h in (a .0, a .1, unfold pick in r)
+    inside m x false h r = absurd (let q : fault i ≡ read n v = unfold pick in r in let z : _≡_ {A = ℕ} 0 1 = cc in omega arith)
+
+    go : (m x : ℕ) → numberAt t i ≡ read m x → pick (within x least most) (read m x) (fault i) ≡ read n v → (rangedAt t i low most ≡ read n v) × (least ≤ v)
+    go m x f r =
+        let a = inside m x (within x least most) refl r in
+        let p : read m x ≡ read n v = a .2 in
+        let x0 : x ≡ v = cc in
+        let b = a .0 in
+        let d = a .1 in
+        (rw f (sym (pick-true _ _ _ _ (within-yes x low most (omega arith) d) refl) ∙ p), omega arith)
+
+-- the origin that is read
+head-origin : (t : List ℕ) (o m n : ℕ) (h : Head) → pseudoAt t o m ≡ read n h → h .origin ≡ o
+unfolding pseudoAt countAt
+head-origin t o m n h e =
+    let w = steps (rangedAt t m (pseudoNumber none) (pseudoNumber after)) (λ k pseudo. countAt t o pseudo k) n h e in
+    let v = source (λ (count : ℕ). record { origin = o; pseudo = w .value; count = count }) (numberAt t (w .place)) n h (w .rest) in
+    ap (λ (x : Head). x .origin) (v .made)
+
+-- the numbers before the components
+head-lower : (t : List ℕ) (least i n : ℕ) (h : Head) → agentOrigin ≤ least → headAt t least i ≡ read n h → (headAt t agentOrigin i ≡ read n h) × (least ≤ h .origin)
+unfolding headAt andThen
+head-lower t least i n h l e =
+    let w = steps (rangedAt t i least authorOrigin) (λ m o. pseudoAt t o m) n h e in
+    let r = ranged-lower t i agentOrigin least authorOrigin (w .place) (w .value) l (w .first) in
+    let o = head-origin t (w .value) (w .place) n h (w .rest) in
+    let a = r .1 in
+    (rw (r .0) (w .rest), omega arith)
+
+-- the selector
+selector-lower : (t : List ℕ) (least i n : ℕ) (s : CompiledSelector) → agentOrigin ≤ least → selectorAt t least i ≡ read n s → (selectorAt t agentOrigin i ≡ read n s) × (agentOrigin ≤ s .origin)
+unfolding selectorAt andThen selectorOf
+selector-lower t least i n s l e =
+    let w = steps (headAt t least i) (λ m h. mapped (selectorOf h) (partsAt t (h .count) m)) n s e in
+    let r = head-lower t least i (w .place) (w .value) l (w .first) in
+    let v = source (selectorOf (w .value)) (partsAt t (w .value .count) (w .place)) n s (w .rest) in
+    let o : s .origin ≡ w .value .origin = ap (λ (x : CompiledSelector). x .origin) (v .made) in
+    let a = r .1 in
+    (rw (r .0) (w .rest), omega arith)
+
+-- ---- the selectors of a sheet
+
+-- each of the selectors is read at its place
+abbrev pub ReadAt : List ℕ → List Placed → List CompiledSelector → Type 0
+ReadAt code [] [] = Unit
+ReadAt code [] (s ∷ ss) = ⊥
+ReadAt code (x ∷ xs) [] = ⊥
+ReadAt code (x ∷ xs) (s ∷ ss) = (selectorAt code agentOrigin (x .place) ≡ read (x .end) s) × (x .components ≡ s .components) × ReadAt code xs ss
+
+-- one with a style, and one without
+with-yes : (s : CompiledSelector) (ss : List CompiledSelector) → hasStyle (s .styles) ≡ true → withStyle (s ∷ ss) ≡ s ∷ withStyle ss
+unfolding withStyle
+with-yes s ss h = ap (λ (l : List CompiledSelector). l ++ withStyle ss) (sym (pick-true _ _ _ _ h refl))
+
+with-no : (s : CompiledSelector) (ss : List CompiledSelector) → hasStyle (s .styles) ≡ false → withStyle (s ∷ ss) ≡ withStyle ss
+unfolding withStyle
+with-no s ss h = ap (λ (l : List CompiledSelector). l ++ withStyle ss) (sym (pick-false _ _ _ _ h refl))
+
+-- those that have a style are read at their places
+pub placed-read : (code : List ℕ) (k least i m : ℕ) (ss : List CompiledSelector) → agentOrigin ≤ least → selectorsAt k code least i ≡ read m ss → ReadAt code (placedFrom code k i) (withStyle ss)
+placed-read code zero least i m ss l e = rw (selectors-none code least i m ss e .1) (unfold placedFrom withStyle in tt)
+placed-read code (suc k) least i m ss l e =
+    let w = selectors-first code k least i m ss e in
+    let a = selector-lower code least i (w .place) (w .selector) l (w .first) in
+    rw (w .split) (go (w .place) (w .selector) (w .others) (hasStyle (w .selector .styles)) refl (a .0) (placed-read code k (w .selector .origin) (w .place) m (w .others) (a .1) (w .rest)))
+  where
+    go : (n : ℕ) (s : CompiledSelector) (others : List CompiledSelector) (b : Bool) → hasStyle (s .styles) ≡ b → selectorAt code agentOrigin i ≡ read n s
+        → ReadAt code (placedFrom code k n) (withStyle others) → ReadAt code (placedFrom code (suc k) i) (withStyle (s ∷ others))
+    go n s others true h r t = rw (placed-styled code k i n s r h, with-yes s others h) (unfold placedAt in (r, refl, t))
+    go n s others false h r t = rw (placed-bare code k i n s r h, with-no s others h) t
+
+-- at the places of those that match the matching ones are found
+pub matching-read : (code : List ℕ) (xs : List Placed) (ss : List CompiledSelector) (path : Path) → ReadAt code xs ss → selectorsIn code (matchingPlaces path xs) ≡ matchingOf path ss
+matching-read code [] [] path r = unfold selectorsIn matchingPlaces matchingOf in refl
+matching-read code [] (s ∷ ss) path r = absurd r
+matching-read code (x ∷ xs) [] path r = absurd r
+matching-read code (x ∷ xs) (s ∷ ss) path r = go (matches (s .components) path) refl (matching-read code xs ss path (r .2))
+  where
+    go : (b : Bool) → matches (s .components) path ≡ b → selectorsIn code (matchingPlaces path xs) ≡ matchingOf path ss
+        → selectorsIn code (matchingPlaces path (x ∷ xs)) ≡ matchingOf path (s ∷ ss)
+    go true h t = unfold selectorsIn matchingPlaces matchingOf onDecoded pick in rw (r .1, h, r .0, t)
+    go false h t = unfold selectorsIn matchingPlaces matchingOf onDecoded pick in rw (r .1, h, t)
+
+-- the selectors of a sheet
+pub sheet-read : (code : List ℕ) (m : ℕ) (ss : List CompiledSelector) → decode code ≡ read m ss → ReadAt code (placedIn code) (withStyle ss)
+unfolding placedIn onDecoded
+sheet-read code m ss e =
+    let w = sheet-steps code m ss e in
+    rw (w .count-read) (placed-read code (w .count) agentOrigin (w .behind-count) m ss (omega arith) (w .selectors-read))
+
+-- every node of a path finds the selectors that have a style and match there, whatever the parts held
+pub found-down : (code : List ℕ) → length code ≤ pairValues → (m : ℕ) (ss : List CompiledSelector) → decode code ≡ read m ss → (own : Path → List ℕ) (spare : List ℕ)
+    → ((q : Path) → length code < length (own q)) → length code < length spare → (path : Path)
+    → selectorsIn code (passedDown code own spare path .matched) ≡ matchingOf path (withStyle ss)
+found-down code c m ss e own spare l n path =
+    ap (selectorsIn code) (matched-down code c own spare l n path) ∙ matching-read code (placedIn code) (withStyle ss) path (sheet-read code m ss e)
