@@ -52,6 +52,9 @@ sheet =
 unfoldable found : List (List ℕ) → List ℕ
 found names = passedDown sheet (λ _. replicate (suc (length sheet)) 77) (replicate (suc (length sheet)) 3) (map named names) .matched
 
-test-found : (found (text "p" ∷ []) ≡ 1 ∷ 42 ∷ [])
+-- a p; a c in a b in an a; the b between them, and the c with another node between; a c whose b is in no a; the document
+test-found : (found (text "p" ∷ []) ≡ 1 ∷ 42 ∷ []) × (found (text "c" ∷ text "b" ∷ text "a" ∷ []) ≡ 21 ∷ 42 ∷ [])
+    × (found (text "c" ∷ text "b" ∷ text "p" ∷ text "a" ∷ []) ≡ 21 ∷ 42 ∷ []) × (found (text "b" ∷ text "a" ∷ []) ≡ 42 ∷ [])
+    × (found (text "c" ∷ text "p" ∷ text "b" ∷ text "a" ∷ []) ≡ 42 ∷ []) × (found (text "c" ∷ text "b" ∷ []) ≡ 42 ∷ []) × (found [] ≡ [])
 unfolding found sheet named text utf8 encode selectorBytes headBytes stylesBytes textsMany pseudoNumber componentBytes componentKind componentBody textBytes styleBytes styleSlotOf styleBody flag colourNumber numberBytes groupBytes passedDown passAt freshIn styledFrom leftmostAt freshFrom matchedHere blockSet passFrom blockBytes awaits endedBy endedAt decided visitAt hasStyle beginning segmentBefore freshBytes pairAt pairBytes onPiece pieceAt testsPass compoundAt markBytes markedTests sweepAt piece tested step here nameIs sameText startsWith headAt pseudoAt countAt partsAt stylesAt selectorOf selectorAt pseudoFrom counted componentAt componentIn writtenAt bodyAt nameAt isMark markOf namedOf textIn spanAt part styleAt styleIn styleNumbersAt slotAt valuedAt valueAt numberUpTo styleOf flagOf colourOf rangedAt numberAt groupsAt limited onDecoded andThen mapped pick or and is within
-test-found = refl
+test-found = (refl, refl, refl, refl, refl, refl, refl)
