@@ -1,19 +1,19 @@
 -- The segment that stands before another in the bytes is the one that is awaited next.
-use Prim.Native.Nat.{ℕ, zero, suc, _+_, _≤_, _<_}
-use mathlib.Core.Path.{_≡_, refl, ap, ap₂, sym, _∙_}
+use Prim.Native.Nat.{ℕ, suc, _+_, _≤_, _<_}
+use mathlib.Core.Path.{_≡_, refl, ap, sym, _∙_}
 use mathlib.Core.Bool.{Bool, true, false}
-use mathlib.Core.List.{List, [], _∷_, _++_}
+use mathlib.Core.List.{List, [], _∷_}
 use mathlib.Core.Logic.{_⊎_, inl, inr}
 use native.Mathlib.Omega.{arith}
-use lib.ListN.{length, replicate}
+use lib.ListN.{length}
 use Rattle.combinators.specs.Choice.{pick, is}
-use Rattle.combinators.proofs.Rules.{pick-true, pick-false, pick-holds, is-yes, is-no, is-true, is-false, lt-or-ge}
-use Rattle.compiled.specs.Decoded.{Decoded, read, fault, onDecoded, mapped}
+use Rattle.combinators.proofs.Rules.{pick-true, pick-false, pick-holds, is-yes, is-no, lt-or-ge}
+use Rattle.compiled.specs.Decoded.{read, onDecoded}
 use Rattle.compiled.specs.Component.{componentAt}
 use Rattle.compiled.proofs.Bounds.{reaches-end, reaches-mapped, component-reaches}
-use Rattle.segments.specs.Segments.{Piece, test, direct, anywhere, piece, steps, segment, fresh}
-use Rattle.segments.specs.Sweep.{onPiece, pieceAt, markBytes}
-use Rattle.segments.specs.Before.{Segment, beginning, segmentBefore, noPlace, freshBytes}
+use Rattle.segments.specs.Segments.{Piece, test, direct, anywhere, piece, steps, segment}
+use Rattle.segments.specs.Sweep.{onPiece, pieceAt}
+use Rattle.segments.specs.Before.{Segment, beginning, segmentBefore, noPlace}
 use Rattle.segments.proofs.SegmentLaws.{segment-all, segment-less}
 use Rattle.segments.proofs.SweepLaws.{Lies}
 
@@ -30,6 +30,7 @@ piece-ends code i n x e =
 unfoldable pub behind : List ℕ → ℕ → ℕ
 behind code i = onDecoded (pieceAt code i) (λ n _. n) (λ _. i)
 
+-- where a piece is read, its own end
 behind-piece : (code : List ℕ) (i n : ℕ) (x : Piece) → pieceAt code i ≡ read n x → behind code i ≡ n
 unfolding behind onDecoded
 behind-piece code i n x e = rw e
@@ -179,6 +180,7 @@ module _ (code : List ℕ) where
   leftmost-first (direct ∷ ws) s i l h = rw (l .1) (leftmost-first ws _ (l .0) (l .2) (unfold steps in h))
   leftmost-first (anywhere ∷ ws) s i l h = absurd (unfold steps in omega arith)
 
+  -- the segment before no place is the leftmost
   Leftmost : List Piece → Segment → ℕ → Type 0
   Leftmost ws s i = segmentBefore code noPlace (length ws) s i ≡ reading (beginning (segmentPlace code 0 ws i)) (segment 0 ws)
 
@@ -191,6 +193,7 @@ module _ (code : List ℕ) where
       go (inl m) = f m
       go (inr m) = let e : steps ws ≡ 0 = omega arith in leftmost-first ws (beginning i) i l e ∙ rw (← e, place-all code ws i, segment-all ws)
 
+  -- of pieces that begin with another
   leftmost-later : (ws : List Piece) (s : Segment) (i : ℕ) → Lies code i ws → 0 < steps ws → Leftmost ws s i
   unfolding Leftmost segmentBefore onDecoded onPiece
   leftmost-later [] s i l h = absurd (unfold steps in omega arith)

@@ -5,18 +5,14 @@ use mathlib.Core.Bool.{Bool, true, false}
 use mathlib.Core.List.{List, [], _∷_}
 use native.Mathlib.Omega.{arith}
 use lib.ListN.{length, getD}
-use Rattle.combinators.specs.Choice.{pick}
 use Rattle.combinators.proofs.Rules.{pick-true, pick-false}
 use Rattle.syntax.specs.Style.{agentOrigin}
-use Rattle.page.specs.Path.{Element, Path}
 use Rattle.compiled.specs.Decoded.{Decoded, read, fault, onDecoded}
-use Rattle.compiled.specs.Sheet.{CompiledSelector, Head, headAt, selectorAt}
+use Rattle.compiled.specs.Sheet.{CompiledSelector, selectorAt}
 use Rattle.compiled.proofs.Bounds.{reaches-end, selector-reaches}
-use Rattle.segments.specs.Segments.{segment, awaiting}
-use Rattle.segments.specs.Sweep.{pairAt}
-use Rattle.segments.specs.Before.{beginning, segmentBefore, noPlace}
+use Rattle.segments.specs.Before.{noPlace}
 use Rattle.segments.specs.Placed.{Placed, piecesOf, hasStyle, placedAt, placedFrom}
-use Rattle.segments.specs.Visits.{toNext, Visited, awaits, blockBytes}
+use Rattle.segments.specs.Visits.{toNext, Visited, blockBytes}
 use Rattle.segments.specs.Pass.{blockSet}
 use Rattle.segments.specs.Document.{styledFrom, leftmostAt, freshFrom}
 use Rattle.segments.proofs.SegmentLaws.{at-top}
@@ -31,14 +27,17 @@ use Rattle.segments.proofs.PlacedLaws.{selector-lies, laid-from}
 module _ (code : List ℕ) (k i : ℕ) where
   -- it ends at a fault
   module _ (q : ℕ) (e : selectorAt code agentOrigin i ≡ fault q) where
+    -- no selector is placed
     pub placed-fault : placedFrom code (suc k) i ≡ []
     unfolding placedFrom onDecoded
     placed-fault = rw e
 
+    -- none is next
     styled-fault : styledFrom code (suc k) i ≡ noPlace
     unfolding styledFrom onDecoded
     styled-fault = rw e
 
+    -- the part stays
     fresh-fault : (part : List ℕ) → freshFrom code (suc k) i part ≡ part
     unfolding freshFrom onDecoded
     fresh-fault part = rw e
@@ -50,28 +49,34 @@ module _ (code : List ℕ) (k i : ℕ) where
 
     -- one that has a style
     module _ (h : hasStyle (s .styles) ≡ true) where
+      -- it is placed before the others
       pub placed-styled : placedFrom code (suc k) i ≡ placedAt code i n s ∷ placedFrom code k n
       unfolding placedFrom onDecoded
       placed-styled = rw e (sym (pick-true _ _ _ _ h refl))
 
+      -- it is the next
       styled-styled : styledFrom code (suc k) i ≡ i
       unfolding styledFrom onDecoded
       styled-styled = rw e (sym (pick-true _ _ _ _ h refl))
 
+      -- its block is written
       fresh-styled : (part : List ℕ) → freshFrom code (suc k) i part ≡ freshFrom code k n (blockSet (leftmostAt code i) (styledFrom code k n) i part)
       unfolding freshFrom onDecoded
       fresh-styled part = rw e (ap (freshFrom code k n) (sym (pick-true _ _ _ _ h refl)))
 
     -- one that has none
     module _ (h : hasStyle (s .styles) ≡ false) where
+      -- only the others are placed
       pub placed-bare : placedFrom code (suc k) i ≡ placedFrom code k n
       unfolding placedFrom onDecoded
       placed-bare = rw e (sym (pick-false _ _ _ _ h refl))
 
+      -- the next is among them
       styled-bare : styledFrom code (suc k) i ≡ styledFrom code k n
       unfolding styledFrom onDecoded
       styled-bare = rw e (sym (pick-false _ _ _ _ h refl))
 
+      -- no block is written
       fresh-bare : (part : List ℕ) → freshFrom code (suc k) i part ≡ freshFrom code k n part
       unfolding freshFrom onDecoded
       fresh-bare part = rw e (ap (freshFrom code k n) (sym (pick-false _ _ _ _ h refl)))
@@ -122,11 +127,13 @@ record Fresh (code : List ℕ) (k i : ℕ) (part left : List ℕ) : Type 0 where
   pub long : length left ≡ length part
 
 module _ (code : List ℕ) (c : length code ≤ pairValues) (k i : ℕ) (part : List ℕ) where
+  -- where the walk ends
   fresh-at-fault : (q : ℕ) → selectorAt code agentOrigin i ≡ fault q → Fresh code (suc k) i part (freshFrom code (suc k) i part)
   fresh-at-fault q e =
       rw (fresh-fault code k i q e part) (record { told = rw (placed-fault code k i q e) (styled-fault code k i q e); before = λ m h. refl; long = refl })
 
   module _ (n : ℕ) (s : CompiledSelector) (e : selectorAt code agentOrigin i ≡ read n s) where
+    -- at a selector without styles
     fresh-at-bare : hasStyle (s .styles) ≡ false → Fresh code k n part (freshFrom code k n part) → Fresh code (suc k) i part (freshFrom code (suc k) i part)
     fresh-at-bare h r =
         let a = selector-ends code k i n s e in
@@ -137,6 +144,7 @@ module _ (code : List ℕ) (c : length code ≤ pairValues) (k i : ℕ) (part : 
           long = r .long;
         })
 
+    -- at one that has a style
     fresh-at-styled : hasStyle (s .styles) ≡ true → length code < length part
         → (let own = blockSet (leftmostAt code i) (styledFrom code k n) i part in Fresh code k n own (freshFrom code k n own))
         → Fresh code (suc k) i part (freshFrom code (suc k) i part)

@@ -1,6 +1,6 @@
 -- From part to part down a path, every node finds the selectors that match, whatever the parts held.
-use Prim.Native.Nat.{ℕ, zero, suc, _+_, _≤_, _<_}
-use mathlib.Core.Path.{_≡_, refl, ap, sym, _∙_, subst}
+use Prim.Native.Nat.{ℕ, _+_, _≤_, _<_}
+use mathlib.Core.Path.{_≡_, refl, ap, sym, subst}
 use mathlib.Core.List.{List, [], _∷_}
 use native.Mathlib.Omega.{arith}
 use lib.ListN.{length, getD}
@@ -8,23 +8,20 @@ use Rattle.page.specs.Path.{Element, Path}
 use Rattle.compiled.specs.Decoded.{Decoded, read, fault, onDecoded}
 use Rattle.compiled.specs.Number.{numberAt}
 use Rattle.compiled.proofs.Bounds.{reaches-end, number-reaches}
-use Rattle.segments.specs.Segments.{alone}
+use Rattle.segments.specs.Segments.{alone, segment}
 use Rattle.segments.specs.Sweep.{pairAt}
-use Rattle.segments.specs.Before.{noPlace}
-use Rattle.segments.specs.Placed.{Placed, placedFrom, matchingPlaces}
+use Rattle.segments.specs.Placed.{Placed, piecesOf, placedFrom, matchingPlaces}
 use Rattle.segments.specs.Visits.{toNext, toAwaited, toFlags}
-use Rattle.segments.specs.Pass.{Passed, passFrom}
-use Rattle.segments.specs.Document.{styledFrom, freshFrom}
+use Rattle.segments.specs.Pass.{Passed}
+use Rattle.segments.specs.Document.{styledFrom}
 use Rattle.segments.specs.Down.{placedIn, styledIn, passAt, freshIn, passedDown}
 use Rattle.segments.proofs.SegmentLaws.{child-of}
-use Rattle.segments.proofs.SweepLaws.{Holds, pairValues}
-use Rattle.segments.specs.Placed.{piecesOf}
-use Rattle.segments.specs.Segments.{segment}
+use Rattle.segments.proofs.SweepLaws.{pairValues}
 use Rattle.segments.proofs.BeforeLaws.{length-segment}
 use Rattle.segments.proofs.PartLaws.{held-between, length-flags}
 use Rattle.segments.proofs.VisitLaws.{Lying, Tells, ToldAt}
-use Rattle.segments.proofs.PassLaws.{Laid, ToldAll, Passes, pass-right}
-use Rattle.segments.proofs.DocumentLaws.{placed-laid, placed-few, document-told, length-fresh}
+use Rattle.segments.proofs.PassLaws.{Laid, ToldAll, pass-right}
+use Rattle.segments.proofs.DocumentLaws.{placed-laid, placed-few, document-told}
 
 -- ---- a part of which only what stands before the blocks or behind them changes
 
@@ -117,6 +114,7 @@ module _ (code : List ℕ) where
 
     -- down a path
     module _ (own : Path → List ℕ) (spare : List ℕ) (l : (q : Path) → length code < length (own q)) (m : length code < length spare) where
+      -- every node is told right by the one above it
       pub passed-down : (path : Path) (e : Element) → PassedAt path e (own path) (passedDown code own spare path)
       unfolding passedDown
       passed-down [] e = pass-at [] e (freshIn code spare) (own []) (l []) (fresh-in spare m)

@@ -1,16 +1,13 @@
 -- Bytes stored in a part stand there, and elsewhere nothing changes.
 use Prim.Native.Nat.{ℕ, zero, suc, _+_, _≤_, _<_}
-use mathlib.Core.Path.{_≡_, refl, ap, sym, _∙_, subst}
+use mathlib.Core.Path.{_≡_, refl, _∙_, subst}
 use mathlib.Core.List.{List, [], _∷_, _++_}
 use native.Mathlib.Omega.{arith}
 use lib.ListN.{length, getD, set, length-set}
 use lib.Seq.{sets, getD-set-same, getD-set-other}
 use Rattle.page.specs.Path.{Path}
-use Rattle.matching.specs.Matches.{onParent}
-use Rattle.syntax.specs.Layout.{flag}
 use Rattle.segments.specs.Segments.{Piece, test, direct, anywhere}
 use Rattle.segments.specs.Sweep.{pairBytes, markBytes}
-use Rattle.segments.proofs.SegmentLaws.{asks}
 use Rattle.segments.proofs.SweepLaws.{Holds, told}
 
 -- what stands before the bytes stored is as it was
@@ -44,6 +41,7 @@ held-pair n bs part j s = let e : j + 1 + 1 ≡ j + 2 = omega arith in ((s .0, (
 
 -- ---- flags fit
 
+-- a mark takes three bytes at most
 length-mark : (n : ℕ) → length (markBytes n) ≤ 3
 unfolding markBytes pairBytes
 length-mark zero = omega arith

@@ -1,22 +1,21 @@
 -- A node that is told right of every selector finds those that match, and tells its children right of every selector.
 use Prim.Native.Nat.{ℕ, zero, suc, _+_, _≤_, _<_}
 use mathlib.Core.Path.{_≡_, refl, ap, ap₂, sym, _∙_, subst}
-use mathlib.Core.Bool.{Bool, true, false}
-use mathlib.Core.List.{List, [], _∷_, _++_, map}
+use mathlib.Core.Bool.{Bool}
+use mathlib.Core.List.{List, [], _∷_, _++_}
 use native.Mathlib.Omega.{arith}
 use lib.ListN.{length, getD}
-use lib.Seq.{sets, length-sets}
-use Rattle.combinators.specs.Choice.{pick, is}
+use lib.Seq.{length-sets}
+use Rattle.combinators.specs.Choice.{pick}
 use Rattle.combinators.proofs.Rules.{pick-true, pick-false, is-yes, is-no}
 use Rattle.page.specs.Path.{Element, Path}
-use Rattle.matching.specs.Matches.{matches}
-use Rattle.segments.specs.Segments.{Piece, piece, segment, alone}
+use Rattle.segments.specs.Segments.{segment, alone}
 use Rattle.segments.specs.Sweep.{pairAt, pairBytes}
 use Rattle.segments.specs.Before.{noPlace}
 use Rattle.segments.specs.Placed.{Placed, piecesOf, matchingPlaces}
 use Rattle.segments.specs.Visits.{toNext, toAwaited, toFlags, blockBytes, Visited, visitAt}
 use Rattle.segments.specs.Pass.{Passed, matchedHere, blockSet, passFrom}
-use Rattle.segments.proofs.SegmentLaws.{asks, asks-right}
+use Rattle.segments.proofs.SegmentLaws.{asks-right}
 use Rattle.segments.proofs.SweepLaws.{Holds, pairValues, pair-back, told}
 use Rattle.segments.proofs.BeforeLaws.{segmentPlace, length-segment, place-to}
 use Rattle.segments.proofs.VisitLaws.{Lying, Tells, Right, ToldAt, visit-right}
@@ -113,8 +112,8 @@ pass-none code above row (suc k) own = sym (pick-true _ _ _ _ (is-yes noPlace no
 -- one selector, then the others
 pass-more : (code above : List ℕ) (row : Path) (k p : ℕ) (own : List ℕ) → 0 < p
     → let next = pairAt above (p + toNext) in
-      let others = passFrom code row above k next (blockSet (visitAt code row above p) next p own) in
-      passFrom code row above (suc k) p own ≡ record { part = others .part; matched = matchedHere (visitAt code row above p) p ++ others .matched }
+    let others = passFrom code row above k next (blockSet (visitAt code row above p) next p own) in
+    passFrom code row above (suc k) p own ≡ record { part = others .part; matched = matchedHere (visitAt code row above p) p ++ others .matched }
 unfolding passFrom
 pass-more code above row k p own h = sym (pick-false _ _ _ _ (is-no p noPlace (λ e. omega arith)) refl)
 
@@ -123,8 +122,8 @@ module _ (code above : List ℕ) (path : Path) (e : Element) (c : length code �
   pass-one : (k from : ℕ) (s : Placed) (others : List Placed) (own : List ℕ) → 0 < from → Laid code from (s ∷ others) → ToldAt code above s path
       → ToldAll code above (pairAt above (s .place + toNext)) others path → length code < length own
       → let v = visitAt code (alone path) above (s .place) in
-        let next = pairAt above (s .place + toNext) in
-        Passes code path e (s .end) next others (blockSet v next (s .place) own) (passFrom code (alone path) above k next (blockSet v next (s .place) own))
+      let next = pairAt above (s .place + toNext) in
+      Passes code path e (s .end) next others (blockSet v next (s .place) own) (passFrom code (alone path) above k next (blockSet v next (s .place) own))
       → Passes code path e from (s .place) (s ∷ others) own (passFrom code (alone path) above (suc k) (s .place) own)
   pass-one k from s others own h y t u l ih =
       let v : Visited = visitAt code (alone path) above (s .place) in

@@ -1,26 +1,26 @@
 -- The selectors that have a style lie in the bytes one behind the other, whatever the bytes are.
 use Prim.Native.Nat.{ℕ, zero, suc, _+_, _≤_, _<_}
 use mathlib.Core.Path.{_≡_, refl, ap, sym, _∙_}
-use mathlib.Core.Bool.{Bool, true, false}
+use mathlib.Core.Bool.{true}
 use mathlib.Core.List.{List, [], _∷_, map}
 use native.Mathlib.Omega.{arith}
 use lib.ListN.{length}
-use Rattle.combinators.specs.Choice.{pick, is}
+use Rattle.combinators.specs.Choice.{is}
 use Rattle.combinators.proofs.Rules.{never, pick-holds}
 use Rattle.syntax.specs.Layout.{colourSlot, displaySlot, whiteSpaceSlot, contentSlot, lastSlot, styleIn}
 use Rattle.syntax.specs.Selector.{Component}
 use Rattle.syntax.specs.Style.{agentOrigin, StyleDecl}
-use Rattle.compiled.specs.Decoded.{Decoded, read, fault, onDecoded, andThen, mapped, counted}
+use Rattle.compiled.specs.Decoded.{Decoded, read, onDecoded, mapped, counted}
 use Rattle.compiled.specs.Number.{numberAt, rangedAt}
 use Rattle.compiled.specs.Text.{spanAt}
 use Rattle.compiled.specs.Component.{componentAt}
 use Rattle.compiled.specs.Style.{greatestColour, greatestWhiteSpace, contentAt, numberUpTo, valueAt, valuedAt, slotAt, styleNumbersAt, styleAt}
 use Rattle.compiled.specs.Sheet.{CompiledSelector, Head, headAt, stylesAt, selectorAt}
 use Rattle.compiled.proofs.Bounds.{Reaches, reaches-read, reaches-end, reaches-less, reaches-then, reaches-mapped, reaches-counted, number-reaches, ranged-reaches, span-reaches, head-reaches, style-reaches, styles-reach}
-use Rattle.compiled.proofs.Walking.{Steps, steps, First, counted-first, counted-none, counted-length, components-long, SelectorSteps, selector-steps}
-use Rattle.segments.specs.Segments.{Piece, piece}
+use Rattle.compiled.proofs.Walking.{steps, counted-first, counted-none, counted-length, components-long, selector-steps}
+use Rattle.segments.specs.Segments.{piece}
 use Rattle.segments.specs.Sweep.{pieceAt}
-use Rattle.segments.specs.Placed.{Placed, piecesOf, hasStyle, firstAt, placedAt, placedFrom}
+use Rattle.segments.specs.Placed.{Placed, hasStyle, firstAt, placedAt}
 use Rattle.segments.proofs.SweepLaws.{Lies}
 use Rattle.segments.proofs.BeforeLaws.{behindAll, behind-more}
 use Rattle.segments.proofs.VisitLaws.{Lying}
@@ -74,6 +74,7 @@ module _ (t : List ℕ) where
 
 -- ---- a selector
 
+-- there are as many pieces as components
 length-pieces : (cs : List Component) → length (map piece cs) ≡ length cs
 length-pieces [] = refl
 length-pieces (c ∷ cs) = ap suc (length-pieces cs)

@@ -1,22 +1,24 @@
 -- The selectors found at the places that a node collects are those of the sheet that have a style and match, in reading order.
-use Prim.Native.Nat.{ℕ, zero, suc, _+_, _≤_, _<_}
-use mathlib.Core.Path.{_≡_, refl, ap, ap₂, sym, _∙_}
+use Prim.Native.Nat.{ℕ, zero, suc, _≤_, _<_}
+use mathlib.Core.Path.{_≡_, refl, ap, sym, _∙_}
 use mathlib.Core.Bool.{Bool, true, false}
 use mathlib.Core.List.{List, [], _∷_, _++_}
 use native.Mathlib.Omega.{arith}
 use lib.ListN.{length}
-use Rattle.combinators.specs.Choice.{pick, within}
-use Rattle.combinators.proofs.Rules.{pick-true, pick-false, pick-holds, within-true, within-yes}
+use Rattle.combinators.specs.Choice.{pick, is, within}
+use Rattle.combinators.proofs.Rules.{pick-true, pick-false, is-yes, is-no, is-true, within-true, within-yes}
 use Rattle.syntax.specs.RuleLayout.{pseudoNumber}
 use Rattle.syntax.specs.Selector.{none, after}
-use Rattle.syntax.specs.Style.{agentOrigin, authorOrigin}
+use Rattle.syntax.specs.Style.{agentOrigin, authorOrigin, StyleDecl}
 use Rattle.page.specs.Path.{Path}
 use Rattle.matching.specs.Matches.{matches}
-use Rattle.compiled.specs.Decoded.{Decoded, read, fault, onDecoded, andThen, mapped}
+use Rattle.compiled.specs.Decoded.{read, fault, onDecoded, andThen, mapped, counted}
+use Rattle.compiled.specs.Style.{styleAt}
 use Rattle.compiled.specs.Number.{numberAt, rangedAt}
-use Rattle.compiled.specs.Sheet.{CompiledSelector, Head, countAt, pseudoAt, headAt, selectorOf, partsAt, selectorAt, selectorsAt, decode}
-use Rattle.compiled.proofs.Walking.{Steps, steps, Source, source, SelectorSteps, selector-steps, FirstSelector, selectors-first, selectors-none, SheetSteps, sheet-steps}
+use Rattle.compiled.specs.Sheet.{CompiledSelector, Head, countAt, pseudoAt, headAt, stylesAt, selectorOf, partsAt, selectorAt, selectorsAt, decode}
+use Rattle.compiled.proofs.Walking.{steps, source, counted-none, counted-length, selector-steps, selectors-first, selectors-none, sheet-steps}
 use Rattle.segments.specs.Placed.{Placed, hasStyle, placedAt, placedFrom, matchingPlaces}
+use Rattle.segments.specs.Document.{styledFrom, styleCountAt, firstStyled}
 use Rattle.segments.specs.Down.{placedIn, passedDown, withStyle, matchingOf, selectorsIn}
 use Rattle.segments.proofs.SweepLaws.{pairValues}
 use Rattle.segments.proofs.DocumentLaws.{placed-styled, placed-bare}
@@ -87,6 +89,7 @@ with-yes : (s : CompiledSelector) (ss : List CompiledSelector) → hasStyle (s .
 unfolding withStyle
 with-yes s ss h = ap (λ (l : List CompiledSelector). l ++ withStyle ss) (sym (pick-true _ _ _ _ h refl))
 
+-- one without is left out
 with-no : (s : CompiledSelector) (ss : List CompiledSelector) → hasStyle (s .styles) ≡ false → withStyle (s ∷ ss) ≡ withStyle ss
 unfolding withStyle
 with-no s ss h = ap (λ (l : List CompiledSelector). l ++ withStyle ss) (sym (pick-false _ _ _ _ h refl))
@@ -129,3 +132,49 @@ pub found-down : (code : List ℕ) → length code ≤ pairValues → (m : ℕ) 
     → selectorsIn code (passedDown code own spare path .matched) ≡ matchingOf path (withStyle ss)
 found-down code c m ss e own spare l n path =
     ap (selectorsIn code) (matched-down code c own spare l n path) ∙ matching-read code (placedIn code) (withStyle ss) path (sheet-read code m ss e)
+
+-- ---- the first selector that has a style, found without reading styles
+
+-- how many styles a selector has; behind the count of none the next one stands
+pub record StyleCount (code : List ℕ) (i n : ℕ) (s : CompiledSelector) : Type 0 where
+  pub place : ℕ
+  pub told : styleCountAt code i ≡ read place (length (s .styles))
+  pub none-behind : length (s .styles) ≡ 0 → n ≡ place
+
+-- as many styles are read as their count says
+styles-counted : (t : List ℕ) (i m : ℕ) (ds : List StyleDecl) → stylesAt t i ≡ read m ds → (n : ℕ) × (numberAt t i ≡ read n (length ds)) × (length ds ≡ 0 → m ≡ n)
+unfolding stylesAt
+styles-counted t i m ds e =
+    let w = steps (numberAt t i) (λ n count. counted (styleAt t) count n) m ds e in
+    let k = counted-length (styleAt t) (w .value) (w .place) m ds (w .rest) in
+    (w .place, rw k (w .first), λ h. counted-none (styleAt t) (w .place) m ds (rw (sym k ∙ h) at (w .rest)) .0)
+
+-- the count is read behind the components
+pub style-count : (code : List ℕ) (i n : ℕ) (s : CompiledSelector) → selectorAt code agentOrigin i ≡ read n s → StyleCount code i n s
+unfolding styleCountAt andThen
+style-count code i n s e =
+    let w = selector-steps code agentOrigin i n s e in
+    let c = styles-counted code (w .behind-components) n (s .styles) (w .styles-read) in
+    record { place = c .0; told = rw (w .head-read, w .components-read) (c .1); none-behind = c .2 }
+
+-- by the count
+has-style : (ds : List StyleDecl) → hasStyle ds ≡ pick (is (length ds) 0) false true
+unfolding hasStyle
+has-style [] = pick-true _ _ _ _ (is-yes 0 0 refl) refl
+has-style (d ∷ ds) = pick-false _ _ _ _ (is-no _ 0 (λ e. omega arith)) refl
+
+-- the walk that reads no styles finds the same
+pub first-styled : (code : List ℕ) (k least i m : ℕ) (ss : List CompiledSelector) → agentOrigin ≤ least → selectorsAt k code least i ≡ read m ss → firstStyled code k i ≡ styledFrom code k i
+first-styled code zero least i m ss l e = unfold firstStyled styledFrom in refl
+first-styled code (suc k) least i m ss l e =
+    let w = selectors-first code k least i m ss e in
+    let a = selector-lower code least i (w .place) (w .selector) l (w .first) in
+    go (w .place) (w .selector) (a .0) (style-count code i (w .place) (w .selector) (a .0)) (first-styled code k (w .selector .origin) (w .place) m (w .others) (a .1) (w .rest))
+  where
+    count : (n p : ℕ) (s : CompiledSelector) (b : Bool) → is (length (s .styles)) 0 ≡ b → (length (s .styles) ≡ 0 → n ≡ p) → firstStyled code k n ≡ styledFrom code k n
+        → pick b (firstStyled code k p) i ≡ pick (pick b false true) i (styledFrom code k n)
+    count n p s true h f t = unfold pick in rw (← f (is-true _ _ h)) t
+    count n p s false h f t = unfold pick in refl
+
+    go : (n : ℕ) (s : CompiledSelector) → selectorAt code agentOrigin i ≡ read n s → StyleCount code i n s → firstStyled code k n ≡ styledFrom code k n → firstStyled code (suc k) i ≡ styledFrom code (suc k) i
+    go n s r c t = unfold firstStyled styledFrom onDecoded in rw (c .told, r, has-style (s .styles)) (count n (c .place) s (is (length (s .styles)) 0) refl (c .none-behind) t)

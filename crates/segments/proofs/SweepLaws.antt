@@ -1,24 +1,23 @@
 -- A sweep by places says what the pieces that lie there ask.
 use Prim.Native.Nat.{ℕ, zero, suc, _+_, _*_, _/_, _%_, _≤_, _<_}
-use mathlib.Core.Path.{_≡_, refl, ap, ap₂, sym, _∙_}
+use mathlib.Core.Path.{_≡_, refl, ap, sym, _∙_}
 use mathlib.Core.Bool.{Bool, true, false}
 use mathlib.Core.List.{List, [], _∷_}
 use mathlib.Core.Logic.{_⊎_, inl, inr}
 use native.Mathlib.Omega.{arith}
 use native.Mathlib.Nat.{add-zero}
-use borrow.Author.Tests.{le-leb, lt-leb}
 use lib.Dec.{leb}
 use lib.ListN.{length, getD}
-use Rattle.combinators.specs.Choice.{pick, and, is}
+use Rattle.combinators.specs.Choice.{and}
 use Rattle.combinators.proofs.Rules.{pick-true, pick-false, is-yes, is-no}
-use Rattle.syntax.specs.Layout.{flag, flagOf}
+use Rattle.syntax.specs.Layout.{flag}
 use Rattle.syntax.specs.Selector.{Component}
 use Rattle.cascade.proofs.RowLaws.{flag-back}
 use Rattle.page.specs.Path.{Element, Path}
 use Rattle.matching.specs.Matches.{onParent}
-use Rattle.compiled.specs.Decoded.{Decoded, read, onDecoded}
+use Rattle.compiled.specs.Decoded.{read, onDecoded}
 use Rattle.segments.specs.Segments.{Piece, test, direct, anywhere, alone, tested}
-use Rattle.segments.specs.Sweep.{byteValues, pairAt, pairBytes, onPiece, pieceAt, testsPass, Ended, compoundAt, withoutTests, withTests, markBytes, markedTests, sweepAt}
+use Rattle.segments.specs.Sweep.{byteValues, pairAt, pairBytes, onPiece, pieceAt, testsPass, compoundAt, withoutTests, withTests, markBytes, markedTests, sweepAt}
 use Rattle.segments.proofs.SegmentLaws.{meets, asks, left, and-assoc}
 
 -- ---- what lies in the bytes, and in a part
@@ -160,6 +159,7 @@ unfolding onParent
 on-parent f e p = refl
 
 module _ (code part : List ℕ) (p : Path) (e : Element) where
+  -- what a sweep should say
   Right : ℕ → ℕ → ℕ → List Piece → Type 0
   Right k j i ws = sweepAt code (alone p) part k j i ≡ flag (asks ws p) ∷ told 0 ws (e ∷ p)
 

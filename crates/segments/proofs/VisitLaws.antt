@@ -1,29 +1,27 @@
 -- A node that is told right of a selector says whether it matches, and tells its children right.
 use Prim.Native.Nat.{ℕ, zero, suc, _+_, _≤_, _<_}
-use mathlib.Core.Path.{_≡_, refl, ap, ap₂, sym, _∙_}
+use mathlib.Core.Path.{_≡_, refl, ap, sym, _∙_}
 use mathlib.Core.Bool.{Bool, true, false}
-use mathlib.Core.List.{List, [], _∷_, _++_, map, append-nil}
+use mathlib.Core.List.{List, [], _∷_, _++_, append-nil}
 use mathlib.Core.Logic.{_⊎_, inl, inr}
 use native.Mathlib.Omega.{arith}
 use lib.ListN.{length, getD, drop, replicate}
-use Rattle.combinators.specs.Choice.{pick, is}
-use Rattle.combinators.proofs.Rules.{pick-true, pick-false, pick-holds, is-yes, is-no, lt-or-ge}
-use Rattle.syntax.specs.Layout.{flag, flagOf}
-use Rattle.syntax.specs.Selector.{Component}
+use Rattle.combinators.proofs.Rules.{pick-true, pick-false, is-yes, is-no, lt-or-ge}
+use Rattle.syntax.specs.Layout.{flag}
 use Rattle.syntax.specs.Style.{agentOrigin}
 use Rattle.cascade.proofs.RowLaws.{flag-back}
 use Rattle.page.specs.Path.{Element, Path}
-use Rattle.matching.specs.Matches.{onParent, matches}
-use Rattle.compiled.specs.Decoded.{Decoded, read, onDecoded}
+use Rattle.matching.specs.Matches.{onParent}
+use Rattle.compiled.specs.Decoded.{read, onDecoded}
 use Rattle.compiled.specs.Sheet.{Head, headAt}
-use Rattle.segments.specs.Segments.{Piece, test, direct, anywhere, piece, steps, segment, alone, fresh, State, awaiting}
-use Rattle.segments.specs.Sweep.{pairAt, markBytes, sweepAt}
-use Rattle.segments.specs.Before.{Segment, beginning, segmentBefore, noPlace, freshBytes}
+use Rattle.segments.specs.Segments.{Piece, test, direct, anywhere, steps, segment, alone, fresh, State, awaiting}
+use Rattle.segments.specs.Sweep.{pairAt}
+use Rattle.segments.specs.Before.{Segment, beginning, segmentBefore, freshBytes}
 use Rattle.segments.specs.Placed.{Placed, piecesOf}
-use Rattle.segments.specs.Visits.{toNext, toAwaited, toFlags, Visited, awaits, endedBy, endedAt, decided, visitAt}
-use Rattle.segments.proofs.SegmentLaws.{asks, asks-right, left, allowed, Arrived, at-top, asks-last, asks-other, stays, goes-on}
+use Rattle.segments.specs.Visits.{toAwaited, toFlags, Visited, awaits, endedBy, endedAt, decided, visitAt}
+use Rattle.segments.proofs.SegmentLaws.{asks, allowed, Arrived, asks-last, asks-other, stays, goes-on}
 use Rattle.segments.proofs.SweepLaws.{Lies, Holds, pairValues, told, sweep-told}
-use Rattle.segments.proofs.BeforeLaws.{segmentPlace, behindAll, place-all, length-segment, segment-lies, place-past, reading, next-segment, leftmost-segment}
+use Rattle.segments.proofs.BeforeLaws.{segmentPlace, behindAll, place-all, length-segment, segment-lies, place-past, reading, next-segment}
 
 -- ---- a segment of which nothing has begun
 
@@ -120,9 +118,11 @@ pub record Right (code : List ℕ) (s : Placed) (p : Path) (e : Element) (v : Vi
 
 module _ (code : List ℕ) (s : Placed) (p : Path) (e : Element) (from : ℕ) (y : Lying code from s) (k : ℕ)
     (a : Arrived (piecesOf s) (record { done = k; may = allowed (segment k (piecesOf s)) p }) p) where
+  -- what is swept of the segment, by whether it ends here
   abbrev swept : Bool → List ℕ
   swept b = flag b ∷ told 0 (segment k (piecesOf s)) (e ∷ p)
 
+  -- where it begins
   abbrev begins : ℕ
   begins = segmentPlace code k (piecesOf s) (s .first)
 
@@ -131,6 +131,7 @@ module _ (code : List ℕ) (s : Placed) (p : Path) (e : Element) (from : ℕ) (y
       → Right code s p e (record { matched = m; awaited = begins; flags = told 0 (segment k (piecesOf s)) (e ∷ p) })
   right-stays m h u = record { matched = h; tells = record { done = k; arrived = stays (piecesOf s) _ p a e u; place = refl; right = refl } }
 
+  -- it does not end here
   right-no : asks (segment k (piecesOf s)) p ≡ false → (k < steps (piecesOf s)) ⊎ (steps (piecesOf s) ≤ k) → Right code s p e (decided code (s .place) begins (swept false))
   right-no h (inl l) = rw decided-no (right-stays false (sym (asks-other (piecesOf s) _ p a l)) (λ _. h))
   right-no h (inr l) =
@@ -138,6 +139,7 @@ module _ (code : List ℕ) (s : Placed) (p : Path) (e : Element) (from : ℕ) (y
       let d : k ≡ steps (piecesOf s) = omega arith in
       rw decided-no (right-stays false (sym h ∙ asks-last (piecesOf s) _ p a d) (λ _. h))
 
+  -- it does
   right-yes : asks (segment k (piecesOf s)) p ≡ true → (k < steps (piecesOf s)) ⊎ (steps (piecesOf s) ≤ k) → Right code s p e (decided code (s .place) begins (swept true))
   right-yes h (inl l) =
       let z = place-past code k (piecesOf s) (s .first) (y .lies) l in
@@ -152,6 +154,7 @@ module _ (code : List ℕ) (s : Placed) (p : Path) (e : Element) (from : ℕ) (y
       rw (decided-last code (s .place) begins (told 0 (segment k (piecesOf s)) (e ∷ p)) (s .first) (y .head) (y .head-read) (ap (λ (n : ℕ). segmentPlace code n (piecesOf s) (s .first)) d ∙ place-all code (piecesOf s) (s .first)))
       (right-stays true (sym h ∙ asks-last (piecesOf s) _ p a d) (λ m. absurd (omega arith)))
 
+  -- either way
   right-swept : (b : Bool) → asks (segment k (piecesOf s)) p ≡ b → Right code s p e (decided code (s .place) begins (swept b))
   right-swept true h = right-yes h (lt-or-ge k (steps (piecesOf s)))
   right-swept false h = right-no h (lt-or-ge k (steps (piecesOf s)))
@@ -172,7 +175,9 @@ visit-right code part s p e from c y t =
     let l = length-segment k (piecesOf s) in
     let r = y .room in
     let m = y .ends in
-    rw (t .tells .place,
+    rw (
+      t .tells .place,
       sweep-told code part p e (length code) (segment k (piecesOf s)) (s .place + toFlags) (segmentPlace code k (piecesOf s) (s .first)) (segment-lies code k (piecesOf s) (s .first) (y .lies))
-      (omega arith) (omega arith) (omega arith) (a .begun) (rw (t .tells .right) at (t .held)))
+          (omega arith) (omega arith) (omega arith) (a .begun) (rw (t .tells .right) at (t .held)),
+    )
     (right-swept code s p e from y k a (asks (segment k (piecesOf s)) p) refl)

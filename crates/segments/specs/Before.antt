@@ -1,10 +1,9 @@
 -- The segments of a selector by their places in the bytes. Rightmost first, a segment ends with the step behind which the one on its left begins.
 use Prim.Native.Nat.{ℕ, zero, suc}
-use mathlib.Core.List.{List, [], _∷_, _++_}
+use mathlib.Core.List.{List, _++_}
 use lib.ListN.{replicate}
 use Rattle.combinators.specs.Choice.{pick, is}
-use Rattle.compiled.specs.Decoded.{Decoded, onDecoded}
-use Rattle.segments.specs.Segments.{Piece}
+use Rattle.compiled.specs.Decoded.{onDecoded}
 use Rattle.segments.specs.Sweep.{onPiece, pieceAt, markBytes}
 
 -- where a segment begins, how many child steps it has, and how many tests its leftmost compound

@@ -1,7 +1,6 @@
 -- Computed cases: three selectors, the second without styles, in parts that held other bytes.
 use Prim.Native.Nat.{ℕ, suc}
-use mathlib.Core.Bool.{false}
-use mathlib.Core.List.{List, [], _∷_, _++_, map}
+use mathlib.Core.List.{List, [], _∷_, map}
 use mathlib.Core.Path.{_≡_, refl}
 use lib.ListN.{length, replicate}
 use Rattle.combinators.specs.Choice.{pick, or, and, is, within}
@@ -12,17 +11,16 @@ use Rattle.unicode.specs.Utf8.{utf8}
 use Rattle.syntax.specs.Stream.{textsMany}
 use Rattle.syntax.specs.Layout.{flag, flagOf, colourNumber, colourOf, styleSlotOf, styleOf, styleIn}
 use Rattle.syntax.specs.RuleLayout.{componentKind, pseudoNumber, pseudoFrom}
-use Rattle.syntax.specs.Selector.{Component, star, element, child, descendant, none}
-use Rattle.syntax.specs.Style as style
+use Rattle.syntax.specs.Selector.{star, element, child, descendant, none}
 use Rattle.syntax.specs.Style.{authorOrigin}
-use Rattle.page.specs.Path.{Element, Path}
-use Rattle.matching.specs.Matches.{step, here, onParent, onAncestors, nameIs}
-use Rattle.compiled.specs.Decoded.{Decoded, onDecoded, andThen, mapped, counted}
+use Rattle.page.specs.Path.{Element}
+use Rattle.matching.specs.Matches.{step, here, nameIs}
+use Rattle.compiled.specs.Decoded.{onDecoded, andThen, mapped, counted}
 use Rattle.compiled.specs.Number.{groupBytes, numberBytes, limited, groupsAt, numberAt, rangedAt}
 use Rattle.compiled.specs.Text.{textBytes, spanAt, textIn}
 use Rattle.compiled.specs.Component.{componentBody, componentBytes, isMark, nameAt, bodyAt, writtenAt, markOf, namedOf, componentIn, componentAt}
 use Rattle.compiled.specs.Style.{styleBody, styleBytes, numberUpTo, valueAt, valuedAt, slotAt, styleNumbersAt, styleAt}
-use Rattle.compiled.specs.Sheet.{CompiledSelector, redSelector, headBytes, stylesBytes, selectorBytes, encode, headAt, pseudoAt, countAt, partsAt, stylesAt, selectorOf, selectorAt}
+use Rattle.compiled.specs.Sheet.{redSelector, headBytes, stylesBytes, selectorBytes, encode, headAt, pseudoAt, countAt, partsAt, stylesAt, selectorOf, selectorAt}
 use Rattle.segments.specs.Segments.{piece, tested}
 use Rattle.segments.specs.Sweep.{pairAt, pairBytes, onPiece, pieceAt, testsPass, compoundAt, markBytes, markedTests, sweepAt}
 use Rattle.segments.specs.Before.{beginning, segmentBefore, freshBytes}
@@ -32,6 +30,7 @@ use Rattle.segments.specs.Pass.{matchedHere, blockSet, passFrom}
 use Rattle.segments.specs.Document.{styledFrom, leftmostAt, freshFrom}
 use Rattle.segments.specs.Down.{passAt, freshIn, passedDown}
 
+-- an element by its name
 unfoldable named : List ℕ → Element
 named n = record { name = n; attributes = []; place = 1 }
 

@@ -5,7 +5,7 @@ use Rattle.combinators.specs.Choice.{pick}
 use Rattle.syntax.specs.Style.{agentOrigin}
 use Rattle.page.specs.Path.{Path}
 use Rattle.matching.specs.Matches.{matches}
-use Rattle.compiled.specs.Decoded.{Decoded, onDecoded}
+use Rattle.compiled.specs.Decoded.{onDecoded}
 use Rattle.compiled.specs.Number.{numberAt}
 use Rattle.compiled.specs.Sheet.{CompiledSelector, selectorAt}
 use Rattle.segments.specs.Placed.{Placed, hasStyle, placedFrom}

@@ -13,6 +13,7 @@ pub record Passed : Type 0 where
   pub part : List ℕ
   pub matched : List ℕ
 
+-- the place of a selector, if it matches
 unfoldable pub matchedHere : Visited → ℕ → List ℕ
 matchedHere v p = pick (v .matched) (p ∷ []) []
 

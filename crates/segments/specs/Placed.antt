@@ -7,7 +7,7 @@ use Rattle.syntax.specs.Selector.{Component}
 use Rattle.syntax.specs.Style.{agentOrigin, StyleDecl}
 use Rattle.page.specs.Path.{Path}
 use Rattle.matching.specs.Matches.{matches}
-use Rattle.compiled.specs.Decoded.{Decoded, onDecoded}
+use Rattle.compiled.specs.Decoded.{onDecoded}
 use Rattle.compiled.specs.Sheet.{CompiledSelector, headAt, selectorAt}
 use Rattle.segments.specs.Segments.{Piece, piece}
 
@@ -18,9 +18,11 @@ pub record Placed : Type 0 where
   pub end : ℕ
   pub components : List Component
 
+-- its components as pieces
 abbrev pub piecesOf : Placed → List Piece
 piecesOf s = map piece (s .components)
 
+-- one style or more
 unfoldable pub hasStyle : List StyleDecl → Bool
 hasStyle [] = false
 hasStyle (d ∷ ds) = true
@@ -29,6 +31,7 @@ hasStyle (d ∷ ds) = true
 unfoldable pub firstAt : List ℕ → ℕ → ℕ
 firstAt code i = onDecoded (headAt code agentOrigin i) (λ first _. first) (λ _. i)
 
+-- the selector s, which was read from i to n
 unfoldable pub placedAt : List ℕ → ℕ → ℕ → CompiledSelector → Placed
 placedAt code i n s = record { place = i; first = firstAt code i; end = n; components = s .components }
 

@@ -1,7 +1,7 @@
 -- Which selectors match, found while a path is gone down once. Descendant steps cut a selector into segments, each a chain of compounds joined by child
 -- steps. Of a selector we keep how many segments, from the left, are done above, and of the next one, for each compound, whether it may end here: what stands
 -- left of it ended at the parent. Segments that are done need not be looked at again, and those right of the next one cannot have begun.
-use Prim.Native.Nat.{ℕ, zero, suc, _+_}
+use Prim.Native.Nat.{ℕ, suc}
 use mathlib.Core.Bool.{Bool, true, false}
 use mathlib.Core.List.{List, [], _∷_, map}
 use mathlib.Core.Path.{_≡_, refl}
@@ -22,6 +22,7 @@ pub data Piece : Type 0 where
   direct : Piece
   anywhere : Piece
 
+-- a component as a piece
 unfoldable pub piece : Component → Piece
 piece child = direct
 piece descendant = anywhere
@@ -52,6 +53,7 @@ abbrev pub alone : Path → Path
 alone [] = []
 alone (e ∷ up) = e ∷ []
 
+-- a test of the node alone
 unfoldable pub tested : Path → Component → Bool
 tested node c = step c (λ _. true) node
 
@@ -82,6 +84,7 @@ pub record Visit : Type 0 where
   pub matched : Bool
   pub below : State
 
+-- k segments are done, and of the next nothing has begun
 unfoldable pub awaiting : ℕ → List Piece → State
 awaiting k ws = record { done = k; may = fresh (segment k ws) }
 
@@ -92,6 +95,7 @@ settled ws k swept =
     pick (is k (steps ws)) (record { matched = getD swept 0 false; below = stay })
     (record { matched = false; below = pick (getD swept 0 false) (awaiting (suc k) ws) stay })
 
+-- at a node, by what it is told
 unfoldable pub visit : Path → List Piece → State → Visit
 visit node ws s = settled ws (s .done) (sweep node (getD (s .may) 0 false) (segment (s .done) ws) (drop 1 (s .may)))
 
@@ -106,6 +110,7 @@ matchesDown cs p = visit (alone p) (map piece cs) (arriving (map piece cs) p) .m
 
 -- ---- cases
 
+-- an element by its name
 unfoldable named : List ℕ → Element
 named n = record { name = n; attributes = []; place = 1 }
 

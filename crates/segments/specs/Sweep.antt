@@ -16,9 +16,11 @@ use Rattle.segments.specs.Segments.{Piece, test, direct, anywhere, piece
 abbrev pub byteValues : ℕ
 byteValues = 256
 
+-- read from a part
 unfoldable pub pairAt : List ℕ → ℕ → ℕ
 pairAt part j = getD part j 0 + byteValues * getD part (j + 1) 0
 
+-- written; what is too large wraps
 unfoldable pub pairBytes : ℕ → List ℕ
 pairBytes n = (n % byteValues) ∷ (n / byteValues % byteValues) ∷ []
 
@@ -28,6 +30,7 @@ onPiece (test c) f g h = f c
 onPiece direct f g h = g tt
 onPiece anywhere f g h = h tt
 
+-- read from compiled bytes
 unfoldable pub pieceAt : List ℕ → ℕ → Decoded Piece
 pieceAt code i = mapped piece (componentAt code i)
 
@@ -61,10 +64,12 @@ withoutTests = 2
 abbrev pub withTests : ℕ
 withTests = 3
 
+-- the mark of a compound of so many tests
 unfoldable pub markBytes : ℕ → List ℕ
 markBytes zero = withoutTests ∷ []
 markBytes (suc t) = withTests ∷ pairBytes (suc t)
 
+-- how many tests a mark says
 unfoldable pub markedTests : List ℕ → ℕ → ℕ
 markedTests part j = pick (is (getD part j 0) withoutTests) 0 (pairAt part (j + 1))
 

@@ -2,14 +2,14 @@
 -- a style, the place of the segment that is awaited, and the flags of that segment. So no width has to be known.
 use Prim.Native.Nat.{ℕ, _+_}
 use mathlib.Core.Bool.{Bool, true, false}
-use mathlib.Core.List.{List, [], _∷_, _++_}
+use mathlib.Core.List.{List, _++_}
 use lib.ListN.{length, getD, drop}
 use Rattle.combinators.specs.Choice.{pick, is}
 use Rattle.syntax.specs.Layout.{flagOf}
 use Rattle.syntax.specs.Style.{agentOrigin}
 use Rattle.page.specs.Path.{Path}
-use Rattle.compiled.specs.Decoded.{Decoded, onDecoded}
-use Rattle.compiled.specs.Sheet.{Head, headAt}
+use Rattle.compiled.specs.Decoded.{onDecoded}
+use Rattle.compiled.specs.Sheet.{headAt}
 use Rattle.segments.specs.Sweep.{pairAt, pairBytes, sweepAt}
 use Rattle.segments.specs.Before.{Segment, beginning, segmentBefore, freshBytes}
 
@@ -23,6 +23,7 @@ toAwaited = 3
 abbrev pub toFlags : ℕ
 toFlags = 5
 
+-- a block written
 unfoldable pub blockBytes : ℕ → ℕ → List ℕ → List ℕ
 blockBytes next awaited flags = pairBytes next ++ (pairBytes awaited ++ flags)
 
@@ -41,6 +42,7 @@ unfoldable pub endedBy : List ℕ → ℕ → List ℕ → ℕ → ℕ → Visit
 endedBy code awaited flags first count =
     pick (is awaited first) (record { matched = true; awaited = awaited; flags = flags }) (awaits (segmentBefore code awaited count (beginning first) first))
 
+-- the same of the selector at p, whose head says where its components are; where there is none, nothing changes
 unfoldable pub endedAt : List ℕ → ℕ → ℕ → List ℕ → Visited
 endedAt code p awaited flags =
     onDecoded (headAt code agentOrigin p) (λ first h. endedBy code awaited flags first (h .count)) (λ _. record { matched = false; awaited = awaited; flags = flags })
