@@ -8,18 +8,18 @@ use lib.ListN.{length}
 use Rattle.combinators.specs.Choice.{pick, is, within}
 use Rattle.combinators.proofs.Rules.{pick-true, pick-false, is-yes, is-no, is-true, within-true, within-yes}
 use Rattle.syntax.specs.RuleLayout.{pseudoNumber}
-use Rattle.syntax.specs.Selector.{none, after}
+use Rattle.syntax.specs.Selector.{Component, none, after}
 use Rattle.syntax.specs.Style.{agentOrigin, authorOrigin, StyleDecl}
 use Rattle.page.specs.Path.{Path}
 use Rattle.matching.specs.Matches.{matches}
-use Rattle.compiled.specs.Decoded.{read, fault, onDecoded, andThen, mapped, counted}
+use Rattle.compiled.specs.Decoded.{Decoded, read, fault, onDecoded, andThen, mapped, counted}
 use Rattle.compiled.specs.Style.{styleAt}
 use Rattle.compiled.specs.Number.{numberAt, rangedAt}
 use Rattle.compiled.specs.Sheet.{CompiledSelector, Head, countAt, pseudoAt, headAt, stylesAt, selectorOf, partsAt, selectorAt, selectorsAt, decode}
 use Rattle.compiled.proofs.Walking.{steps, source, counted-none, counted-length, selector-steps, selectors-first, selectors-none, sheet-steps}
 use Rattle.segments.specs.Placed.{Placed, hasStyle, placedAt, placedFrom, matchingPlaces}
 use Rattle.segments.specs.Document.{styledFrom, styleCountAt, firstStyled}
-use Rattle.segments.specs.Down.{placedIn, passedDown, withStyle, matchingOf, selectorsIn}
+use Rattle.segments.specs.Down.{placedIn, passedDown, withStyle, matchingBy, matchingOf, readIn, selectorsIn}
 use Rattle.segments.proofs.SweepLaws.{pairValues}
 use Rattle.segments.proofs.DocumentLaws.{placed-styled, placed-bare}
 use Rattle.segments.proofs.DownLaws.{matched-down}
@@ -77,12 +77,16 @@ selector-lower t least i n s l e =
 
 -- ---- the selectors of a sheet
 
--- each of the selectors is read at its place
+-- each of the selectors is read at its place, by any reader
+abbrev pub ReadBy : {A : Type 0} → (ℕ → Decoded A) → (A → List Component) → List Placed → List A → Type 0
+ReadBy u f [] [] = Unit
+ReadBy u f [] (s ∷ ss) = ⊥
+ReadBy u f (x ∷ xs) [] = ⊥
+ReadBy u f (x ∷ xs) (s ∷ ss) = (u (x .place) ≡ read (x .end) s) × (x .components ≡ f s) × ReadBy u f xs ss
+
+-- by that of compiled selectors
 abbrev pub ReadAt : List ℕ → List Placed → List CompiledSelector → Type 0
-ReadAt code [] [] = Unit
-ReadAt code [] (s ∷ ss) = ⊥
-ReadAt code (x ∷ xs) [] = ⊥
-ReadAt code (x ∷ xs) (s ∷ ss) = (selectorAt code agentOrigin (x .place) ≡ read (x .end) s) × (x .components ≡ s .components) × ReadAt code xs ss
+ReadAt code xs ss = ReadBy (selectorAt code agentOrigin) (λ s. s .components) xs ss
 
 -- one with a style, and one without
 with-yes : (s : CompiledSelector) (ss : List CompiledSelector) → hasStyle (s .styles) ≡ true → withStyle (s ∷ ss) ≡ s ∷ withStyle ss
@@ -108,16 +112,16 @@ placed-read code (suc k) least i m ss l e =
     go n s others false h r t = rw (placed-bare code k i n s r h, with-no s others h) t
 
 -- at the places of those that match the matching ones are found
-pub matching-read : (code : List ℕ) (xs : List Placed) (ss : List CompiledSelector) (path : Path) → ReadAt code xs ss → selectorsIn code (matchingPlaces path xs) ≡ matchingOf path ss
-matching-read code [] [] path r = unfold selectorsIn matchingPlaces matchingOf in refl
-matching-read code [] (s ∷ ss) path r = absurd r
-matching-read code (x ∷ xs) [] path r = absurd r
-matching-read code (x ∷ xs) (s ∷ ss) path r = go (matches (s .components) path) refl (matching-read code xs ss path (r .2))
+pub matching-read : {A : Type 0} (u : ℕ → Decoded A) (f : A → List Component) (xs : List Placed) (ss : List A) (path : Path) → ReadBy u f xs ss
+    → readIn u (matchingPlaces path xs) ≡ matchingBy f path ss
+matching-read u f [] [] path r = unfold readIn matchingPlaces matchingBy in refl
+matching-read u f [] (s ∷ ss) path r = absurd r
+matching-read u f (x ∷ xs) [] path r = absurd r
+matching-read u f (x ∷ xs) (s ∷ ss) path r = go (matches (f s) path) refl (matching-read u f xs ss path (r .2))
   where
-    go : (b : Bool) → matches (s .components) path ≡ b → selectorsIn code (matchingPlaces path xs) ≡ matchingOf path ss
-        → selectorsIn code (matchingPlaces path (x ∷ xs)) ≡ matchingOf path (s ∷ ss)
-    go true h t = unfold selectorsIn matchingPlaces matchingOf onDecoded pick in rw (r .1, h, r .0, t)
-    go false h t = unfold selectorsIn matchingPlaces matchingOf onDecoded pick in rw (r .1, h, t)
+    go : (b : Bool) → matches (f s) path ≡ b → readIn u (matchingPlaces path xs) ≡ matchingBy f path ss → readIn u (matchingPlaces path (x ∷ xs)) ≡ matchingBy f path (s ∷ ss)
+    go true h t = unfold readIn matchingPlaces matchingBy onDecoded pick in rw (r .1, h, r .0, t)
+    go false h t = unfold readIn matchingPlaces matchingBy onDecoded pick in rw (r .1, h, t)
 
 -- the selectors of a sheet
 pub sheet-read : (code : List ℕ) (m : ℕ) (ss : List CompiledSelector) → decode code ≡ read m ss → ReadAt code (placedIn code) (withStyle ss)
@@ -131,7 +135,7 @@ pub found-down : (code : List ℕ) → length code ≤ pairValues → (m : ℕ) 
     → ((q : Path) → length code < length (own q)) → length code < length spare → (path : Path)
     → selectorsIn code (passedDown code own spare path .matched) ≡ matchingOf path (withStyle ss)
 found-down code c m ss e own spare l n path =
-    ap (selectorsIn code) (matched-down code c own spare l n path) ∙ matching-read code (placedIn code) (withStyle ss) path (sheet-read code m ss e)
+    ap (selectorsIn code) (matched-down code c own spare l n path) ∙ matching-read (selectorAt code agentOrigin) (λ s. s .components) (placedIn code) (withStyle ss) path (sheet-read code m ss e)
 
 -- ---- the first selector that has a style, found without reading styles
 

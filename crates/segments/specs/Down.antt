@@ -2,10 +2,11 @@
 use Prim.Native.Nat.{ℕ}
 use mathlib.Core.List.{List, [], _∷_, _++_}
 use Rattle.combinators.specs.Choice.{pick}
+use Rattle.syntax.specs.Selector.{Component}
 use Rattle.syntax.specs.Style.{agentOrigin}
 use Rattle.page.specs.Path.{Path}
 use Rattle.matching.specs.Matches.{matches}
-use Rattle.compiled.specs.Decoded.{onDecoded}
+use Rattle.compiled.specs.Decoded.{Decoded, onDecoded}
 use Rattle.compiled.specs.Number.{numberAt}
 use Rattle.compiled.specs.Sheet.{CompiledSelector, selectorAt}
 use Rattle.segments.specs.Placed.{Placed, hasStyle, placedFrom}
@@ -40,12 +41,18 @@ unfoldable pub withStyle : List CompiledSelector → List CompiledSelector
 withStyle [] = []
 withStyle (s ∷ ss) = pick (hasStyle (s .styles)) (s ∷ []) [] ++ withStyle ss
 
--- that match
-unfoldable pub matchingOf : Path → List CompiledSelector → List CompiledSelector
-matchingOf path [] = []
-matchingOf path (s ∷ ss) = pick (matches (s .components) path) (s ∷ []) [] ++ matchingOf path ss
+-- that match, by their components
+unfoldable pub matchingBy : {A : Type 0} → (A → List Component) → Path → List A → List A
+matchingBy f path [] = []
+matchingBy f path (s ∷ ss) = pick (matches (f s) path) (s ∷ []) [] ++ matchingBy f path ss
+
+abbrev pub matchingOf : Path → List CompiledSelector → List CompiledSelector
+matchingOf path ss = matchingBy (λ s. s .components) path ss
 
 -- that are read at places
-unfoldable pub selectorsIn : List ℕ → List ℕ → List CompiledSelector
-selectorsIn code [] = []
-selectorsIn code (p ∷ ps) = onDecoded (selectorAt code agentOrigin p) (λ _ s. s ∷ []) (λ _. []) ++ selectorsIn code ps
+unfoldable pub readIn : {A : Type 0} → (ℕ → Decoded A) → List ℕ → List A
+readIn u [] = []
+readIn u (p ∷ ps) = onDecoded (u p) (λ _ s. s ∷ []) (λ _. []) ++ readIn u ps
+
+abbrev pub selectorsIn : List ℕ → List ℕ → List CompiledSelector
+selectorsIn code ps = readIn (selectorAt code agentOrigin) ps
