@@ -3,6 +3,7 @@ pub mod SweepLaws
 pub mod BeforeLaws
 pub mod VisitLaws
 pub mod PartLaws
+pub mod StoreLaws
 pub mod PassLaws
 pub mod PlacedLaws
 pub mod DocumentLaws
