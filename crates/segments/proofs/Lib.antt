@@ -1,0 +1,11 @@
+pub mod SegmentLaws
+pub mod SweepLaws
+pub mod BeforeLaws
+pub mod VisitLaws
+pub mod PartLaws
+pub mod StoreLaws
+pub mod PassLaws
+pub mod PlacedLaws
+pub mod DocumentLaws
+pub mod DownLaws
+pub mod SheetLaws
