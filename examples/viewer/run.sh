@@ -30,6 +30,7 @@ fi
 page=${1:+$(realpath "$1")}
 cd "$here"
 cargo build --offline --locked --jobs 1
+cargo test --offline --locked --jobs 1 > /dev/null
 viewer=$CARGO_TARGET_DIR/debug/viewer
 if [ -n "$page" ]; then
     exec "$viewer" "$page" sheets/school.css

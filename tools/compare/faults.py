@@ -42,6 +42,8 @@ CRATE_FAULTS = [
     ("parser_odd", PARSER, 'map(tag("odd"), |_| (2, 1))', 1, 'map(tag("odd"), |_| (2, -1))', "`odd` is 2n-1"),
     ("parser_sign", PARSER, "let b = <i32 as FromStr>::from_str(b_val).unwrap() * b_sign.val();\n            (0, b)", 1,
      "let b = <i32 as FromStr>::from_str(b_val).unwrap() * (b_sign.val() * b_sign.val());\n            (0, b)", "the sign of a lone number is lost"),
+    ("parser_leading_space", PARSER, "components.reverse();\n    if let Some(&SelectorComponent::CombDescendant) = components.last() {\n        components.pop();\n    }", 1,
+     "components.reverse();", "white space before a selector is a descendant step"),
     ("parser_trailing_space", PARSER, "    if let Some(&SelectorComponent::CombDescendant) = components.last() {\n        components.pop();\n    }\n    components.reverse();", 1,
      "    components.reverse();", "white space behind a selector is a descendant step"),
     ("parser_semicolon", PARSER, 'opt(tag(";"))', 1, 'opt(tag(";;"))', "no `;` may stand behind the last declaration"),
