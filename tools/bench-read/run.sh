@@ -1,5 +1,5 @@
 #!/usr/bin/env bash
-# Measures reading a sheet against html2text 0.17.4 and prints tables for the README, and the machine's load, for others may work on it.
+# Measures reading a sheet against html2text 0.17.4 and prints tables for docs/SPEED.md, and the machine's load, for others may work on it.
 #
 #     bash tools/crate/build.sh FOLDER       once: the crate
 #     rt staticlib engine                    once: this engine (another archive: ENGINE=PATH)

@@ -1,5 +1,5 @@
 #!/usr/bin/env bash
-# Measures the style of an element against html2text 0.17.4 and prints tables for the README, and the machine's load, for others may work on it.
+# Measures the style of an element against html2text 0.17.4 and prints tables for docs/SPEED.md, and the machine's load, for others may work on it.
 #
 #     bash tools/crate/build.sh FOLDER       once: the crate
 #     rt staticlib engine; rt staticlib comparison        once: this engine, and what only the comparison asks
