@@ -1,5 +1,5 @@
 //! Reading a sheet: this engine's `read_sheet`, as `rt staticlib engine` builds it, against html2text's `parse_stylesheet`, both built for release,
-//! on the same sheets, turn by turn in one run. Prints tables for the README; tools/bench-read/run.sh builds and runs it.
+//! on the same sheets, turn by turn in one run. Prints tables for docs/SPEED.md; tools/bench-read/run.sh builds and runs it.
 use compare::engine::Stores;
 use judge::css::questions::count_rules;
 use std::hint::black_box;

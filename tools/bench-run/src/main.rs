@@ -1,6 +1,6 @@
 //! The styles of all elements of a page: this engine's `hicsolmab_run` over a compiled sheet, as `rt staticlib engine` builds it, against html2text's `computed_style` of all elements
 //! in page order, each with its parent's result. Reading is excluded on both sides: the sheet is compiled before, html2text has its rules and nodes. Both built for release, the same
-//! sheets and pages, turn by turn in one run; medians. Prints tables for the README; tools/bench-run/run.sh builds and runs it.
+//! sheets and pages, turn by turn in one run; medians. Prints tables for docs/SPEED.md; tools/bench-run/run.sh builds and runs it.
 //!
 //! `hicsolmab_run` also checks the page and the compiled bytes, and clears the stores, at each call. The two checks are timed apart, in the same turns, by the functions that make
 //! nothing else, and a second figure is without them. Buffers have the least lengths. Document styles are off, but for the page that has style attributes.

@@ -1,6 +1,6 @@
 //! The style of an element: this engine's `hicsolmab_style`, as `rt staticlib engine` builds it, against html2text's reading of three sheets and its
 //! `computed_style` down the path, both built for release, on the same sheets and pages, turn by turn in one run. Then sheets that are hard on this engine,
-//! alone. Prints tables for the README; tools/bench-style/run.sh builds and runs it.
+//! alone. Prints tables for docs/SPEED.md; tools/bench-style/run.sh builds and runs it.
 //!
 //! `hicsolmab_style` also checks the page and that all is UTF-8, and clears the stores, at each call. html2text is given its nodes, made before.
 use compare::engine::{BOOK_CALL, STYLE_CALL, Stores, StyleFunction, Styled};
