@@ -8,3 +8,4 @@ pub mod PlacedLaws
 pub mod DocumentLaws
 pub mod DownLaws
 pub mod SheetLaws
+pub mod CodePieceLaws
