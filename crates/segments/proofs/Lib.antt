@@ -9,3 +9,4 @@ pub mod DocumentLaws
 pub mod DownLaws
 pub mod SheetLaws
 pub mod CodePieceLaws
+pub mod CodeCompoundLaws

@@ -1,71 +1,64 @@
+use mathlib.Core.Path.{refl}
+use Rattle.segments.specs.Met.{rowAlone, handedElement}
+use Rattle.segments.proofs.CodeCompoundLaws as laws
 use borrow.Author.Needs.{needs}
 use Rattle.segments.proofs.compounds.tests_pass.Statement.{statement}
 use Rattle.segments.proofs.compounds.tests_pass.Tie as tie
-use Rattle.segments.proofs.compounds.tests_pass.Reads as reads
-use Rattle.segments.proofs.compounds.tests_pass.Lts as lts
-use Rattle.segments.proofs.pieces.read_met.Reads as read-met-reads
 
 abbrev Inv-loop : tie.InvT-loop
-Inv-loop compiled at count element name attributes text place i₀ left₀ i left = ?
+Inv-loop compiled at count element name attributes text place i₀ left₀ i left = laws.Testing compiled (rowAlone element (handedElement name attributes text place)) count at i left
 
 abbrev μ-loop : tie.MeasureT-loop
-μ-loop compiled at count element name attributes text place i₀ left₀ i left = ?
+μ-loop compiled at count element name attributes text place i₀ left₀ i left = left
 
--- src/compounds.rt:40:5
 loop-holds : tie.Need-loop-holds Inv-loop μ-loop
-loop-holds c = search needs
+loop-holds c = refl
 
--- src/compounds.rt:41:15
 read-met-requires : tie.Need-read-met-requires Inv-loop μ-loop
 read-met-requires c κs = search needs
 
--- src/compounds.rt:42:23
 enum-known-next : tie.Need-enum-known-next Inv-loop μ-loop
 enum-known-next c = search needs
 
--- src/compounds.rt:45:21
 sub-left : tie.Need-sub-left Inv-loop μ-loop
 sub-left c = search needs
 
--- src/compounds.rt:40:5
 loop-less : tie.Need-loop-less Inv-loop μ-loop
 loop-less c = search needs
 
--- src/compounds.rt:40:5
 loop-again : tie.Need-loop-again Inv-loop μ-loop
-loop-again c = search needs
+loop-again c = let n = c .before .before in
+    let k = n .before .before in
+    laws.tests-more _ _ _ _ _ _ (k .before .before .loop .inv) (k .before .loop-test .taken) _ (k .read-met .ensures) _ _ (n .next .given .1) (c .if1 .taken)
 
--- src/compounds.rt:47:21
 returns : tie.Need-returns Inv-loop μ-loop
-returns c = search needs
+returns c = let n = c .before .before in
+    let k = n .before .before in
+    laws.tests-failed _ _ _ _ _ _ (k .before .before .loop .inv) (k .before .loop-test .taken) _ (k .read-met .ensures) _ _ (n .next .given .1) (c .if1 .left)
 
--- src/compounds.rt:51:17
 enum-told : tie.Need-enum-told Inv-loop μ-loop
 enum-told c = search needs
 
--- src/compounds.rt:51:17
 returns-2 : tie.Need-returns-2 Inv-loop μ-loop
-returns-2 c = search needs
+returns-2 c = let k = c .before .before in
+    laws.tests-child _ _ _ _ _ _ (k .before .before .loop .inv) (k .before .loop-test .taken) _ (k .read-met .ensures) _ (c .enum-told .given .1)
 
--- src/compounds.rt:54:17
 enum-told-2 : tie.Need-enum-told-2 Inv-loop μ-loop
 enum-told-2 c = search needs
 
--- src/compounds.rt:54:17
 returns-3 : tie.Need-returns-3 Inv-loop μ-loop
-returns-3 c = search needs
+returns-3 c = let k = c .before .before in
+    laws.tests-descendant _ _ _ _ _ _ (k .before .before .loop .inv) (k .before .loop-test .taken) _ (k .read-met .ensures) _ (c .enum-told2 .given .1)
 
--- src/compounds.rt:57:17
 enum-told-3 : tie.Need-enum-told-3 Inv-loop μ-loop
 enum-told-3 c = search needs
 
--- src/compounds.rt:57:17
 returns-4 : tie.Need-returns-4 Inv-loop μ-loop
-returns-4 c = search needs
+returns-4 c = let k = c .before .before in
+    laws.tests-fault _ _ _ _ _ _ (k .before .before .loop .inv) (k .before .loop-test .taken) _ (k .read-met .ensures) (c .enum-told3 .given .1)
 
--- src/compounds.rt:25:1
 returns-5 : tie.Need-returns-5 Inv-loop μ-loop
-returns-5 c = search needs
+returns-5 c = laws.tests-end _ _ _ _ _ _ (c .before .loop .inv) (c .loop-test .left)
 
 pub tests-pass-spec : {M : Type 1} → statement M
 tests-pass-spec =
