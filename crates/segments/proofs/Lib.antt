@@ -9,3 +9,5 @@ pub mod PlacedLaws
 pub mod DocumentLaws
 pub mod DownLaws
 pub mod SheetLaws
+pub mod CodePieceLaws
+pub mod CodeCompoundLaws

@@ -6,4 +6,5 @@ pub mod Pass
 pub mod Placed
 pub mod Document
 pub mod Down
+pub mod Met
 pub mod Cases

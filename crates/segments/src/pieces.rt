@@ -1,0 +1,178 @@
+// One component in compiled bytes, at one row of a page.
+use combinators::texts::part_of;
+use combinators::texts::same_text;
+use compiled::components::ComponentAnswer;
+use compiled::components::read_component;
+use matching::elements::attribute_is;
+use matching::elements::has_attribute;
+use matching::elements::has_class;
+use matching::elements::has_id;
+use matching::nth::nth;
+use matching::nth::signed_of;
+use page::rows::ATTRIBUTE_WIDTH;
+use syntax::rows::CHILD;
+use syntax::rows::CLASS;
+use syntax::rows::ELEMENT;
+use syntax::rows::HASH;
+use syntax::rows::STAR;
+ghost use mathlib.Core.Path.{_≡_};
+ghost use mathlib.Core.Bool.{true, false};
+ghost use mathlib.Core.List.{_∷_, []};
+ghost use Prim.Native.Nat.{ℕ, _≤_};
+ghost use Rattle.combinators.specs.Choice.{and};
+ghost use Rattle.syntax.specs.Signed.{signedOf};
+ghost use Rattle.matching.specs.Nth.{nthMatches};
+ghost use Rattle.compiled.specs.Component.{namedOf};
+ghost use Rattle.segments.specs.Segments.{tested};
+ghost use Rattle.segments.specs.Met.{rowAlone, handedElement, placeLimit, markMet, metAt};
+
+// What a component is for a row, each with the place behind it: a test, with whether the tests up to it pass; a child step; a descendant step. Or a fault.
+pub enum Met {
+    Test(usize, bool),
+    Child(usize),
+    Descendant(usize),
+    Fault,
+}
+
+// Whether both hold.
+fn both(a: bool, b: bool) -> bool
+    ensures { λ r. ⌜ r ≡ and a b ⌝ }
+{
+    if a {
+        return b;
+    }
+    false
+}
+
+// Whether an element passes a component of one text, which is told with its kind.
+fn name_passes(kind: u32, asked: &[u8], name: &[u8], attributes: &[u32], text: &[u8]) -> bool
+    ensures { λ r. ⌜ ((place : ℕ) → r ≡ tested (handedElement (now (name .entry)) (now (attributes .entry)) (now (text .entry)) place ∷ []) (namedOf kind (now (asked .entry)))) ⌝ }
+{
+    if kind == ELEMENT {
+        return same_text(name, asked);
+    }
+    let count = attributes.len() / ATTRIBUTE_WIDTH;
+    if kind == CLASS {
+        return has_class(attributes, text, 0, count, asked);
+    }
+    if kind == HASH {
+        return has_id(attributes, text, 0, count, asked);
+    }
+    has_attribute(attributes, text, 0, count, asked)
+}
+
+// Whether an nth-child of two numbers holds of a place.
+fn nth_passes(first: u32, second: u32, place: usize) -> bool
+    requires { ⌜ place ≤ placeLimit ⌝ }
+    ensures { λ r. ⌜ r ≡ nthMatches (signedOf first) (signedOf second) place ⌝ }
+{
+    let a = signed_of(first);
+    let b = signed_of(second);
+    nth(a, b, place)
+}
+
+// A component that is its kind alone.
+fn mark_met(next: usize, kind: u32, ok: bool) -> Met
+    ensures { λ r. ⌜ r ≡ markMet next kind ok ⌝ }
+{
+    if kind == STAR {
+        return Met::Test(next, ok);
+    }
+    if kind == CHILD {
+        return Met::Child(next);
+    }
+    Met::Descendant(next)
+}
+
+// The component at `at` for the document, which passes star alone: a test is only read past.
+pub fn pass_met(compiled: &[u8], at: usize, ok: bool) -> Met
+    ensures { λ r. ⌜ r ≡ metAt (now (compiled .entry)) [] ok at ⌝ }
+{
+    match read_component(compiled, at) {
+        ComponentAnswer::Mark(next, kind) => {
+            return mark_met(next, kind, ok);
+        }
+        ComponentAnswer::Name { next, .. } => {
+            return Met::Test(next, false);
+        }
+        ComponentAnswer::Numbers { next, .. } => {
+            return Met::Test(next, false);
+        }
+        ComponentAnswer::Names { next, .. } => {
+            return Met::Test(next, false);
+        }
+        ComponentAnswer::Fault(_) => {
+            return Met::Fault;
+        }
+    }
+}
+
+// The same for an element that has passed so far.
+fn test_met(
+    compiled: &[u8],
+    at: usize,
+    name: &[u8],
+    attributes: &[u32],
+    text: &[u8],
+    place: usize,
+) -> Met
+    requires { ⌜ place ≤ placeLimit ⌝ }
+    ensures { λ r. ⌜ r ≡ metAt (now (compiled .entry)) (handedElement (now (name .entry)) (now (attributes .entry)) (now (text .entry)) place ∷ []) true at ⌝ }
+{
+    match read_component(compiled, at) {
+        ComponentAnswer::Mark(next, kind) => {
+            return mark_met(next, kind, true);
+        }
+        ComponentAnswer::Name {
+            next,
+            kind,
+            start,
+            size,
+        } => {
+            let word = part_of(compiled, start, size);
+            return Met::Test(next, name_passes(kind, word, name, attributes, text));
+        }
+        ComponentAnswer::Numbers {
+            next,
+            first,
+            second,
+        } => {
+            return Met::Test(next, nth_passes(first, second, place));
+        }
+        ComponentAnswer::Names {
+            next,
+            start,
+            size,
+            second_start,
+            second_size,
+        } => {
+            let word = part_of(compiled, start, size);
+            let value = part_of(compiled, second_start, second_size);
+            let count = attributes.len() / ATTRIBUTE_WIDTH;
+            return Met::Test(next, attribute_is(attributes, text, 0, count, word, value));
+        }
+        ComponentAnswer::Fault(_) => {
+            return Met::Fault;
+        }
+    }
+}
+
+// The component at `at` for a row. Where the tests so far have failed, a test need not be carried out.
+pub fn read_met(
+    compiled: &[u8],
+    at: usize,
+    ok: bool,
+    element: bool,
+    name: &[u8],
+    attributes: &[u32],
+    text: &[u8],
+    place: usize,
+) -> Met
+    requires { ⌜ place ≤ placeLimit ⌝ }
+    ensures { λ r. ⌜ r ≡ metAt (now (compiled .entry)) (rowAlone element (handedElement (now (name .entry)) (now (attributes .entry)) (now (text .entry)) place)) ok at ⌝ }
+{
+    if both(ok, element) {
+        return test_met(compiled, at, name, attributes, text, place);
+    }
+    pass_met(compiled, at, ok)
+}
