@@ -10,3 +10,5 @@ pub mod DownLaws
 pub mod SheetLaws
 pub mod CodePieceLaws
 pub mod CodeCompoundLaws
+pub mod CodePartLaws
+pub mod CodeSweepLaws
