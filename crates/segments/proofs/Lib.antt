@@ -12,3 +12,4 @@ pub mod CodePieceLaws
 pub mod CodeCompoundLaws
 pub mod CodePartLaws
 pub mod CodeSweepLaws
+pub mod CodeVisitLaws

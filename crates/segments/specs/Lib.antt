@@ -9,4 +9,5 @@ pub mod Down
 pub mod Met
 pub mod Parts
 pub mod Swept
+pub mod Visiting
 pub mod Cases
