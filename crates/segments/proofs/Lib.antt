@@ -13,3 +13,4 @@ pub mod CodeCompoundLaws
 pub mod CodePartLaws
 pub mod CodeSweepLaws
 pub mod CodeVisitLaws
+pub mod CodeBlockLaws
