@@ -103,10 +103,10 @@ module _ (state₀ : List ℕ) (own width at count : ℕ) (state : List ℕ) (j 
       let l : length s₁ ≡ length state = ap length e ∙ length-part-set state own width j 0 in
       record {
         whole =
-          ap (λ (s : List ℕ). partSets s own width (j + 1) (replicate (left - 1) 0)) e
-          ∙ sym (stored-first 0 (replicate (left - 1) 0) state own width j)
-          ∙ ap (λ (n : ℕ). partSets state own width j (replicate n 0)) d
-          ∙ v .whole;
+            ap (λ (s : List ℕ). partSets s own width (j + 1) (replicate (left - 1) 0)) e
+            ∙ sym (stored-first 0 (replicate (left - 1) 0) state own width j)
+            ∙ ap (λ (n : ℕ). partSets state own width j (replicate n 0)) d
+            ∙ v .whole;
         long = l ∙ v .long;
         room = omega (arith, l, v .room);
         few = omega (arith, v .few);

@@ -88,9 +88,9 @@ module _ (code : List ℕ) (row : Path) (s₀ s₁ s₂ : List ℕ) (above own w
       → s₂ ≡ partSets s₁ own width (p + toFlags) (sweepAt code row (part s₁ above width) (length code - 1) (p + toFlags + 1) (one .place)) → Stays
   stays-others h m f =
       let o : part s₁ above width ≡ part s₀ above width =
-        ap (λ (x : List ℕ). part x above width) e ∙ part-above-all (pairBytes next ++ pairBytes awaited) s₀ above own width (p + toNext) h in
+      ap (λ (x : List ℕ). part x above width) e ∙ part-above-all (pairBytes next ++ pairBytes awaited) s₀ above own width (p + toNext) h in
       let w : sweepAt code row (part s₀ above width) (length code - 1) (p + toFlags + 1) (one .place) ≡ behindFirst code row (part s₀ above width) p one =
-        unfold behindFirst sweptBehind pick in rw m in
+      unfold behindFirst sweptBehind pick in rw m in
       block-stored s₀ s₁ s₂ own width p next awaited _ e
       (f ∙ ap (λ (x : List ℕ). partSets s₁ own width (p + toFlags) (sweepAt code row x (length code - 1) (p + toFlags + 1) (one .place))) o
       ∙ ap (partSets s₁ own width (p + toFlags)) w)
@@ -121,6 +121,7 @@ module _ (code flags s₀ : List ℕ) (own width p next awaited : ℕ) (r : Head
     where
       by-head : endedAt code p awaited flags ≡ endedBy code awaited flags first count
       by-head = unfold endedAt onDecoded in rw (head-read (headAt code agentOrigin p) r er first origin pseudo count q)
+
       last : endedBy code awaited flags first count ≡ record { matched = true; awaited = awaited; flags = flags }
       last = unfold endedBy pick in rw (is-yes awaited first e)
 
@@ -132,6 +133,7 @@ module _ (code flags s₀ : List ℕ) (own width p next awaited : ℕ) (r : Head
     where
       by-head : endedAt code p awaited flags ≡ endedBy code awaited flags first count
       by-head = unfold endedAt onDecoded in rw (head-read (headAt code agentOrigin p) r er first origin pseudo count q)
+
       another : endedBy code awaited flags first count ≡ awaits (segmentBefore code awaited count (beginning first) first)
       another = unfold endedBy pick in rw (is-no awaited first e)
 
@@ -171,7 +173,7 @@ module _ (code : List ℕ) (row : Path) (s₀ : List ℕ) (above own width p : �
   visit-none h e =
       let d : length code ≡ 0 = omega arith in
       let w : decided code p awaited (sweepAt code row flags 0 (p + toFlags) awaited) ≡ record { matched = false; awaited = awaited; flags = [] } =
-        unfold decided sweepAt flagOf is pick in refl in
+      unfold decided sweepAt flagOf is pick in refl in
       visits-as (record { matched = false; awaited = awaited; flags = [] }) (ap (λ (n : ℕ). decided code p awaited (sweepAt code row flags n (p + toFlags) awaited)) d ∙ w) false
       (told-stays s₀ own width next p false awaited [] s₁ (block-stored s₀ s₁ s₁ own width p next awaited [] e (unfold partSets in refl)))
 
@@ -189,14 +191,14 @@ module _ (code : List ℕ) (row : Path) (s₀ : List ℕ) (above own width p : �
         ∙ ap (λ (x : Swept). decided code p awaited (flag (x .ends) ∷ sweptBehind code row flags k (p + toFlags) x)) (sym eo)
         ∙ decided-first code p awaited (one .ends) (sweptBehind code row flags k (p + toFlags) one)
         ∙ ap (λ (x : List ℕ). pick (one .ends) (endedAt code p awaited (sweptBehind code row x k (p + toFlags) one))
-          (record { matched = false; awaited = awaited; flags = sweptBehind code row x k (p + toFlags) one })) ef
+        (record { matched = false; awaited = awaited; flags = sweptBehind code row x k (p + toFlags) one })) ef
 
     -- the segment ends here
     pub visit-ends : one .ends ≡ true → (b : Bool) → Told s₀ own width next p (endedAt code p awaited (behindFirst code row (part s₀ above width) p one)) b s₁ → Visits b
     visit-ends e b t =
         let w : pick (one .ends) (endedAt code p awaited (behindFirst code row (part s₀ above width) p one))
-              (record { matched = false; awaited = awaited; flags = behindFirst code row (part s₀ above width) p one })
-            ≡ endedAt code p awaited (behindFirst code row (part s₀ above width) p one) = unfold pick in rw e in
+        (record { matched = false; awaited = awaited; flags = behindFirst code row (part s₀ above width) p one })
+        ≡ endedAt code p awaited (behindFirst code row (part s₀ above width) p one) = unfold pick in rw e in
         visits-as (endedAt code p awaited (behindFirst code row (part s₀ above width) p one)) (visit-first ∙ w) b t
 
     -- it does not
@@ -205,6 +207,6 @@ module _ (code : List ℕ) (row : Path) (s₀ : List ℕ) (above own width p : �
     visit-stays e s =
         let q = behindFirst code row (part s₀ above width) p one in
         let w : pick (one .ends) (endedAt code p awaited (behindFirst code row (part s₀ above width) p one))
-              (record { matched = false; awaited = awaited; flags = behindFirst code row (part s₀ above width) p one })
-            ≡ record { matched = false; awaited = awaited; flags = behindFirst code row (part s₀ above width) p one } = unfold pick in rw e in
+        (record { matched = false; awaited = awaited; flags = behindFirst code row (part s₀ above width) p one })
+        ≡ record { matched = false; awaited = awaited; flags = behindFirst code row (part s₀ above width) p one } = unfold pick in rw e in
         visits-as (record { matched = false; awaited = awaited; flags = q }) (visit-first ∙ w) false (told-stays s₀ own width next p false awaited q s₁ s)

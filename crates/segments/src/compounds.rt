@@ -140,7 +140,11 @@ pub fn segment_before(compiled: &[u8], stop: usize, count: u32, first: usize) ->
             }
             Met::Descendant(next) => {
                 if next == stop {
-                    return Segment { start, steps, tests };
+                    return Segment {
+                        start,
+                        steps,
+                        tests,
+                    };
                 }
                 i = next;
                 start = next;
@@ -149,9 +153,17 @@ pub fn segment_before(compiled: &[u8], stop: usize, count: u32, first: usize) ->
                 left -= 1;
             }
             Met::Fault => {
-                return Segment { start, steps, tests };
+                return Segment {
+                    start,
+                    steps,
+                    tests,
+                };
             }
         }
     }
-    Segment { start, steps, tests }
+    Segment {
+        start,
+        steps,
+        tests,
+    }
 }

@@ -76,16 +76,7 @@ pub fn sweep_one(
         };
     }
     let tests = marked_tests(flags, j);
-    let ends = tests_pass(
-        compiled,
-        at,
-        tests,
-        element,
-        name,
-        attributes,
-        text,
-        place,
-    );
+    let ends = tests_pass(compiled, at, tests, element, name, attributes, text, place);
     Swept {
         marked: true,
         ends,

@@ -59,15 +59,7 @@ fn put_awaits(
 {
     let s = segment_before(compiled, awaited, count, first);
     put_places(state, own, width, p, next, s.start);
-    put_fresh(
-        state,
-        own,
-        width,
-        p + TO_FLAGS,
-        s.start,
-        s.steps,
-        s.tests,
-    );
+    put_fresh(state, own, width, p + TO_FLAGS, s.start, s.steps, s.tests);
 }
 
 // Stores the block of a selector whose segment is awaited as before; `one` is its first compound.
