@@ -14,3 +14,4 @@ pub mod CodePartLaws
 pub mod CodeSweepLaws
 pub mod CodeVisitLaws
 pub mod CodeBlockLaws
+pub mod CodePassLaws

@@ -10,4 +10,5 @@ pub mod Met
 pub mod Parts
 pub mod Swept
 pub mod Visiting
+pub mod Passing
 pub mod Cases

@@ -17,3 +17,7 @@ partSets state own width j (b ∷ bs) = partSets (partSet state own width j b) o
 -- no flag of a part has such a place: sums of places do not wrap
 abbrev pub flagsLimit : ℕ
 flagsLimit = 8589934592
+
+-- a number of two bytes is below that
+abbrev pub pairLimit : ℕ
+pairLimit = 65536

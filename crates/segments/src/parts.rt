@@ -5,7 +5,7 @@ ghost use Prim.Native.Nat.{_+_, _≤_, _<_};
 ghost use lib.ListN.{length, replicate};
 ghost use Rattle.segments.specs.Sweep.{pairAt, pairBytes, markBytes, markedTests};
 ghost use Rattle.segments.specs.Before.{freshBytes};
-ghost use Rattle.segments.specs.Parts.{partSet, partSets, flagsLimit};
+ghost use Rattle.segments.specs.Parts.{partSet, partSets, flagsLimit, pairLimit};
 
 // How many values a byte has.
 const BYTE_VALUES: usize = 256;
@@ -19,6 +19,7 @@ const WITH_TESTS: u8 = 3;
 pub fn pair_at(part: &[u8], j: usize) -> usize
     requires { ⌜ j ≤ flagsLimit ⌝ }
     ensures { λ r. ⌜ r ≡ pairAt (now (part .entry)) j ⌝ }
+    ensures { λ r. ⌜ r < pairLimit ⌝ }
 {
     let low = peek(part, j) as usize;
     let high = peek(part, j + 1) as usize;

@@ -25,7 +25,7 @@ ghost use Rattle.segments.specs.Parts.{partSets};
 ghost use Rattle.segments.specs.Visiting.{VisitLent, blockStored, behindFirst};
 
 // From the place of a selector, to where its block has the place of the next selector, that of the segment that is awaited, and its flags.
-const TO_NEXT: usize = 1;
+pub const TO_NEXT: usize = 1;
 
 const TO_AWAITED: usize = 3;
 

@@ -26,7 +26,7 @@ add-result c = search needs
 
 returns : tie.Need-returns
 unfolding pairAt
-returns c = search needs
+returns c = (search needs, search needs)
 
 pub pair-at-spec : {M : Type 1} → statement M
 pair-at-spec =

@@ -31,7 +31,7 @@ same-length : tie.Need-same-length
 same-length c = search needs
 
 returns : tie.Need-returns
-returns c = laws.visit-ends _ _ _ _ _ _ _ _ (c .before .before .before .before .before .before .before .before .before .part-of .ensures) _ (c .before .before .before .before .before .before .before .before .pair-at .ensures) _ (c .before .before .before .before .before .before .before .pair-at2 .ensures) _ (c .before .before .before .before .before .before .if1 .taken) _ (c .before .before .before .before .before .sweep-one .ensures) (c .before .before .before .before .if2 .taken) _ (c .before .before .visit-ended .ensures)
+returns c = laws.visit-ends _ _ _ _ _ _ _ _ (c .before .before .before .before .before .before .before .before .before .part-of .ensures) _ (c .before .before .before .before .before .before .before .before .pair-at .ensures .0) _ (c .before .before .before .before .before .before .before .pair-at2 .ensures .0) _ (c .before .before .before .before .before .before .if1 .taken) _ (c .before .before .before .before .before .sweep-one .ensures) (c .before .before .before .before .if2 .taken) _ (c .before .before .visit-ended .ensures)
 
 put-stays-requires : tie.Need-put-stays-requires
 put-stays-requires c κs = search needs
@@ -40,7 +40,7 @@ same-length-2 : tie.Need-same-length-2
 same-length-2 c = search needs
 
 returns-2 : tie.Need-returns-2
-returns-2 c = laws.visit-stays _ _ _ _ _ _ _ _ (c .before .before .before .before .before .before .before .before .before .part-of .ensures) _ (c .before .before .before .before .before .before .before .before .pair-at .ensures) _ (c .before .before .before .before .before .before .before .pair-at2 .ensures) _ (c .before .before .before .before .before .before .if1 .taken) _ (c .before .before .before .before .before .sweep-one .ensures) (c .before .before .before .before .if2 .left) (c .before .before .put-stays .ensures)
+returns-2 c = laws.visit-stays _ _ _ _ _ _ _ _ (c .before .before .before .before .before .before .before .before .before .part-of .ensures) _ (c .before .before .before .before .before .before .before .before .pair-at .ensures .0) _ (c .before .before .before .before .before .before .before .pair-at2 .ensures .0) _ (c .before .before .before .before .before .before .if1 .taken) _ (c .before .before .before .before .before .sweep-one .ensures) (c .before .before .before .before .if2 .left) (c .before .before .put-stays .ensures)
 
 put-places-requires : tie.Need-put-places-requires
 put-places-requires c κs = search needs
@@ -49,7 +49,7 @@ same-length-3 : tie.Need-same-length-3
 same-length-3 c = search needs
 
 returns-3 : tie.Need-returns-3
-returns-3 c = laws.visit-none _ _ _ _ _ _ _ _ (c .before .before .before .before .before .before .before .part-of .ensures) _ (c .before .before .before .before .before .before .pair-at .ensures) _ (c .before .before .before .before .before .pair-at2 .ensures) _ (c .before .before .before .before .if1 .left) (c .before .before .put-places .ensures)
+returns-3 c = laws.visit-none _ _ _ _ _ _ _ _ (c .before .before .before .before .before .before .before .part-of .ensures) _ (c .before .before .before .before .before .before .pair-at .ensures .0) _ (c .before .before .before .before .before .pair-at2 .ensures .0) _ (c .before .before .before .before .if1 .left) (c .before .before .put-places .ensures)
 
 pub visit-spec : {M : Type 1} → statement M
 visit-spec =
