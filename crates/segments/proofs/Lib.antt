@@ -15,3 +15,4 @@ pub mod CodeSweepLaws
 pub mod CodeVisitLaws
 pub mod CodeBlockLaws
 pub mod CodePassLaws
+pub mod CodeDocumentLaws

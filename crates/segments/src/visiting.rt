@@ -29,10 +29,10 @@ pub const TO_NEXT: usize = 1;
 
 const TO_AWAITED: usize = 3;
 
-const TO_FLAGS: usize = 5;
+pub const TO_FLAGS: usize = 5;
 
 // Stores the two places that a block begins with.
-fn put_places(state: &mut [u8], own: usize, width: usize, p: usize, next: usize, awaited: usize)
+pub fn put_places(state: &mut [u8], own: usize, width: usize, p: usize, next: usize, awaited: usize)
     requires { ⌜ own + width ≤ length (now state) ⌝ }
     requires { ⌜ p ≤ compiledLimit ⌝ }
     ensures { λ _. ⌜ now (state .exit) ≡ partSets (now (state .entry)) own width (p + toNext) (pairBytes next ++ pairBytes awaited) ⌝ }
@@ -42,7 +42,7 @@ fn put_places(state: &mut [u8], own: usize, width: usize, p: usize, next: usize,
 }
 
 // Stores the block of a selector of which the segment before the one at `awaited` is awaited next.
-fn put_awaits(
+pub fn put_awaits(
     compiled: &[u8],
     state: &mut [u8],
     own: usize,
