@@ -48,14 +48,14 @@ module _ (code : List ℕ) (row : Path) (state₀ : List ℕ) (above own width f
     pass-step =
         let d : suc (left - 1) ≡ left = omega arith in
         let e : pick (is p noPlace) state (passStored code row above own width (left - 1) (nextFrom state above width p) (visitStored code row above own width p state))
-            ≡ passStored code row above own width (suc (left - 1)) p state = unfold passStored in refl in
+        ≡ passStored code row above own width (suc (left - 1)) p state = unfold passStored in refl in
         e ∙ ap (λ (n : ℕ). passStored code row above own width n p state) d ∙ v .whole
 
     -- there is no other
     pub pass-none : p ≡ noPlace → state ≡ passStored code row above own width count first state₀
     pass-none z =
         let e : state ≡ pick (is p noPlace) state (passStored code row above own width (left - 1) (nextFrom state above width p) (visitStored code row above own width p state)) =
-          unfold pick in rw (is-yes p noPlace z) in
+        unfold pick in rw (is-yes p noPlace z) in
         e ∙ pass-step
 
     -- the next one
@@ -67,13 +67,13 @@ module _ (code : List ℕ) (row : Path) (state₀ : List ℕ) (above own width f
         let w : s₁ ≡ visitStored code row above own width p state = (unfold visitStored nextFrom in e₁) in
         let l : length s₁ ≡ length state = ap length w ∙ length-visit code row above own width p state in
         let e : passStored code row above own width (left - 1) (nextFrom state above width p) (visitStored code row above own width p state)
-            ≡ pick (is p noPlace) state (passStored code row above own width (left - 1) (nextFrom state above width p) (visitStored code row above own width p state)) =
-          unfold pick in rw (is-no p noPlace z) in
+        ≡ pick (is p noPlace) state (passStored code row above own width (left - 1) (nextFrom state above width p) (visitStored code row above own width p state)) =
+        unfold pick in rw (is-no p noPlace z) in
         record {
           whole =
-            ap (λ (x : ℕ). passStored code row above own width (left - 1) x s₁) n
-            ∙ ap (λ (x : List ℕ). passStored code row above own width (left - 1) (nextFrom state above width p) x) w
-            ∙ e ∙ pass-step;
+              ap (λ (x : ℕ). passStored code row above own width (left - 1) x s₁) n
+              ∙ ap (λ (x : List ℕ). passStored code row above own width (left - 1) (nextFrom state above width p) x) w
+              ∙ e ∙ pass-step;
           long = l ∙ v .long;
           lent = record { room = omega (arith, l, v .lent .room); apart = v .lent .apart; few-bytes = v .lent .few-bytes; near = omega arith; few = v .lent .few };
         }
