@@ -1,6 +1,6 @@
 -- A pass in a state: its own part is that of `passFrom`, and the loop that makes it.
 use Prim.Native.Nat.{ℕ, zero, suc, _+_, _-_, _≤_, _<_}
-use mathlib.Core.Path.{_≡_, refl, sym, ap, _∙_}
+use mathlib.Core.Path.{_≡_, refl, ap, _∙_}
 use mathlib.Core.Bool.{Bool, true, false}
 use mathlib.Core.List.{List}
 use native.Mathlib.Omega.{arith}
@@ -9,7 +9,6 @@ use Rattle.combinators.specs.Choice.{pick, is}
 use Rattle.combinators.specs.Part.{part}
 use Rattle.combinators.proofs.Rules.{is-yes, is-no}
 use Rattle.page.specs.Path.{Path}
-use Rattle.compiled.specs.Sheet.{compiledLimit}
 use Rattle.segments.specs.Sweep.{pairAt}
 use Rattle.segments.specs.Before.{noPlace}
 use Rattle.segments.specs.Visits.{toNext, Visited, visitAt}

@@ -2,9 +2,9 @@
 use Prim.Native.Nat.{ℕ, suc, _+_, _-_, _≤_, _<_}
 use mathlib.Core.Path.{_≡_, refl, sym, ap, _∙_}
 use mathlib.Core.Bool.{Bool, true, false}
-use mathlib.Core.List.{List, [], _∷_, _++_, append-assoc, append-nil}
+use mathlib.Core.List.{List, [], _∷_, _++_, append-assoc}
 use native.Mathlib.Omega.{arith}
-use lib.ListN.{length, getD, drop}
+use lib.ListN.{length}
 use Rattle.combinators.specs.Choice.{pick, is}
 use Rattle.combinators.specs.Part.{part}
 use Rattle.syntax.specs.Layout.{flag, flagOf}
@@ -22,7 +22,7 @@ use Rattle.segments.specs.Before.{Segment, beginning, segmentBefore, fre
 use Rattle.segments.specs.Visits.{toNext, toAwaited, toFlags, blockBytes, Visited, awaits, endedBy, endedAt, decided, visitAt}
 use Rattle.segments.specs.Parts.{partSets}
 use Rattle.segments.specs.Swept.{sweptOne, sweptBehind}
-use Rattle.segments.specs.Visiting.{VisitLent, blockStored, behindFirst}
+use Rattle.segments.specs.Visiting.{blockStored, behindFirst}
 use Rattle.segments.specs.declared.sweeping.Swept.{Swept}
 use Rattle.segments.proofs.CodePartLaws.{stored-then, part-above-all}
 use Rattle.segments.proofs.CodeSweepLaws.{sweep-step}
