@@ -8,7 +8,7 @@ use Rattle.combinators.specs.Part.{part}
 use Rattle.combinators.specs.Word.{sameText}
 use Rattle.combinators.proofs.Rules.{never, pick-holds, and-right, is-no}
 use Rattle.syntax.specs.RuleLayout.{starKind, classKind, elementKind, hashKind, childKind}
-use Rattle.syntax.specs.Selector.{Component, star, class, element, hash, child, descendant, nth, attribute, attributeEqual}
+use Rattle.syntax.specs.Selector.{Component, star, class, element, child, descendant, nth, attribute, attributeEqual}
 use Rattle.syntax.specs.Signed.{signedOf}
 use Rattle.page.specs.Path.{Element, Path}
 use Rattle.page.specs.PathOf.{attributesFrom}
@@ -22,7 +22,7 @@ use Rattle.compiled.specs.Answer.{componentAnswer}
 use Rattle.compiled.specs.declared.components.ComponentAnswer.{ComponentAnswer}
 use Rattle.compiled.specs.declared.components.ComponentAnswer.the-variants as component
 use Rattle.compiled.proofs.Walking.{at-mark, at-name, at-numbers, at-names, at-fault}
-use Rattle.segments.specs.Segments.{Piece, test, piece, tested}
+use Rattle.segments.specs.Segments.{test, piece, tested}
 use Rattle.segments.specs.Sweep.{onPiece, pieceAt}
 use Rattle.segments.specs.Met.{rowAlone, handedElement, metOf, metAt, markMet}
 use Rattle.segments.specs.declared.pieces.Met.{Met}

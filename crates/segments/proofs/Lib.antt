@@ -11,3 +11,9 @@ pub mod DownLaws
 pub mod SheetLaws
 pub mod CodePieceLaws
 pub mod CodeCompoundLaws
+pub mod CodePartLaws
+pub mod CodeSweepLaws
+pub mod CodeVisitLaws
+pub mod CodeBlockLaws
+pub mod CodePassLaws
+pub mod CodeDocumentLaws

@@ -7,4 +7,8 @@ pub mod Placed
 pub mod Document
 pub mod Down
 pub mod Met
+pub mod Parts
+pub mod Swept
+pub mod Visiting
+pub mod Passing
 pub mod Cases

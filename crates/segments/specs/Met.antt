@@ -7,7 +7,7 @@ use Rattle.syntax.specs.RuleLayout.{starKind, childKind}
 use Rattle.page.specs.Path.{Element, Path}
 use Rattle.page.specs.PathOf.{attributesFrom}
 use Rattle.page.specs.Rows.{attributeRows}
-use Rattle.compiled.specs.Decoded.{Decoded, onDecoded}
+use Rattle.compiled.specs.Decoded.{onDecoded}
 use Rattle.segments.specs.Segments.{Piece, tested}
 use Rattle.segments.specs.Sweep.{onPiece, pieceAt}
 use Rattle.segments.specs.declared.pieces.Met.{Met}

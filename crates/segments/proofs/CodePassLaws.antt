@@ -1,0 +1,106 @@
+-- A pass in a state: its own part is that of `passFrom`, and the loop that makes it.
+use Prim.Native.Nat.{ℕ, zero, suc, _+_, _-_, _≤_, _<_}
+use mathlib.Core.Path.{_≡_, refl, ap, _∙_}
+use mathlib.Core.Bool.{Bool, true, false}
+use mathlib.Core.List.{List}
+use native.Mathlib.Omega.{arith}
+use lib.ListN.{length}
+use Rattle.combinators.specs.Choice.{pick, is}
+use Rattle.combinators.specs.Part.{part}
+use Rattle.combinators.proofs.Rules.{is-yes, is-no}
+use Rattle.page.specs.Path.{Path}
+use Rattle.segments.specs.Sweep.{pairAt}
+use Rattle.segments.specs.Before.{noPlace}
+use Rattle.segments.specs.Visits.{toNext, Visited, visitAt}
+use Rattle.segments.specs.Pass.{Passed, blockSet, passFrom}
+use Rattle.segments.specs.Parts.{pairLimit}
+use Rattle.segments.specs.Visiting.{VisitLent, blockStored}
+use Rattle.segments.specs.Passing.{nextFrom, visitStored, passStored}
+use Rattle.segments.proofs.CodeBlockLaws.{block-own, block-above, length-block}
+
+-- ---- one selector
+module _ (code : List ℕ) (row : Path) (above own width p : ℕ) (state : List ℕ) where
+  -- the state stays as long
+  pub length-visit : length (visitStored code row above own width p state) ≡ length state
+  unfolding visitStored
+  length-visit = length-block state own width (visitAt code row (part state above width) p) (nextFrom state above width p) p
+
+-- ---- the loop of `pass_blocks`
+pub record Passing (code : List ℕ) (row : Path) (state₀ : List ℕ) (above own width first count place : ℕ) (state : List ℕ) (p left : ℕ) : Type 0 where
+  pub whole : passStored code row above own width left p state ≡ passStored code row above own width count first state₀
+  pub long : length state ≡ length state₀
+  pub lent : VisitLent code state above own width p place
+
+module _ (code : List ℕ) (row : Path) (state₀ : List ℕ) (above own width first count place : ℕ) (state : List ℕ) (p left : ℕ)
+    (v : Passing code row state₀ above own width first count place state p left) where
+  -- none is left
+  pub pass-end : left ≤ 0 → state ≡ passStored code row above own width count first state₀
+  pass-end h =
+      let d : 0 ≡ left = omega arith in
+      let e : state ≡ passStored code row above own width 0 p state = unfold passStored in refl in
+      e ∙ ap (λ (n : ℕ). passStored code row above own width n p state) d ∙ v .whole
+
+  module _ (h : 0 < left) where
+    -- one of them
+    pass-step : pick (is p noPlace) state (passStored code row above own width (left - 1) (nextFrom state above width p) (visitStored code row above own width p state))
+        ≡ passStored code row above own width count first state₀
+    pass-step =
+        let d : suc (left - 1) ≡ left = omega arith in
+        let e : pick (is p noPlace) state (passStored code row above own width (left - 1) (nextFrom state above width p) (visitStored code row above own width p state))
+        ≡ passStored code row above own width (suc (left - 1)) p state = unfold passStored in refl in
+        e ∙ ap (λ (n : ℕ). passStored code row above own width n p state) d ∙ v .whole
+
+    -- there is no other
+    pub pass-none : p ≡ noPlace → state ≡ passStored code row above own width count first state₀
+    pass-none z =
+        let e : state ≡ pick (is p noPlace) state (passStored code row above own width (left - 1) (nextFrom state above width p) (visitStored code row above own width p state)) =
+        unfold pick in rw (is-yes p noPlace z) in
+        e ∙ pass-step
+
+    -- the next one
+    pub pass-more : ¬ (p ≡ noPlace) → (flags : List ℕ) → flags ≡ part state above width → (next : ℕ) → next ≡ pairAt flags (p + toNext) → next < pairLimit
+        → (s₁ : List ℕ) → s₁ ≡ blockStored state own width (visitAt code row (part state above width) p) (pairAt (part state above width) (p + toNext)) p
+        → Passing code row state₀ above own width first count place s₁ next (left - 1)
+    pass-more z flags ef next en small s₁ e₁ =
+        let n : next ≡ nextFrom state above width p = (unfold nextFrom in en ∙ ap (λ (x : List ℕ). pairAt x (p + toNext)) ef) in
+        let w : s₁ ≡ visitStored code row above own width p state = (unfold visitStored nextFrom in e₁) in
+        let l : length s₁ ≡ length state = ap length w ∙ length-visit code row above own width p state in
+        let e : passStored code row above own width (left - 1) (nextFrom state above width p) (visitStored code row above own width p state)
+        ≡ pick (is p noPlace) state (passStored code row above own width (left - 1) (nextFrom state above width p) (visitStored code row above own width p state)) =
+        unfold pick in rw (is-no p noPlace z) in
+        record {
+          whole =
+              ap (λ (x : ℕ). passStored code row above own width (left - 1) x s₁) n
+              ∙ ap (λ (x : List ℕ). passStored code row above own width (left - 1) (nextFrom state above width p) x) w
+              ∙ e ∙ pass-step;
+          long = l ∙ v .long;
+          lent = record { room = omega (arith, l, v .lent .room); apart = v .lent .apart; few-bytes = v .lent .few-bytes; near = omega arith; few = v .lent .few };
+        }
+
+-- ---- the own part after a pass is that of `passFrom`
+-- by whether there is a selector
+by-place : (t : Bool) (own width : ℕ) (x y : List ℕ) (a b : Passed) → part x own width ≡ a .part → part y own width ≡ b .part → part (pick t x y) own width ≡ pick t a b .part
+unfolding pick
+by-place true own width x y a b e f = e
+by-place false own width x y a b e f = f
+
+module _ (code : List ℕ) (row : Path) (above own width : ℕ) (h : above + width ≤ own) where
+  -- behind one selector
+  visit-moved : (k p : ℕ) (state : List ℕ)
+      → passFrom code row (part (visitStored code row above own width p state) above width) k (nextFrom state above width p) (part (visitStored code row above own width p state) own width) .part
+      ≡ passFrom code row (part state above width) k (pairAt (part state above width) (p + toNext))
+      (blockSet (visitAt code row (part state above width) p) (pairAt (part state above width) (p + toNext)) p (part state own width)) .part
+  unfolding visitStored nextFrom
+  visit-moved k p state =
+      let q = part state above width in
+      let v : Visited = visitAt code row q p in
+      let n = pairAt q (p + toNext) in
+      ap (λ (x : List ℕ). passFrom code row x k n (part (blockStored state own width v n p) own width) .part) (block-above state own width v n p above h)
+      ∙ ap (λ (x : List ℕ). passFrom code row q k n x .part) (block-own state own width v n p)
+
+  -- all of them
+  pub pass-own : (k p : ℕ) (state : List ℕ) → part (passStored code row above own width k p state) own width ≡ passFrom code row (part state above width) k p (part state own width) .part
+  unfolding passStored passFrom
+  pass-own zero p state = refl
+  pass-own (suc k) p state =
+      by-place (is p noPlace) own width _ _ _ _ refl (pass-own k (nextFrom state above width p) (visitStored code row above own width p state) ∙ visit-moved k p state)

@@ -1,0 +1,212 @@
+-- The visit of a selector as code: the block that is stored, by what was swept.
+use Prim.Native.Nat.{ℕ, suc, _+_, _-_, _≤_, _<_}
+use mathlib.Core.Path.{_≡_, refl, sym, ap, _∙_}
+use mathlib.Core.Bool.{Bool, true, false}
+use mathlib.Core.List.{List, [], _∷_, _++_, append-assoc}
+use native.Mathlib.Omega.{arith}
+use lib.ListN.{length}
+use Rattle.combinators.specs.Choice.{pick, is}
+use Rattle.combinators.specs.Part.{part}
+use Rattle.syntax.specs.Layout.{flag, flagOf}
+use Rattle.syntax.specs.Style.{agentOrigin}
+use Rattle.combinators.proofs.Rules.{is-yes, is-no}
+use Rattle.page.specs.Path.{Path}
+use Rattle.compiled.specs.Answer.{headAnswer}
+use Rattle.compiled.specs.Decoded.{onDecoded}
+use Rattle.compiled.specs.Sheet.{Head, headAt}
+use Rattle.compiled.specs.declared.sheets.HeadAnswer.{HeadAnswer}
+use Rattle.compiled.specs.declared.sheets.HeadAnswer.the-variants as head
+use Rattle.compiled.proofs.Answers.{head-read, head-fault}
+use Rattle.segments.specs.Sweep.{pairAt, pairBytes, markBytes, sweepAt}
+use Rattle.segments.specs.Before.{Segment, beginning, segmentBefore, freshBytes}
+use Rattle.segments.specs.Visits.{toNext, toAwaited, toFlags, blockBytes, Visited, awaits, endedBy, endedAt, decided, visitAt}
+use Rattle.segments.specs.Parts.{partSets}
+use Rattle.segments.specs.Swept.{sweptOne, sweptBehind}
+use Rattle.segments.specs.Visiting.{blockStored, behindFirst}
+use Rattle.segments.specs.declared.sweeping.Swept.{Swept}
+use Rattle.segments.proofs.CodePartLaws.{stored-then, part-above-all}
+use Rattle.segments.proofs.CodeSweepLaws.{sweep-step}
+
+-- a number takes two bytes
+length-pair : (n : ℕ) → length (pairBytes n) ≡ 2
+unfolding pairBytes
+length-pair n = refl
+
+-- two take four
+length-places : (a b : ℕ) → length (pairBytes a ++ pairBytes b) ≡ 4
+unfolding pairBytes
+length-places a b = refl
+
+module _ (s₀ s₁ s₂ : List ℕ) (own width p next awaited : ℕ) where
+  -- ---- the return of `put_places`
+  pub places-stored : s₁ ≡ partSets s₀ own width (p + toNext) (pairBytes next) → s₂ ≡ partSets s₁ own width (p + toAwaited) (pairBytes awaited)
+      → s₂ ≡ partSets s₀ own width (p + toNext) (pairBytes next ++ pairBytes awaited)
+  places-stored e f =
+      let d : p + toAwaited ≡ p + toNext + length (pairBytes next) = (let l = length-pair next in omega arith) in
+      f ∙ ap (λ (s : List ℕ). partSets s own width (p + toAwaited) (pairBytes awaited)) e
+      ∙ ap (λ (n : ℕ). partSets (partSets s₀ own width (p + toNext) (pairBytes next)) own width n (pairBytes awaited)) d
+      ∙ sym (stored-then (pairBytes next) (pairBytes awaited) s₀ own width (p + toNext))
+
+  -- the places, then the flags
+  pub block-stored : (flags : List ℕ) → s₁ ≡ partSets s₀ own width (p + toNext) (pairBytes next ++ pairBytes awaited) → s₂ ≡ partSets s₁ own width (p + toFlags) flags
+      → s₂ ≡ partSets s₀ own width (p + toNext) (blockBytes next awaited flags)
+  unfolding blockBytes
+  block-stored flags e f =
+      let places = pairBytes next ++ pairBytes awaited in
+      let d : p + toFlags ≡ p + toNext + length places = (let l = length-places next awaited in omega arith) in
+      f ∙ ap (λ (s : List ℕ). partSets s own width (p + toFlags) flags) e
+      ∙ ap (λ (n : ℕ). partSets (partSets s₀ own width (p + toNext) places) own width n flags) d
+      ∙ sym (stored-then places flags s₀ own width (p + toNext))
+      ∙ ap (partSets s₀ own width (p + toNext)) (append-assoc (pairBytes next) (pairBytes awaited) flags)
+
+-- ---- the return of `put_awaits`
+pub awaits-stored : (s₀ s₁ s₂ : List ℕ) (own width p next : ℕ) (s : Segment) (start steps tests : ℕ) → record { start = start; steps = steps; tests = tests } ≡ s
+    → s₁ ≡ partSets s₀ own width (p + toNext) (pairBytes next ++ pairBytes start)
+    → s₂ ≡ partSets s₁ own width (p + toFlags) (freshBytes (record { start = start; steps = steps; tests = tests }))
+    → s₂ ≡ blockStored s₀ own width (awaits s) next p
+unfolding blockStored awaits
+awaits-stored s₀ s₁ s₂ own width p next s start steps tests e f g =
+    let w : Segment = record { start = start; steps = steps; tests = tests } in
+    block-stored s₀ s₁ s₂ own width p next start (freshBytes w) f g
+    ∙ ap (λ (x : Segment). partSets s₀ own width (p + toNext) (blockBytes next (x .start) (freshBytes x))) e
+
+-- ---- the returns of `put_stays`
+module _ (code : List ℕ) (row : Path) (s₀ s₁ s₂ : List ℕ) (above own width p next awaited : ℕ) (one : Swept)
+    (e : s₁ ≡ partSets s₀ own width (p + toNext) (pairBytes next ++ pairBytes awaited)) where
+  -- what is stored
+  abbrev Stays : Type 0
+  Stays = s₂ ≡ partSets s₀ own width (p + toNext) (blockBytes next awaited (behindFirst code row (part s₀ above width) p one))
+
+  -- the mark of the leftmost
+  pub stays-marked : one .marked ≡ true → s₂ ≡ partSets s₁ own width (p + toFlags) (markBytes (one .tests)) → Stays
+  stays-marked m f =
+      let w : markBytes (one .tests) ≡ behindFirst code row (part s₀ above width) p one = unfold behindFirst sweptBehind pick in rw m in
+      block-stored s₀ s₁ s₂ own width p next awaited _ e (f ∙ ap (partSets s₁ own width (p + toFlags)) w)
+
+  -- the flags of the others
+  pub stays-others : above + width ≤ own → one .marked ≡ false
+      → s₂ ≡ partSets s₁ own width (p + toFlags) (sweepAt code row (part s₁ above width) (length code - 1) (p + toFlags + 1) (one .place)) → Stays
+  stays-others h m f =
+      let o : part s₁ above width ≡ part s₀ above width =
+      ap (λ (x : List ℕ). part x above width) e ∙ part-above-all (pairBytes next ++ pairBytes awaited) s₀ above own width (p + toNext) h in
+      let w : sweepAt code row (part s₀ above width) (length code - 1) (p + toFlags + 1) (one .place) ≡ behindFirst code row (part s₀ above width) p one =
+      unfold behindFirst sweptBehind pick in rw m in
+      block-stored s₀ s₁ s₂ own width p next awaited _ e
+      (f ∙ ap (λ (x : List ℕ). partSets s₁ own width (p + toFlags) (sweepAt code row x (length code - 1) (p + toFlags + 1) (one .place))) o
+      ∙ ap (partSets s₁ own width (p + toFlags)) w)
+
+-- ---- what is told of a visit: whether the selector matches, and the block that is stored
+module _ (s₀ : List ℕ) (own width next p : ℕ) where
+  abbrev pub Told : Visited → Bool → List ℕ → Type 0
+  Told v b s₁ = (b ≡ v .matched) × (s₁ ≡ blockStored s₀ own width v next p)
+
+  -- of one that is another
+  told-as : (v w : Visited) → v ≡ w → (b : Bool) (s₁ : List ℕ) → Told w b s₁ → Told v b s₁
+  told-as v w e b s₁ t = (t .0 ∙ ap (λ (x : Visited). x .matched) (sym e), t .1 ∙ ap (λ (x : Visited). blockStored s₀ own width x next p) (sym e))
+
+  -- of one whose segment is awaited as before
+  told-stays : (b : Bool) (awaited : ℕ) (flags s₁ : List ℕ) → s₁ ≡ partSets s₀ own width (p + toNext) (blockBytes next awaited flags)
+      → Told (record { matched = b; awaited = awaited; flags = flags }) b s₁
+  unfolding blockStored
+  told-stays b awaited flags s₁ e = (refl, e)
+
+-- ---- the returns of `visit_ended`
+module _ (code flags s₀ : List ℕ) (own width p next awaited : ℕ) (r : HeadAnswer) (er : r ≡ headAnswer (headAt code agentOrigin p)) (s₁ : List ℕ) where
+  -- the last segment
+  pub ended-last : (first origin pseudo count : ℕ) → r ≡ head.Head first origin pseudo count → awaited ≡ first
+      → s₁ ≡ partSets s₀ own width (p + toNext) (blockBytes next awaited flags) → Told s₀ own width next p (endedAt code p awaited flags) true s₁
+  ended-last first origin pseudo count q e s =
+      told-as s₀ own width next p (endedAt code p awaited flags) (record { matched = true; awaited = awaited; flags = flags }) (by-head ∙ last) true s₁
+      (told-stays s₀ own width next p true awaited flags s₁ s)
+    where
+      by-head : endedAt code p awaited flags ≡ endedBy code awaited flags first count
+      by-head = unfold endedAt onDecoded in rw (head-read (headAt code agentOrigin p) r er first origin pseudo count q)
+
+      last : endedBy code awaited flags first count ≡ record { matched = true; awaited = awaited; flags = flags }
+      last = unfold endedBy pick in rw (is-yes awaited first e)
+
+  -- another one
+  pub ended-next : (first origin pseudo count : ℕ) → r ≡ head.Head first origin pseudo count → ¬ (awaited ≡ first)
+      → s₁ ≡ blockStored s₀ own width (awaits (segmentBefore code awaited count (beginning first) first)) next p → Told s₀ own width next p (endedAt code p awaited flags) false s₁
+  ended-next first origin pseudo count q e s =
+      told-as s₀ own width next p (endedAt code p awaited flags) (awaits (segmentBefore code awaited count (beginning first) first)) (by-head ∙ another) false s₁ (unfold awaits in refl, s)
+    where
+      by-head : endedAt code p awaited flags ≡ endedBy code awaited flags first count
+      by-head = unfold endedAt onDecoded in rw (head-read (headAt code agentOrigin p) r er first origin pseudo count q)
+
+      another : endedBy code awaited flags first count ≡ awaits (segmentBefore code awaited count (beginning first) first)
+      another = unfold endedBy pick in rw (is-no awaited first e)
+
+  -- of a selector that is none
+  pub ended-fault : (f : ℕ) → r ≡ head.Fault f → s₁ ≡ partSets s₀ own width (p + toNext) (blockBytes next awaited flags)
+      → Told s₀ own width next p (endedAt code p awaited flags) false s₁
+  ended-fault f q s =
+      told-as s₀ own width next p (endedAt code p awaited flags) (record { matched = false; awaited = awaited; flags = flags }) none false s₁ (told-stays s₀ own width next p false awaited flags s₁ s)
+    where
+      none : endedAt code p awaited flags ≡ record { matched = false; awaited = awaited; flags = flags }
+      none = unfold endedAt onDecoded in rw (head-fault (headAt code agentOrigin p) r er f q)
+
+-- ---- the returns of `visit`
+-- what is decided by the first flag
+decided-first : (code : List ℕ) (p awaited : ℕ) (e : Bool) (flags : List ℕ)
+    → decided code p awaited (flag e ∷ flags) ≡ pick e (endedAt code p awaited flags) (record { matched = false; awaited = awaited; flags = flags })
+unfolding decided flagOf flag is pick
+decided-first code p awaited true flags = refl
+decided-first code p awaited false flags = refl
+
+module _ (code : List ℕ) (row : Path) (s₀ : List ℕ) (above own width p : ℕ) (flags : List ℕ) (ef : flags ≡ part s₀ above width)
+    (next : ℕ) (en : next ≡ pairAt flags (p + toNext)) (awaited : ℕ) (ea : awaited ≡ pairAt flags (p + toAwaited)) (s₁ : List ℕ) where
+  -- what is to be told
+  abbrev Visits : Bool → Type 0
+  Visits b = Told s₀ own width (pairAt (part s₀ above width) (p + toNext)) p (visitAt code row (part s₀ above width) p) b s₁
+
+  -- by another, which it is
+  visits-as : (w : Visited) → decided code p awaited (sweepAt code row flags (length code) (p + toFlags) awaited) ≡ w → (b : Bool) → Told s₀ own width next p w b s₁ → Visits b
+  visits-as w e b t =
+      let o : visitAt code row (part s₀ above width) p ≡ w = unfold visitAt in rw (← ef, ← ea) e in
+      let n : next ≡ pairAt (part s₀ above width) (p + toNext) = en ∙ ap (λ (x : List ℕ). pairAt x (p + toNext)) ef in
+      told-as s₀ own width (pairAt (part s₀ above width) (p + toNext)) p (visitAt code row (part s₀ above width) p) w o b s₁
+      (t .0, t .1 ∙ ap (λ (x : ℕ). blockStored s₀ own width w x p) n)
+
+  -- of no bytes
+  pub visit-none : length code ≤ 0 → s₁ ≡ partSets s₀ own width (p + toNext) (pairBytes next ++ pairBytes awaited) → Visits false
+  visit-none h e =
+      let d : length code ≡ 0 = omega arith in
+      let w : decided code p awaited (sweepAt code row flags 0 (p + toFlags) awaited) ≡ record { matched = false; awaited = awaited; flags = [] } =
+      unfold decided sweepAt flagOf is pick in refl in
+      visits-as (record { matched = false; awaited = awaited; flags = [] }) (ap (λ (n : ℕ). decided code p awaited (sweepAt code row flags n (p + toFlags) awaited)) d ∙ w) false
+      (told-stays s₀ own width next p false awaited [] s₁ (block-stored s₀ s₁ s₁ own width p next awaited [] e (unfold partSets in refl)))
+
+  module _ (h : 0 < length code) (one : Swept) (eo : one ≡ sweptOne code row flags (p + toFlags) awaited) where
+    -- by its first compound
+    visit-first : decided code p awaited (sweepAt code row flags (length code) (p + toFlags) awaited)
+        ≡ pick (one .ends) (endedAt code p awaited (behindFirst code row (part s₀ above width) p one))
+        (record { matched = false; awaited = awaited; flags = behindFirst code row (part s₀ above width) p one })
+    unfolding behindFirst
+    visit-first =
+        let k = length code - 1 in
+        let d : length code ≡ suc k = omega arith in
+        ap (λ (n : ℕ). decided code p awaited (sweepAt code row flags n (p + toFlags) awaited)) d
+        ∙ ap (decided code p awaited) (sweep-step code row flags k (p + toFlags) awaited)
+        ∙ ap (λ (x : Swept). decided code p awaited (flag (x .ends) ∷ sweptBehind code row flags k (p + toFlags) x)) (sym eo)
+        ∙ decided-first code p awaited (one .ends) (sweptBehind code row flags k (p + toFlags) one)
+        ∙ ap (λ (x : List ℕ). pick (one .ends) (endedAt code p awaited (sweptBehind code row x k (p + toFlags) one))
+        (record { matched = false; awaited = awaited; flags = sweptBehind code row x k (p + toFlags) one })) ef
+
+    -- the segment ends here
+    pub visit-ends : one .ends ≡ true → (b : Bool) → Told s₀ own width next p (endedAt code p awaited (behindFirst code row (part s₀ above width) p one)) b s₁ → Visits b
+    visit-ends e b t =
+        let w : pick (one .ends) (endedAt code p awaited (behindFirst code row (part s₀ above width) p one))
+        (record { matched = false; awaited = awaited; flags = behindFirst code row (part s₀ above width) p one })
+        ≡ endedAt code p awaited (behindFirst code row (part s₀ above width) p one) = unfold pick in rw e in
+        visits-as (endedAt code p awaited (behindFirst code row (part s₀ above width) p one)) (visit-first ∙ w) b t
+
+    -- it does not
+    pub visit-stays : one .ends ≡ false
+        → s₁ ≡ partSets s₀ own width (p + toNext) (blockBytes next awaited (behindFirst code row (part s₀ above width) p one)) → Visits false
+    visit-stays e s =
+        let q = behindFirst code row (part s₀ above width) p one in
+        let w : pick (one .ends) (endedAt code p awaited (behindFirst code row (part s₀ above width) p one))
+        (record { matched = false; awaited = awaited; flags = behindFirst code row (part s₀ above width) p one })
+        ≡ record { matched = false; awaited = awaited; flags = behindFirst code row (part s₀ above width) p one } = unfold pick in rw e in
+        visits-as (record { matched = false; awaited = awaited; flags = q }) (visit-first ∙ w) false (told-stays s₀ own width next p false awaited q s₁ s)

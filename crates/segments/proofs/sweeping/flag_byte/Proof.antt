@@ -1,0 +1,13 @@
+use Rattle.segments.proofs.CodeSweepLaws as laws
+use borrow.Author.Needs.{needs}
+use Rattle.segments.proofs.sweeping.flag_byte.Statement.{statement}
+use Rattle.segments.proofs.sweeping.flag_byte.Tie as tie
+
+returns : tie.Need-returns
+returns c = search (needs, laws.flag-yes)
+
+returns-2 : tie.Need-returns-2
+returns-2 c = search (needs, laws.flag-no)
+
+pub flag-byte-spec : {M : Type 1} → statement M
+flag-byte-spec = tie.close (tie.spec returns returns-2)

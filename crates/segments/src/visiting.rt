@@ -1,0 +1,255 @@
+// One selector at a row: by the block of its parent's part, the block of the own part, and whether it matches.
+use crate::compounds::segment_before;
+use crate::parts::pair_at;
+use crate::parts::put_fresh;
+use crate::parts::put_mark;
+use crate::parts::put_pair;
+use crate::sweeping::Swept;
+use crate::sweeping::sweep_one;
+use crate::sweeping::sweep_rest;
+use combinators::texts::part_of;
+use compiled::sheets::HeadAnswer;
+use compiled::sheets::read_head;
+use syntax::rows::AGENT_ORIGIN;
+ghost use mathlib.Core.Path.{_≡_};
+ghost use mathlib.Core.List.{_++_};
+ghost use Prim.Native.Nat.{_+_, _≤_, _<_};
+ghost use lib.ListN.{length};
+ghost use Rattle.combinators.specs.Part.{part};
+ghost use Rattle.compiled.specs.Sheet.{compiledLimit};
+ghost use Rattle.segments.specs.Sweep.{pairAt, pairBytes};
+ghost use Rattle.segments.specs.Before.{beginning, segmentBefore};
+ghost use Rattle.segments.specs.Visits.{toNext, awaits, blockBytes, endedAt, visitAt};
+ghost use Rattle.segments.specs.Met.{rowAlone, handedElement};
+ghost use Rattle.segments.specs.Parts.{partSets};
+ghost use Rattle.segments.specs.Visiting.{VisitLent, blockStored, behindFirst};
+
+// From the place of a selector, to where its block has the place of the next selector, that of the segment that is awaited, and its flags.
+pub const TO_NEXT: usize = 1;
+
+const TO_AWAITED: usize = 3;
+
+pub const TO_FLAGS: usize = 5;
+
+// Stores the two places that a block begins with.
+pub fn put_places(state: &mut [u8], own: usize, width: usize, p: usize, next: usize, awaited: usize)
+    requires { ⌜ own + width ≤ length (now state) ⌝ }
+    requires { ⌜ p ≤ compiledLimit ⌝ }
+    ensures { λ _. ⌜ now (state .exit) ≡ partSets (now (state .entry)) own width (p + toNext) (pairBytes next ++ pairBytes awaited) ⌝ }
+{
+    put_pair(state, own, width, p + TO_NEXT, next);
+    put_pair(state, own, width, p + TO_AWAITED, awaited);
+}
+
+// Stores the block of a selector of which the segment before the one at `awaited` is awaited next.
+pub fn put_awaits(
+    compiled: &[u8],
+    state: &mut [u8],
+    own: usize,
+    width: usize,
+    p: usize,
+    next: usize,
+    awaited: usize,
+    count: u32,
+    first: usize,
+)
+    requires { ⌜ own + width ≤ length (now state) ⌝ }
+    requires { ⌜ p ≤ compiledLimit ⌝ }
+    ensures { λ _. ⌜ now (state .exit) ≡ blockStored (now (state .entry)) own width (awaits (segmentBefore (now (compiled .entry)) awaited count (beginning first) first)) next p ⌝ }
+{
+    let s = segment_before(compiled, awaited, count, first);
+    put_places(state, own, width, p, next, s.start);
+    put_fresh(state, own, width, p + TO_FLAGS, s.start, s.steps, s.tests);
+}
+
+// Stores the block of a selector whose segment is awaited as before; `one` is its first compound.
+fn put_stays(
+    compiled: &[u8],
+    state: &mut [u8],
+    above: usize,
+    own: usize,
+    width: usize,
+    p: usize,
+    next: usize,
+    awaited: usize,
+    one: Swept,
+    element: bool,
+    name: &[u8],
+    attributes: &[u32],
+    text: &[u8],
+    place: usize,
+)
+    requires { ⌜ VisitLent (now compiled) (now state) above own width p place ⌝ }
+    requires { ⌜ 0 < length (now compiled) ⌝ }
+    ensures { λ _. ⌜ now (state .exit) ≡ partSets (now (state .entry)) own width (p + toNext) (blockBytes next awaited
+        (behindFirst (now (compiled .entry)) (rowAlone element (handedElement (now (name .entry)) (now (attributes .entry)) (now (text .entry)) place)) (part (now (state .entry)) above width) p one)) ⌝ }
+{
+    put_places(state, own, width, p, next, awaited);
+    if one.marked {
+        put_mark(state, own, width, p + TO_FLAGS, one.tests);
+        return;
+    }
+    sweep_rest(
+        compiled,
+        state,
+        above,
+        own,
+        width,
+        p + TO_FLAGS,
+        one.place,
+        compiled.len() - 1,
+        element,
+        name,
+        attributes,
+        text,
+        place,
+    );
+}
+
+// A selector whose segment ends here: the last one matches and stays, behind another the one before it is awaited.
+fn visit_ended(
+    compiled: &[u8],
+    state: &mut [u8],
+    above: usize,
+    own: usize,
+    width: usize,
+    p: usize,
+    next: usize,
+    awaited: usize,
+    one: Swept,
+    element: bool,
+    name: &[u8],
+    attributes: &[u32],
+    text: &[u8],
+    place: usize,
+) -> bool
+    requires { ⌜ VisitLent (now compiled) (now state) above own width p place ⌝ }
+    requires { ⌜ 0 < length (now compiled) ⌝ }
+    ensures { λ r. ⌜ r ≡ (endedAt (now (compiled .entry)) p awaited (behindFirst (now (compiled .entry)) (rowAlone element (handedElement (now (name .entry)) (now (attributes .entry)) (now (text .entry)) place)) (part (now (state .entry)) above width) p one)) .matched ⌝ }
+    ensures { λ _. ⌜ now (state .exit) ≡ blockStored (now (state .entry)) own width
+        (endedAt (now (compiled .entry)) p awaited (behindFirst (now (compiled .entry)) (rowAlone element (handedElement (now (name .entry)) (now (attributes .entry)) (now (text .entry)) place)) (part (now (state .entry)) above width) p one)) next p ⌝ }
+{
+    match read_head(compiled, p, AGENT_ORIGIN) {
+        HeadAnswer::Head {
+            next: first,
+            count,
+            ..
+        } => {
+            if awaited == first {
+                put_stays(
+                    compiled,
+                    state,
+                    above,
+                    own,
+                    width,
+                    p,
+                    next,
+                    awaited,
+                    one,
+                    element,
+                    name,
+                    attributes,
+                    text,
+                    place,
+                );
+                return true;
+            }
+            put_awaits(compiled, state, own, width, p, next, awaited, count, first);
+            return false;
+        }
+        HeadAnswer::Fault(_) => {
+            put_stays(
+                compiled,
+                state,
+                above,
+                own,
+                width,
+                p,
+                next,
+                awaited,
+                one,
+                element,
+                name,
+                attributes,
+                text,
+                place,
+            );
+            return false;
+        }
+    }
+}
+
+// The selector at `p`, at a row: whether it matches; its block goes to the own part, by that of the parent's part.
+pub fn visit(
+    compiled: &[u8],
+    state: &mut [u8],
+    above: usize,
+    own: usize,
+    width: usize,
+    p: usize,
+    element: bool,
+    name: &[u8],
+    attributes: &[u32],
+    text: &[u8],
+    place: usize,
+) -> bool
+    requires { ⌜ VisitLent (now compiled) (now state) above own width p place ⌝ }
+    ensures { λ r. ⌜ r ≡ (visitAt (now (compiled .entry)) (rowAlone element (handedElement (now (name .entry)) (now (attributes .entry)) (now (text .entry)) place)) (part (now (state .entry)) above width) p) .matched ⌝ }
+    ensures { λ _. ⌜ now (state .exit) ≡ blockStored (now (state .entry)) own width
+        (visitAt (now (compiled .entry)) (rowAlone element (handedElement (now (name .entry)) (now (attributes .entry)) (now (text .entry)) place)) (part (now (state .entry)) above width) p)
+        (pairAt (part (now (state .entry)) above width) (p + toNext)) p ⌝ }
+{
+    let flags = part_of(state, above, width);
+    let next = pair_at(flags, p + TO_NEXT);
+    let awaited = pair_at(flags, p + TO_AWAITED);
+    if compiled.len() > 0 {
+        let one = sweep_one(
+            compiled,
+            flags,
+            p + TO_FLAGS,
+            awaited,
+            element,
+            name,
+            attributes,
+            text,
+            place,
+        );
+        if one.ends {
+            return visit_ended(
+                compiled,
+                state,
+                above,
+                own,
+                width,
+                p,
+                next,
+                awaited,
+                one,
+                element,
+                name,
+                attributes,
+                text,
+                place,
+            );
+        }
+        put_stays(
+            compiled,
+            state,
+            above,
+            own,
+            width,
+            p,
+            next,
+            awaited,
+            one,
+            element,
+            name,
+            attributes,
+            text,
+            place,
+        );
+        return false;
+    }
+    put_places(state, own, width, p, next, awaited);
+    false
+}
