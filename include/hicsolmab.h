@@ -333,7 +333,7 @@ typedef struct {
  * `compiled`, a text that starts below c lies at compiled + start, any other at texts + (start - c). hicsolmab_content finds it.
  *
  * Least lengths for HICSOLMAB_RUN_BYTES, and HICSOLMAB_ROWS_LEAST and HICSOLMAB_STATE_LEAST. Refuses TOO_LONG, SHORT_STORE, TOO_LARGE, BAD_ROW, BAD_TEXT,
- * BAD_BYTES. Stack: 2,624 bytes. */
+ * BAD_BYTES. Stack: 2,608 bytes. */
 hicsolmab_run_result hicsolmab_run(const uint8_t *compiled, size_t compiled_length,
                                    const uint32_t *nodes, size_t nodes_length,
                                    const uint32_t *attributes, size_t attributes_length,
