@@ -46,7 +46,7 @@
 //! # Linking
 //!
 //! The build script links the engine's static library, for x86-64. It is the file that `HICSOLMAB_LIBRARY` names, or `../lib/libengine.a` where a distribution
-//! has it, or what `rt staticlib engine` has written in the repository.
+//! has it, or what `rt staticlib engine` writes in the repository; where that is not there yet, the build script runs the command, which takes minutes.
 
 pub mod calls;
 pub mod layout;
