@@ -19,8 +19,8 @@ use Rattle.values.specs.Value.{valueOf}
 use Rattle.values.specs.Words.{Found, found, missing}
 use Rattle.lexer.specs.Name.{identOf}
 use Rattle.matching.specs.Matches.{matches}
-use Rattle.sheets.specs.Outcome.{reads, onOutcome}
-use Rattle.sheets.specs.Selector.{selectorOf}
+use Rattle.selectors.specs.Outcome.{reads, onOutcome}
+use Rattle.selectors.specs.Selector.{selectorOf}
 use Rattle.sheets.specs.Sheet.{sheetOf}
 use Rattle.syntax.specs.Declaration.{color, unknown}
 use Rattle.syntax.specs.Layout.{colourSlot}

@@ -23,8 +23,9 @@ use Rattle.declarations.specs.Rules as rules
 use Rattle.values.specs.Value as value
 use Rattle.values.specs.Words as words
 use Rattle.syntax.specs.Selector.{star, class, element, child, nth, attributeEqual, none, before, RuleSet}
-use Rattle.sheets.specs.Outcome as outcome
-use Rattle.sheets.specs.Selector as selector
+use Rattle.selectors.specs.Outcome as outcome
+use Rattle.selectors.specs.Selector as selector
+use Rattle.selectors.specs.SelectorList as selectorList
 use Rattle.sheets.specs.Sheet as sheet
 
 -- a rule without selectors and declarations
@@ -38,7 +39,7 @@ test-stops :
     × (sheet.sheetOf (literal.text " ") ≡ outcome.reads 0 [])
     × (sheet.sheetOf (literal.text "@x{};") ≡ outcome.reads 4 [])
     × (sheet.sheetOf (literal.text "@x{é}") ≡ outcome.reads 3 [])
-unfolding outcome.onOutcome outcome.behind outcome.parsed outcome.orElse selector.classOf selector.hashOf selector.closed selector.quotedOf selector.valueOf selector.attrOf selector.isMinus selector.isSign selector.signTaken selector.signed selector.digitsWorth selector.converted selector.bothOf selector.justA selector.justB selector.worded selector.nthOf selector.nthArgsOf selector.nthChildArgs selector.pseudoClassOf selector.marked selector.blankOf selector.componentOf selector.componentsOf selector.componentsFrom selector.someOf selector.withElementOf selector.withoutElementOf selector.bodyOf selector.isDescendant selector.withoutBlank selector.pseudoOf selector.pseudoTaken selector.selectorOf sheet.spaced sheet.moreSelectors sheet.moreFrom sheet.selectorsOf sheet.beforeEnd sheet.blockOf sheet.rulesetOf sheet.statementEnd sheet.atRuleOf sheet.statementsOf sheet.movedBy sheet.sheetFrom sheet.sheetOf choice.pick choice.or choice.and choice.is choice.within parsed.onParsed parsed.behind parsed.orElse parsed.taken repeat.took repeat.many repeat.texts word.startsWith word.sameText literal.text trim.whiteOf trim.whiteTaken trim.wordOf trim.wordTaken utf8.isScalar utf8.orReplacement utf8.continuation utf8.utf8 utf8.isContinuation utf8.leadOf utf8.two utf8.three utf8.four utf8.scalarTail utf8.scalarBy utf8.scalarOf utf8.takenOf utf8.scalarTaken utf8.valid utf8.encode white.member white.isWhiteSpace white.upFrom white.numbers white.inRanges name.isNmstart name.isNmchar name.lower name.foldedChar name.nmstartCharOf name.nmcharCharOf name.isHexDigit name.hexDigit name.hexRun name.hexCount name.hexValue name.behindOne name.escapedOf name.identEscapeOf name.either name.nmstartOf name.nmcharOf name.bytesOf name.charTaken name.charText name.charsEnd name.charsText name.nameFrom name.dash name.nameOf name.identOf name.charsOf name.identstringOf name.nameAnswer name.nameText number.isDigit number.oneDigit number.digits number.decimal number.unsigned number.sign number.signed number.number quoted.escapedByte quoted.quotedOf quoted.takenOf quoted.textOf quoted.quotedTaken quoted.quotedText quoted.stringEnd quoted.stringText token.numericFrom token.numericOf token.identLikeOf token.stringFrom token.isQuote token.stringOf token.isIdentStart token.startOf token.markOf token.hashOf token.plusOf token.minusOf token.lessOf token.tokenBy token.tokenAt token.tokenOf token.coded token.textOf token.tokenAnswer token.tokenText token.lexedAnswer token.orDelim row.columnsOf row.word row.rowOf row.tokenRow row.tokenFrom whitespace.commentEnd whitespace.commentOf whitespace.isWhitespace whitespace.whitespaceItem whitespace.skipWhitespace decimal.digit decimal.number decimal.digits decimal.numerator decimal.denominator decimal.roundsToZero colour.rgb colour.allOf colour.numeral colour.withoutPlus colour.digitsIn colour.parseU8 colour.parseHex colour.threeDigits colour.sixDigits colour.hashColour colour.threeNumbers colour.rgbColour colour.oneToken colour.colourOf colour.behindComma colour.backgroundOf property.unsignedZero property.numberZero property.anyOf property.heightOf property.firstWord property.overflowOf property.displayOf property.whiteSpaceOf property.contentOf property.declOf rules.colonBehind rules.propertyOf rules.valueBehind rules.declarationOf rules.startsAt rules.moreRules rules.declarationsOf value.bracketOf value.bracketBy value.closing value.ending value.stepOf value.stop value.cons value.onStep value.scan value.statementOf value.tokensOf value.isMark value.isImportant value.withoutMark value.valueFrom value.valueOf words.kindOf words.firstOf words.numberOf words.unitOf words.isKind words.isWord words.isDelim words.foundOr words.lookup words.onFound words.split words.placeOf
+unfolding outcome.onOutcome outcome.behind outcome.parsed outcome.orElse selector.classOf selector.hashOf selector.closed selector.quotedOf selector.valueOf selector.attrOf selector.isMinus selector.isSign selector.signTaken selector.signed selector.digitsWorth selector.converted selector.bothOf selector.justA selector.justB selector.worded selector.nthOf selector.nthArgsOf selector.nthChildArgs selector.pseudoClassOf selector.marked selector.blankOf selector.componentOf selector.componentsOf selector.componentsFrom selector.someOf selector.withElementOf selector.withoutElementOf selector.bodyOf selector.isDescendant selector.withoutBlank selector.pseudoOf selector.pseudoTaken selector.selectorOf sheet.spaced selectorList.moreSelectors selectorList.moreFrom selectorList.selectorsOf sheet.beforeEnd sheet.blockOf sheet.rulesetOf sheet.statementEnd sheet.atRuleOf sheet.statementsOf sheet.movedBy sheet.sheetFrom sheet.sheetOf choice.pick choice.or choice.and choice.is choice.within parsed.onParsed parsed.behind parsed.orElse parsed.taken repeat.took repeat.many repeat.texts word.startsWith word.sameText literal.text trim.whiteOf trim.whiteTaken trim.wordOf trim.wordTaken utf8.isScalar utf8.orReplacement utf8.continuation utf8.utf8 utf8.isContinuation utf8.leadOf utf8.two utf8.three utf8.four utf8.scalarTail utf8.scalarBy utf8.scalarOf utf8.takenOf utf8.scalarTaken utf8.valid utf8.encode white.member white.isWhiteSpace white.upFrom white.numbers white.inRanges name.isNmstart name.isNmchar name.lower name.foldedChar name.nmstartCharOf name.nmcharCharOf name.isHexDigit name.hexDigit name.hexRun name.hexCount name.hexValue name.behindOne name.escapedOf name.identEscapeOf name.either name.nmstartOf name.nmcharOf name.bytesOf name.charTaken name.charText name.charsEnd name.charsText name.nameFrom name.dash name.nameOf name.identOf name.charsOf name.identstringOf name.nameAnswer name.nameText number.isDigit number.oneDigit number.digits number.decimal number.unsigned number.sign number.signed number.number quoted.escapedByte quoted.quotedOf quoted.takenOf quoted.textOf quoted.quotedTaken quoted.quotedText quoted.stringEnd quoted.stringText token.numericFrom token.numericOf token.identLikeOf token.stringFrom token.isQuote token.stringOf token.isIdentStart token.startOf token.markOf token.hashOf token.plusOf token.minusOf token.lessOf token.tokenBy token.tokenAt token.tokenOf token.coded token.textOf token.tokenAnswer token.tokenText token.lexedAnswer token.orDelim row.columnsOf row.word row.rowOf row.tokenRow row.tokenFrom whitespace.commentEnd whitespace.commentOf whitespace.isWhitespace whitespace.whitespaceItem whitespace.skipWhitespace decimal.digit decimal.number decimal.digits decimal.numerator decimal.denominator decimal.roundsToZero colour.rgb colour.allOf colour.numeral colour.withoutPlus colour.digitsIn colour.parseU8 colour.parseHex colour.threeDigits colour.sixDigits colour.hashColour colour.threeNumbers colour.rgbColour colour.oneToken colour.colourOf colour.behindComma colour.backgroundOf property.unsignedZero property.numberZero property.anyOf property.heightOf property.firstWord property.overflowOf property.displayOf property.whiteSpaceOf property.contentOf property.declOf rules.colonBehind rules.propertyOf rules.valueBehind rules.declarationOf rules.startsAt rules.moreRules rules.declarationsOf value.bracketOf value.bracketBy value.closing value.ending value.stepOf value.stop value.cons value.onStep value.scan value.statementOf value.tokensOf value.isMark value.isImportant value.withoutMark value.valueFrom value.valueOf words.kindOf words.firstOf words.numberOf words.unitOf words.isKind words.isWord words.isDelim words.foundOr words.lookup words.onFound words.split words.placeOf
 test-stops = (refl, refl, refl, refl, refl)
 
 -- star swallows blanks on both sides, `>` at either end stays, a blank before a pseudo-element goes
@@ -47,7 +48,7 @@ test-selectors :
     × (selector.selectorOf (literal.text ">p") ≡ outcome.reads 2 (record { components = element (literal.text "p") ∷ child ∷ []; pseudo = none }))
     × (selector.selectorOf (literal.text "p ::before") ≡ outcome.reads 10 (record { components = element (literal.text "p") ∷ []; pseudo = before }))
     × (selector.selectorOf (literal.text ".K[ a=b][c=\"D\"]") ≡ outcome.reads 15 (record { components = attributeEqual (literal.text "c") (literal.text "D") ∷ attributeEqual (literal.text "a") (literal.text "b") ∷ class (literal.text "k") ∷ []; pseudo = none }))
-unfolding outcome.onOutcome outcome.behind outcome.parsed outcome.orElse selector.classOf selector.hashOf selector.closed selector.quotedOf selector.valueOf selector.attrOf selector.isMinus selector.isSign selector.signTaken selector.signed selector.digitsWorth selector.converted selector.bothOf selector.justA selector.justB selector.worded selector.nthOf selector.nthArgsOf selector.nthChildArgs selector.pseudoClassOf selector.marked selector.blankOf selector.componentOf selector.componentsOf selector.componentsFrom selector.someOf selector.withElementOf selector.withoutElementOf selector.bodyOf selector.isDescendant selector.withoutBlank selector.pseudoOf selector.pseudoTaken selector.selectorOf sheet.spaced sheet.moreSelectors sheet.moreFrom sheet.selectorsOf sheet.beforeEnd sheet.blockOf sheet.rulesetOf sheet.statementEnd sheet.atRuleOf sheet.statementsOf sheet.movedBy sheet.sheetFrom sheet.sheetOf choice.pick choice.or choice.and choice.is choice.within parsed.onParsed parsed.behind parsed.orElse parsed.taken repeat.took repeat.many repeat.texts word.startsWith word.sameText literal.text trim.whiteOf trim.whiteTaken trim.wordOf trim.wordTaken utf8.isScalar utf8.orReplacement utf8.continuation utf8.utf8 utf8.isContinuation utf8.leadOf utf8.two utf8.three utf8.four utf8.scalarTail utf8.scalarBy utf8.scalarOf utf8.takenOf utf8.scalarTaken utf8.valid utf8.encode white.member white.isWhiteSpace white.upFrom white.numbers white.inRanges name.isNmstart name.isNmchar name.lower name.foldedChar name.nmstartCharOf name.nmcharCharOf name.isHexDigit name.hexDigit name.hexRun name.hexCount name.hexValue name.behindOne name.escapedOf name.identEscapeOf name.either name.nmstartOf name.nmcharOf name.bytesOf name.charTaken name.charText name.charsEnd name.charsText name.nameFrom name.dash name.nameOf name.identOf name.charsOf name.identstringOf name.nameAnswer name.nameText number.isDigit number.oneDigit number.digits number.decimal number.unsigned number.sign number.signed number.number quoted.escapedByte quoted.quotedOf quoted.takenOf quoted.textOf quoted.quotedTaken quoted.quotedText quoted.stringEnd quoted.stringText token.numericFrom token.numericOf token.identLikeOf token.stringFrom token.isQuote token.stringOf token.isIdentStart token.startOf token.markOf token.hashOf token.plusOf token.minusOf token.lessOf token.tokenBy token.tokenAt token.tokenOf token.coded token.textOf token.tokenAnswer token.tokenText token.lexedAnswer token.orDelim row.columnsOf row.word row.rowOf row.tokenRow row.tokenFrom whitespace.commentEnd whitespace.commentOf whitespace.isWhitespace whitespace.whitespaceItem whitespace.skipWhitespace decimal.digit decimal.number decimal.digits decimal.numerator decimal.denominator decimal.roundsToZero colour.rgb colour.allOf colour.numeral colour.withoutPlus colour.digitsIn colour.parseU8 colour.parseHex colour.threeDigits colour.sixDigits colour.hashColour colour.threeNumbers colour.rgbColour colour.oneToken colour.colourOf colour.behindComma colour.backgroundOf property.unsignedZero property.numberZero property.anyOf property.heightOf property.firstWord property.overflowOf property.displayOf property.whiteSpaceOf property.contentOf property.declOf rules.colonBehind rules.propertyOf rules.valueBehind rules.declarationOf rules.startsAt rules.moreRules rules.declarationsOf value.bracketOf value.bracketBy value.closing value.ending value.stepOf value.stop value.cons value.onStep value.scan value.statementOf value.tokensOf value.isMark value.isImportant value.withoutMark value.valueFrom value.valueOf words.kindOf words.firstOf words.numberOf words.unitOf words.isKind words.isWord words.isDelim words.foundOr words.lookup words.onFound words.split words.placeOf
+unfolding outcome.onOutcome outcome.behind outcome.parsed outcome.orElse selector.classOf selector.hashOf selector.closed selector.quotedOf selector.valueOf selector.attrOf selector.isMinus selector.isSign selector.signTaken selector.signed selector.digitsWorth selector.converted selector.bothOf selector.justA selector.justB selector.worded selector.nthOf selector.nthArgsOf selector.nthChildArgs selector.pseudoClassOf selector.marked selector.blankOf selector.componentOf selector.componentsOf selector.componentsFrom selector.someOf selector.withElementOf selector.withoutElementOf selector.bodyOf selector.isDescendant selector.withoutBlank selector.pseudoOf selector.pseudoTaken selector.selectorOf sheet.spaced selectorList.moreSelectors selectorList.moreFrom selectorList.selectorsOf sheet.beforeEnd sheet.blockOf sheet.rulesetOf sheet.statementEnd sheet.atRuleOf sheet.statementsOf sheet.movedBy sheet.sheetFrom sheet.sheetOf choice.pick choice.or choice.and choice.is choice.within parsed.onParsed parsed.behind parsed.orElse parsed.taken repeat.took repeat.many repeat.texts word.startsWith word.sameText literal.text trim.whiteOf trim.whiteTaken trim.wordOf trim.wordTaken utf8.isScalar utf8.orReplacement utf8.continuation utf8.utf8 utf8.isContinuation utf8.leadOf utf8.two utf8.three utf8.four utf8.scalarTail utf8.scalarBy utf8.scalarOf utf8.takenOf utf8.scalarTaken utf8.valid utf8.encode white.member white.isWhiteSpace white.upFrom white.numbers white.inRanges name.isNmstart name.isNmchar name.lower name.foldedChar name.nmstartCharOf name.nmcharCharOf name.isHexDigit name.hexDigit name.hexRun name.hexCount name.hexValue name.behindOne name.escapedOf name.identEscapeOf name.either name.nmstartOf name.nmcharOf name.bytesOf name.charTaken name.charText name.charsEnd name.charsText name.nameFrom name.dash name.nameOf name.identOf name.charsOf name.identstringOf name.nameAnswer name.nameText number.isDigit number.oneDigit number.digits number.decimal number.unsigned number.sign number.signed number.number quoted.escapedByte quoted.quotedOf quoted.takenOf quoted.textOf quoted.quotedTaken quoted.quotedText quoted.stringEnd quoted.stringText token.numericFrom token.numericOf token.identLikeOf token.stringFrom token.isQuote token.stringOf token.isIdentStart token.startOf token.markOf token.hashOf token.plusOf token.minusOf token.lessOf token.tokenBy token.tokenAt token.tokenOf token.coded token.textOf token.tokenAnswer token.tokenText token.lexedAnswer token.orDelim row.columnsOf row.word row.rowOf row.tokenRow row.tokenFrom whitespace.commentEnd whitespace.commentOf whitespace.isWhitespace whitespace.whitespaceItem whitespace.skipWhitespace decimal.digit decimal.number decimal.digits decimal.numerator decimal.denominator decimal.roundsToZero colour.rgb colour.allOf colour.numeral colour.withoutPlus colour.digitsIn colour.parseU8 colour.parseHex colour.threeDigits colour.sixDigits colour.hashColour colour.threeNumbers colour.rgbColour colour.oneToken colour.colourOf colour.behindComma colour.backgroundOf property.unsignedZero property.numberZero property.anyOf property.heightOf property.firstWord property.overflowOf property.displayOf property.whiteSpaceOf property.contentOf property.declOf rules.colonBehind rules.propertyOf rules.valueBehind rules.declarationOf rules.startsAt rules.moreRules rules.declarationsOf value.bracketOf value.bracketBy value.closing value.ending value.stepOf value.stop value.cons value.onStep value.scan value.statementOf value.tokensOf value.isMark value.isImportant value.withoutMark value.valueFrom value.valueOf words.kindOf words.firstOf words.numberOf words.unitOf words.isKind words.isWord words.isDelim words.foundOr words.lookup words.onFound words.split words.placeOf
 test-selectors = (refl, refl, refl, refl)
 
 -- `nth-child`: folded in its name and not in its arguments; a sign binds its digits
@@ -56,7 +57,7 @@ test-nth-child :
     × (selector.selectorOf (literal.text ":nth-child(-n +3)") ≡ outcome.reads 17 (record { components = nth (negsuc 0) (pos 3) ∷ []; pseudo = none }))
     × (selector.selectorOf (literal.text ":nth-child(2n+ 1)") ≡ outcome.fails)
     × (selector.selectorOf (literal.text ":nth-child(ODD)") ≡ outcome.fails)
-unfolding outcome.onOutcome outcome.behind outcome.parsed outcome.orElse selector.classOf selector.hashOf selector.closed selector.quotedOf selector.valueOf selector.attrOf selector.isMinus selector.isSign selector.signTaken selector.signed selector.digitsWorth selector.converted selector.bothOf selector.justA selector.justB selector.worded selector.nthOf selector.nthArgsOf selector.nthChildArgs selector.pseudoClassOf selector.marked selector.blankOf selector.componentOf selector.componentsOf selector.componentsFrom selector.someOf selector.withElementOf selector.withoutElementOf selector.bodyOf selector.isDescendant selector.withoutBlank selector.pseudoOf selector.pseudoTaken selector.selectorOf sheet.spaced sheet.moreSelectors sheet.moreFrom sheet.selectorsOf sheet.beforeEnd sheet.blockOf sheet.rulesetOf sheet.statementEnd sheet.atRuleOf sheet.statementsOf sheet.movedBy sheet.sheetFrom sheet.sheetOf choice.pick choice.or choice.and choice.is choice.within parsed.onParsed parsed.behind parsed.orElse parsed.taken repeat.took repeat.many repeat.texts word.startsWith word.sameText literal.text trim.whiteOf trim.whiteTaken trim.wordOf trim.wordTaken utf8.isScalar utf8.orReplacement utf8.continuation utf8.utf8 utf8.isContinuation utf8.leadOf utf8.two utf8.three utf8.four utf8.scalarTail utf8.scalarBy utf8.scalarOf utf8.takenOf utf8.scalarTaken utf8.valid utf8.encode white.member white.isWhiteSpace white.upFrom white.numbers white.inRanges name.isNmstart name.isNmchar name.lower name.foldedChar name.nmstartCharOf name.nmcharCharOf name.isHexDigit name.hexDigit name.hexRun name.hexCount name.hexValue name.behindOne name.escapedOf name.identEscapeOf name.either name.nmstartOf name.nmcharOf name.bytesOf name.charTaken name.charText name.charsEnd name.charsText name.nameFrom name.dash name.nameOf name.identOf name.charsOf name.identstringOf name.nameAnswer name.nameText number.isDigit number.oneDigit number.digits number.decimal number.unsigned number.sign number.signed number.number quoted.escapedByte quoted.quotedOf quoted.takenOf quoted.textOf quoted.quotedTaken quoted.quotedText quoted.stringEnd quoted.stringText token.numericFrom token.numericOf token.identLikeOf token.stringFrom token.isQuote token.stringOf token.isIdentStart token.startOf token.markOf token.hashOf token.plusOf token.minusOf token.lessOf token.tokenBy token.tokenAt token.tokenOf token.coded token.textOf token.tokenAnswer token.tokenText token.lexedAnswer token.orDelim row.columnsOf row.word row.rowOf row.tokenRow row.tokenFrom whitespace.commentEnd whitespace.commentOf whitespace.isWhitespace whitespace.whitespaceItem whitespace.skipWhitespace decimal.digit decimal.number decimal.digits decimal.numerator decimal.denominator decimal.roundsToZero colour.rgb colour.allOf colour.numeral colour.withoutPlus colour.digitsIn colour.parseU8 colour.parseHex colour.threeDigits colour.sixDigits colour.hashColour colour.threeNumbers colour.rgbColour colour.oneToken colour.colourOf colour.behindComma colour.backgroundOf property.unsignedZero property.numberZero property.anyOf property.heightOf property.firstWord property.overflowOf property.displayOf property.whiteSpaceOf property.contentOf property.declOf rules.colonBehind rules.propertyOf rules.valueBehind rules.declarationOf rules.startsAt rules.moreRules rules.declarationsOf value.bracketOf value.bracketBy value.closing value.ending value.stepOf value.stop value.cons value.onStep value.scan value.statementOf value.tokensOf value.isMark value.isImportant value.withoutMark value.valueFrom value.valueOf words.kindOf words.firstOf words.numberOf words.unitOf words.isKind words.isWord words.isDelim words.foundOr words.lookup words.onFound words.split words.placeOf
+unfolding outcome.onOutcome outcome.behind outcome.parsed outcome.orElse selector.classOf selector.hashOf selector.closed selector.quotedOf selector.valueOf selector.attrOf selector.isMinus selector.isSign selector.signTaken selector.signed selector.digitsWorth selector.converted selector.bothOf selector.justA selector.justB selector.worded selector.nthOf selector.nthArgsOf selector.nthChildArgs selector.pseudoClassOf selector.marked selector.blankOf selector.componentOf selector.componentsOf selector.componentsFrom selector.someOf selector.withElementOf selector.withoutElementOf selector.bodyOf selector.isDescendant selector.withoutBlank selector.pseudoOf selector.pseudoTaken selector.selectorOf sheet.spaced selectorList.moreSelectors selectorList.moreFrom selectorList.selectorsOf sheet.beforeEnd sheet.blockOf sheet.rulesetOf sheet.statementEnd sheet.atRuleOf sheet.statementsOf sheet.movedBy sheet.sheetFrom sheet.sheetOf choice.pick choice.or choice.and choice.is choice.within parsed.onParsed parsed.behind parsed.orElse parsed.taken repeat.took repeat.many repeat.texts word.startsWith word.sameText literal.text trim.whiteOf trim.whiteTaken trim.wordOf trim.wordTaken utf8.isScalar utf8.orReplacement utf8.continuation utf8.utf8 utf8.isContinuation utf8.leadOf utf8.two utf8.three utf8.four utf8.scalarTail utf8.scalarBy utf8.scalarOf utf8.takenOf utf8.scalarTaken utf8.valid utf8.encode white.member white.isWhiteSpace white.upFrom white.numbers white.inRanges name.isNmstart name.isNmchar name.lower name.foldedChar name.nmstartCharOf name.nmcharCharOf name.isHexDigit name.hexDigit name.hexRun name.hexCount name.hexValue name.behindOne name.escapedOf name.identEscapeOf name.either name.nmstartOf name.nmcharOf name.bytesOf name.charTaken name.charText name.charsEnd name.charsText name.nameFrom name.dash name.nameOf name.identOf name.charsOf name.identstringOf name.nameAnswer name.nameText number.isDigit number.oneDigit number.digits number.decimal number.unsigned number.sign number.signed number.number quoted.escapedByte quoted.quotedOf quoted.takenOf quoted.textOf quoted.quotedTaken quoted.quotedText quoted.stringEnd quoted.stringText token.numericFrom token.numericOf token.identLikeOf token.stringFrom token.isQuote token.stringOf token.isIdentStart token.startOf token.markOf token.hashOf token.plusOf token.minusOf token.lessOf token.tokenBy token.tokenAt token.tokenOf token.coded token.textOf token.tokenAnswer token.tokenText token.lexedAnswer token.orDelim row.columnsOf row.word row.rowOf row.tokenRow row.tokenFrom whitespace.commentEnd whitespace.commentOf whitespace.isWhitespace whitespace.whitespaceItem whitespace.skipWhitespace decimal.digit decimal.number decimal.digits decimal.numerator decimal.denominator decimal.roundsToZero colour.rgb colour.allOf colour.numeral colour.withoutPlus colour.digitsIn colour.parseU8 colour.parseHex colour.threeDigits colour.sixDigits colour.hashColour colour.threeNumbers colour.rgbColour colour.oneToken colour.colourOf colour.behindComma colour.backgroundOf property.unsignedZero property.numberZero property.anyOf property.heightOf property.firstWord property.overflowOf property.displayOf property.whiteSpaceOf property.contentOf property.declOf rules.colonBehind rules.propertyOf rules.valueBehind rules.declarationOf rules.startsAt rules.moreRules rules.declarationsOf value.bracketOf value.bracketBy value.closing value.ending value.stepOf value.stop value.cons value.onStep value.scan value.statementOf value.tokensOf value.isMark value.isImportant value.withoutMark value.valueFrom value.valueOf words.kindOf words.firstOf words.numberOf words.unitOf words.isKind words.isWord words.isDelim words.foundOr words.lookup words.onFound words.split words.placeOf
 test-nth-child = (refl, refl, refl, refl)
 
 -- `[name=` at the end of the text, and digits above 2147483647, a before b, also where no `)` follows; the place is the byte of the sheet
@@ -66,5 +67,5 @@ test-panics :
     × (sheet.sheetOf (literal.text ":nth-child(2147483647){}") ≡ outcome.reads 24 (record { selectors = record { components = nth (pos 0) (pos 2147483647) ∷ []; pseudo = none } ∷ []; declarations = []; start = 0 } ∷ []))
     × (sheet.sheetOf (literal.text ":nth-child(-9999999999n+9999999999)") ≡ outcome.panics 12)
     × (sheet.sheetOf (literal.text ":nth-child(5 9999999999)") ≡ outcome.reads 0 [])
-unfolding outcome.onOutcome outcome.behind outcome.parsed outcome.orElse selector.classOf selector.hashOf selector.closed selector.quotedOf selector.valueOf selector.attrOf selector.isMinus selector.isSign selector.signTaken selector.signed selector.digitsWorth selector.converted selector.bothOf selector.justA selector.justB selector.worded selector.nthOf selector.nthArgsOf selector.nthChildArgs selector.pseudoClassOf selector.marked selector.blankOf selector.componentOf selector.componentsOf selector.componentsFrom selector.someOf selector.withElementOf selector.withoutElementOf selector.bodyOf selector.isDescendant selector.withoutBlank selector.pseudoOf selector.pseudoTaken selector.selectorOf sheet.spaced sheet.moreSelectors sheet.moreFrom sheet.selectorsOf sheet.beforeEnd sheet.blockOf sheet.rulesetOf sheet.statementEnd sheet.atRuleOf sheet.statementsOf sheet.movedBy sheet.sheetFrom sheet.sheetOf choice.pick choice.or choice.and choice.is choice.within parsed.onParsed parsed.behind parsed.orElse parsed.taken repeat.took repeat.many repeat.texts word.startsWith word.sameText literal.text trim.whiteOf trim.whiteTaken trim.wordOf trim.wordTaken utf8.isScalar utf8.orReplacement utf8.continuation utf8.utf8 utf8.isContinuation utf8.leadOf utf8.two utf8.three utf8.four utf8.scalarTail utf8.scalarBy utf8.scalarOf utf8.takenOf utf8.scalarTaken utf8.valid utf8.encode white.member white.isWhiteSpace white.upFrom white.numbers white.inRanges name.isNmstart name.isNmchar name.lower name.foldedChar name.nmstartCharOf name.nmcharCharOf name.isHexDigit name.hexDigit name.hexRun name.hexCount name.hexValue name.behindOne name.escapedOf name.identEscapeOf name.either name.nmstartOf name.nmcharOf name.bytesOf name.charTaken name.charText name.charsEnd name.charsText name.nameFrom name.dash name.nameOf name.identOf name.charsOf name.identstringOf name.nameAnswer name.nameText number.isDigit number.oneDigit number.digits number.decimal number.unsigned number.sign number.signed number.number quoted.escapedByte quoted.quotedOf quoted.takenOf quoted.textOf quoted.quotedTaken quoted.quotedText quoted.stringEnd quoted.stringText token.numericFrom token.numericOf token.identLikeOf token.stringFrom token.isQuote token.stringOf token.isIdentStart token.startOf token.markOf token.hashOf token.plusOf token.minusOf token.lessOf token.tokenBy token.tokenAt token.tokenOf token.coded token.textOf token.tokenAnswer token.tokenText token.lexedAnswer token.orDelim row.columnsOf row.word row.rowOf row.tokenRow row.tokenFrom whitespace.commentEnd whitespace.commentOf whitespace.isWhitespace whitespace.whitespaceItem whitespace.skipWhitespace decimal.digit decimal.number decimal.digits decimal.numerator decimal.denominator decimal.roundsToZero colour.rgb colour.allOf colour.numeral colour.withoutPlus colour.digitsIn colour.parseU8 colour.parseHex colour.threeDigits colour.sixDigits colour.hashColour colour.threeNumbers colour.rgbColour colour.oneToken colour.colourOf colour.behindComma colour.backgroundOf property.unsignedZero property.numberZero property.anyOf property.heightOf property.firstWord property.overflowOf property.displayOf property.whiteSpaceOf property.contentOf property.declOf rules.colonBehind rules.propertyOf rules.valueBehind rules.declarationOf rules.startsAt rules.moreRules rules.declarationsOf value.bracketOf value.bracketBy value.closing value.ending value.stepOf value.stop value.cons value.onStep value.scan value.statementOf value.tokensOf value.isMark value.isImportant value.withoutMark value.valueFrom value.valueOf words.kindOf words.firstOf words.numberOf words.unitOf words.isKind words.isWord words.isDelim words.foundOr words.lookup words.onFound words.split words.placeOf
+unfolding outcome.onOutcome outcome.behind outcome.parsed outcome.orElse selector.classOf selector.hashOf selector.closed selector.quotedOf selector.valueOf selector.attrOf selector.isMinus selector.isSign selector.signTaken selector.signed selector.digitsWorth selector.converted selector.bothOf selector.justA selector.justB selector.worded selector.nthOf selector.nthArgsOf selector.nthChildArgs selector.pseudoClassOf selector.marked selector.blankOf selector.componentOf selector.componentsOf selector.componentsFrom selector.someOf selector.withElementOf selector.withoutElementOf selector.bodyOf selector.isDescendant selector.withoutBlank selector.pseudoOf selector.pseudoTaken selector.selectorOf sheet.spaced selectorList.moreSelectors selectorList.moreFrom selectorList.selectorsOf sheet.beforeEnd sheet.blockOf sheet.rulesetOf sheet.statementEnd sheet.atRuleOf sheet.statementsOf sheet.movedBy sheet.sheetFrom sheet.sheetOf choice.pick choice.or choice.and choice.is choice.within parsed.onParsed parsed.behind parsed.orElse parsed.taken repeat.took repeat.many repeat.texts word.startsWith word.sameText literal.text trim.whiteOf trim.whiteTaken trim.wordOf trim.wordTaken utf8.isScalar utf8.orReplacement utf8.continuation utf8.utf8 utf8.isContinuation utf8.leadOf utf8.two utf8.three utf8.four utf8.scalarTail utf8.scalarBy utf8.scalarOf utf8.takenOf utf8.scalarTaken utf8.valid utf8.encode white.member white.isWhiteSpace white.upFrom white.numbers white.inRanges name.isNmstart name.isNmchar name.lower name.foldedChar name.nmstartCharOf name.nmcharCharOf name.isHexDigit name.hexDigit name.hexRun name.hexCount name.hexValue name.behindOne name.escapedOf name.identEscapeOf name.either name.nmstartOf name.nmcharOf name.bytesOf name.charTaken name.charText name.charsEnd name.charsText name.nameFrom name.dash name.nameOf name.identOf name.charsOf name.identstringOf name.nameAnswer name.nameText number.isDigit number.oneDigit number.digits number.decimal number.unsigned number.sign number.signed number.number quoted.escapedByte quoted.quotedOf quoted.takenOf quoted.textOf quoted.quotedTaken quoted.quotedText quoted.stringEnd quoted.stringText token.numericFrom token.numericOf token.identLikeOf token.stringFrom token.isQuote token.stringOf token.isIdentStart token.startOf token.markOf token.hashOf token.plusOf token.minusOf token.lessOf token.tokenBy token.tokenAt token.tokenOf token.coded token.textOf token.tokenAnswer token.tokenText token.lexedAnswer token.orDelim row.columnsOf row.word row.rowOf row.tokenRow row.tokenFrom whitespace.commentEnd whitespace.commentOf whitespace.isWhitespace whitespace.whitespaceItem whitespace.skipWhitespace decimal.digit decimal.number decimal.digits decimal.numerator decimal.denominator decimal.roundsToZero colour.rgb colour.allOf colour.numeral colour.withoutPlus colour.digitsIn colour.parseU8 colour.parseHex colour.threeDigits colour.sixDigits colour.hashColour colour.threeNumbers colour.rgbColour colour.oneToken colour.colourOf colour.behindComma colour.backgroundOf property.unsignedZero property.numberZero property.anyOf property.heightOf property.firstWord property.overflowOf property.displayOf property.whiteSpaceOf property.contentOf property.declOf rules.colonBehind rules.propertyOf rules.valueBehind rules.declarationOf rules.startsAt rules.moreRules rules.declarationsOf value.bracketOf value.bracketBy value.closing value.ending value.stepOf value.stop value.cons value.onStep value.scan value.statementOf value.tokensOf value.isMark value.isImportant value.withoutMark value.valueFrom value.valueOf words.kindOf words.firstOf words.numberOf words.unitOf words.isKind words.isWord words.isDelim words.foundOr words.lookup words.onFound words.split words.placeOf
 test-panics = (refl, refl, refl, refl, refl)

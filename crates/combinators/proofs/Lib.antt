@@ -8,4 +8,5 @@ pub mod AllLaws
 pub mod Emitted
 pub mod Cleared
 pub mod Wiped
+pub mod ZeroLaws
 pub mod LeastLaws

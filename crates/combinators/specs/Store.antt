@@ -1,6 +1,7 @@
 -- Lent stores: bytes emitted from a fill on, and zeros from a place on, to the end or so many.
 use Prim.Native.Nat.{ℕ, zero, suc, _+_}
 use mathlib.Core.List.{List, [], _∷_}
+use mathlib.Core.Path.{_≡_}
 use lib.Dec.{leb, ltb}
 use lib.ListN.{length, set, replicate}
 use lib.Seq.{sets}
@@ -32,6 +33,10 @@ cleared (suc n) (x ∷ xs) = x ∷ cleared n xs
 -- n zeros from a place on, as far as the store goes
 unfoldable pub wiped : ℕ → ℕ → List ℕ → List ℕ
 wiped from n l = sets l from (replicate n 0)
+
+-- zero from a place on: wiping it there changes nothing
+pub record Zeros (l : List ℕ) (from : ℕ) : Type 0 where
+  pub wiping : (n : ℕ) → wiped from n l ≡ l
 
 -- the greater of two numbers
 unfoldable pub most : ℕ → ℕ → ℕ

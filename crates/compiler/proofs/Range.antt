@@ -23,11 +23,11 @@ use Rattle.syntax.proofs.Back.{DeclarationsFit}
 use Rattle.syntax.proofs.RowSizes.{length-rules}
 use Rattle.declarations.specs.Styles.{one, styleOf, hidesOverflow, zeroHeight, anyDecl, ownStyles, stylesOf}
 use Rattle.declarations.proofs.StyleAttribute.{styles-fit}
-use Rattle.sheets.specs.Outcome.{reads}
+use Rattle.selectors.specs.Outcome.{reads}
 use Rattle.sheets.specs.Rules.{ruleWidth}
 use Rattle.sheets.specs.Sheet.{sheetOf}
 use Rattle.sheets.specs.SheetAnswer.{sheetLimit}
-use Rattle.sheets.proofs.AllLaws.{each-size, each-text}
+use Rattle.selectors.proofs.AllLaws.{each-size, each-text}
 use Rattle.sheets.proofs.SheetBounds.{sheet-keeps}
 use Rattle.sheets.proofs.NthRange.{InRange, NthInRange, SelectorInRange, RuleInRange, sheet-range}
 use Rattle.compiled.specs.Decoded.{read}

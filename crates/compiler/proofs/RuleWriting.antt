@@ -5,7 +5,7 @@ use Prim.Native.Nat.{ℕ, zero, suc, _+_, _*_, _-_, _≤_, _<_}
 use native.Mathlib.Omega.{arith}
 use lib.ListN.{length, getD, drop, length-append, length-map}
 use lib.Seq.{sets, getD-drop, drop-drop}
-use Rattle.combinators.specs.Store.{Store, emits, wiped}
+use Rattle.combinators.specs.Store.{Store, emits, wiped, Zeros}
 use Rattle.combinators.proofs.Emitted.{emits-none}
 use Rattle.syntax.specs.Layout.{declarationsAt, styleWidth, readStyle, stylesAt}
 use Rattle.syntax.specs.RuleLayout as layout
@@ -17,8 +17,7 @@ use Rattle.syntax.proofs.Streams.{texts-append}
 use Rattle.declarations.specs.Styles.{stylesOf}
 use Rattle.declarations.specs.StyleNumbers.{styleCount}
 use Rattle.declarations.proofs.StyleLaws.{count-styles}
-use Rattle.sheets.specs.Stores.{Zeros}
-use Rattle.sheets.proofs.ZeroLaws.{zeros-back}
+use Rattle.combinators.proofs.ZeroLaws.{zeros-back}
 use Rattle.origins.specs.Rules.{selectorsRead, ruleStyles, EachRoom}
 use Rattle.origins.proofs.WalkLaws.{many-length}
 use Rattle.compiled.specs.Number.{numberLimit}

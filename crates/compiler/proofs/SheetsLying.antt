@@ -4,9 +4,8 @@ use mathlib.Core.List.{List}
 use Prim.Native.Nat.{ℕ}
 use lib.ListN.{length}
 use lib.Seq.{sets}
-use Rattle.combinators.specs.Store.{cleared}
+use Rattle.combinators.specs.Store.{cleared, Zeros}
 use Rattle.combinators.proofs.Cleared.{length-cleared}
-use Rattle.sheets.specs.Stores.{Zeros}
 use Rattle.origins.specs.Checks.{Lent}
 use Rattle.origins.specs.Reading.{sheetsOf}
 use Rattle.origins.specs.declared.reading.SheetsRules.{SheetsRules}

@@ -12,7 +12,7 @@ use Rattle.syntax.specs.Selector.{Selector, RuleSet}
 use Rattle.syntax.specs.Stream.{readMany, textsMany}
 use Rattle.syntax.specs.Style.{StyleDecl, authorOrigin}
 use Rattle.declarations.specs.Styles.{one, styleOf, hidesOverflow, zeroHeight, anyDecl, ownStyles, stylesOf}
-use Rattle.sheets.specs.Stores.{Zeros}
+use Rattle.combinators.specs.Store.{Zeros}
 use Rattle.origins.specs.Rules.{RuleRoom, RulesRoom}
 use Rattle.compiled.specs.Number.{numberLimit, groupBytes, numberBytes}
 use Rattle.compiled.specs.Text.{textBytes}

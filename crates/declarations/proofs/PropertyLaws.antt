@@ -16,25 +16,10 @@ use Rattle.lexer.specs.declared.names.Name.the-variants as code
 use Rattle.lexer.proofs.Bounds.{Fits, bound-two, bound-short}
 use Rattle.lexer.proofs.Comments.{skip-from-le}
 use Rattle.lexer.proofs.IdentBounds.{ident-fits}
+use Rattle.lexer.proofs.NameAnswers.{NameRead, named-from, unnamed-from}
 use Rattle.declarations.specs.Rules.{colonBehind, propertyOf}
 use Rattle.declarations.specs.Leaving.{propertyAnswer}
 use Rattle.declarations.specs.declared.rules.Property.the-variants as property
-
--- ---- what the answer of `parse_ident` says
-pub record Named (p : Parsed (List ℕ)) (n m : ℕ) : Type 0 where
-  pub name : List ℕ
-  pub reads : p ≡ ok n name
-  pub long : m ≡ length name
-
-pub named-from : (p : Parsed (List ℕ)) (n m : ℕ) → code.Text n m ≡ nameAnswer p → Named p n m
-unfolding nameAnswer
-named-from (ok i b) n m e = let q : n ≡ i = cc in record { name = b; reads = rw q; long = cc }
-named-from err n m e = absurd (let z : _≡_ {A = ℕ} 0 1 = cc in omega arith)
-
-pub unnamed-from : (p : Parsed (List ℕ)) → code.NoName ≡ nameAnswer p → p ≡ err
-unfolding nameAnswer
-unnamed-from (ok i b) e = absurd (let z : _≡_ {A = ℕ} 0 1 = cc in omega arith)
-unnamed-from err e = refl
 
 -- ---- the meaning, where there is a name
 module _ (s : List ℕ) (n : ℕ) (name : List ℕ) (e : identOf s ≡ ok n name) where
@@ -69,7 +54,7 @@ module _ (s : List ℕ) {x : Name} (ex : x ≡ nameAnswer (identOf s)) where
   property-none h = let e = unnamed-from (identOf s) (sym h ∙ ex) in answer-miss s (no-name s e) 0 (rw e)
 
   module _ {n m : ℕ} (h : x ≡ code.Text n m) where
-    found : Named (identOf s) n m
+    found : NameRead (identOf s) n m
     found = named-from (identOf s) n m (sym h ∙ ex)
 
     fits : Fits s n (found .name)

@@ -17,7 +17,7 @@ use Rattle.lexer.proofs.SyntaxName.{IdentSequence, started, dashed, start-code-
 use Rattle.lexer.proofs.SyntaxWhitespace.{Blank, skips-blank}
 use Rattle.syntax.specs.Declaration.{Declaration}
 use Rattle.declarations.specs.Rules.{propertyOf, declarationOf, startsAt, moreRules, declarationsOf}
-use Rattle.sheets.specs.Outcome.{reads}
+use Rattle.selectors.specs.Outcome.{reads}
 use Rattle.sheets.specs.Sheet.{spaced, beforeEnd, blockOf}
 use Rattle.grammar.proofs.NthGrammar.{Blanks}
 use Rattle.grammar.proofs.Places.{Unblank, blank-first, rest-on, rest-one, byte-on, spaced-on, spaced-none}

@@ -26,8 +26,8 @@ use Rattle.lexer.proofs.SyntaxString.{string-quote}
 use Rattle.lexer.proofs.SyntaxWhitespace.{Blank, none, skips-blank}
 use Rattle.syntax.specs.Selector.{Component, star, class, element, hash, child, descendant, nth, attribute, attributeEqual}
 use Rattle.values.specs.Words.{isKind, kindOf}
-use Rattle.sheets.specs.Outcome.{reads, fails, parsed, orElse}
-use Rattle.sheets.specs.Selector.{classOf, hashOf, closed, quotedOf, valueOf, attrOf, pseudoClassOf, marked, blankOf, componentOf}
+use Rattle.selectors.specs.Outcome.{reads, fails, parsed, orElse}
+use Rattle.selectors.specs.Selector.{classOf, hashOf, closed, quotedOf, valueOf, attrOf, pseudoClassOf, marked, blankOf, componentOf}
 use Rattle.grammar.proofs.NthGrammar.{Blanks, Argument, writtenArgument, meansArgument}
 use Rattle.grammar.proofs.NthRead.{args-read, pseudo-by}
 use Rattle.grammar.proofs.Places.{differs}

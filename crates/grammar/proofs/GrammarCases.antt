@@ -20,8 +20,8 @@ use Rattle.syntax.specs.Declaration.{unknown}
 use Rattle.syntax.specs.Selector as syntax
 use Rattle.values.specs.Property.{declOf}
 use Rattle.values.specs.Words.{foundOr, lookup, onFound}
-use Rattle.sheets.specs.Outcome.{reads}
-use Rattle.sheets.specs.Selector.{signed, selectorOf}
+use Rattle.selectors.specs.Outcome.{reads}
+use Rattle.selectors.specs.Selector.{signed, selectorOf}
 use Rattle.sheets.specs.Sheet.{sheetOf}
 use Rattle.grammar.proofs.NthGrammar.{Blanks, minus, Count, sum, worth, writtenSign, signByte, writtenArgument, negative, meansArgument}
 use Rattle.grammar.proofs.SelectorGrammar.{Name, class, attributeIs, nthChild, typed, untyped, universal, child, descendant, Complex, one, joined, writtenSimple, writtenSimples, writtenCompound, writtenCombinator, written, meansSimple, meansCompound, meansCombinator, inOrder, meaning, NoStarAtEnd, NoStarAtStart, firstCompound, Agrees}

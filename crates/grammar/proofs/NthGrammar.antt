@@ -11,7 +11,7 @@ use Rattle.lexer.specs.Number.{isDigit}
 use Rattle.lexer.proofs.SyntaxName.{Each}
 use Rattle.lexer.proofs.SyntaxWhitespace.{Blank}
 use Rattle.values.specs.Colour.{numeral}
-use Rattle.sheets.specs.Selector.{Nth, signed, greatest}
+use Rattle.selectors.specs.Selector.{Nth, signed, greatest}
 
 -- S*, with comments or none between
 pub record Blanks : Type 0 where

@@ -26,9 +26,9 @@ use Rattle.lexer.proofs.SyntaxName.{Each, none, more, started, identStart, iden
 use Rattle.lexer.proofs.SyntaxWhitespace.{skips-blank}
 use Rattle.syntax.specs.Selector.{Component, nth}
 use Rattle.values.specs.Colour.{numeral}
-use Rattle.sheets.specs.Outcome as outcome
-use Rattle.sheets.specs.Outcome.{Outcome, reads, fails, onOutcome, orElse}
-use Rattle.sheets.specs.Selector.{Nth, isMinus, isSign, signTaken, signed, greatest, digitsWorth, converted, bothOf, justA, justB, worded, nthOf, nthArgsOf, nthChildArgs, pseudoClassOf}
+use Rattle.selectors.specs.Outcome as outcome
+use Rattle.selectors.specs.Outcome.{Outcome, reads, fails, onOutcome, orElse}
+use Rattle.selectors.specs.Selector.{Nth, isMinus, isSign, signTaken, signed, greatest, digitsWorth, converted, bothOf, justA, justB, worded, nthOf, nthArgsOf, nthChildArgs, pseudoClassOf}
 use Rattle.grammar.proofs.NthGrammar.{Blanks, Sign, unsigned, plus, minus, worth, Count, Integer, Argument, even, odd, multiple, sum, number, writtenSign, signByte, writtenArgument, negative, meansArgument}
 use Rattle.grammar.proofs.Places.{differs, Unblank, blank-first, unblank-item, rest-on, rest-one, byte-on}
 

@@ -13,9 +13,10 @@ use Rattle.lexer.proofs.SyntaxWhitespace.{none, skips-blank}
 use Rattle.syntax.specs.Declaration.{Declaration}
 use Rattle.syntax.specs.Selector.{Selector, RuleSet}
 use Rattle.declarations.specs.Rules.{startsAt}
-use Rattle.sheets.specs.Outcome.{reads, onOutcome, behind, orElse}
-use Rattle.sheets.specs.Selector.{selectorOf}
-use Rattle.sheets.specs.Sheet.{moreSelectors, moreFrom, selectorsOf, blockOf, rulesetOf, statementsOf, movedBy, sheetFrom, sheetOf}
+use Rattle.selectors.specs.Outcome.{reads, onOutcome, behind, orElse}
+use Rattle.selectors.specs.Selector.{selectorOf}
+use Rattle.selectors.specs.SelectorList.{moreSelectors, moreFrom, selectorsOf}
+use Rattle.sheets.specs.Sheet.{blockOf, rulesetOf, statementsOf, movedBy, sheetFrom, sheetOf}
 use Rattle.grammar.proofs.NthGrammar.{Blanks}
 use Rattle.grammar.proofs.SelectorGrammar.{written, meaning}
 use Rattle.grammar.proofs.RuleGrammar.{Block, empty, filled, Chosen, Other, Rule, writtenDeclared, writtenBlock, writtenChosen, writtenOthers, writtenSelectors, writtenRule, writtenRules, meansBlock, meansOthers, meansRule, meansRules}

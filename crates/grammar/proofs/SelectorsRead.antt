@@ -22,8 +22,8 @@ use Rattle.lexer.proofs.SyntaxName.{IdentSequence, started, dashed, identStart,
 use Rattle.lexer.proofs.SyntaxWhitespace.{Newline, line-feed, carriage-return, form-feed, White, newline, tab, blank-space, Comment, closed, Blank, none, white, comment}
 use Rattle.syntax.specs.Selector as syntax
 use Rattle.syntax.specs.Selector.{Component}
-use Rattle.sheets.specs.Outcome.{reads, fails, onOutcome, behind, parsed, orElse}
-use Rattle.sheets.specs.Selector.{classOf, attrOf, hashOf, pseudoClassOf, marked, blankOf, componentOf, componentsOf, componentsFrom, someOf, withElementOf, withoutElementOf, bodyOf, isDescendant, withoutBlank, pseudoOf, pseudoTaken, selectorOf}
+use Rattle.selectors.specs.Outcome.{reads, fails, onOutcome, behind, parsed, orElse}
+use Rattle.selectors.specs.Selector.{classOf, attrOf, hashOf, pseudoClassOf, marked, blankOf, componentOf, componentsOf, componentsFrom, someOf, withElementOf, withoutElementOf, bodyOf, isDescendant, withoutBlank, pseudoOf, pseudoTaken, selectorOf}
 use Rattle.grammar.proofs.NthGrammar.{Blanks, Argument, writtenArgument, meansArgument}
 use Rattle.grammar.proofs.Places.{differs}
 use Rattle.grammar.proofs.SelectorGrammar.{Name, Spaces, Quoted, Simple, id, class, attribute, attributeIs, attributeString, nthChild, Compound, typed, universal, untyped, Combinator, child, descendant, Complex, one, joined, writtenSimple, writtenSimples, writtenCompound, writtenCombinator, written, meansSimple, meansCompound, meansCombinator, inOrder, meaning, NoStarAtEnd, NoStarAtStart, firstCompound, Agrees}

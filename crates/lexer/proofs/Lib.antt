@@ -9,6 +9,7 @@ pub mod Escapes
 pub mod Characters
 pub mod CharacterRuns
 pub mod Idents
+pub mod NameAnswers
 pub mod AtSign
 pub mod IdentBounds
 pub mod SyntaxName

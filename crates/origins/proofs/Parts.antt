@@ -6,9 +6,8 @@ use native.Mathlib.Omega.{arith}
 use borrow.Rule.Slice.PartMut.{putMid, post-is}
 use lib.ListN.{length, take, drop, set, replicate, length-drop, drop-of-length-le}
 use lib.Seq.{sets}
-use Rattle.combinators.specs.Store.{wiped}
+use Rattle.combinators.specs.Store.{wiped, Zeros}
 use Rattle.combinators.proofs.Lists.{rest}
-use Rattle.sheets.specs.Stores.{Zeros}
 
 -- behind a first number
 sets-second : (x : ℕ) (l : List ℕ) (i : ℕ) (vs : List ℕ) → sets (x ∷ l) (suc i) vs ≡ x ∷ sets l i vs

@@ -10,12 +10,12 @@ use Rattle.combinators.proofs.Lists.{nil-of}
 use Rattle.syntax.specs.RuleLayout.{ruleRows, ruleTexts}
 use Rattle.syntax.specs.Stream.{rowsMany, textsMany}
 use Rattle.syntax.specs.Selector.{RuleSet}
-use Rattle.sheets.specs.Outcome.{Outcome, reads, fails, panics, onOutcome}
-use Rattle.sheets.specs.Reading.{reading, written, Bounds, takenBy, countBy, numbersBy, textBy}
+use Rattle.selectors.specs.Outcome.{Outcome, reads, fails, panics, onOutcome}
+use Rattle.selectors.specs.Reading.{reading, written, Bounds, takenBy, countBy, numbersBy, textBy}
 use Rattle.sheets.specs.Rules.{ruleWidth, SheetRoom}
 use Rattle.sheets.specs.Sheet.{sheetFrom, sheetOf}
-use Rattle.sheets.specs.declared.readings.Reading.{Reading}
-use Rattle.sheets.specs.declared.readings.Reading.the-variants.{Reads, Fails, Panics}
+use Rattle.selectors.specs.declared.readings.Reading.{Reading}
+use Rattle.selectors.specs.declared.readings.Reading.the-variants.{Reads, Fails, Panics}
 use Rattle.origins.specs.Reading.{rulesAnswer, RulesSize, RulesBounds, ReadRoom}
 use Rattle.origins.specs.declared.reading.RulesRead.{RulesRead}
 use Rattle.origins.specs.declared.reading.RulesRead.the-variants.{Rules, Panic}

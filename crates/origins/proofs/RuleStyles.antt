@@ -19,12 +19,12 @@ use Rattle.syntax.proofs.Streams.{Held, held-left, held-right}
 use Rattle.declarations.specs.Styles.{stylesOf}
 use Rattle.declarations.specs.StyleNumbers.{styleNumbers, styleCount, StylesRoom}
 use Rattle.declarations.proofs.StyleLaws.{reads-styles, count-styles, styles-few}
-use Rattle.sheets.specs.Outcome.{reads}
+use Rattle.selectors.specs.Outcome.{reads}
 use Rattle.sheets.specs.Rules.{ruleWidth}
 use Rattle.sheets.specs.Sheet.{sheetOf}
 use Rattle.combinators.specs.LeastLengths.{numberLeast}
 use Rattle.combinators.specs.All.{All}
-use Rattle.sheets.proofs.AllLaws.{each-size}
+use Rattle.selectors.proofs.AllLaws.{each-size}
 use Rattle.sheets.proofs.SheetBounds.{sheet-keeps}
 use Rattle.origins.specs.Rules.{selectorsRead, ruleStyles, RuleRoom, EachRoom}
 use Rattle.origins.proofs.WalkLaws.{many-length}

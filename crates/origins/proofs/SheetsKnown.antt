@@ -5,20 +5,19 @@ use Prim.Native.Nat.{ℕ, _+_, _*_, _-_, _^_, _≤_, _<_}
 use native.Mathlib.Omega.{arith}
 use lib.ListN.{length, drop, replicate, length-append}
 use lib.Seq.{sets, drop-at}
-use Rattle.combinators.specs.Store.{cleared}
+use Rattle.combinators.specs.Store.{cleared, Zeros}
 use Rattle.combinators.specs.All.{All}
 use Rattle.combinators.proofs.Cleared.{cleared-is, length-cleared}
 use Rattle.syntax.specs.Layout.{styleWidth}
 use Rattle.syntax.specs.RuleLayout.{ruleRows, ruleTexts}
 use Rattle.syntax.specs.Selector.{RuleSet}
 use Rattle.syntax.proofs.RuleRows.{RulesFit, rules-back}
-use Rattle.sheets.specs.Outcome.{Outcome, reads, fails, panics, onOutcome}
+use Rattle.selectors.specs.Outcome.{Outcome, reads, fails, panics, onOutcome}
 use Rattle.sheets.specs.Sheet.{sheetOf}
 use Rattle.sheets.specs.SheetAnswer.{padded}
-use Rattle.sheets.specs.Stores.{Zeros}
 use Rattle.sheets.proofs.SheetBounds.{SheetKeeps, sheet-keeps}
 use Rattle.sheets.proofs.SheetLaws.{sheet-never-fails, stored}
-use Rattle.sheets.proofs.ZeroLaws.{zeros-all}
+use Rattle.combinators.proofs.ZeroLaws.{zeros-all}
 use Rattle.origins.specs.Reading.{Sheets, rules, panicked, andThen, sheetsOf, sheetsRules, sheetsAnswer, rulesFrom, SheetsRoom}
 use Rattle.origins.specs.Checks.{Lent}
 use Rattle.origins.specs.Rules.{RulesRoom}

@@ -6,19 +6,18 @@ use native.Mathlib.Nat.{zero-add}
 use native.Mathlib.Omega.{arith}
 use lib.ListN.{length, length-append}
 use lib.Seq.{sets, length-sets}
-use Rattle.combinators.specs.Store.{wiped}
+use Rattle.combinators.specs.Store.{wiped, Zeros}
 use Rattle.combinators.proofs.Wiped.{sets-append}
 use Rattle.lexer.specs.TokenRow.{tokenWidth}
 use Rattle.syntax.specs.RuleLayout.{ruleRows, ruleTexts}
 use Rattle.syntax.specs.Stream.{rowsMany, textsMany}
 use Rattle.syntax.specs.Selector.{RuleSet}
-use Rattle.sheets.specs.Outcome.{Outcome, reads, fails, panics, onOutcome}
-use Rattle.sheets.specs.Reading.{written}
+use Rattle.selectors.specs.Outcome.{Outcome, reads, fails, panics, onOutcome}
+use Rattle.selectors.specs.Reading.{written}
 use Rattle.sheets.specs.Rules.{ruleWidth}
 use Rattle.sheets.specs.Sheet.{sheetOf}
 use Rattle.sheets.specs.SheetAnswer.{sheetLimit}
-use Rattle.sheets.specs.Stores.{Zeros}
-use Rattle.sheets.proofs.ZeroLaws.{zeros-after, zeros-back}
+use Rattle.combinators.proofs.ZeroLaws.{zeros-after, zeros-back}
 use Rattle.origins.specs.Reading.{agentText, userText, authorText, rulesAnswer, RulesSize, RulesBounds, ReadRoom, Sheets, rules, panicked, andThen, sheetsOf, sheetsRows, sheetsTexts, sheetsRules, sheetsAnswer, SheetsRoom}
 use Rattle.origins.specs.declared.reading.RulesRead.{RulesRead}
 use Rattle.origins.specs.declared.reading.RulesRead.the-variants as one

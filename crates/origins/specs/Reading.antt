@@ -7,11 +7,11 @@ use Rattle.combinators.specs.LeastLengths.{textLeast, bracketLeast, numberLeast
 use Rattle.lexer.specs.TokenRow.{tokenWidth}
 use Rattle.syntax.specs.RuleLayout.{ruleRows, ruleTexts, rulesAt}
 use Rattle.syntax.specs.Selector.{RuleSet}
-use Rattle.sheets.specs.Outcome.{Outcome, onOutcome}
+use Rattle.selectors.specs.Outcome.{Outcome, onOutcome}
 use Rattle.sheets.specs.Rules.{ruleWidth}
 use Rattle.sheets.specs.Sheet.{sheetOf}
 use Rattle.sheets.specs.SheetAnswer.{sheetLimit}
-use Rattle.sheets.specs.Stores.{Zeros}
+use Rattle.combinators.specs.Store.{Zeros}
 use Rattle.origins.specs.declared.reading.RulesRead.{RulesRead}
 use Rattle.origins.specs.declared.reading.RulesRead.the-variants as one
 use Rattle.origins.specs.declared.reading.SheetRules.{SheetRules}

@@ -1,13 +1,13 @@
 // The three sheets read into one set of stores, one behind the other.
 use combinators::stores::wipe_bytes;
 use combinators::stores::wipe_numbers;
-use sheets::readings::Reading;
+use selectors::readings::Reading;
 use sheets::statements::parse_stylesheet;
 ghost use mathlib.Core.Path.{_≡_};
 ghost use lib.Seq.{sets};
 ghost use Rattle.combinators.specs.Store.{wiped};
 ghost use Rattle.syntax.specs.RuleLayout.{ruleRows, ruleTexts};
-ghost use Rattle.sheets.specs.Reading.{written};
+ghost use Rattle.selectors.specs.Reading.{written};
 ghost use Rattle.sheets.specs.Sheet.{sheetOf};
 ghost use Rattle.origins.specs.Reading.{rulesAnswer, ReadRoom, RulesBounds, sheetsOf, sheetsRows, sheetsTexts, sheetsAnswer, SheetsRoom};
 

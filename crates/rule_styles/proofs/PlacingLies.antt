@@ -11,7 +11,7 @@ use Rattle.syntax.specs.Stream.{Read, readMany, rowsMany, textsMany}
 use Rattle.syntax.proofs.RowSizes.{length-declarations}
 use Rattle.syntax.proofs.RuleRows.{selectors-back, rule-back, rules-read, RulesFit}
 use Rattle.syntax.proofs.Streams.{Held, held-left, held-right}
-use Rattle.sheets.specs.Stores.{Zeros}
+use Rattle.combinators.specs.Store.{Zeros}
 use Rattle.origins.specs.Rules.{selectorsRead}
 use Rattle.rule_styles.specs.Deciding.{deciding}
 use Rattle.rule_styles.specs.Placing.{keptHead, contentsAt, stylesPlaced, styledRules, kept, keptRules}

@@ -6,7 +6,7 @@ use native.Mathlib.Omega.{arith}
 use borrow.Rule.Slice.PartMut.{putMid}
 use lib.ListN.{length, getD, drop, length-append}
 use lib.Seq.{sets, length-sets}
-use Rattle.combinators.specs.Store.{wiped}
+use Rattle.combinators.specs.Store.{wiped, Zeros}
 use Rattle.combinators.proofs.Wiped.{sets-over, wiped-apart}
 use Rattle.syntax.specs.Layout.{declarationsAt, readDeclaration, styleWidth, numbersAt, rowOfNumbers}
 use Rattle.syntax.specs.RuleLayout.{ruleDeclarations}
@@ -18,8 +18,7 @@ use Rattle.syntax.proofs.RowSizes.{length-style}
 use Rattle.syntax.proofs.Streams.{sets-drop}
 use Rattle.cascade.specs.Record.{Styled}
 use Rattle.declarations.proofs.StyleLaws.{reads-styles, styles-few}
-use Rattle.sheets.specs.Stores.{Zeros}
-use Rattle.sheets.proofs.ZeroLaws.{zeros-later, zeros-back}
+use Rattle.combinators.proofs.ZeroLaws.{zeros-later, zeros-back}
 use Rattle.origins.specs.Rules.{selectorsRead, ruleStyles, RuleRoom}
 use Rattle.origins.proofs.Parts.{lentPart, part-length, part-stored}
 use Rattle.origins.proofs.WalkLaws.{many-length}

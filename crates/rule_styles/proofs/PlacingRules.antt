@@ -10,7 +10,7 @@ use Rattle.syntax.specs.Layout.{declarationWidth, styleWidth}
 use Rattle.syntax.specs.RuleLayout.{componentWidth, selectorComponents, selectorHead, ruleHead, ruleSelectors, ruleDeclarations, readSelector, readRule}
 use Rattle.syntax.specs.Stream.{Read, readMany, textsMany}
 use Rattle.syntax.specs.declared.styles.Value.{Value}
-use Rattle.sheets.proofs.ZeroLaws.{zeros-behind}
+use Rattle.combinators.proofs.ZeroLaws.{zeros-behind}
 use Rattle.origins.specs.Rules.{selectorsRead, ruleStyles}
 use Rattle.origins.proofs.WalkLaws.{component-rest, declaration-rest}
 use Rattle.styles.specs.StyleCall.{inNumbers}

@@ -5,14 +5,13 @@ use Prim.Native.Nat.{ℕ, _+_, _-_, _*_, _^_, _≤_, _<_}
 use native.Mathlib.Omega.{arith}
 use lib.ListN.{length, take, drop, length-append, length-drop}
 use lib.Seq.{sets, length-sets, take-at}
-use Rattle.combinators.specs.Store.{cleared}
+use Rattle.combinators.specs.Store.{cleared, Zeros}
 use Rattle.combinators.proofs.Cleared.{length-cleared}
 use Rattle.combinators.proofs.Wiped.{sets-append}
 use Rattle.syntax.specs.RuleLayout.{ruleRows, ruleTexts}
 use Rattle.syntax.specs.Selector.{RuleSet}
 use Rattle.syntax.proofs.Streams.{Held}
-use Rattle.sheets.specs.Stores.{Zeros}
-use Rattle.sheets.proofs.ZeroLaws.{zeros-behind}
+use Rattle.combinators.proofs.ZeroLaws.{zeros-behind}
 use Rattle.origins.specs.Reading.{Sheets, sheetsOf, sheetsRows, sheetsTexts, sheetsRules, rulesFrom}
 use Rattle.origins.specs.declared.reading.SheetRules.{SheetRules}
 use Rattle.origins.specs.declared.reading.SheetsRules.{SheetsRules}

@@ -7,7 +7,7 @@ use native.Mathlib.Omega.{arith}
 use lib.ListN.{length, take, drop, replicate, length-append, length-drop, take-append-drop}
 use lib.Seq.{sets, sets-eq, length-sets, drop-at, take-at, length-take-le}
 use Rattle.combinators.specs.Choice.{pick, and}
-use Rattle.combinators.specs.Store.{cleared}
+use Rattle.combinators.specs.Store.{cleared, Zeros}
 use Rattle.combinators.proofs.Cleared.{length-cleared}
 use Rattle.syntax.specs.Declaration.{Decl, color, backgroundColor, height, maxHeight, overflow, overflowY, display, whiteSpace, content, unknown, Declaration}
 use Rattle.syntax.specs.Layout.{declText, declarationText, declarationTexts, styleTextOf, styleText, styleTexts}
@@ -20,7 +20,6 @@ use Rattle.syntax.specs.declared.styles.Value.{Value}
 use Rattle.syntax.proofs.RuleRows.{RulesFit}
 use Rattle.syntax.proofs.Streams.{Held}
 use Rattle.declarations.specs.Styles.{one, styleOf, zeroHeight, hidesOverflow, anyDecl, ownStyles, stylesOf}
-use Rattle.sheets.specs.Stores.{Zeros}
 use Rattle.origins.specs.declared.reading.SheetRules.{SheetRules}
 use Rattle.origins.specs.declared.reading.SheetsRules.{SheetsRules}
 use Rattle.styles.specs.Said as said

@@ -6,7 +6,7 @@ use Rattle.syntax.specs.Layout.{declarationWidth, styleWidth}
 use Rattle.syntax.specs.RuleLayout.{ruleHead, ruleDeclarations, readRule}
 use Rattle.syntax.specs.Stream.{readMany}
 use Rattle.cascade.specs.Record.{slotCount}
-use Rattle.sheets.specs.Stores.{Zeros}
+use Rattle.combinators.specs.Store.{Zeros}
 use Rattle.origins.specs.Rules.{selectorsRead}
 use Rattle.rule_styles.specs.Placing.{keptHead}
 

@@ -26,15 +26,15 @@ use Rattle.values.specs.declared.statements.StatementAnswer.{StatementAnswer}
 use Rattle.values.specs.declared.statements.StatementAnswer.the-variants as answer
 use Rattle.values.proofs.Sizes.{Sized, statement-sized, rows-long}
 use Rattle.values.proofs.Unmarked.{brackets-wiped}
-use Rattle.declarations.proofs.PropertyLaws.{Named, named-from, unnamed-from}
-use Rattle.sheets.specs.Outcome.{reads, fails, onOutcome}
+use Rattle.lexer.proofs.NameAnswers.{NameRead, named-from, unnamed-from}
+use Rattle.selectors.specs.Outcome.{reads, fails, onOutcome}
 use Rattle.sheets.specs.Sheet.{spaced, statementEnd, atRuleOf}
 use Rattle.sheets.specs.Rules.{WorkRoom, ruleWidth, EndBounds}
-use Rattle.sheets.specs.Reading.{reading, Bounds, Progress, takenBy, placeBy, countBy, numbersBy, textBy}
-use Rattle.sheets.specs.declared.readings.Reading.{Reading}
-use Rattle.sheets.specs.declared.readings.Reading.the-variants.{Reads, Fails, Panics}
-use Rattle.sheets.proofs.ReadingLaws.{fails-bounds, panics-bounds}
-use Rattle.sheets.proofs.ZeroLaws.{zeros-back}
+use Rattle.selectors.specs.Reading.{reading, Bounds, Progress, takenBy, placeBy, countBy, numbersBy, textBy}
+use Rattle.selectors.specs.declared.readings.Reading.{Reading}
+use Rattle.selectors.specs.declared.readings.Reading.the-variants.{Reads, Fails, Panics}
+use Rattle.selectors.proofs.ReadingLaws.{fails-bounds, panics-bounds}
+use Rattle.combinators.proofs.ZeroLaws.{zeros-back}
 
 -- ---- what the answer of `parse_to_end_of_statement` says
 record Said (r : Statement) (b : Bool) (n k t : ℕ) : Type 0 where
@@ -237,7 +237,7 @@ module _ (s tokens brackets store : List ℕ) (fill : ℕ) (o : WorkRoom s token
 
           module _ {n m : ℕ} (q : x ≡ name.Text n m) where
             -- what it is
-            named : Named (identOf (drop i s)) n m
+            named : NameRead (identOf (drop i s)) n m
             named = named-from (identOf (drop i s)) n m (sym q ∙ ex ∙ ap (λ l. nameAnswer (identOf l)) (rest s i))
 
             -- how much it takes

@@ -20,13 +20,13 @@ use Rattle.declarations.specs.Rules.{Rules, startsAt, declarationsOf}
 use Rattle.declarations.specs.Leaving.{kept, Leaves, leaves, usedRules, rulesAnswer, rulesOf, rulesLeft}
 use Rattle.declarations.specs.declared.rules.RulesRead.{RulesRead}
 use Rattle.declarations.proofs.StyleAttribute.{bounded}
-use Rattle.sheets.specs.Outcome.{reads, fails, onOutcome, behind}
+use Rattle.selectors.specs.Outcome.{reads, fails, onOutcome, behind}
 use Rattle.sheets.specs.Sheet.{spaced, beforeEnd, blockOf}
 use Rattle.sheets.specs.Rules.{blockAt, BlockRoom, BlockBounds}
-use Rattle.sheets.specs.Reading.{reading, written}
-use Rattle.sheets.specs.declared.readings.Reading.{Reading}
-use Rattle.sheets.specs.declared.readings.Reading.the-variants.{Reads, Fails}
-use Rattle.sheets.proofs.ZeroLaws.{zeros-back}
+use Rattle.selectors.specs.Reading.{reading, written}
+use Rattle.selectors.specs.declared.readings.Reading.{Reading}
+use Rattle.selectors.specs.declared.readings.Reading.the-variants.{Reads, Fails}
+use Rattle.combinators.proofs.ZeroLaws.{zeros-back}
 
 -- ---- `past_semicolon`, `before_end`
 module _ (s : List ℕ) (e : ℕ) (h : e ≤ length s) {t : Bool} (et : t ≡ is (getD s e 0) ascii.semicolon) where

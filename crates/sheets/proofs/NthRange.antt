@@ -9,11 +9,11 @@ use Rattle.combinators.proofs.AllLaws.{all-weaker}
 use Rattle.syntax.specs.Selector.{Component, star, class, element, hash, child, descendant, nth, attribute, attributeEqual, Selector, RuleSet}
 use Rattle.syntax.specs.Signed.{signedNumber}
 use Rattle.syntax.proofs.RuleRows.{RulesFit}
-use Rattle.sheets.specs.NthAnswer.{greatestSigned}
-use Rattle.sheets.specs.Outcome.{reads}
-use Rattle.sheets.specs.Selector.{greatest}
+use Rattle.selectors.specs.NthAnswer.{greatestSigned}
+use Rattle.selectors.specs.Outcome.{reads}
+use Rattle.selectors.specs.Selector.{greatest}
 use Rattle.sheets.specs.Sheet.{sheetOf}
-use Rattle.sheets.proofs.ComponentKeeps.{Small}
+use Rattle.selectors.proofs.ComponentKeeps.{Small}
 use Rattle.sheets.proofs.SheetBounds.{RuleSmall, sheet-keeps}
 
 -- no further from 0 than the greatest number of `i32`; `negsuc n` is -(n + 1)

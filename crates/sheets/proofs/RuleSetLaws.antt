@@ -5,7 +5,7 @@ use Prim.Native.Nat.{ℕ, _+_, _-_, _^_, _≤_, _<_}
 use native.Mathlib.Omega.{arith}
 use lib.ListN.{length, take, drop, length-drop, length-append}
 use lib.Seq.{sets, length-sets}
-use Rattle.combinators.specs.Store.{wiped}
+use Rattle.combinators.specs.Store.{wiped, Zeros}
 use Rattle.combinators.proofs.Lists.{rest}
 use Rattle.combinators.proofs.Wiped.{sets-append}
 use Rattle.lexer.specs.Whitespace.{skipWhitespace}
@@ -16,15 +16,15 @@ use Rattle.syntax.specs.Selector.{Selector, RuleSet}
 use Rattle.syntax.specs.Writing.{RuleHeadFits}
 use Rattle.syntax.proofs.Writes.{rule-left}
 use Rattle.declarations.specs.Rules.{startsAt}
-use Rattle.sheets.specs.Outcome.{Outcome, reads, fails, panics, onOutcome, behind}
-use Rattle.sheets.specs.Sheet.{selectorsOf, blockOf, rulesetOf, movedBy}
+use Rattle.selectors.specs.Outcome.{Outcome, reads, fails, panics, onOutcome, behind}
+use Rattle.selectors.specs.SelectorList.{selectorsOf}
+use Rattle.sheets.specs.Sheet.{blockOf, rulesetOf, movedBy}
 use Rattle.sheets.specs.Rules.{blockAt, BlockRoom, BlockBounds, BlockSize, RuleRoom, ruleWidth}
-use Rattle.sheets.specs.Stores.{Zeros}
-use Rattle.sheets.specs.Reading.{reading, written, TextRoom, RowRoom, Bounds}
-use Rattle.sheets.specs.declared.readings.Reading.{Reading}
-use Rattle.sheets.specs.declared.readings.Reading.the-variants.{Reads, Fails, Panics}
-use Rattle.sheets.proofs.ReadingLaws.{ReadAs, read-by, fails-by, panics-by, sets-read, sets-fails, sets-panics, Sizes, sizes-of, reads-bounds, fails-bounds, panics-within, panics-bounds}
-use Rattle.sheets.proofs.ZeroLaws.{zeros-later, zeros-behind, zeros-back}
+use Rattle.selectors.specs.Reading.{reading, written, TextRoom, RowRoom, Bounds}
+use Rattle.selectors.specs.declared.readings.Reading.{Reading}
+use Rattle.selectors.specs.declared.readings.Reading.the-variants.{Reads, Fails, Panics}
+use Rattle.selectors.proofs.ReadingLaws.{ReadAs, read-by, fails-by, panics-by, sets-read, sets-fails, sets-panics, Sizes, sizes-of, reads-bounds, fails-bounds, panics-within, panics-bounds}
+use Rattle.combinators.proofs.ZeroLaws.{zeros-later, zeros-behind, zeros-back}
 
 -- what is stored behind something
 module _ (l l₀ : List ℕ) (f n : ℕ) (xs : List ℕ) (e : l ≡ sets l₀ f xs) (en : n ≡ length xs) where

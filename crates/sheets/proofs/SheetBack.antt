@@ -10,9 +10,9 @@ use Rattle.combinators.proofs.Rules.{pick-holds}
 use Rattle.syntax.specs.RuleLayout.{ruleRows, ruleTexts, rulesAt}
 use Rattle.syntax.specs.Selector.{RuleSet}
 use Rattle.syntax.proofs.RuleRows.{RulesFit, rules-back}
-use Rattle.sheets.specs.Outcome.{Outcome, reads, fails, panics, onOutcome}
+use Rattle.selectors.specs.Outcome.{Outcome, reads, fails, panics, onOutcome}
 use Rattle.sheets.specs.Sheet.{sheetOf}
-use Rattle.sheets.specs.Reading.{written}
+use Rattle.selectors.specs.Reading.{written}
 use Rattle.sheets.specs.SheetAnswer.{SheetLeft, padded, sheetNumbers, sheetLeft, unchanged, readSheet}
 use Rattle.sheets.proofs.SheetBounds.{sheet-keeps}
 use Rattle.sheets.proofs.SheetLaws.{sheet-never-fails}

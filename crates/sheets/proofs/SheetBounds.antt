@@ -31,13 +31,14 @@ use Rattle.values.proofs.Sizes.{statement-sized}
 use Rattle.declarations.specs.Leaving.{kept, rulesOf}
 use Rattle.declarations.specs.Rules.{Rules, startsAt, declarationsOf}
 use Rattle.declarations.proofs.StyleAttribute.{bounded}
-use Rattle.sheets.specs.Outcome.{reads, fails}
+use Rattle.selectors.specs.Outcome.{reads, fails}
 use Rattle.sheets.specs.Rules.{ruleWidth}
-use Rattle.sheets.specs.Sheet.{spaced, selectorsOf, beforeEnd, blockOf, rulesetOf, statementEnd, atRuleOf, statementsOf, movedBy, sheetFrom, sheetOf}
-use Rattle.sheets.proofs.AllLaws.{sizes-append, sizes-map, texts-map, Where, where-read, where-behind, where-then, where-else}
+use Rattle.selectors.specs.SelectorList.{selectorsOf}
+use Rattle.sheets.specs.Sheet.{spaced, beforeEnd, blockOf, rulesetOf, statementEnd, atRuleOf, statementsOf, movedBy, sheetFrom, sheetOf}
+use Rattle.selectors.proofs.AllLaws.{sizes-append, sizes-map, texts-map, Where, where-read, where-behind, where-then, where-else}
 use Rattle.sheets.proofs.BlockLaws.{named-same, end-behind}
-use Rattle.sheets.proofs.ComponentKeeps.{Small}
-use Rattle.sheets.proofs.SelectorBounds.{SelectorsKeep, selectors-keep}
+use Rattle.selectors.proofs.ComponentKeeps.{Small}
+use Rattle.selectors.proofs.SelectorBounds.{SelectorsKeep, selectors-keep}
 
 -- ---- declarations
 -- the text of one does not depend on where it starts

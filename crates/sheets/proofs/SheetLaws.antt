@@ -9,24 +9,23 @@ use borrow.Author.Tests.{lt-ltb, le-ltb}
 use lib.ListN.{length, drop, replicate, length-replicate}
 use lib.Seq.{sets, sets-eq}
 use Rattle.combinators.specs.LeastLengths.{storesSuffice}
-use Rattle.combinators.specs.Store.{cleared}
+use Rattle.combinators.specs.Store.{cleared, Zeros}
 use Rattle.combinators.proofs.Cleared.{cleared-is}
 use Rattle.combinators.proofs.LeastLaws.{least}
 use Rattle.combinators.proofs.Rules.{pick-true, pick-false}
 use Rattle.unicode.specs.Utf8.{valid}
 use Rattle.syntax.specs.RuleLayout.{ruleRows, ruleTexts}
 use Rattle.syntax.specs.Selector.{RuleSet}
-use Rattle.sheets.specs.Outcome.{Outcome, reads, fails, panics, onOutcome, behind}
+use Rattle.selectors.specs.Outcome.{Outcome, reads, fails, panics, onOutcome, behind}
 use Rattle.sheets.specs.Sheet.{statementsOf, movedBy, sheetFrom, sheetOf}
-use Rattle.sheets.specs.Stores.{Zeros}
-use Rattle.sheets.specs.Reading.{reading, written, Bounds, numbersBy, textBy}
+use Rattle.selectors.specs.Reading.{reading, written, Bounds, numbersBy, textBy}
 use Rattle.sheets.specs.Rules.{ruleWidth, SheetRoom}
 use Rattle.sheets.specs.SheetAnswer.{sheetLimit, numbersOf, SheetLeft, padded, sheetNumbers, sheetLeft, unchanged, readSheet, SheetLent}
-use Rattle.sheets.specs.declared.readings.Reading.{Reading}
-use Rattle.sheets.specs.declared.readings.Reading.the-variants.{Reads, Fails, Panics}
+use Rattle.selectors.specs.declared.readings.Reading.{Reading}
+use Rattle.selectors.specs.declared.readings.Reading.the-variants.{Reads, Fails, Panics}
 use Rattle.sheets.specs.declared.answers.SheetNumbers.{SheetNumbers}
 use Rattle.sheets.specs.declared.sheet.SheetAnswer.the-variants.{Sheet, TooLong, ShortStore, NotUtf8, Panic}
-use Rattle.sheets.proofs.ZeroLaws.{zeros-all}
+use Rattle.combinators.proofs.ZeroLaws.{zeros-all}
 
 -- ---- zeros
 -- a store cleared throughout

@@ -10,13 +10,13 @@ use Rattle.lexer.proofs.TokenBounds.{on-holds}
 use Rattle.syntax.specs.RuleLayout.{ruleRow, ruleText, ruleRows, ruleTexts}
 use Rattle.syntax.specs.Selector.{RuleSet}
 use Rattle.syntax.specs.Stream.{rowsMany, textsMany}
-use Rattle.sheets.specs.Outcome.{Outcome, reads, fails, panics, onOutcome, behind, orElse}
+use Rattle.selectors.specs.Outcome.{Outcome, reads, fails, panics, onOutcome, behind, orElse}
 use Rattle.sheets.specs.Sheet.{rulesetOf, statementEnd, atRuleOf, statementsOf, movedBy, movedTo}
 use Rattle.sheets.specs.Rules.{WorkRoom, RuleRoom, ruleWidth}
-use Rattle.sheets.specs.Reading.{reading, written, Bounds, Progress}
-use Rattle.sheets.specs.declared.readings.Reading.{Reading}
-use Rattle.sheets.specs.declared.readings.Reading.the-variants.{Reads, Fails, Panics}
-use Rattle.sheets.proofs.ReadingLaws.{read-by, fails-by, panics-by, sets-read, sets-fails, sets-panics, same-reads, sizes-of, reads-bounds, panics-within, panics-bounds}
+use Rattle.selectors.specs.Reading.{reading, written, Bounds, Progress}
+use Rattle.selectors.specs.declared.readings.Reading.{Reading}
+use Rattle.selectors.specs.declared.readings.Reading.the-variants.{Reads, Fails, Panics}
+use Rattle.selectors.proofs.ReadingLaws.{read-by, fails-by, panics-by, sets-read, sets-fails, sets-panics, same-reads, sizes-of, reads-bounds, panics-within, panics-bounds}
 
 -- ---- an at-rule says nothing, wherever it stands
 record Nothing (at fill : ℕ) (o : Outcome (List RuleSet)) : Type 0 where

@@ -10,23 +10,23 @@ use Rattle.combinators.specs.Choice.{pick, or, and, is, within}
 use Rattle.combinators.specs.Parsed as parsed
 use Rattle.combinators.specs.Parsed.{err, onParsed}
 use Rattle.combinators.specs.Repeat.{many, took}
-use Rattle.combinators.specs.Store.{wiped}
+use Rattle.combinators.specs.Store.{wiped, Zeros}
 use Rattle.combinators.proofs.Lists.{rest, nil-of}
 use Rattle.unicode.specs.Utf8 as utf8
 use Rattle.lexer.specs.Name as name
 use Rattle.lexer.specs.Whitespace.{skipWhitespace, whitespaceItem, isWhitespace, commentOf}
 use Rattle.syntax.specs.RuleLayout.{ruleRow, ruleText, ruleRows, ruleTexts}
 use Rattle.syntax.specs.Selector.{RuleSet}
-use Rattle.sheets.specs.Outcome.{Outcome, reads, fails, panics, onOutcome, behind, orElse}
-use Rattle.sheets.specs.Selector as selector
-use Rattle.sheets.specs.Sheet.{spaced, selectorsOf, blockOf, rulesetOf, atRuleOf, statementsOf, movedBy, movedTo, sheetFrom, sheetOf}
-use Rattle.sheets.specs.Stores.{Zeros}
-use Rattle.sheets.specs.Reading.{reading, written, Bounds, Progress}
+use Rattle.selectors.specs.Outcome.{Outcome, reads, fails, panics, onOutcome, behind, orElse}
+use Rattle.selectors.specs.Selector as selector
+use Rattle.selectors.specs.SelectorList.{selectorsOf}
+use Rattle.sheets.specs.Sheet.{spaced, blockOf, rulesetOf, atRuleOf, statementsOf, movedBy, movedTo, sheetFrom, sheetOf}
+use Rattle.selectors.specs.Reading.{reading, written, Bounds, Progress}
 use Rattle.sheets.specs.Rules.{ruleWidth, RuleRoom, SheetRoom}
-use Rattle.sheets.specs.declared.readings.Reading.{Reading}
-use Rattle.sheets.specs.declared.readings.Reading.the-variants.{Reads, Fails, Panics}
-use Rattle.sheets.proofs.Gathering.{Gathered, gathered-none, gathered-more, rules-zeros, store-zeros, rules-long, store-long, end-answer, end-rules, end-store, panic-answer, panic-rules, panic-store}
-use Rattle.sheets.proofs.ReadingLaws.{ReadAs, read-by, fails-by, panics-by, sets-read, sets-fails, sets-panics, Sizes, sizes-of, reads-bounds, panics-within, panics-bounds}
+use Rattle.selectors.specs.declared.readings.Reading.{Reading}
+use Rattle.selectors.specs.declared.readings.Reading.the-variants.{Reads, Fails, Panics}
+use Rattle.selectors.proofs.Gathering.{Gathered, gathered-none, gathered-more, rules-zeros, store-zeros, rules-long, store-long, end-answer, end-rules, end-store, panic-answer, panic-rules, panic-store}
+use Rattle.selectors.proofs.ReadingLaws.{ReadAs, read-by, fails-by, panics-by, sets-read, sets-fails, sets-panics, Sizes, sizes-of, reads-bounds, panics-within, panics-bounds}
 
 -- ---- no statement at the end of a text
 no-name : name.identOf [] ≡ err

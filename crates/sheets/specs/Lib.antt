@@ -1,10 +1,3 @@
-pub mod Outcome
-pub mod Selector
 pub mod Sheet
-pub mod Stores
-pub mod Reading
-pub mod NthAnswer
-pub mod Components
-pub mod ComponentAnswer
 pub mod Rules
 pub mod SheetAnswer

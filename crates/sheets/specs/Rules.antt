@@ -7,11 +7,11 @@ use Rattle.lexer.specs.TokenRow.{tokenWidth}
 use Rattle.syntax.specs.Declaration.{Declaration}
 use Rattle.syntax.specs.Layout.{declarationWidth}
 use Rattle.declarations.specs.Rules.{startsAt}
-use Rattle.sheets.specs.Outcome.{Outcome, behind}
+use Rattle.selectors.specs.Outcome.{Outcome, behind}
 use Rattle.sheets.specs.Sheet.{blockOf}
-use Rattle.sheets.specs.Stores.{Zeros}
-use Rattle.sheets.specs.declared.readings.Reading.{Reading}
-use Rattle.sheets.specs.declared.readings.Reading.the-variants.{Reads, Fails, Panics}
+use Rattle.combinators.specs.Store.{Zeros}
+use Rattle.selectors.specs.declared.readings.Reading.{Reading}
+use Rattle.selectors.specs.declared.readings.Reading.the-variants.{Reads, Fails, Panics}
 
 -- ---- the declarations of a rule whose text starts at a byte
 unfoldable pub blockAt : ℕ → List ℕ → ℕ → Outcome (List Declaration)

@@ -9,30 +9,15 @@ use Rattle.combinators.specs.Parsed.{onParsed}
 use Rattle.lexer.specs.Name.{identOf}
 use Rattle.lexer.specs.Whitespace.{skipWhitespace}
 use Rattle.syntax.specs.Declaration.{Declaration}
-use Rattle.syntax.specs.Selector.{Selector, RuleSet}
+use Rattle.syntax.specs.Selector.{RuleSet}
 use Rattle.values.specs.Value.{statementOf}
 use Rattle.declarations.specs.Rules.{startsAt, declarationsOf}
-use Rattle.sheets.specs.Outcome.{Outcome, reads, fails, panics, onOutcome, behind, orElse}
-use Rattle.sheets.specs.Selector.{selectorOf}
+use Rattle.selectors.specs.Outcome.{Outcome, reads, fails, panics, onOutcome, behind, orElse}
+use Rattle.selectors.specs.SelectorList.{selectorsOf}
 
 -- the place behind white space and comments from i on
 unfoldable pub spaced : List ℕ → ℕ → ℕ
 spaced t i = i + skipWhitespace (drop i t)
-
--- ---- selectors, parted by ',' and white space or none; it stops before a ',' that no selector follows
-unfoldable pub moreSelectors : ℕ → List ℕ → Outcome (List Selector)
-moreSelectors zero t = reads 0 []
-moreSelectors (suc l) t =
-    let w = 1 + skipWhitespace (drop 1 t) in
-    pick (is (getD t 0 0) ascii.comma)
-    (onOutcome (selectorOf (drop w t)) (λ n s. behind (w + n) (moreSelectors l (drop (w + n) t)) (λ ss. s ∷ ss)) (reads 0 []) (λ p. panics (w + p)))
-    (reads 0 [])
-
-unfoldable pub moreFrom : List ℕ → Outcome (List Selector)
-moreFrom t = moreSelectors (length t) t
-
-unfoldable pub selectorsOf : List ℕ → Outcome (List Selector)
-selectorsOf t = onOutcome (selectorOf t) (λ n s. behind n (moreFrom (drop n t)) (λ ss. s ∷ ss)) (reads 0 []) (λ p. panics p)
 
 -- ---- `parse_ruleset`. Behind n bytes: '{', declarations, ';' or none, '}', with white space or none between them and behind
 

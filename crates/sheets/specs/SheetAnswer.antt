@@ -13,8 +13,8 @@ use Rattle.unicode.specs.Utf8.{valid, scalarTaken, scalarOf, scalarBy, leadOf, 
 use Rattle.combinators.specs.Repeat.{many, took}
 use Rattle.syntax.specs.RuleLayout.{ruleRows, ruleTexts}
 use Rattle.syntax.specs.Selector.{RuleSet}
-use Rattle.sheets.specs.Outcome.{Outcome, onOutcome}
-use Rattle.sheets.specs.Reading.{written}
+use Rattle.selectors.specs.Outcome.{Outcome, onOutcome}
+use Rattle.selectors.specs.Reading.{written}
 use Rattle.sheets.specs.Sheet.{sheetFrom, sheetOf}
 use Rattle.sheets.specs.declared.answers.SheetNumbers.{SheetNumbers}
 use Rattle.sheets.specs.declared.sheet.SheetAnswer.{SheetAnswer}

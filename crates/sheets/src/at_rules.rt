@@ -1,5 +1,4 @@
 // At-rules, which say nothing: `parse_at_rule`. What is read on the way is wiped; all stores are zero where something may be written, and stay so.
-use crate::readings::Reading;
 use combinators::bytes::byte_is;
 use combinators::stores::wipe_bytes;
 use declarations::rules::wipe_work;
@@ -7,6 +6,7 @@ use lexer::names::Name;
 use lexer::names::parse_ident;
 use lexer::whitespace::skip_from;
 use lexer::whitespace::skip_optional_whitespace;
+use selectors::readings::Reading;
 use values::statements::StatementAnswer;
 use values::statements::parse_to_end_of_statement;
 ghost use mathlib.Core.Path.{_≡_};
@@ -15,7 +15,7 @@ ghost use lib.ListN.{length};
 ghost use Rattle.syntax.specs.RuleLayout.{ruleRows, ruleTexts};
 ghost use Rattle.sheets.specs.Sheet.{atRuleOf, statementEnd};
 ghost use Rattle.sheets.specs.Rules.{WorkRoom, ruleWidth, EndBounds};
-ghost use Rattle.sheets.specs.Reading.{reading, Bounds, Progress};
+ghost use Rattle.selectors.specs.Reading.{reading, Bounds, Progress};
 
 // The place behind the statement that goes on at `n`, or that its brackets are wrong.
 fn parse_statement_end(

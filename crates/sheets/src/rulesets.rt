@@ -1,13 +1,13 @@
 // Rules: `parse_ruleset`. The row of a rule goes to `rules` from `place` on, its texts to `store` from `fill` on. All stores are zero where
 // something may be written, and stay so where nothing is read.
-use crate::readings::Reading;
-use crate::selector_lists::parse_selectors;
 use combinators::bytes::byte_is;
 use combinators::stores::wipe_bytes;
 use combinators::stores::wipe_numbers;
 use declarations::rules::parse_rules;
 use lexer::whitespace::skip_from;
 use lexer::whitespace::skip_optional_whitespace;
+use selectors::readings::Reading;
+use selectors::selector_lists::parse_selectors;
 use syntax::rows::DECLARATION_WIDTH;
 use syntax::rows::RULE_HEAD;
 use syntax::writers::put_rule_head;
@@ -19,10 +19,10 @@ ghost use Rattle.combinators.specs.Ascii.{semicolon};
 ghost use Rattle.combinators.specs.Choice.{pick, is};
 ghost use Rattle.syntax.specs.Layout.{declarationRows, declarationTexts};
 ghost use Rattle.syntax.specs.RuleLayout.{ruleRow, ruleText};
-ghost use Rattle.sheets.specs.Outcome.{behind};
+ghost use Rattle.selectors.specs.Outcome.{behind};
 ghost use Rattle.sheets.specs.Sheet.{beforeEnd, rulesetOf, movedBy};
 ghost use Rattle.sheets.specs.Rules.{blockAt, BlockRoom, RuleRoom, ruleWidth, BlockBounds};
-ghost use Rattle.sheets.specs.Reading.{reading, written, Bounds};
+ghost use Rattle.selectors.specs.Reading.{reading, written, Bounds};
 
 // The place behind a ';' at `e`, or `e` where there is none.
 fn past_semicolon(s: &[u8], e: usize) -> usize

@@ -1,10 +1,10 @@
 // `read_sheet`: a sheet into lent stores. Refusals are looked for in the order of their numbers; nothing is written before the text is known to
 // be UTF-8.
-use crate::readings::Reading;
 use crate::statements::parse_stylesheet;
 use combinators::least::stores_suffice;
 use combinators::stores::clear_bytes;
 use combinators::stores::clear_numbers;
+use selectors::readings::Reading;
 use unicode::utf8::is_valid;
 ghost use mathlib.Core.Path.{_≡_};
 ghost use Rattle.combinators.specs.Store.{cleared};

@@ -1,16 +1,16 @@
 // Statements: `parse_statement`, a rule or an at-rule; and `parse_stylesheet`, statements as long as they read.
 use crate::at_rules::parse_at_rule;
-use crate::readings::Reading;
 use crate::rulesets::parse_ruleset;
 use combinators::stores::wipe_bytes;
 use combinators::stores::wipe_numbers;
+use selectors::readings::Reading;
 ghost use mathlib.Core.Path.{_≡_};
 ghost use lib.ListN.{length};
 ghost use lib.Seq.{sets};
 ghost use Rattle.syntax.specs.RuleLayout.{ruleRows, ruleTexts};
 ghost use Rattle.sheets.specs.Sheet.{statementsOf, movedTo, sheetOf};
 ghost use Rattle.sheets.specs.Rules.{RuleRoom, SheetRoom, ruleWidth};
-ghost use Rattle.sheets.specs.Reading.{reading, written, Bounds, Progress};
+ghost use Rattle.selectors.specs.Reading.{reading, written, Bounds, Progress};
 
 // Reads a rule, or else an at-rule; `s` starts at the byte `at` of the text.
 pub fn parse_statement(

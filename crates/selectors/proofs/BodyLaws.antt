@@ -1,0 +1,215 @@
+-- The components of a selector as the code reads them: a first one, and more behind it; a blank at either end is dropped.
+use mathlib.Core.Path.{_≡_, refl, sym, ap, subst, _∙_}
+use mathlib.Core.Bool.{Bool, true, false}
+use mathlib.Core.List.{List, [], _∷_, _++_, reverse, reverse-cons, reverse-append, reverse-reverse, append-nil, append-assoc}
+use Prim.Native.Nat.{ℕ, zero, suc, _+_, _-_, _*_, _≤_, _<_}
+use native.Mathlib.Omega.{arith}
+use lib.ListN.{length, drop, length-drop}
+use Rattle.combinators.specs.Choice.{pick, is}
+use Rattle.combinators.specs.Parsed.{Parsed, ok, err, onParsed}
+use Rattle.combinators.proofs.Rules.{is-no}
+use Rattle.lexer.specs.Name.{identOf}
+use Rattle.syntax.specs.Selector.{Component, star, class, element, hash, child, descendant, nth, attribute, attributeEqual}
+use Rattle.selectors.specs.Outcome.{Outcome, reads, fails, panics, onOutcome, behind, parsed, orElse}
+use Rattle.selectors.specs.Selector.{componentOf, componentsOf, componentsFrom, someOf, withElementOf, withoutElementOf, bodyOf, isDescendant, withoutBlank, withoutFirst}
+use Rattle.selectors.specs.Components.{firstOf, startedOf}
+use Rattle.selectors.proofs.ComponentSome.{component-some, none-left, enough-turns, reads-no, panics-no, behind-fails}
+
+-- ---- a blank at the end
+-- behind other components
+pub blank-last : (xs : List Component) (c : Component) → withoutBlank (xs ++ c ∷ []) ≡ xs ++ pick (isDescendant c) [] (c ∷ [])
+unfolding withoutBlank
+blank-last [] c = refl
+blank-last (x ∷ []) c = refl
+blank-last (x ∷ y ∷ xs) c = ap (λ (cs : List Component). x ∷ cs) (blank-last (y ∷ xs) c)
+
+-- one component or none is the same from either end
+reverse-one : (b : Bool) (c : Component) → reverse (pick b [] (c ∷ [])) ≡ pick b [] (c ∷ [])
+unfolding pick
+reverse-one true c = refl
+reverse-one false c = refl
+
+-- one component or none before others
+one-before : (b : Bool) (c : Component) (cs : List Component) → pick b [] (c ∷ []) ++ cs ≡ pick b cs (c ∷ cs)
+unfolding pick
+one-before true c cs = refl
+one-before false c cs = refl
+
+-- ---- a blank at the start
+pub without-first : (c : Component) (cs : List Component) → withoutFirst (c ∷ cs) ≡ pick (isDescendant c) cs (c ∷ cs)
+unfolding withoutFirst
+without-first c cs =
+    ap (λ (xs : List Component). reverse (withoutBlank xs)) (reverse-cons c cs)
+    ∙ ap reverse (blank-last (reverse cs) c)
+    ∙ reverse-append (reverse cs) (pick (isDescendant c) [] (c ∷ []))
+    ∙ rw (reverse-one (isDescendant c) c, reverse-reverse cs) (one-before (isDescendant c) c cs)
+
+first-none : withoutFirst [] ≡ []
+unfolding withoutFirst withoutBlank
+first-none = refl
+
+-- dropped at one end and then at the other
+either-end : (b : Bool) (c : Component) → isDescendant c ≡ b → withoutFirst (pick b [] (c ∷ [])) ≡ withoutBlank (pick b [] (c ∷ []))
+unfolding pick withoutBlank
+either-end true c e = first-none
+either-end false c e = without-first c [] ∙ rw e
+
+longer : (b : Bool) (c d : Component) (cs : List Component) → pick b (withoutBlank (d ∷ cs)) (c ∷ withoutBlank (d ∷ cs)) ≡ withoutBlank (pick b (d ∷ cs) (c ∷ d ∷ cs))
+unfolding pick withoutBlank
+longer true c d cs = refl
+longer false c d cs = refl
+
+one-end : (c : Component) → withoutBlank (c ∷ []) ≡ pick (isDescendant c) [] (c ∷ [])
+unfolding withoutBlank
+one-end c = refl
+
+more-end : (c d : Component) (cs : List Component) → withoutBlank (c ∷ d ∷ cs) ≡ c ∷ withoutBlank (d ∷ cs)
+unfolding withoutBlank
+more-end c d cs = refl
+
+-- of no components nothing is dropped
+pub no-end : withoutBlank [] ≡ []
+unfolding withoutBlank
+no-end = refl
+
+-- a blank dropped at the start and then at the end, or the other way round
+pub both-ends : (cs : List Component) → withoutFirst (withoutBlank cs) ≡ withoutBlank (withoutFirst cs)
+both-ends [] = ap withoutFirst no-end ∙ first-none ∙ sym no-end ∙ ap withoutBlank (sym first-none)
+both-ends (c ∷ []) =
+    ap withoutFirst (one-end c) ∙ either-end (isDescendant c) c refl ∙ ap withoutBlank (sym (without-first c []))
+both-ends (c ∷ d ∷ cs) =
+    ap withoutFirst (more-end c d cs) ∙ without-first c (withoutBlank (d ∷ cs)) ∙ longer (isDescendant c) c d cs ∙ ap withoutBlank (sym (without-first c (d ∷ cs)))
+
+-- ---- components never fail as a whole
+never-by : (o : Outcome Component) (f : ℕ → Component → Outcome (List Component)) → ((n : ℕ) (c : Component) → f n c ≡ fails → ⊥)
+    → onOutcome o f (reads 0 []) (λ p. panics p) ≡ fails → ⊥
+unfolding onOutcome
+never-by (reads n c) f h e = h n c e
+never-by fails f h e = reads-no e
+never-by (panics p) f h e = panics-no e
+
+-- reading components never fails: where none reads there are none
+pub never-fail : (l : ℕ) (t : List ℕ) → componentsOf l t ≡ fails → ⊥
+unfolding componentsOf
+never-fail zero t e = reads-no e
+never-fail (suc l) t e = never-by (componentOf t) _ (λ n c h. never-fail l (drop n t) (behind-fails n (componentsOf l (drop n t)) _ h)) e
+
+-- ---- the first component, and more behind it
+unfoldable pub firstBehind : Outcome Component → (ℕ → Outcome (List Component)) → Outcome (List Component)
+firstBehind o more = onOutcome o (λ n c. behind n (more n) (λ cs. pick (isDescendant c) cs (c ∷ cs))) fails (λ p. panics p)
+
+-- a reading behind nothing, without a blank at the start
+behind-first : (n : ℕ) (o : Outcome (List Component)) (c : Component) → behind 0 (behind n o (λ cs. c ∷ cs)) withoutFirst ≡ behind n o (λ cs. pick (isDescendant c) cs (c ∷ cs))
+unfolding behind onOutcome
+behind-first n (reads m cs) c =
+    let e : 0 + (n + m) ≡ n + m = omega arith in
+    rw (e, without-first c cs)
+behind-first n fails c = refl
+behind-first n (panics p) c =
+    let e : 0 + (n + p) ≡ n + p = omega arith in
+    rw e
+
+-- a type selector
+or-never : {A : Type 0} (o p : Outcome A) → (o ≡ fails → ⊥) → orElse o p ≡ o
+unfolding orElse
+or-never (reads n a) p h = refl
+or-never fails p h = absurd (h refl)
+or-never (panics q) p h = refl
+
+-- the second alternative where the first fails
+or-fails : {A : Type 0} (o p : Outcome A) → o ≡ fails → orElse o p ≡ p
+unfolding orElse
+or-fails o p e = rw e
+
+-- one component or more
+some-more : (n : ℕ) (o : Outcome (List Component)) (c : Component) → someOf (behind n o (λ cs. c ∷ cs)) ≡ behind n o (λ cs. c ∷ cs)
+unfolding someOf behind onOutcome pick
+some-more n (reads m cs) c = rw (is-no (suc (length cs)) 0 (λ e. absurd (omega arith)))
+some-more n fails c = refl
+some-more n (panics p) c = refl
+
+-- components without a type selector: the first and those behind it
+without-read : (t : List ℕ) (n : ℕ) (c : Component) → componentOf t ≡ reads n c → withoutElementOf t ≡ behind n (componentsFrom (drop n t)) (λ cs. c ∷ cs)
+unfolding withoutElementOf componentsFrom componentsOf onOutcome
+without-read [] n c e = absurd (reads-no (sym e ∙ none-left))
+without-read (x ∷ t) n c e =
+    let h = component-some (x ∷ t) n c e in
+    let q = enough-turns (length t) (length (drop n (x ∷ t))) (drop n (x ∷ t)) (omega (arith, length-drop n (x ∷ t))) (omega arith) in
+    rw (e, q) (some-more n (componentsOf (length (drop n (x ∷ t))) (drop n (x ∷ t))) c)
+
+-- none reads
+without-none : (t : List ℕ) → componentOf t ≡ fails → withoutElementOf t ≡ fails
+unfolding withoutElementOf componentsFrom componentsOf someOf onOutcome pick is
+without-none [] e = refl
+without-none (x ∷ t) e = rw e
+
+-- the crate panics in the first
+without-panic : (t : List ℕ) (p : ℕ) → componentOf t ≡ panics p → withoutElementOf t ≡ panics p
+unfolding withoutElementOf componentsFrom componentsOf someOf onOutcome
+without-panic [] p e = absurd (panics-no (sym e ∙ none-left))
+without-panic (x ∷ t) p e = rw e
+
+nothing-behind : behind {A = List Component} 0 fails withoutFirst ≡ fails
+unfolding behind onOutcome
+nothing-behind = refl
+
+panic-behind : (p : ℕ) → behind {A = List Component} 0 (panics p) withoutFirst ≡ panics p
+unfolding behind onOutcome
+panic-behind p =
+    let e : 0 + p ≡ p = omega arith in
+    rw e
+
+element-behind : (n : ℕ) (name : List ℕ) (more : ℕ → Outcome (List Component))
+    → behind n (more n) (λ cs. pick (isDescendant (element name)) cs (element name ∷ cs)) ≡ firstBehind (reads n (element name)) more
+unfolding firstBehind onOutcome
+element-behind n name more = refl
+
+-- without a type selector
+by-first : (t : List ℕ) (o : Outcome Component) → componentOf t ≡ o → behind 0 (withoutElementOf t) withoutFirst ≡ firstBehind o (λ n. componentsFrom (drop n t))
+unfolding firstBehind onOutcome
+by-first t (reads n c) e = ap (λ (o : Outcome (List Component)). behind 0 o withoutFirst) (without-read t n c e) ∙ behind-first n (componentsFrom (drop n t)) c
+by-first t fails e = ap (λ (o : Outcome (List Component)). behind 0 o withoutFirst) (without-none t e) ∙ nothing-behind
+by-first t (panics p) e = ap (λ (o : Outcome (List Component)). behind 0 o withoutFirst) (without-panic t p e) ∙ panic-behind p
+
+-- nor does it fail behind a first component
+never-behind : (n : ℕ) (t : List ℕ) (c : Component) → behind n (componentsFrom t) (λ cs. c ∷ cs) ≡ fails → ⊥
+unfolding componentsFrom
+never-behind n t c e = never-fail (length t) t (behind-fails n (componentsOf (length t) t) (λ cs. c ∷ cs) e)
+
+-- a type selector is the first component
+first-name : (t : List ℕ) (n : ℕ) (name : List ℕ) → identOf t ≡ ok n name → firstOf t ≡ reads n (element name)
+unfolding firstOf parsed orElse
+first-name t n name e =
+    let z : 0 + n ≡ n = omega arith in
+    rw (e, z)
+
+-- or else any component is
+first-other : (t : List ℕ) → identOf t ≡ err → firstOf t ≡ componentOf t
+unfolding firstOf parsed orElse
+first-other t e = rw e
+
+-- behind a type selector
+with-name : (t : List ℕ) (n : ℕ) (name : List ℕ) → identOf t ≡ ok n name → withElementOf t ≡ behind n (componentsFrom (drop n t)) (λ cs. element name ∷ cs)
+unfolding withElementOf onParsed
+with-name t n name e = rw e
+
+-- no type selector
+with-none : (t : List ℕ) → identOf t ≡ err → withElementOf t ≡ fails
+unfolding withElementOf onParsed
+with-none t e = rw e
+
+-- by whether there is a type selector
+by-name : (t : List ℕ) (p : Parsed (List ℕ)) → identOf t ≡ p → startedOf t ≡ firstBehind (firstOf t) (λ n. componentsFrom (drop n t))
+unfolding startedOf bodyOf
+by-name t (ok n name) e =
+    rw (
+      with-name t n name e,
+      or-never (behind n (componentsFrom (drop n t)) (λ cs. element name ∷ cs)) (withoutElementOf t) (never-behind n (drop n t) (element name)),
+      first-name t n name e,
+    )
+    (behind-first n (componentsFrom (drop n t)) (element name) ∙ element-behind n name (λ m. componentsFrom (drop m t)))
+by-name t err e = rw (with-none t e, or-fails {A = List Component} fails (withoutElementOf t) refl, first-other t e) (by-first t (componentOf t) refl)
+
+-- a selector's components are the first one, without which it does not read, and those behind it
+pub started : (t : List ℕ) → startedOf t ≡ firstBehind (firstOf t) (λ n. componentsFrom (drop n t))
+started t = by-name t (identOf t) refl

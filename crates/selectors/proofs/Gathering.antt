@@ -1,0 +1,157 @@
+-- Things read one behind the other, their rows and texts gathered in the stores: what the loops over components, selectors and statements share.
+use mathlib.Core.Path.{_≡_, refl, ap, sym, _∙_}
+use mathlib.Core.List.{List, [], _∷_, _++_, append-assoc, append-nil}
+use Prim.Native.Nat.{ℕ, suc, _+_, _≤_}
+use native.Mathlib.Nat.{add-zero}
+use native.Mathlib.Omega.{arith}
+use lib.ListN.{length, length-append}
+use lib.Seq.{sets, length-sets}
+use Rattle.combinators.specs.Store.{wiped, Zeros}
+use Rattle.combinators.proofs.Wiped.{sets-append}
+use Rattle.syntax.specs.Stream.{rowsMany, textsMany}
+use Rattle.syntax.proofs.Streams.{texts-append, rows-append}
+use Rattle.selectors.specs.Outcome.{Outcome, reads, fails, panics, onOutcome, behind}
+use Rattle.selectors.specs.Reading.{reading, written}
+use Rattle.selectors.specs.declared.readings.Reading.{Reading}
+use Rattle.selectors.specs.declared.readings.Reading.the-variants.{Reads, Fails, Panics}
+use Rattle.combinators.proofs.ZeroLaws.{zeros-behind, zeros-back}
+
+module _ {A : Type 0} (w : ℕ → A → List ℕ) (x : A → List ℕ) where
+  -- of one thing
+  pub one-row : (f : ℕ) (a : A) → rowsMany w x f (a ∷ []) ≡ w f a
+  unfolding rowsMany
+  one-row f a = append-nil (w f a)
+
+  -- its text
+  pub one-text : (a : A) → textsMany x (a ∷ []) ≡ x a
+  unfolding textsMany
+  one-text a = append-nil (x a)
+
+  -- so many were read in k bytes, and `rest` is what comes behind them
+  pub record Gathered (whole rest : Outcome (List A)) (rules₀ : List ℕ) (place : ℕ) (store₀ : List ℕ) (fill k : ℕ) (rules store : List ℕ) (count numbers text : ℕ) : Type 0 where
+    pub done : List A
+    pub whole-is : whole ≡ behind k rest (λ more. done ++ more)
+    pub rules-are : rules ≡ sets rules₀ place (rowsMany w x fill done)
+    pub store-is : store ≡ sets store₀ fill (textsMany x done)
+    pub count-is : count ≡ length done
+    pub numbers-are : numbers ≡ length (rowsMany w x fill done)
+    pub text-is : text ≡ length (textsMany x done)
+
+  module _ (whole : Outcome (List A)) (rules₀ : List ℕ) (place : ℕ) (store₀ : List ℕ) (fill : ℕ) where
+    -- nothing yet
+    behind-none : (o : Outcome (List A)) → o ≡ behind 0 o (λ more. [] ++ more)
+    unfolding behind onOutcome
+    behind-none (reads n a) =
+        let e : 0 + n ≡ n = omega arith in
+        rw e
+    behind-none fails = refl
+    behind-none (panics p) =
+        let e : 0 + p ≡ p = omega arith in
+        rw e
+
+    -- before the first
+    pub gathered-none : Gathered whole whole rules₀ place store₀ fill 0 rules₀ store₀ 0 0 0
+    unfolding rowsMany textsMany
+    gathered-none = record { done = []; whole-is = behind-none whole; rules-are = refl; store-is = refl; count-is = refl; numbers-are = refl; text-is = refl }
+
+    -- some behind others, and more
+    behind-next : (k n : ℕ) (done xs : List A) (o : Outcome (List A))
+        → behind k (behind n o (λ more. xs ++ more)) (λ more. done ++ more) ≡ behind (k + n) o (λ more. (done ++ xs) ++ more)
+    unfolding behind onOutcome
+    behind-next k n done xs (reads m more) =
+        let e : k + (n + m) ≡ k + n + m = omega arith in
+        rw (e, append-assoc done xs more)
+    behind-next k n done xs fails = refl
+    behind-next k n done xs (panics p) =
+        let e : k + (n + p) ≡ k + n + p = omega arith in
+        rw e
+
+    module _ (rest : Outcome (List A)) (k : ℕ) (rules store : List ℕ) (count numbers text : ℕ)
+        (g : Gathered whole rest rules₀ place store₀ fill k rules store count numbers text) where
+      -- some more
+      pub gathered-more : (n : ℕ) (xs : List A) (rest′ : Outcome (List A)) (rules′ store′ : List ℕ) → rest ≡ behind n rest′ (λ more. xs ++ more)
+          → rules′ ≡ sets rules (place + numbers) (rowsMany w x (fill + text) xs) → store′ ≡ sets store (fill + text) (textsMany x xs)
+          → Gathered whole rest′ rules₀ place store₀ fill (k + n) rules′ store′ (count + length xs) (numbers + length (rowsMany w x (fill + text) xs)) (text + length (textsMany x xs))
+      gathered-more n xs rest′ rules′ store′ e p q =
+          let d = g .done in
+          let rs = rowsMany w x fill d in
+          let ts = textsMany x d in
+          record {
+            done = d ++ xs;
+            whole-is = g .whole-is ∙ ap (λ (o : Outcome (List A)). behind k o (λ more. d ++ more)) e ∙ behind-next k n d xs rest′;
+            rules-are =
+                p ∙ rw (g .rules-are, g .numbers-are, g .text-is) (sym (sets-append rules₀ place rs (rowsMany w x (fill + length ts) xs)))
+                ∙ ap (sets rules₀ place) (sym (rows-append w x d xs fill));
+            store-is = q ∙ rw (g .store-is, g .text-is) (sym (sets-append store₀ fill ts (textsMany x xs))) ∙ ap (sets store₀ fill) (sym (texts-append w x d xs));
+            count-is = omega (arith, g .count-is, length-append d xs);
+            numbers-are =
+                rw (rows-append w x d xs fill, g .text-is) (omega (arith, g .numbers-are, length-append rs (rowsMany w x (fill + length ts) xs)));
+            text-is = rw (texts-append w x d xs) (omega (arith, g .text-is, length-append ts (textsMany x xs)));
+          }
+
+      -- one more
+      pub gathered-next : (n : ℕ) (a : A) (rest′ : Outcome (List A)) (rules′ store′ : List ℕ) → rest ≡ behind n rest′ (λ more. a ∷ more)
+          → rules′ ≡ sets rules (place + numbers) (w (fill + text) a) → store′ ≡ sets store (fill + text) (x a)
+          → Gathered whole rest′ rules₀ place store₀ fill (k + n) rules′ store′ (count + 1) (numbers + length (w (fill + text) a)) (text + length (x a))
+      gathered-next n a rest′ rules′ store′ e p q =
+          let r = one-row (fill + text) a in
+          let t = one-text a in
+          rw (← r, ← t) (gathered-more n (a ∷ []) rest′ rules′ store′ e (p ∙ rw (← r)) (q ∙ rw (← t)))
+
+      -- the stores are zero behind what was gathered
+      pub rules-zeros : Zeros rules₀ place → Zeros rules (place + numbers)
+      rules-zeros z = rw (g .rules-are, g .numbers-are) (zeros-behind rules₀ place z (rowsMany w x fill (g .done)))
+
+      -- of texts
+      pub store-zeros : Zeros store₀ fill → Zeros store (fill + text)
+      store-zeros z = rw (g .store-is, g .text-is) (zeros-behind store₀ fill z (textsMany x (g .done)))
+
+      -- the stores keep their lengths
+      pub rules-long : length rules ≡ length rules₀
+      rules-long = rw (g .rules-are) (length-sets rules₀ place (rowsMany w x fill (g .done)))
+
+      -- of texts
+      pub store-long : length store ≡ length store₀
+      store-long = rw (g .store-is) (length-sets store₀ fill (textsMany x (g .done)))
+
+      -- nothing more is read
+      module _ (n : ℕ) (e : rest ≡ reads n []) where
+        end-is : whole ≡ reads (k + n) (g .done)
+        unfolding behind onOutcome
+        end-is = g .whole-is ∙ rw (e, append-nil (g .done))
+
+        -- the answer
+        pub end-answer : Reads (k + n) count numbers text ≡ reading length (rowsMany w x fill) (textsMany x) whole
+        unfolding reading onOutcome
+        end-answer = rw (end-is, g .count-is, g .numbers-are, g .text-is)
+
+        -- the rows
+        pub end-rules : rules ≡ sets rules₀ place (written (rowsMany w x fill) whole)
+        unfolding written onOutcome
+        end-rules = g .rules-are ∙ rw end-is
+
+        -- the texts
+        pub end-store : store ≡ sets store₀ fill (written (textsMany x) whole)
+        unfolding written onOutcome
+        end-store = g .store-is ∙ rw end-is
+
+      -- the crate panics
+      module _ (p : ℕ) (e : rest ≡ panics p) where
+        panic-is : whole ≡ panics (k + p)
+        unfolding behind onOutcome
+        panic-is = g .whole-is ∙ rw e
+
+        -- the answer
+        pub panic-answer : Panics (k + p) ≡ reading length (rowsMany w x fill) (textsMany x) whole
+        unfolding reading onOutcome
+        panic-answer = rw panic-is
+
+        -- the rows, which are wiped
+        pub panic-rules : Zeros rules₀ place → wiped place numbers rules ≡ sets rules₀ place (written (rowsMany w x fill) whole)
+        unfolding written onOutcome
+        panic-rules z = rw (panic-is, g .rules-are) (zeros-back rules₀ place z (rowsMany w x fill (g .done)) numbers (omega (arith, g .numbers-are)))
+
+        -- the texts, which are wiped
+        pub panic-store : Zeros store₀ fill → wiped fill text store ≡ sets store₀ fill (written (textsMany x) whole)
+        unfolding written onOutcome
+        panic-store z = rw (panic-is, g .store-is) (zeros-back store₀ fill z (textsMany x (g .done)) text (omega (arith, g .text-is)))

@@ -1,0 +1,424 @@
+-- What `parse_selector` leaves, by the components that were read.
+use mathlib.Core.Path.{_≡_, refl, sym, ap, subst, _∙_}
+use mathlib.Core.Bool.{Bool, true, false}
+use mathlib.Core.List.{List, [], _∷_, _++_, reverse, reverse-reverse, append-nil}
+use Prim.Native.Nat.{ℕ, zero, suc, _+_, _-_, _*_, _^_, _≤_, _<_}
+use native.Mathlib.Omega.{arith}
+use lib.ListN.{length, getD, take, drop, length-drop, length-append, length-reverse}
+use lib.Seq.{sets, length-sets, getD-drop}
+use Rattle.combinators.specs.Choice.{pick, is}
+use Rattle.combinators.specs.Word.{startsWith}
+use Rattle.combinators.specs.Store.{wiped, Zeros}
+use Rattle.combinators.proofs.Lists.{rest}
+use Rattle.combinators.proofs.Rules.{pick-true, pick-false, is-yes, is-no}
+use Rattle.combinators.proofs.Wiped.{sets-append, sets-apart}
+use Rattle.combinators.proofs.Words.{starts-le}
+use Rattle.unicode.specs.Literal.{text}
+use Rattle.syntax.specs.RuleLayout.{componentWidth, componentKindAt, descendantKind, componentKind, componentText, componentRow, componentRows, componentTexts, selectorHead, pseudoNumber, selectorRow, selectorText}
+use Rattle.syntax.specs.Selector.{Component, PseudoElement, none, before, after, Selector}
+use Rattle.syntax.specs.Stream.{rowsMany, textsMany}
+use Rattle.syntax.proofs.RowSizes.{length-components, length-component}
+use Rattle.syntax.proofs.Streams.{sets-drop, texts-append, rows-append}
+use Rattle.selectors.specs.Outcome.{Outcome, reads, fails, panics, onOutcome, behind}
+use Rattle.selectors.specs.Selector.{bodyOf, isDescendant, withoutBlank, withoutFirst, pseudoOf, pseudoTaken, selectorOf}
+use Rattle.selectors.specs.Components.{startedOf, blankLast}
+use Rattle.selectors.specs.Reading.{reading, written, TextRoom, RowRoom, Bounds, Progress, takenBy, countBy, numbersBy, textBy, placeBy}
+use Rattle.selectors.specs.declared.readings.Reading.{Reading}
+use Rattle.selectors.specs.declared.readings.Reading.the-variants.{Reads, Fails, Panics}
+use Rattle.combinators.proofs.ZeroLaws.{zeros-later, zeros-behind, zeros-back}
+use Rattle.selectors.proofs.Gathering.{one-row, one-text}
+use Rattle.selectors.proofs.BodyLaws.{blank-last, both-ends, no-end}
+use Rattle.selectors.proofs.Bodies.{blank-told, blank-text}
+use Rattle.selectors.proofs.ReadingLaws.{ReadAs, read-by, fails-by, panics-by}
+
+-- ---- the last of a list
+pub data Ended (ds : List Component) : Type 0 where
+  empty : ds ≡ [] → Ended ds
+  ends : (xs : List Component) (c : Component) → ds ≡ xs ++ c ∷ [] → Ended ds
+
+one-more : (d : Component) (ds : List Component) → Ended ds → Ended (d ∷ ds)
+one-more d ds (empty e) = ends [] d (ap (λ (cs : List Component). d ∷ cs) e)
+one-more d ds (ends xs c e) = ends (d ∷ xs) c (ap (λ (cs : List Component). d ∷ cs) e)
+
+-- every list has a last one or none
+pub ended : (ds : List Component) → Ended ds
+ended [] = empty refl
+ended (d ∷ ds) = one-more d ds (ended ds)
+
+-- ---- a blank at the end has no texts
+by-end : (xs : List Component) (c : Component) (b : Bool) → isDescendant c ≡ b → componentTexts (xs ++ pick b [] (c ∷ [])) ≡ componentTexts (xs ++ c ∷ [])
+unfolding pick componentTexts
+by-end xs c true e = rw (append-nil xs) (sym (texts-append componentRow componentText xs (c ∷ []) ∙ rw (one-text componentRow componentText c, blank-text c e) (append-nil (textsMany componentText xs))))
+by-end xs c false e = refl
+
+-- dropping a blank at the end changes no texts
+pub end-texts : (ds : List Component) → Ended ds → componentTexts (withoutBlank ds) ≡ componentTexts ds
+end-texts ds (empty e) = rw e (ap componentTexts no-end)
+end-texts ds (ends xs c e) = rw e (ap componentTexts (blank-last xs c) ∙ by-end xs c (isDescendant c) refl)
+
+-- ---- `drop_blank` on the rows of components
+module _ (rules₀ : List ℕ) (p fill : ℕ) (z : Zeros rules₀ p) where
+  module _ (xs : List Component) (c : Component) (room : p + componentWidth * (length xs + 1) ≤ length rules₀) where
+    abbrev rows : List ℕ
+    rows = componentRows fill xs
+
+    abbrev row : List ℕ
+    row = componentRow (fill + length (componentTexts xs)) c
+
+    rows-long : length rows ≡ componentWidth * length xs
+    rows-long = length-components fill xs
+
+    parted : sets rules₀ p (componentRows fill (xs ++ c ∷ [])) ≡ sets (sets rules₀ p rows) (p + componentWidth * length xs) row
+    unfolding componentRows componentTexts
+    parted =
+        ap (sets rules₀ p) (rows-append componentRow componentText xs (c ∷ []) fill ∙ ap (λ (l : List ℕ). rowsMany componentRow componentText fill xs ++ l) (one-row componentRow componentText (fill + length (textsMany componentText xs)) c))
+        ∙ sets-append rules₀ p (rowsMany componentRow componentText fill xs) (componentRow (fill + length (textsMany componentText xs)) c)
+        ∙ ap (λ (n : ℕ). sets (sets rules₀ p (rowsMany componentRow componentText fill xs)) (p + n) (componentRow (fill + length (textsMany componentText xs)) c)) rows-long
+
+    kind-there : getD (sets rules₀ p (componentRows fill (xs ++ c ∷ []))) (p + componentWidth * length xs + componentKindAt) 0 ≡ componentKind c
+    unfolding componentRow
+    kind-there =
+        ap (λ (l : List ℕ). getD l (p + componentWidth * length xs + componentKindAt) 0) parted
+        ∙ sym (getD-drop (p + componentWidth * length xs) (sets (sets rules₀ p rows) (p + componentWidth * length xs) row) componentKindAt 0)
+        ∙ ap (λ (l : List ℕ). getD l componentKindAt 0)
+        (sets-drop (sets rules₀ p rows) (p + componentWidth * length xs) row (omega (arith, room, length-sets rules₀ p rows)))
+
+    taken-back : wiped (p + componentWidth * length xs) componentWidth (sets rules₀ p (componentRows fill (xs ++ c ∷ []))) ≡ sets rules₀ p rows
+    taken-back =
+        ap (wiped (p + componentWidth * length xs) componentWidth) parted
+        ∙ zeros-back (sets rules₀ p rows) (p + componentWidth * length xs)
+        (subst (λ (n : ℕ). Zeros (sets rules₀ p rows) (p + n)) rows-long (zeros-behind rules₀ p z rows)) row componentWidth (omega (arith, length-component (fill + length (componentTexts xs)) c))
+
+    -- whether the last row is that of a blank
+    last-told : blankLast (sets rules₀ p (componentRows fill (xs ++ c ∷ []))) p (length xs + 1) ≡ isDescendant c
+    unfolding blankLast
+    last-told =
+        let e : length xs + 1 - 1 ≡ length xs = omega arith in
+        sym (pick-false _ _ _ _ (is-no (length xs + 1) 0 (λ h. absurd (omega arith))) refl)
+        ∙ ap (λ (n : ℕ). is (getD (sets rules₀ p (componentRows fill (xs ++ c ∷ []))) (p + componentWidth * n + componentKindAt) 0) descendantKind) e
+        ∙ ap (λ (k : ℕ). is k descendantKind) kind-there ∙ blank-told c
+
+    by-last : (b : Bool)
+        → (pick b (length xs + 1 - 1) (length xs + 1) ≡ length (xs ++ pick b [] (c ∷ [])))
+        × (pick b (wiped (p + componentWidth * (length xs + 1 - 1)) componentWidth (sets rules₀ p (componentRows fill (xs ++ c ∷ [])))) (sets rules₀ p (componentRows fill (xs ++ c ∷ [])))
+        ≡ sets rules₀ p (componentRows fill (xs ++ pick b [] (c ∷ []))))
+    unfolding pick
+    by-last true =
+        let e : length xs + 1 - 1 ≡ length xs = omega arith in
+        (rw (append-nil xs) e, rw (append-nil xs, e) taken-back)
+    by-last false = (sym (length-append xs (c ∷ [])), refl)
+
+  -- the count and the rows without it
+  unfoldable pub Dropped : List Component → Type 0
+  Dropped ds =
+      (pick (blankLast (sets rules₀ p (componentRows fill ds)) p (length ds)) (length ds - 1) (length ds) ≡ length (withoutBlank ds))
+      × (pick (blankLast (sets rules₀ p (componentRows fill ds)) p (length ds)) (wiped (p + componentWidth * (length ds - 1)) componentWidth (sets rules₀ p (componentRows fill ds))) (sets rules₀ p (componentRows fill ds))
+      ≡ sets rules₀ p (componentRows fill (withoutBlank ds)))
+
+  nothing-dropped : Dropped []
+  unfolding Dropped blankLast withoutBlank pick is
+  nothing-dropped = (refl, refl)
+
+  dropped-by : (xs : List Component) (c : Component) (b : Bool) (n : ℕ) → p + componentWidth * (length xs + 1) ≤ length rules₀ → n ≡ length xs + 1
+      → b ≡ blankLast (sets rules₀ p (componentRows fill (xs ++ c ∷ []))) p n
+      → (pick b (n - 1) n ≡ length (withoutBlank (xs ++ c ∷ [])))
+      × (pick b (wiped (p + componentWidth * (n - 1)) componentWidth (sets rules₀ p (componentRows fill (xs ++ c ∷ [])))) (sets rules₀ p (componentRows fill (xs ++ c ∷ [])))
+      ≡ sets rules₀ p (componentRows fill (withoutBlank (xs ++ c ∷ []))))
+  dropped-by xs c b n room e h =
+      let t : b ≡ isDescendant c = h ∙ ap (blankLast (sets rules₀ p (componentRows fill (xs ++ c ∷ []))) p) e ∙ last-told xs c room in
+      rw (t, e, blank-last xs c) (by-last xs c room (isDescendant c))
+
+  -- of the rows of components
+  pub dropped : (ds : List Component) → p + componentWidth * length ds ≤ length rules₀ → Ended ds → Dropped ds
+  unfolding Dropped
+  dropped ds room (empty e) = rw e (nothing-dropped)
+  dropped ds room (ends xs c e) =
+      let n : length (xs ++ c ∷ []) ≡ length xs + 1 = length-append xs (c ∷ []) in
+      rw e (dropped-by xs c _ (length (xs ++ c ∷ [])) (omega (arith, room, ap length e, n)) n refl)
+
+  -- the same, of what the rows and the count are known to be
+  pub dropped-as : (ds : List Component) (rules₁ : List ℕ) (count : ℕ) → Dropped ds → rules₁ ≡ sets rules₀ p (componentRows fill ds) → count ≡ length ds
+      → (pick (blankLast rules₁ p count) (count - 1) count ≡ length (withoutBlank ds))
+      × (pick (blankLast rules₁ p count) (wiped (p + componentWidth * (count - 1)) componentWidth rules₁) rules₁ ≡ sets rules₀ p (componentRows fill (withoutBlank ds)))
+  unfolding Dropped
+  dropped-as ds rules₁ count d e h = rw (e, h) d
+
+-- ---- pseudo elements
+pseudo-le : (t : List ℕ) (b : Bool) → startsWith (text "::before") t ≡ b → (a : Bool) → startsWith (text "::after") t ≡ a → pseudoTaken (pseudoOf t) ≤ length t
+unfolding pseudoOf pseudoTaken pick
+pseudo-le t true e a h = rw e (starts-le (text "::before") t e)
+pseudo-le t false e true h = rw (e, h) (starts-le (text "::after") t h)
+pseudo-le t false e false h = rw (e, h) (omega arith)
+
+-- a pseudo element lies within the text
+pub pseudo-few : (t : List ℕ) → pseudoTaken (pseudoOf t) ≤ length t
+pseudo-few t = pseudo-le t (startsWith (text "::before") t) refl (startsWith (text "::after") t) refl
+
+-- ---- the selector of components in reading order
+-- what a body without a blank at its start says of the body
+module _ (n : ℕ) (ds : List Component) where
+  pub record Body (o : Outcome (List Component)) : Type 0 where
+    pub all : List Component
+    pub is-read : o ≡ reads n all
+    pub without : withoutFirst all ≡ ds
+
+  body-by : (o : Outcome (List Component)) → behind 0 o withoutFirst ≡ reads n ds → Body o
+  unfolding behind onOutcome
+  body-by (reads m cs) e =
+      let z : 0 + m ≡ n = cc in
+      let q : m ≡ n = omega arith in
+      record { all = cs; is-read = rw q; without = cc }
+  body-by fails e = absurd (let z : _≡_ {A = ℕ} 0 1 = cc in omega arith)
+  body-by (panics p) e = absurd (let z : _≡_ {A = ℕ} 0 1 = cc in omega arith)
+
+body-fails : (o : Outcome (List Component)) → behind 0 o withoutFirst ≡ fails → o ≡ fails
+unfolding behind onOutcome
+body-fails (reads m cs) e = absurd (let z : _≡_ {A = ℕ} 0 1 = cc in omega arith)
+body-fails fails e = refl
+body-fails (panics p) e = absurd (let z : _≡_ {A = ℕ} 0 1 = cc in omega arith)
+
+body-panics : (o : Outcome (List Component)) (p : ℕ) → behind 0 o withoutFirst ≡ panics p → o ≡ panics p
+unfolding behind onOutcome
+body-panics (reads m cs) p e = absurd (let z : _≡_ {A = ℕ} 0 1 = cc in omega arith)
+body-panics fails p e = absurd (let z : _≡_ {A = ℕ} 0 1 = cc in omega arith)
+body-panics (panics r) p e =
+    let z : 0 + r ≡ p = cc in
+    let q : r ≡ p = omega arith in
+    rw q
+
+module _ (t : List ℕ) where
+  selector-fails : startedOf t ≡ fails → selectorOf t ≡ fails
+  unfolding startedOf selectorOf onOutcome
+  selector-fails e = rw (body-fails (bodyOf t) e)
+
+  selector-panics : (p : ℕ) → startedOf t ≡ panics p → selectorOf t ≡ panics p
+  unfolding startedOf selectorOf onOutcome
+  selector-panics p e = rw (body-panics (bodyOf t) p e)
+
+  module _ (n : ℕ) (ds : List Component) (e : startedOf t ≡ reads n ds) where
+    body : Body n ds (bodyOf t)
+    unfolding startedOf
+    body = body-by n ds (bodyOf t) e
+
+    abbrev pseudo : PseudoElement
+    pseudo = pseudoOf (drop n t)
+
+    -- the selector: its components are those, from the right, without a blank at the end
+    in-order : withoutBlank (reverse (withoutBlank (body .all))) ≡ reverse (withoutBlank ds)
+    unfolding withoutFirst
+    in-order =
+        sym (reverse-reverse (withoutBlank (reverse (withoutBlank (body .all)))))
+        ∙ ap reverse (both-ends (body .all) ∙ ap withoutBlank (body .without))
+
+    -- the selector of components in reading order
+    pub selector-reads : selectorOf t ≡ reads (n + pseudoTaken pseudo) (record { components = reverse (withoutBlank ds); pseudo = pseudo })
+    unfolding selectorOf onOutcome
+    selector-reads =
+        ap (λ (o : Outcome (List Component)). onOutcome o (λ m cs. reads (m + pseudoTaken (pseudoOf (drop m t))) (record { components = withoutBlank (reverse (withoutBlank cs)); pseudo = pseudoOf (drop m t) })) fails (λ p. panics p)) (body .is-read)
+        ∙ ap (λ (cs : List Component). reads (n + pseudoTaken pseudo) (record { components = cs; pseudo = pseudo })) in-order
+
+two-more : (a b : ℕ) → a ≡ b → suc (suc a) ≡ 2 + b
+two-more a b e = omega arith
+
+-- ---- what is left
+module _ {s rules₀ : List ℕ} {place : ℕ} {store₀ : List ℕ} {fill : ℕ} (r : RowRoom selectorHead s rules₀ place) (q : TextRoom 6 s store₀ fill) where
+  -- room for the components
+  pub body-rows : RowRoom 0 s rules₀ (place + selectorHead)
+  body-rows =
+      record { zeros = zeros-later rules₀ place (r .zeros) selectorHead; for-rows = omega (arith, r .for-rows); bits = omega (arith, r .bits) }
+
+  module _ {b : Reading} {rules₁ store₁ : List ℕ} (e₁ : b ≡ reading length (componentRows fill) componentTexts (startedOf s))
+      (e₂ : rules₁ ≡ sets rules₀ (place + selectorHead) (written (componentRows fill) (startedOf s)))
+      (e₃ : store₁ ≡ sets store₀ fill (written componentTexts (startedOf s))) (e₄ : Bounds componentWidth 0 s b) where
+    -- the rows keep their length
+    pub rules-long : length rules₁ ≡ length rules₀
+    rules-long = rw e₂ (length-sets rules₀ (place + selectorHead) (written (componentRows fill) (startedOf s)))
+
+    -- and the store
+    pub store-long : length store₁ ≡ length store₀
+    store-long = rw e₃ (length-sets store₀ fill (written componentTexts (startedOf s)))
+
+    module _ (told : b ≡ Fails) where
+      nothing : startedOf s ≡ fails
+      nothing = fails-by length (componentRows fill) componentTexts (startedOf s) (sym told ∙ e₁)
+
+      -- what is left where no components read
+      pub fails-left : (Fails ≡ reading (λ x. 1) (selectorRow fill) selectorText (selectorOf s))
+          × ((rules₁ ≡ sets rules₀ place (written (selectorRow fill) (selectorOf s)))
+          × ((store₁ ≡ sets store₀ fill (written selectorText (selectorOf s))) × Bounds componentWidth selectorHead s Fails))
+      unfolding reading written onOutcome takenBy countBy numbersBy textBy placeBy
+      fails-left = (
+        rw (selector-fails s nothing),
+        (
+          e₂ ∙ rw (nothing, selector-fails s nothing),
+          (
+            e₃ ∙ rw (nothing, selector-fails s nothing),
+            record { taken = omega arith; place = omega arith; count = omega arith; numbers = omega arith; text = omega arith; sharp = λ _. omega arith },
+          ),
+        ),
+      )
+
+    module _ (p : ℕ) (told : b ≡ Panics p) where
+      panic : startedOf s ≡ panics p
+      panic = panics-by length (componentRows fill) componentTexts (startedOf s) p (sym told ∙ e₁)
+
+      within : p ≤ length s
+      unfolding placeBy
+      within = subst (λ (x : Reading). placeBy x ≤ length s) told (e₄ .place)
+
+      -- or where the crate panics
+      pub panics-left : (Panics p ≡ reading (λ x. 1) (selectorRow fill) selectorText (selectorOf s))
+          × ((rules₁ ≡ sets rules₀ place (written (selectorRow fill) (selectorOf s)))
+          × ((store₁ ≡ sets store₀ fill (written selectorText (selectorOf s))) × Bounds componentWidth selectorHead s (Panics p)))
+      unfolding reading written onOutcome takenBy countBy numbersBy textBy placeBy
+      panics-left = (
+        rw (selector-panics s p panic),
+        (
+          e₂ ∙ rw (panic, selector-panics s p panic),
+          (
+            e₃ ∙ rw (panic, selector-panics s p panic),
+            record { taken = omega arith; place = within; count = omega arith; numbers = omega arith; text = omega arith; sharp = λ _. omega arith },
+          ),
+        ),
+      )
+
+    module _ (n count numbers text′ : ℕ) (told : b ≡ Reads n count numbers text′) where
+      list : ReadAs length (componentRows fill) componentTexts (startedOf s) n count numbers text′
+      list = read-by length (componentRows fill) componentTexts (startedOf s) n count numbers text′ (sym told ∙ e₁)
+
+      sizes : Bounds componentWidth 0 s (Reads n count numbers text′)
+      sizes = subst (Bounds componentWidth 0 s) told e₄
+
+      -- the components lie within the text
+      pub n-within : n ≤ length s
+      unfolding takenBy
+      n-within = sizes .taken
+
+      -- they are no more than its bytes
+      pub count-few : count ≤ length s
+      unfolding takenBy countBy
+      count-few = omega (arith, sizes .count, sizes .taken)
+
+      -- the place behind their rows
+      pub rows-bits : place + selectorHead + componentWidth * count < 2 ^ 64
+      rows-bits = omega (arith, count-few, r .bits)
+
+      -- without a blank at the end
+      module _ {kept : ℕ} {rules₂ : List ℕ} (h₁ : kept ≡ pick (blankLast rules₁ (place + selectorHead) count) (count - 1) count)
+          (h₂ : rules₂ ≡ pick (blankLast rules₁ (place + selectorHead) count) (wiped (place + selectorHead + componentWidth * (count - 1)) componentWidth rules₁) rules₁) where
+        abbrev ds : List Component
+        ds = list .value
+
+        rules-were : rules₁ ≡ sets rules₀ (place + selectorHead) (componentRows fill ds)
+        unfolding written onOutcome
+        rules-were = e₂ ∙ ap (λ (o : Outcome (List Component)). sets rules₀ (place + selectorHead) (written (componentRows fill) o)) (list .reads-it)
+
+        room : place + selectorHead + componentWidth * length ds ≤ length rules₀
+        room = omega (arith, count-few, list .counts, r .for-rows)
+
+        without-it : (pick (blankLast rules₁ (place + selectorHead) count) (count - 1) count ≡ length (withoutBlank ds))
+            × (pick (blankLast rules₁ (place + selectorHead) count) (wiped (place + selectorHead + componentWidth * (count - 1)) componentWidth rules₁) rules₁
+            ≡ sets rules₀ (place + selectorHead) (componentRows fill (withoutBlank ds)))
+        without-it =
+            dropped-as rules₀ (place + selectorHead) fill (body-rows .zeros) ds rules₁ count
+            (dropped rules₀ (place + selectorHead) fill (body-rows .zeros) ds room (ended ds)) rules-were (list .counts)
+
+        kept-is : kept ≡ length (withoutBlank ds)
+        kept-is = h₁ ∙ without-it .0
+
+        rules-are : rules₂ ≡ sets rules₀ (place + selectorHead) (componentRows fill (withoutBlank ds))
+        rules-are = h₂ ∙ without-it .1
+
+        kept-few′ : (b′ : Bool) → pick b′ (count - 1) count ≤ count
+        unfolding pick
+        kept-few′ true = omega arith
+        kept-few′ false = omega arith
+
+        -- no more are kept than were read
+        pub kept-few : kept ≤ count
+        kept-few = subst (λ (k : ℕ). k ≤ count) (sym h₁) (kept-few′ (blankLast rules₁ (place + selectorHead) count))
+
+        -- the rows keep their length
+        pub rules₂-long : length rules₂ ≡ length rules₀
+        rules₂-long = rw rules-are (length-sets rules₀ (place + selectorHead) (componentRows fill (withoutBlank ds)))
+
+        -- and with its pseudo element
+        module _ {taken pseudo : ℕ}
+            (i : (taken ≡ pseudoTaken (pseudoOf (take (length s - n) (drop n s)))) × (pseudo ≡ pseudoNumber (pseudoOf (take (length s - n) (drop n s))))) where
+          taken-is : taken ≡ pseudoTaken (pseudoOf (drop n s))
+          taken-is = i .0 ∙ ap (λ (t : List ℕ). pseudoTaken (pseudoOf t)) (rest s n)
+
+          pseudo-is : pseudo ≡ pseudoNumber (pseudoOf (drop n s))
+          pseudo-is = i .1 ∙ ap (λ (t : List ℕ). pseudoNumber (pseudoOf t)) (rest s n)
+
+          -- the selector lies within the text
+          pub taken-few : n + taken ≤ length s
+          taken-few = omega (arith, taken-is, pseudo-few (drop n s), length-drop n s, n-within)
+
+          selector : Selector
+          selector = record { components = reverse (withoutBlank ds); pseudo = pseudoOf (drop n s) }
+
+          reads-it : selectorOf s ≡ reads (n + taken) selector
+          unfolding selector
+          reads-it = selector-reads s n ds (list .reads-it) ∙ ap (λ (k : ℕ). reads (n + k) (record { components = reverse (withoutBlank ds); pseudo = pseudoOf (drop n s) })) (sym taken-is)
+
+          row-is : selectorRow fill selector ≡ kept ∷ pseudo ∷ componentRows fill (withoutBlank ds)
+          unfolding selectorRow selector
+          row-is =
+              ap (λ (cs : List Component). length (reverse (withoutBlank ds)) ∷ pseudoNumber (pseudoOf (drop n s)) ∷ componentRows fill cs) (reverse-reverse (withoutBlank ds))
+              ∙ ap (λ (k : ℕ). k ∷ pseudoNumber (pseudoOf (drop n s)) ∷ componentRows fill (withoutBlank ds)) (length-reverse (withoutBlank ds) ∙ sym kept-is)
+              ∙ ap (λ (p : ℕ). kept ∷ p ∷ componentRows fill (withoutBlank ds)) (sym pseudo-is)
+
+          text-is : selectorText selector ≡ componentTexts ds
+          unfolding selectorText selector
+          text-is = ap componentTexts (reverse-reverse (withoutBlank ds)) ∙ end-texts ds (ended ds)
+
+          numbers-are : length (selectorRow fill selector) ≡ selectorHead + componentWidth * kept
+          numbers-are =
+              ap length row-is ∙ two-more (length (componentRows fill (withoutBlank ds))) (componentWidth * kept)
+              (length-components fill (withoutBlank ds) ∙ ap (λ (k : ℕ). componentWidth * k) (sym kept-is))
+
+          answered : Reads (n + taken) 1 (length (selectorRow fill selector)) (length (selectorText selector)) ≡ reading (λ x. 1) (selectorRow fill) selectorText (selectorOf s)
+          unfolding reading onOutcome
+          answered = rw reads-it
+
+          -- the answer
+          pub reads-answer : Reads (n + taken) 1 (selectorHead + componentWidth * kept) text′ ≡ reading (λ x. 1) (selectorRow fill) selectorText (selectorOf s)
+          reads-answer =
+              ap (λ (x : ℕ). Reads (n + taken) 1 (selectorHead + componentWidth * kept) x) (list .texts ∙ ap length (sym text-is))
+              ∙ ap (λ (m : ℕ). Reads (n + taken) 1 m (length (selectorText selector))) (sym numbers-are) ∙ answered
+
+          row-written : sets rules₀ place (kept ∷ pseudo ∷ componentRows fill (withoutBlank ds)) ≡ sets rules₀ place (written (selectorRow fill) (selectorOf s))
+          unfolding written onOutcome
+          row-written = rw reads-it (ap (sets rules₀ place) (sym row-is))
+
+          text-written : sets store₀ fill (written componentTexts (startedOf s)) ≡ sets store₀ fill (written selectorText (selectorOf s))
+          unfolding written onOutcome
+          text-written = rw (reads-it, list .reads-it) (ap (sets store₀ fill) (sym text-is))
+
+          -- the rows: the head goes before the components
+          pub reads-rules : {rules₃ : List ℕ} → rules₃ ≡ sets rules₂ place (kept ∷ pseudo ∷ []) → rules₃ ≡ sets rules₀ place (written (selectorRow fill) (selectorOf s))
+          unfolding written onOutcome
+          reads-rules w =
+              w ∙ ap (λ (l : List ℕ). sets l place (kept ∷ pseudo ∷ [])) rules-are
+              ∙ sets-apart rules₀ place (place + selectorHead) (kept ∷ pseudo ∷ []) (componentRows fill (withoutBlank ds)) (omega arith)
+              ∙ sym (sets-append rules₀ place (kept ∷ pseudo ∷ []) (componentRows fill (withoutBlank ds))) ∙ row-written
+
+          -- the store
+          pub reads-store : store₁ ≡ sets store₀ fill (written selectorText (selectorOf s))
+          unfolding written onOutcome
+          reads-store = e₃ ∙ text-written
+
+          -- the bounds
+          pub reads-bounds : Progress b → Bounds componentWidth selectorHead s (Reads (n + taken) 1 (selectorHead + componentWidth * kept) text′)
+          unfolding takenBy countBy numbersBy textBy placeBy Progress
+          reads-bounds go =
+              let some : 1 ≤ n = subst Progress told go in
+              record {
+                taken = taken-few;
+                place = omega arith;
+                count = omega arith;
+                numbers = omega (arith, kept-few, sizes .count);
+                text = omega (arith, sizes .text);
+                sharp = λ h. omega (arith, sizes .sharp (omega arith));
+              }
