@@ -1,12 +1,5 @@
-pub mod GroupLaws
-pub mod StateParts
 pub mod OpenRows
-pub mod OpenParts
 pub mod Handed
 pub mod RowBelow
 pub mod Steps
-pub mod StyleRows
-pub mod GroupsFit
-pub mod RunFree
 pub mod PageContents
-pub mod Independence
