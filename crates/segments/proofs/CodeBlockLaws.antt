@@ -11,7 +11,7 @@ use Rattle.combinators.specs.Part.{part}
 use Rattle.combinators.proofs.Rules.{pick-holds}
 use Rattle.segments.specs.Visits.{toNext, blockBytes, Visited}
 use Rattle.segments.specs.Pass.{blockSet}
-use Rattle.segments.specs.Parts.{partSet, partSets}
+use Rattle.segments.specs.Parts.{partSet, partSets, Apart}
 use Rattle.segments.specs.Visiting.{blockStored}
 use Rattle.segments.proofs.CodePartLaws.{length-part-set, part-above-all}
 
@@ -87,7 +87,7 @@ module _ (state : List ℕ) (own width : ℕ) (v : Visited) (next p : ℕ) where
   block-own = own-sets (blockBytes next (v .awaited) (v .flags)) state own width (p + toNext)
 
   -- the parent's part is as it was
-  pub block-above : (above : ℕ) → above + width ≤ own → part (blockStored state own width v next p) above width ≡ part state above width
+  pub block-above : (above : ℕ) → Apart above own width → part (blockStored state own width v next p) above width ≡ part state above width
   unfolding blockStored
   block-above above h = part-above-all (blockBytes next (v .awaited) (v .flags)) state above own width (p + toNext) h
 

@@ -13,7 +13,7 @@ use Rattle.segments.specs.Sweep.{pairAt}
 use Rattle.segments.specs.Before.{noPlace}
 use Rattle.segments.specs.Visits.{toNext, Visited, visitAt}
 use Rattle.segments.specs.Pass.{Passed, blockSet, passFrom}
-use Rattle.segments.specs.Parts.{pairLimit}
+use Rattle.segments.specs.Parts.{Apart, pairLimit}
 use Rattle.segments.specs.Visiting.{VisitLent, blockStored}
 use Rattle.segments.specs.Passing.{nextFrom, visitStored, passStored}
 use Rattle.segments.proofs.CodeBlockLaws.{block-own, block-above, length-block}
@@ -84,7 +84,7 @@ unfolding pick
 by-place true own width x y a b e f = e
 by-place false own width x y a b e f = f
 
-module _ (code : List ℕ) (row : Path) (above own width : ℕ) (h : above + width ≤ own) where
+module _ (code : List ℕ) (row : Path) (above own width : ℕ) (h : Apart above own width) where
   -- behind one selector
   visit-moved : (k p : ℕ) (state : List ℕ)
       → passFrom code row (part (visitStored code row above own width p state) above width) k (nextFrom state above width p) (part (visitStored code row above own width p state) own width) .part
