@@ -13,6 +13,7 @@ use Rattle.segments.specs.Visits.{toNext, blockBytes, Visited}
 use Rattle.segments.specs.Pass.{blockSet}
 use Rattle.segments.specs.Parts.{partSet, partSets, Apart}
 use Rattle.segments.specs.Visiting.{blockStored}
+use Rattle.segments.proofs.StoreLaws.{SameOutside}
 use Rattle.segments.proofs.CodePartLaws.{length-part-set, part-above-all}
 
 -- ---- one byte
@@ -95,3 +96,10 @@ module _ (state : List ℕ) (own width : ℕ) (v : Visited) (next p : ℕ) where
   pub length-block : length (blockStored state own width v next p) ≡ length state
   unfolding blockStored
   length-block = length-sets-own (blockBytes next (v .awaited) (v .flags)) state own width (p + toNext)
+
+  -- nothing outside of the own part changes
+  pub block-outside : SameOutside (blockStored state own width v next p) state own width
+  unfolding blockStored
+  block-outside =
+      let bytes = blockBytes next (v .awaited) (v .flags) in
+      record { before = front-sets bytes state own width (p + toNext); behind = behind-sets bytes state own width (p + toNext); long = length-sets-own bytes state own width (p + toNext) }
