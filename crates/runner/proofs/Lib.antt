@@ -1,3 +1,5 @@
+pub mod StateParts
+pub mod StyleRows
 pub mod OpenRows
 pub mod Handed
 pub mod RowBelow

@@ -56,7 +56,7 @@ pub outside-then : (first second store : List ℕ) (o n : ℕ) → SameOutside s
 outside-then first second store o n a b = record { before = a .before ∙ b .before; behind = a .behind ∙ b .behind; long = a .long ∙ b .long }
 
 -- a part has its length where the store has room for it
-length-part : (store : List ℕ) (o n : ℕ) → o + n ≤ length store → length (part store o n) ≡ n
+pub length-part : (store : List ℕ) (o n : ℕ) → o + n ≤ length store → length (part store o n) ≡ n
 unfolding part
 length-part store o n h = length-take-le n (drop o store) (let l = length-drop o store in omega arith)
 
