@@ -5,4 +5,5 @@ pub mod OpenParts
 pub mod Handed
 pub mod RowBelow
 pub mod Steps
+pub mod RunFree
 pub mod PageContents
