@@ -1,16 +1,21 @@
-// What the document is told of a selector: its leftmost segment is awaited, and nothing of it has begun.
+// What the document is told of a selector: its leftmost segment is awaited, and nothing of it has begun. And which selector of a sheet is the first that has a style.
 use crate::parts::put_fresh;
 use crate::visiting::TO_FLAGS;
 use crate::visiting::put_awaits;
 use crate::visiting::put_places;
+use compiled::components::skip_components;
+use compiled::numbers::NumberAnswer;
+use compiled::numbers::read_number;
+use compiled::places::PlaceAnswer;
 use compiled::sheets::HeadAnswer;
 use compiled::sheets::read_head;
 use syntax::rows::AGENT_ORIGIN;
 ghost use mathlib.Core.Path.{_≡_};
 ghost use Prim.Native.Nat.{_+_, _≤_};
 ghost use lib.ListN.{length};
+ghost use Rattle.compiled.specs.Answer.{numberAnswer};
 ghost use Rattle.compiled.specs.Sheet.{compiledLimit};
-ghost use Rattle.segments.specs.Document.{leftmostAt};
+ghost use Rattle.segments.specs.Document.{styledFrom, leftmostAt, styleCountAt, SelectorsRead};
 ghost use Rattle.segments.specs.Visiting.{blockStored};
 
 // No place of a segment.
@@ -44,4 +49,48 @@ pub fn put_leftmost(
             return;
         }
     }
+}
+
+// How many styles the selector at `at` has, and the place behind their count.
+fn style_count(compiled: &[u8], at: usize) -> NumberAnswer
+    ensures { λ r. ⌜ r ≡ numberAnswer (styleCountAt (now (compiled .entry)) at) ⌝ }
+{
+    match read_head(compiled, at, AGENT_ORIGIN) {
+        HeadAnswer::Head { next, count, .. } => match skip_components(compiled, next, count) {
+            PlaceAnswer::At(end) => {
+                return read_number(compiled, end);
+            }
+            PlaceAnswer::Fault(place) => {
+                return NumberAnswer::Fault(place);
+            }
+        },
+        HeadAnswer::Fault(place) => {
+            return NumberAnswer::Fault(place);
+        }
+    }
+}
+
+// The place of the first of `count` selectors from `at` on that has a style. Styles are not read: behind a count of none the next selector stands.
+pub fn first_styled(compiled: &[u8], at: usize, count: u32) -> usize
+    requires { ⌜ SelectorsRead (now compiled) count at ⌝ }
+    ensures { λ r. ⌜ r ≡ styledFrom (now (compiled .entry)) count at ⌝ }
+    ensures { λ r. ⌜ r ≤ length (now (compiled .entry)) ⌝ }
+{
+    let mut i = at;
+    let mut left = count;
+    while left > 0 {
+        match style_count(compiled, i) {
+            NumberAnswer::Number(next, styles) => {
+                if styles > 0 {
+                    return i;
+                }
+                i = next;
+                left -= 1;
+            }
+            NumberAnswer::Fault(_) => {
+                return NO_PLACE;
+            }
+        }
+    }
+    NO_PLACE
 }
