@@ -1,5 +1,5 @@
 -- The first selector that has a style, as code finds it: by the count of its styles, which stands behind its components.
-use Prim.Native.Nat.{ℕ, zero, suc, _+_, _-_, _≤_, _<_}
+use Prim.Native.Nat.{ℕ, suc, _-_, _≤_, _<_}
 use mathlib.Core.Path.{_≡_, refl, sym, ap, _∙_}
 use mathlib.Core.List.{List}
 use native.Mathlib.Omega.{arith}
@@ -9,9 +9,9 @@ use Rattle.combinators.proofs.Rules.{is-yes, is-no}
 use Rattle.syntax.specs.Style.{agentOrigin}
 use Rattle.compiled.specs.Answer.{numberAnswer, placeAnswer, headAnswer}
 use Rattle.compiled.specs.Component.{componentAt}
-use Rattle.compiled.specs.Decoded.{Decoded, fault, onDecoded, andThen, counted}
+use Rattle.compiled.specs.Decoded.{Decoded, read, fault, onDecoded, andThen, counted}
 use Rattle.compiled.specs.Number.{numberAt}
-use Rattle.compiled.specs.Sheet.{headAt}
+use Rattle.compiled.specs.Sheet.{CompiledSelector, headAt, selectorAt, decode}
 use Rattle.compiled.specs.declared.numbers.NumberAnswer.{NumberAnswer}
 use Rattle.compiled.specs.declared.numbers.NumberAnswer.the-variants as number
 use Rattle.compiled.specs.declared.places.PlaceAnswer.{PlaceAnswer}
@@ -21,9 +21,10 @@ use Rattle.compiled.specs.declared.sheets.HeadAnswer.the-variants as head
 use Rattle.compiled.proofs.Answers.{number-read, number-fault, place-read, place-fault, head-read, head-fault}
 use Rattle.compiled.proofs.Bounds.{Reaches, reaches-end, reaches-then, number-reaches, components-reach, head-reaches}
 use Rattle.compiled.proofs.Following.{then-read, then-fault}
+use Rattle.compiled.proofs.Walking.{selectors-first, sheet-steps}
 use Rattle.segments.specs.Before.{noPlace}
 use Rattle.segments.specs.Document.{styledFrom, styleCountAt, firstStyled, SelectorsRead}
-use Rattle.segments.proofs.SheetLaws.{first-styled}
+use Rattle.segments.proofs.SheetLaws.{selector-lower, first-styled}
 
 -- ---- the returns of `style_count`
 -- a fault
@@ -122,3 +123,21 @@ module _ (code : List ℕ) (count at left i : ℕ) (v : Seeking code count at le
       seek-more p =
           let e : firstStyled code (left - 1) n ≡ pick (is styles 0) (firstStyled code (left - 1) n) i = unfold pick in rw (is-yes styles 0 (omega arith)) in
           e ∙ seek-count ∙ v
+
+-- ---- the selectors of a sheet are read behind their count
+pub sheet-selectors : (code : List ℕ) (m : ℕ) (ss : List CompiledSelector) → decode code ≡ read m ss → (n k : ℕ) → numberAt code 0 ≡ read n k → SelectorsRead code k n
+sheet-selectors code m ss e n k q =
+    let w = sheet-steps code m ss e in
+    let r : read n k ≡ read (w .behind-count) (w .count) = sym q ∙ w .count-read in
+    let a : n ≡ w .behind-count = cc in
+    let b : k ≡ w .count = cc in
+    record { least = agentOrigin; end = m; selectors = ss; origin = omega arith; told = rw (a, b) (w .selectors-read) }
+
+-- and those behind one of them
+pub selectors-behind : (code : List ℕ) (k i : ℕ) → SelectorsRead code (suc k) i → (n : ℕ) (s : CompiledSelector) → selectorAt code agentOrigin i ≡ read n s → SelectorsRead code k n
+selectors-behind code k i v n s e =
+    let w = selectors-first code k (v .least) i (v .end) (v .selectors) (v .told) in
+    let a = selector-lower code (v .least) i (w .place) (w .selector) (v .origin) (w .first) in
+    let r : read n s ≡ read (w .place) (w .selector) = sym e ∙ a .0 in
+    let d : n ≡ w .place = cc in
+    record { least = w .selector .origin; end = v .end; selectors = w .others; origin = a .1; told = rw d (w .rest) }

@@ -18,3 +18,4 @@ pub mod CodeBlockLaws
 pub mod CodePassLaws
 pub mod CodeDocumentLaws
 pub mod CodeStyledLaws
+pub mod CodeTellLaws

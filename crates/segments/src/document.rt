@@ -1,4 +1,4 @@
-// What the document is told of a selector: its leftmost segment is awaited, and nothing of it has begun. And which selector of a sheet is the first that has a style.
+// What the document is told: of each selector that has a style the leftmost segment is awaited, and nothing of it has begun.
 use crate::parts::put_fresh;
 use crate::visiting::TO_FLAGS;
 use crate::visiting::put_awaits;
@@ -8,15 +8,19 @@ use compiled::numbers::NumberAnswer;
 use compiled::numbers::read_number;
 use compiled::places::PlaceAnswer;
 use compiled::sheets::HeadAnswer;
+use compiled::sheets::SelectorAnswer;
 use compiled::sheets::read_head;
+use compiled::sheets::skip_selector;
 use syntax::rows::AGENT_ORIGIN;
 ghost use mathlib.Core.Path.{_≡_};
 ghost use Prim.Native.Nat.{_+_, _≤_};
+ghost use Rattle.combinators.specs.Choice.{pick};
 ghost use lib.ListN.{length};
 ghost use Rattle.compiled.specs.Answer.{numberAnswer};
 ghost use Rattle.compiled.specs.Sheet.{compiledLimit};
 ghost use Rattle.segments.specs.Document.{styledFrom, leftmostAt, styleCountAt, SelectorsRead};
 ghost use Rattle.segments.specs.Visiting.{blockStored};
+ghost use Rattle.segments.specs.Telling.{freshStored, hasStyleAt, TellLent};
 
 // No place of a segment.
 const NO_PLACE: usize = 0;
@@ -93,4 +97,67 @@ pub fn first_styled(compiled: &[u8], at: usize, count: u32) -> usize
         }
     }
     NO_PLACE
+}
+
+// Whether the selector at `at` has a style.
+fn has_style(compiled: &[u8], at: usize) -> bool
+    ensures { λ r. ⌜ r ≡ hasStyleAt (now (compiled .entry)) at ⌝ }
+{
+    match style_count(compiled, at) {
+        NumberAnswer::Number(_, styles) => {
+            return styles > 0;
+        }
+        NumberAnswer::Fault(_) => {
+            return false;
+        }
+    }
+}
+
+// Stores the block of the selector at `p` if it has a style; `left` others stand from `behind` on.
+fn put_styled(
+    compiled: &[u8],
+    state: &mut [u8],
+    own: usize,
+    width: usize,
+    p: usize,
+    behind: usize,
+    left: u32,
+)
+    requires { ⌜ TellLent (now compiled) (now state) own width left behind ⌝ }
+    requires { ⌜ p ≤ compiledLimit ⌝ }
+    ensures { λ _. ⌜ now (state .exit) ≡ pick (hasStyleAt (now (compiled .entry)) p)
+        (blockStored (now (state .entry)) own width (leftmostAt (now (compiled .entry)) p) (styledFrom (now (compiled .entry)) left behind) p) (now (state .entry)) ⌝ }
+{
+    if has_style(compiled, p) {
+        let next = first_styled(compiled, behind, left);
+        put_leftmost(compiled, state, own, width, p, next);
+    }
+}
+
+// Stores the blocks of `count` selectors from `at` on.
+pub fn tell_document(
+    compiled: &[u8],
+    state: &mut [u8],
+    own: usize,
+    width: usize,
+    at: usize,
+    count: u32,
+)
+    requires { ⌜ TellLent (now compiled) (now state) own width count at ⌝ }
+    ensures { λ _. ⌜ now (state .exit) ≡ freshStored (now (compiled .entry)) own width count at (now (state .entry)) ⌝ }
+{
+    let mut i = at;
+    let mut left = count;
+    while left > 0 {
+        match skip_selector(compiled, i, AGENT_ORIGIN) {
+            SelectorAnswer::Selector(next, _) => {
+                left -= 1;
+                put_styled(compiled, state, own, width, i, next, left);
+                i = next;
+            }
+            SelectorAnswer::Fault(_) => {
+                return;
+            }
+        }
+    }
 }
