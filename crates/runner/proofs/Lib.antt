@@ -4,6 +4,8 @@ pub mod OpenRows
 pub mod OpenParts
 pub mod Handed
 pub mod RowBelow
+pub mod WalkedReads
+pub mod FoundLaws
 pub mod Steps
 pub mod RunFree
 pub mod PageContents
