@@ -17,7 +17,6 @@ use Rattle.matching.specs.Matches.{matches}
 use Rattle.matching.specs.Specificity.{specificity}
 use Rattle.styles.specs.Said.{ruleStyle}
 use Rattle.compiled.specs.Decoded.{Decoded, read, fault, onDecoded, andThen}
-use Rattle.compiled.specs.Number.{numberAt}
 use Rattle.compiled.specs.Sheet.{CompiledSelector, selectorAt, selectorsAt, decode}
 use Rattle.compiled.specs.Answer.{bytesRefusal}
 use Rattle.compiled.proofs.Following.{then-read, mapped-read}

@@ -7,5 +7,6 @@ pub mod RowBelow
 pub mod WalkedReads
 pub mod FoundLaws
 pub mod Steps
+pub mod Independence
 pub mod RunFree
 pub mod PageContents

@@ -10,7 +10,7 @@ use Rattle.combinators.specs.Choice.{pick}
 use Rattle.combinators.specs.Part.{part}
 use Rattle.segments.specs.Parts.{partSet, partSets}
 use Rattle.segments.specs.Sweep.{pairAt, pairBytes}
-use Rattle.segments.proofs.CodeBlockLaws.{own-sets}
+use Rattle.segments.proofs.CodeBlockLaws.{own-sets, behind-sets}
 use Rattle.segments.proofs.DownLaws.{blocksBegin}
 use Rattle.runner.specs.State.{raised, opened}
 
@@ -79,6 +79,14 @@ module _ (state : List ℕ) (at n c : ℕ) (h : blocksBegin ≤ n) where
 pub raised-part : (state : List ℕ) (at n : ℕ) → blocksBegin ≤ n → part (raised state at) at n ≡ sets (part state at n) 0 (pairBytes (pairAt state at + 1))
 unfolding raised
 raised-part state at n h = part-count state at n (pairAt state at + 1) h
+
+-- which changes nothing behind the part
+pub raised-behind : (state : List ℕ) (at n : ℕ) → blocksBegin ≤ n → drop (at + n) (raised state at) ≡ drop (at + n) state
+unfolding raised pairBytes
+raised-behind state at n h =
+    let z : at + 0 ≡ at = omega arith in
+    let bytes : List ℕ = pairBytes (pairAt state at + 1) in
+    ap (λ (i : ℕ). drop (at + n) (sets state i bytes)) (sym z) ∙ ap (drop (at + n)) (sym (sets-own bytes state at n 0 h)) ∙ behind-sets bytes state at n 0
 
 -- a part that is opened: its blocks, and the count 0
 pub opened-part : (state : List ℕ) (at n : ℕ) (blocks : List ℕ) → blocksBegin ≤ n → length blocks ≡ n → at + n ≤ length state

@@ -95,6 +95,31 @@ module _ (code : List ℕ) (row : Path) (above : List ℕ) where
 
 -- ---- the own part: what is stored
 
+-- either answer is as long
+either-long : (t : Bool) (a b : Passed) (n : ℕ) → length (a .part) ≡ n → length (b .part) ≡ n → length (pick t a b .part) ≡ n
+unfolding pick
+either-long true a b n e f = e
+either-long false a b n e f = f
+
+module _ (code : List ℕ) (row : Path) (above : List ℕ) where
+  -- a pass leaves the length of the own part
+  pass-long : (k p : ℕ) (own : List ℕ) → length (passFrom code row above k p own .part) ≡ length own
+  unfolding passFrom
+  pass-long zero p own = refl
+  pass-long (suc k) p own =
+      let v : Visited = visitAt code row above p in
+      let next : ℕ = pairAt above (p + toNext) in
+      either-long (is p noPlace) _ _ (length own) refl (pass-long k next (blockSet v next p own) ∙ length-block v next p own)
+
+  -- over a sheet
+  pub pass-at-long : (own : List ℕ) → length (passAt code row above own .part) ≡ length own
+  unfolding passAt onDecoded
+  pass-at-long own = go (numberAt code 0) refl
+    where
+      go : (d : Decoded ℕ) → numberAt code 0 ≡ d → length (passAt code row above own .part) ≡ length own
+      go (fault q) n = rw n
+      go (read i k) n = rw n (pass-long k (styledFrom code k i) own)
+
 -- of the byte m: it is the same in both, or each is as it was
 abbrev pub Alike : ℕ → List ℕ → List ℕ → List ℕ → List ℕ → Type 0
 Alike m own other left right = (getD left m 0 ≡ getD right m 0) ⊎ ((getD left m 0 ≡ getD own m 0) × (getD right m 0 ≡ getD other m 0))
