@@ -1,192 +1,112 @@
--- What a step does not depend on: the row that it writes, its texts, and the used bytes of its own part and its parent's depend of the state on nothing but the
--- used bytes of its parent's part.
-use Prim.Native.Nat.{ℕ, zero, suc, _+_, _≤_, _<_}
+-- What a step does not depend on. The row that it writes and its texts depend of the state on nothing but its parent's part, and so does what it stores in both parts: the parent's part is then
+-- the same, and of every byte of the own part it holds that it is the same or as it was. What the document stores in its own part depends on nothing that the state held.
+use Prim.Native.Nat.{ℕ, suc, _+_, _≤_, _<_}
 use mathlib.Core.Path.{_≡_, refl, ap, ap₂, sym, _∙_}
-use mathlib.Core.Bool.{Bool, true, false}
 use mathlib.Core.List.{List, [], _∷_, _++_}
 use native.Mathlib.Omega.{arith}
-use native.Mathlib.Nat.{suc-mul, zero-mul}
-use lib.ListN.{length, getD, take, drop, length-append}
-use lib.Seq.{getD-drop, getD-take, take-nil, take-take}
-use Rattle.combinators.specs.Choice.{and}
+use native.Mathlib.Nat.{suc-mul}
+use lib.ListN.{length, take}
+use lib.Seq.{sets, length-sets}
 use Rattle.combinators.specs.Part.{part}
 use Rattle.combinators.proofs.Rules.{pick-false, is-no}
-use Rattle.syntax.specs.Selector.{Component}
-use Rattle.page.specs.Path.{Element, Path}
+use Rattle.page.specs.Path.{Element}
 use Rattle.page.specs.Rows.{otherKind}
+use Rattle.compiled.specs.Sheet.{compiledLimit}
+use Rattle.segments.specs.Sweep.{pairAt, pairBytes}
+use Rattle.segments.specs.Pass.{Passed}
+use Rattle.segments.specs.Down.{passAt, freshIn}
+use Rattle.segments.proofs.DownLaws.{fresh-in}
+use Rattle.segments.proofs.FreeLaws.{pass-at-once, matched-at-free, pass-at-long, Alike, sets-alike, pass-at-alike}
 use Rattle.styles.specs.StyleCall.{inlineContents}
-use Rattle.syntax.specs.declared.styles.Value.{Value}
 use Rattle.styles.specs.declared.settings.Settings.{Settings}
-use Rattle.runner.specs.Walked.{WalkedSelector, walked}
-use Rattle.runner.specs.Groups.{Combinator, combined, tested, groups, combinators, groupCount, groupsCount, allGroups, matching}
-use Rattle.runner.specs.State.{partWidth, partPlace, countWidth, countBytes, countAt, raised, groupsFrom, opened}
-use Rattle.runner.specs.Run.{Handed, Stepped, rowBelow, documentStep, elementStep, openStep, stepOn}
-use Rattle.runner.proofs.GroupLaws.{IsTest, joined, by-component, combinators-combinator, combinators-test, groups-combinator, groups-test, length-all-groups}
-use Rattle.runner.proofs.StateParts.{part-kept, part-written, part-front, part-behind, length-count}
-use Rattle.runner.proofs.OpenParts.{used, length-raised}
+use Rattle.runner.specs.State.{partWidth, partPlace, partOf, raised, opened}
+use Rattle.runner.specs.Run.{Handed, Stepped, foundAt, rowBelow, documentStep, elementStep, openStep, stepOn}
+use Rattle.runner.proofs.StateParts.{part-pair, raised-part, raised-behind, opened-part, length-raised}
+use Rattle.runner.proofs.OpenParts.{part-long, opened-above}
 
--- ---- the state
--- what lies behind the first of some
-drop-one : {A : Type 0} (n : ℕ) (l : List A) → drop 1 (take (suc n) l) ≡ take n (drop 1 l)
-drop-one n [] = sym (take-nil n)
-drop-one n (x ∷ l) = refl
+-- ---- a step below a row of the depth d, in two states that agree on that row's part
+module _ (code : List ℕ) (some : 0 < length code) (settings : Settings) (x : Handed) (d : ℕ) (parent state state′ texts : List ℕ)
+    (room : partPlace code (suc d) + partWidth code ≤ length state) (room′ : partPlace code (suc d) + partWidth code ≤ length state′) (same : partOf code d state ≡ partOf code d state′) where
+  abbrev at : ℕ
+  at = partPlace code d
 
-module _ (n : ℕ) (a b : List ℕ) (e : take (suc n) a ≡ take (suc n) b) where
-  -- of two lists that begin alike the first
-  first-same : getD a 0 0 ≡ getD b 0 0
-  first-same = sym (getD-take (suc n) a 0 0 (omega arith)) ∙ ap (λ (l : List ℕ). getD l 0 0) e ∙ getD-take (suc n) b 0 0 (omega arith)
-
-  -- and what follows it
-  rest-same : take n (drop 1 a) ≡ take n (drop 1 b)
-  rest-same = sym (drop-one n a) ∙ ap (drop 1) e ∙ drop-one n b
-
--- the bytes of a selector look at no more of the parent's than there are combinators
-GroupsSame : List Component → Type 0
-GroupsSame cs = (row : Path) (ok holds : Bool) (a b : List ℕ) → take (combinators cs) a ≡ take (combinators cs) b → groups row ok holds cs a ≡ groups row ok holds cs b
-
--- one component more
-groups-same-next : (c : Component) (cs : List Component) → GroupsSame cs → GroupsSame (c ∷ cs)
-unfolding GroupsSame
-groups-same-next c cs ih = by-component (λ c. GroupsSame (c ∷ cs)) at-combinator at-test c
-  where
-    at-combinator : (k : Combinator) → GroupsSame (joined k ∷ cs)
-    at-combinator k row ok holds a b e =
-        let e′ : take (suc (combinators cs)) a ≡ take (suc (combinators cs)) b = rw (combinators-combinator cs k) at e in
-        rw (
-          groups-combinator row ok holds cs a k,
-          groups-combinator row ok holds cs b k,
-          first-same (combinators cs) a b e′,
-          ih row true (combined k (getD b 0 0)) (drop 1 a) (drop 1 b) (rest-same (combinators cs) a b e′),
-        )
-
-    at-test : (c : Component) → IsTest c → GroupsSame (c ∷ cs)
-    at-test c u row ok holds a b e =
-        rw (groups-test row ok holds cs a c u, groups-test row ok holds cs b c u) (ih row (and ok (tested row c)) holds a b (rw (combinators-test cs c u) at e))
-
--- all components
-groups-same : (cs : List Component) → GroupsSame cs
-unfolding GroupsSame
-groups-same [] row ok holds a b e = unfold groups in refl
-groups-same (c ∷ cs) row ok holds a b e = groups-same-next c cs (groups-same cs) row ok holds a b e
-
--- what begins alike begins alike for less
-take-less : (m k : ℕ) (a b : List ℕ) → m ≤ k → take k a ≡ take k b → take m a ≡ take m b
-take-less m k a b h e = sym (take-take m k a h) ∙ ap (take m) e ∙ take-take m k b h
-
--- and goes on alike
-drop-take : (m n k : ℕ) (l : List ℕ) → m + n ≡ k → drop m (take k l) ≡ take n (drop m l)
-drop-take zero n k l e = let z : k ≡ n = omega arith in rw z
-drop-take (suc m) n k [] e = ap (drop (suc m)) (take-nil k) ∙ sym (take-nil n)
-drop-take (suc m) n zero (x ∷ l) e = absurd (omega arith)
-drop-take (suc m) n (suc k) (x ∷ l) e = drop-take m n k l (omega arith)
-
--- the bytes of all selectors look at no more of the parent's than there are groups
-all-groups-same : (ss : List (WalkedSelector Value)) (row : Path) (a b : List ℕ) → take (groupsCount ss) a ≡ take (groupsCount ss) b → allGroups row ss a ≡ allGroups row ss b
-unfolding allGroups groupsCount groupCount GroupsSame
-all-groups-same [] row a b e = refl
-all-groups-same (s ∷ ss) row a b e =
-    let n : ℕ = combinators (s .components) in
-    let k : ℕ = suc n + groupsCount ss in
-    let own : take (suc n) a ≡ take (suc n) b = take-less (suc n) k a b (omega arith) e in
-    ap₂ _++_
-    (groups-same (s .components) row true false (drop 1 a) (drop 1 b) (rest-same n a b own))
-    (all-groups-same ss row (drop (suc n) a) (drop (suc n) b) (sym (drop-take (suc n) (groupsCount ss) k a refl) ∙ ap (drop (suc n)) e ∙ drop-take (suc n) (groupsCount ss) k b refl))
-
--- two states that agree on the used bytes of a part
-module _ (ss : List (WalkedSelector Value)) (state state′ : List ℕ) (at : ℕ) (same : part state at (used ss) ≡ part state′ at (used ss)) where
-  -- a byte of the part
-  part-byte : (l : List ℕ) (j : ℕ) → j < used ss → getD (part l at (used ss)) j 0 ≡ getD l (at + j) 0
-  unfolding part
-  part-byte l j h = getD-take (used ss) (drop at l) j 0 h ∙ getD-drop at l j 0
-
-  -- have the same bytes there
-  byte-same : (j : ℕ) → j < used ss → getD state (at + j) 0 ≡ getD state′ (at + j) 0
-  byte-same j h = sym (part-byte state j h) ∙ ap (λ (l : List ℕ). getD l j 0) same ∙ part-byte state′ j h
-
-  -- the same count
-  count-same : countAt state at ≡ countAt state′ at
-  unfolding countAt
-  count-same =
-      let z : at + 0 ≡ at = omega arith in
-      let low : getD state at 0 ≡ getD state′ at 0 = rw z at (byte-same 0 (omega arith)) in
-      rw (low, byte-same 1 (omega arith))
-
-  -- and the same bytes behind the count
-  behind-same : part state (at + countWidth) (groupsCount ss) ≡ part state′ (at + countWidth) (groupsCount ss)
-  behind-same = part-behind state at (groupsCount ss) ∙ ap (drop countWidth) same ∙ sym (part-behind state′ at (groupsCount ss))
-
-  -- so they give a row below the same bytes
-  bytes-same : (row : Path) → allGroups row ss (groupsFrom state at) ≡ allGroups row ss (groupsFrom state′ at)
-  unfolding groupsFrom part
-  bytes-same row = all-groups-same ss row (groupsFrom state at) (groupsFrom state′ at) behind-same
-
-  -- and still agree with one child more
-  raised-same : at + countWidth ≤ length state → at + countWidth ≤ length state′ → part (raised state at) at (used ss) ≡ part (raised state′ at) at (used ss)
-  unfolding raised countBytes
-  raised-same l l′ =
-      let n : ℕ = groupsCount ss in
-      let z : used ss ≡ 2 + n = omega arith in
-      let c : List ℕ = countBytes (countAt state at + 1) in
-      let c′ : List ℕ = countBytes (countAt state′ at + 1) in
-      rw z
-      (part-front state c at l n
-      ∙ ap₂ (λ (m : ℕ) (x : List ℕ). countBytes (m + 1) ++ x) count-same behind-same
-      ∙ sym (part-front state′ c′ at l′ n))
-
--- ---- a step below a row of the depth d, in two states that agree on the used bytes of that row's part
-module _ (code : List ℕ) (fits : used (walked code) ≤ partWidth code) (settings : Settings) (x : Handed) (d : ℕ) (parent state state′ texts : List ℕ)
-    (room : partPlace code (suc d) + partWidth code ≤ length state) (room′ : partPlace code (suc d) + partWidth code ≤ length state′)
-    (same : part state (partPlace code d) (used (walked code)) ≡ part state′ (partPlace code d) (used (walked code))) where
-  abbrev ss : List (WalkedSelector Value)
-  ss = walked code
-
-  -- the element, its bytes and what the step leaves, by the state
+  -- the element, by the state
   abbrev elementIn : List ℕ → Element
-  elementIn l = record { name = x .name; attributes = x .attributes; place = countAt l (partPlace code d) + 1 }
+  elementIn l = record { name = x .name; attributes = x .attributes; place = pairAt l at + 1 }
 
-  abbrev bytesIn : List ℕ → List ℕ
-  bytesIn l = allGroups (elementIn l ∷ []) ss (groupsFrom l (partPlace code d))
+  -- its parent's part with the raised count, and its pass
+  abbrev aboveIn : List ℕ → List ℕ
+  aboveIn l = partOf code d (raised l at)
 
-  -- the element is the same
+  abbrev passedIn : List ℕ → Passed
+  passedIn l = passAt code (elementIn l ∷ []) (aboveIn l) (partOf code (suc d) (raised l at))
+
+  -- the count is that of the part
+  count-in : (l : List ℕ) → pairAt l at ≡ pairAt (partOf code d l) 0
+  unfolding partOf
+  count-in l = sym (part-pair l at (partWidth code) (omega arith))
+
+  -- the same in both
+  count-same : pairAt state at ≡ pairAt state′ at
+  count-same = count-in state ∙ ap (λ (p : List ℕ). pairAt p 0) same ∙ sym (count-in state′)
+
+  -- so the element is the same
   element-same : elementIn state ≡ elementIn state′
-  element-same =
-      ap (λ (n : ℕ). record { name = x .name; attributes = x .attributes; place = n + 1 }) (count-same ss state state′ (partPlace code d) same)
+  element-same = ap (λ (n : ℕ). record { name = x .name; attributes = x .attributes; place = n + 1 }) count-same
 
-  -- and so are its bytes
-  own-bytes-same : bytesIn state ≡ bytesIn state′
-  own-bytes-same =
-      ap (λ (e : Element). allGroups (e ∷ []) ss (groupsFrom state (partPlace code d))) element-same ∙ bytes-same ss state state′ (partPlace code d) same (elementIn state′ ∷ [])
+  -- and so is the parent's part with the raised count
+  above-same : aboveIn state ≡ aboveIn state′
+  unfolding partOf
+  above-same =
+      raised-part state at (partWidth code) (omega arith)
+      ∙ ap₂ (λ (p : List ℕ) (n : ℕ). sets p 0 (pairBytes (n + 1))) same count-same
+      ∙ sym (raised-part state′ at (partWidth code) (omega arith))
 
-  abbrev leftIn : List ℕ → List ℕ
-  leftIn l = opened (raised l (partPlace code d)) (partPlace code (suc d)) (bytesIn l)
+  -- by which the own part is not changed
+  own-kept : (l : List ℕ) → partOf code (suc d) (raised l at) ≡ partOf code (suc d) l
+  unfolding partOf part
+  own-kept l =
+      let z : partPlace code (suc d) ≡ at + partWidth code = suc-mul d (partWidth code) in
+      rw z (ap (take (partWidth code)) (raised-behind l at (partWidth code) (omega arith)))
 
-  module _ (l : List ℕ) (r : partPlace code (suc d) + partWidth code ≤ length l) where
-    -- what is written into its part
-    abbrev own : List ℕ
-    own = countBytes 0 ++ bytesIn l
+  -- the same selectors match
+  matched-same : passedIn state .matched ≡ passedIn state′ .matched
+  matched-same =
+      ap₂ (λ (e : Element) (p : List ℕ). passAt code (e ∷ []) p (partOf code (suc d) (raised state at)) .matched) element-same above-same
+      ∙ matched-at-free code (elementIn state′ ∷ []) (aboveIn state′) _ _
 
-    -- as many as are used
-    own-length : length own ≡ used ss
-    own-length = length-append (countBytes 0) (bytesIn l) ∙ ap₂ _+_ (length-count 0) (length-all-groups ss (elementIn l ∷ []) (groupsFrom l (partPlace code d))) ∙ omega arith
-
-    -- which have room
-    own-room : partPlace code (suc d) + length own ≤ length (raised l (partPlace code d))
-    own-room = omega (arith, own-length, length-raised l (partPlace code d))
-
-    -- its own part is what it writes there
-    own-part : part (leftIn l) (partPlace code (suc d)) (used ss) ≡ own
-    unfolding opened
-    own-part = part-written (raised l (partPlace code d)) own (partPlace code (suc d)) own-room (used ss) own-length
-
-    -- and the parent's part is as it was raised
-    above-part : part (leftIn l) (partPlace code d) (used ss) ≡ part (raised l (partPlace code d)) (partPlace code d) (used ss)
-    unfolding opened
-    above-part =
-        part-kept (raised l (partPlace code d)) own (partPlace code (suc d)) own-room (partPlace code d) (used ss) (omega (arith, suc-mul d (partWidth code)))
+  -- and the same bytes are stored
+  passed-alike : (m : ℕ) → Alike m (partOf code (suc d) state) (partOf code (suc d) state′) (passedIn state .part) (passedIn state′ .part)
+  passed-alike m =
+      let l = part-long code state (suc d) room in
+      let l′ = part-long code state′ (suc d) room′ in
+      rw (own-kept state, own-kept state′, element-same, above-same)
+      (pass-at-alike m (partOf code (suc d) state) (partOf code (suc d) state′) code (elementIn state′ ∷ []) (aboveIn state′) (l ∙ sym l′))
 
   -- what a step leaves in each
   abbrev stepIn : List ℕ → Stepped
   stepIn l = stepOn code settings x (suc d) parent l texts
+
+  abbrev leftIn : List ℕ → List ℕ
+  leftIn l = opened (raised l at) (partPlace code (suc d)) (passedIn l .part)
+
+  module _ (l : List ℕ) (r : partPlace code (suc d) + partWidth code ≤ length l) where
+    -- the own part has room
+    raised-room : partPlace code (suc d) + partWidth code ≤ length (raised l at)
+    raised-room = let z = length-raised l at in omega arith
+
+    -- its pass leaves it as long
+    passed-long : length (passedIn l .part) ≡ partWidth code
+    passed-long = pass-at-long code (elementIn l ∷ []) (aboveIn l) _ ∙ part-long code (raised l at) (suc d) raised-room
+
+    -- it is what the pass left, with the count 0
+    own-part : partOf code (suc d) (leftIn l) ≡ sets (passedIn l .part) 0 (pairBytes 0)
+    unfolding partOf
+    own-part = opened-part (raised l at) (partPlace code (suc d)) (partWidth code) (passedIn l .part) (omega arith) passed-long raised-room
+
+    -- and the parent's part is as it was raised
+    above-part : partOf code d (leftIn l) ≡ aboveIn l
+    above-part = opened-above code some (raised l at) (suc d) raised-room (passedIn l .part) passed-long d (omega arith)
 
   -- at an element
   step-in : (l : List ℕ) → ¬ (x .kind ≡ otherKind) → stepIn l ≡ elementStep code settings (elementIn l) d parent l texts
@@ -201,39 +121,61 @@ module _ (code : List ℕ) (fits : used (walked code) ≤ partWidth code) (setti
         let e = step-in state open-row in
         let e′ = step-in state′ open-row in (
           ap (λ (s : Stepped). s .row) e
-              ∙ ap₂ (λ (a : Element) (b : List ℕ). rowBelow parent (matching ss b) settings (length code + length texts) a) element-same own-bytes-same
+              ∙ ap₂ (λ (a : Element) (b : List ℕ). rowBelow parent (foundAt code b) settings (length code + length texts) a) element-same matched-same
               ∙ sym (ap (λ (s : Stepped). s .row) e′),
           ap (λ (s : Stepped). s .texts) e ∙ ap (λ (a : Element). texts ++ inlineContents settings a) element-same ∙ sym (ap (λ (s : Stepped). s .texts) e′),
         )
 
-    -- the same used bytes of its own part, and of its parent's
-    pub step-parts-free : (part (stepIn state .state) (partPlace code (suc d)) (used ss) ≡ part (stepIn state′ .state) (partPlace code (suc d)) (used ss))
-        × (part (stepIn state .state) (partPlace code d) (used ss) ≡ part (stepIn state′ .state) (partPlace code d) (used ss))
+    -- what it leaves in each
+    left-in : (l : List ℕ) → stepIn l .state ≡ leftIn l
     unfolding elementStep
-    step-parts-free =
-        let at : ℕ = partPlace code d in
-        let e : stepIn state .state ≡ leftIn state = ap (λ (s : Stepped). s .state) (step-in state open-row) in
-        let e′ : stepIn state′ .state ≡ leftIn state′ = ap (λ (s : Stepped). s .state) (step-in state′ open-row) in
-        let r : at + countWidth ≤ length state = omega (arith, suc-mul d (partWidth code)) in
-        let r′ : at + countWidth ≤ length state′ = omega (arith, suc-mul d (partWidth code)) in (
-          ap (λ (l : List ℕ). part l (partPlace code (suc d)) (used ss)) e
-              ∙ own-part state room
-              ∙ ap (λ (b : List ℕ). countBytes 0 ++ b) own-bytes-same
-              ∙ sym (own-part state′ room′)
-              ∙ sym (ap (λ (l : List ℕ). part l (partPlace code (suc d)) (used ss)) e′),
-          ap (λ (l : List ℕ). part l at (used ss)) e
-              ∙ above-part state room
-              ∙ raised-same ss state state′ at same r r′
-              ∙ sym (above-part state′ room′)
-              ∙ sym (ap (λ (l : List ℕ). part l at (used ss)) e′),
-        )
+    left-in l = ap (λ (s : Stepped). s .state) (step-in l open-row)
 
--- ---- the document's step, in whatever state: its own part
-pub document-part-free : (code : List ℕ) → used (walked code) ≤ partWidth code → (settings : Settings) (x : Handed) → ¬ (x .kind ≡ otherKind) → (parent state texts : List ℕ)
-    → partWidth code ≤ length state → part (stepOn code settings x 0 parent state texts .state) (partPlace code 0) (used (walked code)) ≡ countBytes 0 ++ allGroups [] (walked code) []
-unfolding stepOn openStep documentStep opened
-document-part-free code fits settings x open-row parent state texts room =
-    let own : List ℕ = countBytes 0 ++ allGroups [] (walked code) [] in
-    let own-length : length own ≡ used (walked code) = length-append (countBytes 0) (allGroups [] (walked code) []) ∙ ap₂ _+_ (length-count 0) (length-all-groups (walked code) [] []) ∙ omega arith in
-    let e : stepOn code settings x 0 parent state texts ≡ documentStep code state texts = sym (pick-false _ _ _ _ (is-no _ _ open-row) refl) in
-    ap (λ (s : Stepped). part (s .state) (partPlace code 0) (used (walked code))) e ∙ part-written state own (partPlace code 0) (omega (arith, zero-mul (partWidth code))) (used (walked code)) own-length
+    -- the same part of its parent, and in its own part the same bytes stored
+    pub step-parts-free : (partOf code d (stepIn state .state) ≡ partOf code d (stepIn state′ .state))
+        × ((m : ℕ) → Alike m (partOf code (suc d) state) (partOf code (suc d) state′) (partOf code (suc d) (stepIn state .state)) (partOf code (suc d) (stepIn state′ .state)))
+    step-parts-free = (
+      ap (partOf code d) (left-in state) ∙ above-part state room ∙ above-same ∙ sym (above-part state′ room′) ∙ sym (ap (partOf code d) (left-in state′)),
+      λ m. rw (left-in state, left-in state′, own-part state room, own-part state′ room′)
+          (sets-alike m (partOf code (suc d) state) (partOf code (suc d) state′) (pairBytes 0) (passedIn state .part) (passedIn state′ .part) 0 (passed-long state room ∙ sym (passed-long state′ room′)) (passed-alike m)),
+    )
+
+-- ---- the document's step, in whatever two states
+module _ (code : List ℕ) (few : length code ≤ compiledLimit) (some : 0 < length code) (settings : Settings) (x : Handed) (open-row : ¬ (x .kind ≡ otherKind)) (parent texts : List ℕ) where
+  abbrev documentIn : List ℕ → Stepped
+  documentIn l = stepOn code settings x 0 parent l texts
+
+  abbrev freshOf : List ℕ → List ℕ
+  freshOf l = freshIn code (partOf code 1 l)
+
+  abbrev storedIn : List ℕ → List ℕ → List ℕ
+  storedIn fresh l = passAt code [] fresh (partOf code 0 l) .part
+
+  module _ (l : List ℕ) (r : partPlace code 0 + partWidth code ≤ length l) where
+    -- as wide as every part
+    stored-long : (fresh : List ℕ) → length (storedIn fresh l) ≡ partWidth code
+    stored-long fresh = pass-at-long code [] fresh (partOf code 0 l) ∙ part-long code l 0 r
+
+    -- its own part is what its pass left, with the count 0
+    document-part : partOf code 0 (documentIn l .state) ≡ sets (storedIn (freshOf l) l) 0 (pairBytes 0)
+    unfolding stepOn openStep documentStep partOf
+    document-part =
+        let e : documentIn l ≡ documentStep code l texts = sym (pick-false _ _ _ _ (is-no _ _ open-row) refl) in
+        let z = length-sets l (partPlace code 1) (freshOf l) in
+        ap (λ (s : Stepped). partOf code 0 (s .state)) e
+        ∙ opened-part (sets l (partPlace code 1) (freshOf l)) (partPlace code 0) (partWidth code) (storedIn (freshOf l) l) (omega arith) (stored-long (freshOf l)) (omega arith)
+
+  -- in its own part the same bytes are stored
+  pub document-part-free : (state state′ : List ℕ) → partPlace code 1 + partWidth code ≤ length state → partPlace code 1 + partWidth code ≤ length state′ → (m : ℕ)
+      → Alike m (partOf code 0 state) (partOf code 0 state′) (partOf code 0 (documentIn state .state)) (partOf code 0 (documentIn state′ .state))
+  document-part-free state state′ r r′ m =
+      let z = suc-mul 0 (partWidth code) in
+      let r₀ : partPlace code 0 + partWidth code ≤ length state = omega arith in
+      let r₀′ : partPlace code 0 + partWidth code ≤ length state′ = omega arith in
+      let w = part-long code state 1 r in
+      let w′ = part-long code state′ 1 r′ in
+      let once = pass-at-once code few (freshOf state) (freshOf state′) [] (partOf code 0 state) (fresh-in code few (partOf code 1 state) (omega arith)) (fresh-in code few (partOf code 1 state′) (omega arith)) in
+      let long = stored-long state r₀ (freshOf state′) ∙ sym (stored-long state′ r₀′ (freshOf state′)) in
+      rw (document-part state r₀ ∙ ap (λ (p : Passed). sets (p .part) 0 (pairBytes 0)) once, document-part state′ r₀′)
+      (sets-alike m (partOf code 0 state) (partOf code 0 state′) (pairBytes 0) (storedIn (freshOf state′) state) (storedIn (freshOf state′) state′) 0 long
+      (pass-at-alike m (partOf code 0 state) (partOf code 0 state′) code [] (freshOf state′) (part-long code state 0 r₀ ∙ sym (part-long code state′ 0 r₀′))))

@@ -2,7 +2,7 @@
 use Prim.Native.Nat.{ℕ, zero, suc, _+_, _*_, _≤_, _<_}
 use mathlib.Core.Path.{_≡_, refl, ap, ap₂, sym, subst, _∙_}
 use mathlib.Core.Logic.{_⊎_, inl, inr}
-use mathlib.Core.List.{List, [], _∷_, _++_}
+use mathlib.Core.List.{List, [], _++_}
 use native.Mathlib.Nat.{not-suc-le-zero}
 use native.Mathlib.Omega.{arith}
 use lib.ListN.{length, take}
@@ -10,21 +10,21 @@ use lib.Seq.{sets, length-sets}
 use Rattle.combinators.proofs.Rules.{lt-or-ge}
 use Rattle.cascade.specs.Row.{styleRowWidth}
 use Rattle.page.specs.Ancestors.{depthOf}
-use Rattle.page.specs.Path.{Element}
+use Rattle.page.specs.Path.{Element, Path}
 use Rattle.page.specs.PathOf.{elementAt, pathOf}
 use Rattle.page.specs.Rows.{nodeCount, nodeAt, elementKind, otherKind}
 use Rattle.page.proofs.AcceptedPages.{Accepted}
+use Rattle.compiled.specs.Sheet.{compiledLimit}
+use Rattle.segments.specs.Placed.{matchingPlaces}
+use Rattle.segments.specs.Down.{placedIn}
 use Rattle.styles.specs.declared.settings.Settings.{Settings}
 use Rattle.styles.specs.Lent.{Page}
 use Rattle.styles.specs.StyleCall.{inlineContents}
-use Rattle.runner.specs.Walked.{walked}
-use Rattle.runner.specs.Groups.{allGroups, allBehind, matching}
 use Rattle.runner.specs.LeastLengths.{RunLent, rowsLeast}
-use Rattle.runner.specs.State.{depths, partWidth, partPlace, raised, groupsFrom}
-use Rattle.runner.specs.Run.{noStyle, rowBelow, Stepped, documentStep, elementStep, stepOn, handedAt, Running, styleRowAt, runStep, runFrom, runOf}
-use Rattle.runner.proofs.GroupsFit.{groups-fit}
+use Rattle.runner.specs.State.{depths, partWidth}
+use Rattle.runner.specs.Run.{noStyle, foundAt, rowBelow, Stepped, documentStep, elementStep, stepOn, handedAt, Running, styleRowAt, runStep, runFrom, runOf}
 use Rattle.runner.proofs.OpenRows.{parent-most, kinds}
-use Rattle.runner.proofs.OpenParts.{length-raised, length-opened, Ready, document-ready, other-ready, place-right, bytes-of, element-ready}
+use Rattle.runner.proofs.OpenParts.{Ready, document-long, document-ready, other-ready, place-right, found-of, element-long, element-ready}
 use Rattle.runner.proofs.RowBelow.{row-below-long}
 use Rattle.runner.proofs.StyleRows.{row-written, row-kept, row-whole, rows-alike}
 use Rattle.runner.proofs.Steps.{other-step, document-step, element-step}
@@ -47,7 +47,7 @@ pub run-rows-long : (code : List ℕ) (settings : Settings) (g : Page) (rows sta
 unfolding runOf
 run-rows-long code settings g rows state = steps-rows-long code settings g (nodeCount (g .nodes)) 0 (record { rows = rows; state = state; texts = [] })
 
-module _ (code : List ℕ) (some : 0 < length code) (settings : Settings) (g : Page) (ok : Accepted (g .nodes) (g .attributes) (g .text)) where
+module _ (code : List ℕ) (few : length code ≤ compiledLimit) (some : 0 < length code) (settings : Settings) (g : Page) (ok : Accepted (g .nodes) (g .attributes) (g .text)) where
   abbrev count : ℕ
   count = nodeCount (g .nodes)
 
@@ -55,7 +55,7 @@ module _ (code : List ℕ) (some : 0 < length code) (settings : Settings) (g : P
   kindAt i = nodeAt (g .nodes) i .kind
 
   abbrev ReadyAt : ℕ → List ℕ → Type 0
-  ReadyAt i state = Ready code (walked code) (g .nodes) (g .attributes) (g .text) (groups-fit code some) ok i state
+  ReadyAt i state = Ready code (g .nodes) (g .attributes) (g .text) i state
 
   -- before row i, in each of the two runs
   record Fit (i : ℕ) (r : Running) : Type 0 where
@@ -129,8 +129,8 @@ module _ (code : List ℕ) (some : 0 < length code) (settings : Settings) (g : P
   document-on r b =
       record {
         whole = refl;
-        state-long = length-opened (r .state) (partPlace code 0) (allGroups [] (walked code) []);
-        ready = document-ready code (walked code) (g .nodes) (g .attributes) (g .text) (groups-fit code some) ok (r .state) (b .state-room);
+        state-long = document-long code few some (g .nodes) (g .attributes) (g .text) ok (r .state) (r .texts) (b .state-room);
+        ready = document-ready code few some (g .nodes) (g .attributes) (g .text) ok (r .state) (r .texts) (b .state-room);
       }
 
   -- in both runs
@@ -155,7 +155,7 @@ module _ (code : List ℕ) (some : 0 < length code) (settings : Settings) (g : P
         record {
           whole = refl;
           state-long = refl;
-          ready = other-ready code (walked code) (g .nodes) (g .attributes) (g .text) (groups-fit code some) ok i there (r .state) (b .state-room) (b .ready) e;
+          ready = other-ready code few some (g .nodes) (g .attributes) (g .text) ok i there (r .state) (b .state-room) (b .ready) e;
         }
 
     -- in both
@@ -177,36 +177,39 @@ module _ (code : List ℕ) (some : 0 < length code) (settings : Settings) (g : P
       is-element : (r : Running) → Fit (suc i) r → stepAt (suc i) r ≡ elementOf r
       is-element r b =
           element-step code settings g (parentOf (suc i) r) (r .state) (r .texts) ok i there element
-          (place-right code (walked code) (g .nodes) (g .attributes) (g .text) (groups-fit code some) ok i there (r .state) (b .state-room) (b .ready) element)
+          (place-right code few some (g .nodes) (g .attributes) (g .text) ok i there (r .state) (b .state-room) (b .ready) element)
 
-      -- its bytes are those of its path
-      bytes-right : (r : Running) → Fit (suc i) r
-          → allGroups (e ∷ []) (walked code) (groupsFrom (r .state) (partPlace code (depthOf (g .nodes) p))) ≡ allBehind (walked code) (pathOf (g .nodes) (g .attributes) (g .text) (suc i))
-      bytes-right r b = bytes-of code (walked code) (g .nodes) (g .attributes) (g .text) (groups-fit code some) ok i there (r .state) (b .state-room) (b .ready) element
+      -- its row, where these selectors match
+      abbrev rowFrom : List ℕ → List ℕ → List ℕ → List ℕ
+      rowFrom places texts parent = rowBelow parent (foundAt code places) settings (length code + length texts) e
+
+      abbrev path : Path
+      path = pathOf (g .nodes) (g .attributes) (g .text) (suc i)
+
+      -- those of its path do
+      row-right : (r : Running) → Fit (suc i) r → elementOf r .row ≡ rowFrom (matchingPlaces path (placedIn code)) (r .texts) (parentOf (suc i) r)
+      unfolding elementStep
+      row-right r b =
+          ap (λ (x : List ℕ). rowFrom x (r .texts) (parentOf (suc i) r))
+          (found-of code few some (g .nodes) (g .attributes) (g .text) ok i there (r .state) (b .state-room) (b .ready) element)
 
       -- in each run
       element-on : (r : Running) → Fit (suc i) r → Stepped-on (suc i) r (elementOf r)
-      unfolding elementStep
       element-on r b =
-          let at : ℕ = partPlace code (depthOf (g .nodes) p) in
+          let most = parent-most (g .nodes) (g .attributes) (g .text) ok i there in
           record {
-            whole = row-below-long _ settings _ e (parentOf (suc i) r) ∙ row-whole (r .rows) p count (omega (arith, parent-most (g .nodes) (g .attributes) (g .text) ok i there)) (b .rows-room);
-            state-long = length-opened (raised (r .state) at) (partPlace code (suc (depthOf (g .nodes) p))) _ ∙ length-raised (r .state) at;
-            ready = element-ready code (walked code) (g .nodes) (g .attributes) (g .text) (groups-fit code some) ok i there (r .state) (b .state-room) (b .ready) element e refl;
+            whole = ap length (row-right r b) ∙ row-below-long _ settings _ e (parentOf (suc i) r) ∙ row-whole (r .rows) p count (omega arith) (b .rows-room);
+            state-long = element-long code few some (g .nodes) (g .attributes) (g .text) ok i there (r .state) (b .state-room) (b .ready) element settings (parentOf (suc i) r) (r .texts);
+            ready = element-ready code few some (g .nodes) (g .attributes) (g .text) ok i there (r .state) (b .state-room) (b .ready) element settings (parentOf (suc i) r) (r .texts);
           }
-
-      -- its row, from the bytes, the texts so far and the parent's row
-      abbrev rowFrom : List ℕ → List ℕ → List ℕ → List ℕ
-      rowFrom bytes texts parent = rowBelow parent (matching (walked code) bytes) settings (length code + length texts) e
 
       -- the same row in both
       element-row-same : (r r′ : Running) → Twins (suc i) r r′ → elementOf r .row ≡ elementOf r′ .row
-      unfolding elementStep
       element-row-same r r′ b =
-          let bytes = bytes-right r (b .left) ∙ sym (bytes-right r′ (b .right)) in
-          let parents : parentOf (suc i) r ≡ parentOf (suc i) r′ = b .rows-same p (omega (arith, parent-most (g .nodes) (g .attributes) (g .text) ok i there)) in
-          ap₂ (λ (x y : List ℕ). rowFrom x y (parentOf (suc i) r)) bytes (b .texts-same)
-          ∙ ap (rowFrom (allGroups (e ∷ []) (walked code) (groupsFrom (r′ .state) (partPlace code (depthOf (g .nodes) p)))) (r′ .texts)) parents
+          let most = parent-most (g .nodes) (g .attributes) (g .text) ok i there in
+          row-right r (b .left)
+          ∙ ap₂ (rowFrom (matchingPlaces path (placedIn code))) (b .texts-same) (b .rows-same p (omega arith))
+          ∙ sym (row-right r′ (b .right))
 
       -- the same texts
       element-texts-same : (r r′ : Running) → Twins (suc i) r r′ → elementOf r .texts ≡ elementOf r′ .texts

@@ -1,12 +1,31 @@
--- Parts of a buffer: one that is written is there, one before it is kept; and what raising the count of a part, and opening a part, leave of it.
-use Prim.Native.Nat.{ℕ, suc, _+_, _/_, _%_, _≤_, _<_}
+-- Parts of a buffer: a number of one is that of the whole, one that is written is there, one before what is written stays; and what a raised count and an opened part leave of them.
+use Prim.Native.Nat.{ℕ, suc, _+_, _≤_, _<_}
 use mathlib.Core.Path.{_≡_, refl, ap, sym, _∙_}
 use mathlib.Core.List.{List, [], _∷_, _++_, append-assoc}
 use native.Mathlib.Omega.{arith}
+use borrow.Author.Tests.{lt-ltb}
 use lib.ListN.{length, getD, take, drop, set, length-drop, take-append-drop}
-use lib.Seq.{sets, sets-eq, drop-set-lt, drop-append-le, take-append-le, take-at, drop-at, length-take-le, drop-drop, take-nil, take-append-add, getD-drop}
+use lib.Seq.{sets, sets-eq, length-sets, drop-append-le, take-append-le, take-at, drop-at, length-take-le, getD-drop, getD-take}
+use Rattle.combinators.specs.Choice.{pick}
 use Rattle.combinators.specs.Part.{part}
-use Rattle.runner.specs.State.{countWidth, byteLimit, countBytes, countAt, raised, groupsFrom}
+use Rattle.segments.specs.Parts.{partSet, partSets}
+use Rattle.segments.specs.Sweep.{pairAt, pairBytes}
+use Rattle.segments.proofs.CodeBlockLaws.{own-sets, behind-sets}
+use Rattle.segments.proofs.DownLaws.{blocksBegin}
+use Rattle.runner.specs.State.{raised, opened}
+
+-- a number of a part is that of the whole
+pub part-number : (l : List ℕ) (at n j : ℕ) → j < n → getD (part l at n) j 0 ≡ getD l (at + j) 0
+unfolding part
+part-number l at n j h = getD-take n (drop at l) j 0 h ∙ getD-drop at l j 0
+
+-- so is the count that it begins with
+pub part-pair : (l : List ℕ) (at n : ℕ) → blocksBegin ≤ n → pairAt (part l at n) 0 ≡ pairAt l at
+unfolding pairAt
+part-pair l at n h =
+    let z : at + 0 ≡ at = omega arith in
+    let low : getD (part l at n) 0 0 ≡ getD l at 0 = part-number l at n 0 (omega arith) ∙ ap (λ (j : ℕ). getD l j 0) z in
+    rw (low, part-number l at n 1 (omega arith))
 
 -- what lies in the first of two lists
 pub part-left : (x more : List ℕ) (at n : ℕ) → at + n ≤ length x → part (x ++ more) at n ≡ part x at n
@@ -26,17 +45,6 @@ module _ (l v : List ℕ) (i : ℕ) (room : i + length v ≤ length l) where
       ∙ sym (part-left (take i l) (drop i l) at n k)
       ∙ ap (λ (x : List ℕ). part x at n) (take-append-drop i l)
 
-  -- what was stored begins there, and then comes what there was
-  pub part-front : (n : ℕ) → part (sets l i v) i (length v + n) ≡ v ++ part l (i + length v) n
-  unfolding part
-  part-front n =
-      rw (
-        sets-eq v l i room,
-        append-assoc (take i l) v (drop (i + length v) l),
-        drop-at (take i l) (v ++ drop (i + length v) l) i (length-take-le i l (omega arith)),
-        take-append-add v (drop (i + length v) l) n,
-      )
-
   -- a part that is stored whole
   pub part-written : (n : ℕ) → length v ≡ n → part (sets l i v) i n ≡ v
   unfolding part
@@ -48,65 +56,59 @@ module _ (l v : List ℕ) (i : ℕ) (room : i + length v ≤ length l) where
         take-at v (drop (i + length v) l) n e,
       )
 
--- what lies from a place on begins with the part there
-pub part-split : (l v : List ℕ) (at n : ℕ) → part l at n ≡ v → drop at l ≡ v ++ drop n (drop at l)
-unfolding part
-part-split l v at n e = sym (take-append-drop n (drop at l)) ∙ ap (λ (x : List ℕ). x ++ drop n (drop at l)) e
+-- bytes that all lie in a part are stored as they are
+pub sets-own : (bs state : List ℕ) (own width j : ℕ) → j + length bs ≤ width → partSets state own width j bs ≡ sets state (own + j) bs
+unfolding partSets partSet pick
+sets-own [] state own width j h = refl
+sets-own (b ∷ bs) state own width j h =
+    let e : own + (j + 1) ≡ suc (own + j) = omega arith in
+    rw (lt-ltb j width (omega arith)) (sets-own bs (set state (own + j) b) own width (j + 1) (omega arith) ∙ ap (λ (i : ℕ). sets (set state (own + j) b) i bs) e)
 
--- what lies behind the first two of some
-drop-two : (n : ℕ) (l : List ℕ) → take n (drop 2 l) ≡ drop 2 (take (suc (suc n)) l)
-drop-two n [] = take-nil n
-drop-two n (x ∷ []) = take-nil n
-drop-two n (x ∷ y ∷ l) = refl
-
--- a part without its count
-pub part-behind : (l : List ℕ) (at n : ℕ) → part l (at + countWidth) n ≡ drop countWidth (part l at (suc (suc n)))
-unfolding part
-part-behind l at n = ap (take n) (sym (drop-drop 2 at l)) ∙ drop-two n (drop at l)
-
--- ---- the count of a part and its bytes
-
--- how many values two bytes have
-abbrev pub countLimit : ℕ
-countLimit = 65536
-
--- a count takes two bytes
-pub length-count : (c : ℕ) → length (countBytes c) ≡ countWidth
-unfolding countBytes
-length-count c = refl
-
-module _ (state bytes : List ℕ) (at n c : ℕ) (held : part state at n ≡ countBytes c ++ bytes) where
-  -- the count of a part is read back
-  pub count-right : c < countLimit → countAt state at ≡ c
-  unfolding countAt countBytes
-  count-right f =
-      let s : drop at state ≡ countBytes c ++ bytes ++ drop n (drop at state) = part-split state (countBytes c ++ bytes) at n held in
-      let low : getD state at 0 ≡ c % byteLimit =
-      ap (λ (x : ℕ). getD state x 0) (omega arith) ∙ sym (getD-drop at state 0 0) ∙ ap (λ (x : List ℕ). getD x 0 0) s in
-      let high : getD state (at + 1) 0 ≡ c / byteLimit % byteLimit = sym (getD-drop at state 1 0) ∙ ap (λ (x : List ℕ). getD x 1 0) s in
-      rw (low, high) (omega arith)
-
-  -- its bytes lie behind the count
-  pub bytes-right : groupsFrom state at ≡ bytes ++ drop n (drop at state)
-  unfolding groupsFrom countBytes
-  bytes-right = sym (drop-drop 2 at state) ∙ ap (drop 2) (part-split state (countBytes c ++ bytes) at n held)
+-- ---- the count of a part, which takes its first two bytes
+module _ (state : List ℕ) (at n c : ℕ) (h : blocksBegin ≤ n) where
+  -- a count stored in the whole is stored in the part
+  part-count : part (sets state at (pairBytes c)) at n ≡ sets (part state at n) 0 (pairBytes c)
+  unfolding pairBytes
+  part-count =
+      let z : at + 0 ≡ at = omega arith in
+      ap (λ (i : ℕ). part (sets state i (pairBytes c)) at n) (sym z)
+      ∙ ap (λ (x : List ℕ). part x at n) (sym (sets-own (pairBytes c) state at n 0 h))
+      ∙ own-sets (pairBytes c) state at n 0
 
 -- one element child more
-pub raised-right : (state bytes : List ℕ) (at n c : ℕ) → c < countLimit → at + countWidth ≤ length state
-    → part state at (suc (suc n)) ≡ countBytes c ++ bytes → part (raised state at) at (suc (suc n)) ≡ countBytes (c + 1) ++ bytes
-unfolding raised countBytes
-raised-right state bytes at n c f l e =
-    let k : countAt state at ≡ c = count-right state bytes at (suc (suc n)) c e f in
-    let z : suc (suc n) ≡ 2 + n = omega arith in
-    rw k
-    (ap (λ (x : ℕ). part (sets state at (countBytes (c + 1))) at x) z
-    ∙ part-front state (countBytes (c + 1)) at l n
-    ∙ ap (λ (x : List ℕ). countBytes (c + 1) ++ x) (part-behind state at n ∙ ap (drop 2) e))
+pub raised-part : (state : List ℕ) (at n : ℕ) → blocksBegin ≤ n → part (raised state at) at n ≡ sets (part state at n) 0 (pairBytes (pairAt state at + 1))
+unfolding raised
+raised-part state at n h = part-count state at n (pairAt state at + 1) h
 
--- the bytes of the groups stay
-pub raised-groups : (state : List ℕ) (at : ℕ) → groupsFrom (raised state at) at ≡ groupsFrom state at
-unfolding groupsFrom raised countBytes
-raised-groups state at =
-    let c : ℕ = countAt state at + 1 in
-    drop-set-lt (at + countWidth) (set state at (c % byteLimit)) (suc at) (c / byteLimit % byteLimit) (omega arith)
-    ∙ drop-set-lt (at + countWidth) state at (c % byteLimit) (omega arith)
+-- which changes nothing behind the part
+pub raised-behind : (state : List ℕ) (at n : ℕ) → blocksBegin ≤ n → drop (at + n) (raised state at) ≡ drop (at + n) state
+unfolding raised pairBytes
+raised-behind state at n h =
+    let z : at + 0 ≡ at = omega arith in
+    let bytes : List ℕ = pairBytes (pairAt state at + 1) in
+    ap (λ (i : ℕ). drop (at + n) (sets state i bytes)) (sym z) ∙ ap (drop (at + n)) (sym (sets-own bytes state at n 0 h)) ∙ behind-sets bytes state at n 0
+
+-- a part that is opened: its blocks, and the count 0
+pub opened-part : (state : List ℕ) (at n : ℕ) (blocks : List ℕ) → blocksBegin ≤ n → length blocks ≡ n → at + n ≤ length state
+    → part (opened state at blocks) at n ≡ sets blocks 0 (pairBytes 0)
+unfolding opened
+opened-part state at n blocks h l r =
+    part-count (sets state at blocks) at n 0 h ∙ ap (λ (x : List ℕ). sets x 0 (pairBytes 0)) (part-written state blocks at (omega arith) n l)
+
+-- a raised count changes no length
+pub length-raised : (state : List ℕ) (at : ℕ) → length (raised state at) ≡ length state
+unfolding raised
+length-raised state at = length-sets state at (pairBytes (pairAt state at + 1))
+
+-- nor does a part that is opened
+pub length-opened : (state : List ℕ) (at : ℕ) (blocks : List ℕ) → length (opened state at blocks) ≡ length state
+unfolding opened
+length-opened state at blocks = length-sets (sets state at blocks) at (pairBytes 0) ∙ length-sets state at blocks
+
+-- nor what lies before it
+pub opened-kept : (state : List ℕ) (i : ℕ) (blocks : List ℕ) → blocksBegin ≤ length blocks → i + length blocks ≤ length state → (at n : ℕ) → at + n ≤ i
+    → part (opened state i blocks) at n ≡ part state at n
+unfolding opened pairBytes
+opened-kept state i blocks h r at n k =
+    let l = length-sets state i blocks in
+    part-kept (sets state i blocks) (pairBytes 0) i (let z : i + 2 ≤ length (sets state i blocks) = omega arith in z) at n k ∙ part-kept state blocks i r at n k

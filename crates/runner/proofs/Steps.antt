@@ -13,7 +13,8 @@ use Rattle.page.proofs.Ancestry.{depth-most}
 use Rattle.page.proofs.RowFacts.{document-kind, one-deeper}
 use Rattle.styles.specs.StyleCall.{inlineContents}
 use Rattle.styles.specs.declared.settings.Settings.{Settings}
-use Rattle.runner.specs.State.{partPlace, countAt}
+use Rattle.segments.specs.Sweep.{pairAt}
+use Rattle.runner.specs.State.{partPlace}
 use Rattle.styles.specs.Lent.{Page}
 use Rattle.runner.proofs.Handed.{handed-kind, handed-right}
 use Rattle.runner.specs.Run.{Stepped, noStyle, documentStep, elementStep, openStep, stepOn, handedAt, rowContents, contentsBefore, pageContents}
@@ -69,7 +70,7 @@ module _ (code : List ℕ) (settings : Settings) (g : Page) (parent state texts 
 
     -- of an element, where its parent's part gives its place
     pub element-step : (i : ℕ) → suc i < nodeCount (g .nodes) → nodeAt (g .nodes) (suc i) .kind ≡ elementKind
-        → countAt state (partPlace code (depthOf (g .nodes) (nodeAt (g .nodes) (suc i) .parent))) + 1 ≡ placeOf (g .nodes) (suc i)
+        → pairAt state (partPlace code (depthOf (g .nodes) (nodeAt (g .nodes) (suc i) .parent))) + 1 ≡ placeOf (g .nodes) (suc i)
         → stepAt (suc i) ≡ elementStep code settings (elementAt (g .nodes) (g .attributes) (g .text) (suc i)) (depthOf (g .nodes) (nodeAt (g .nodes) (suc i) .parent)) parent state texts
     unfolding stepOn openStep elementAt
     element-step i there e place =

@@ -1,5 +1,4 @@
 pub mod Walked
-pub mod Groups
 pub mod State
 pub mod Run
 pub mod LeastLengths

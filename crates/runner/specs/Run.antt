@@ -6,6 +6,7 @@ use lib.ListN.{length, take, drop, replicate}
 use lib.Seq.{sets}
 use Rattle.combinators.specs.Choice.{pick, is}
 use Rattle.combinators.specs.Part.{part}
+use Rattle.syntax.specs.Style.{agentOrigin}
 use Rattle.syntax.specs.declared.styles.Value.{Value}
 use Rattle.cascade.specs.declared.slots.Cascade.the-variants.{Crate}
 use Rattle.cascade.specs.Record.{Declared, fromRule}
@@ -20,9 +21,11 @@ use Rattle.styles.specs.Lent.{Page}
 use Rattle.styles.specs.Merged.{mergedRow, lateDeclared}
 use Rattle.styles.specs.Said.{ruleStyle, countedAttributes}
 use Rattle.styles.specs.StyleCall.{inlineContents, placedAttributes}
-use Rattle.runner.specs.Walked.{WalkedSelector, walked}
-use Rattle.runner.specs.Groups.{allGroups, matching}
-use Rattle.runner.specs.State.{partPlace, countAt, raised, groupsFrom, opened}
+use Rattle.segments.specs.Sweep.{pairAt}
+use Rattle.segments.specs.Pass.{Passed}
+use Rattle.segments.specs.Down.{passAt, freshIn, readIn}
+use Rattle.runner.specs.Walked.{WalkedSelector, walkedSelectorAt}
+use Rattle.runner.specs.State.{partPlace, partOf, raised, opened}
 
 -- ---- a step
 
@@ -57,24 +60,35 @@ unfoldable pub rowBelow : List ℕ → List (WalkedSelector Value) → Settings 
 rowBelow parent ss settings place e =
     mergedRow Crate (mergedRow Crate (inheritedRow Crate parent) (selectorsDeclare ss)) (lateDeclared Crate (placedAttributes place (countedAttributes settings e)))
 
--- the document's step opens its part, and has no style
+-- the selectors at places of compiled bytes
+abbrev pub foundAt : List ℕ → List ℕ → List (WalkedSelector Value)
+foundAt code places = readIn (walkedSelectorAt code agentOrigin) places
+
+-- the document's step opens its part, and has no style. What stands above all selectors is kept in the part of the next depth, which is not open yet
 unfoldable pub documentStep : List ℕ → List ℕ → List ℕ → Stepped
-documentStep code state texts = record { row = noStyle; state = opened state (partPlace code 0) (allGroups [] (walked code) []); texts = texts }
+documentStep code state texts =
+    let fresh = freshIn code (partOf code 1 state) in
+    record {
+      row = noStyle;
+      state = opened (sets state (partPlace code 1) fresh) (partPlace code 0) (passAt code [] fresh (partOf code 0 state) .part);
+      texts = texts;
+    }
 
 -- an element below a row of the depth d: it is one child more of its parent, and opens its own part
 unfoldable pub elementStep : List ℕ → Settings → Element → ℕ → List ℕ → List ℕ → List ℕ → Stepped
 elementStep code settings e d parent state texts =
-    let bytes = allGroups (e ∷ []) (walked code) (groupsFrom state (partPlace code d)) in
+    let counted = raised state (partPlace code d) in
+    let passed : Passed = passAt code (e ∷ []) (partOf code d counted) (partOf code (suc d) counted) in
     record {
-      row = rowBelow parent (matching (walked code) bytes) settings (length code + length texts) e;
-      state = opened (raised state (partPlace code d)) (partPlace code (suc d)) bytes;
+      row = rowBelow parent (foundAt code (passed .matched)) settings (length code + length texts) e;
+      state = opened counted (partPlace code (suc d)) (passed .part);
       texts = texts ++ inlineContents settings e;
     }
 
 unfoldable pub openStep : List ℕ → Settings → Handed → ℕ → List ℕ → List ℕ → List ℕ → Stepped
 openStep code settings x zero parent state texts = documentStep code state texts
 openStep code settings x (suc d) parent state texts =
-    let place = countAt state (partPlace code d) + 1 in
+    let place = pairAt state (partPlace code d) + 1 in
     elementStep code settings (record { name = x .name; attributes = x .attributes; place = place }) d parent state texts
 
 -- "A kind-2 row changes no state and its style row is zeros"

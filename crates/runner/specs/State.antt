@@ -1,10 +1,12 @@
 -- The state of a run: one part for each depth, of as many bytes as the compiled sheet and one more. The part of an open row begins with the count of the
--- element children that it has had so far, in two bytes, the lower first; the bytes of the groups follow.
-use Prim.Native.Nat.{ℕ, suc, _+_, _*_, _/_, _%_}
-use mathlib.Core.List.{List, [], _∷_, _++_}
-use lib.ListN.{length, getD, drop}
+-- element children that it has had so far, in two bytes, the lower first. Behind it stand the blocks of the selectors (crates/segments), which its children are told.
+use Prim.Native.Nat.{ℕ, suc, _+_, _*_}
+use mathlib.Core.List.{List}
+use lib.ListN.{length}
 use lib.Seq.{sets}
+use Rattle.combinators.specs.Part.{part}
 use Rattle.page.specs.Accepted.{depthLimit}
+use Rattle.segments.specs.Sweep.{pairAt, pairBytes}
 
 -- the depths of a page, from 0 on
 abbrev pub depths : ℕ
@@ -16,27 +18,14 @@ partWidth code = length code + 1
 abbrev pub partPlace : List ℕ → ℕ → ℕ
 partPlace code depth = depth * partWidth code
 
-abbrev pub countWidth : ℕ
-countWidth = 2
+-- the part of a depth
+unfoldable pub partOf : List ℕ → ℕ → List ℕ → List ℕ
+partOf code depth state = part state (partPlace code depth) (partWidth code)
 
-abbrev pub byteLimit : ℕ
-byteLimit = 256
-
--- a count too large for two bytes wraps, so that nothing is asked of what the state holds
-unfoldable pub countBytes : ℕ → List ℕ
-countBytes n = (n % byteLimit) ∷ (n / byteLimit % byteLimit) ∷ []
-
-unfoldable pub countAt : List ℕ → ℕ → ℕ
-countAt state place = getD state place 0 + byteLimit * getD state (place + 1) 0
-
--- one element child more
+-- one element child more; a count too large for two bytes wraps, so that nothing is asked of what the state holds
 unfoldable pub raised : List ℕ → ℕ → List ℕ
-raised state place = sets state place (countBytes (countAt state place + 1))
+raised state place = sets state place (pairBytes (pairAt state place + 1))
 
--- the bytes of the groups of the part at a place, and what lies behind them
-unfoldable pub groupsFrom : List ℕ → ℕ → List ℕ
-groupsFrom state place = drop (place + countWidth) state
-
--- a part written: no child yet, and these bytes of groups
+-- a part written: these blocks, and no child yet
 unfoldable pub opened : List ℕ → ℕ → List ℕ → List ℕ
-opened state place bytes = sets state place (countBytes 0 ++ bytes)
+opened state place blocks = sets (sets state place blocks) place (pairBytes 0)

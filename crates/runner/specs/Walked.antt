@@ -6,6 +6,7 @@ use Rattle.syntax.specs.Selector.{Component}
 use Rattle.syntax.specs.Style.{agentOrigin, Style}
 use Rattle.syntax.specs.declared.styles.Value.{Value}
 use Rattle.cascade.specs.Record.{Styled}
+use Rattle.page.specs.Path.{Path}
 use Rattle.styles.specs.Said.{meant}
 use Rattle.styles.specs.StyleCall.{inNumbers}
 use Rattle.compiled.specs.Decoded.{Decoded, read, onDecoded, andThen, mapped, counted}
@@ -13,6 +14,7 @@ use Rattle.compiled.specs.Number.{numberAt}
 use Rattle.compiled.specs.Component.{componentAt}
 use Rattle.compiled.specs.Style.{styleNumbersAt}
 use Rattle.compiled.specs.Sheet.{CompiledSelector, Head, headAt}
+use Rattle.segments.specs.Down.{matchingBy}
 
 pub record WalkedSelector (A : Type 0) : Type 0 where
   pub origin : ℕ
@@ -44,3 +46,7 @@ walked t = onDecoded (andThen (numberAt t 0) (λ n count. walkedSelectorsAt coun
 -- ---- a selector that is compiled, with the styles themselves
 unfoldable pub meantSelector : CompiledSelector → WalkedSelector Style
 meantSelector s = record { origin = s .origin; pseudo = pseudoNumber (s .pseudo); components = s .components; styles = map meant (s .styles) }
+
+-- those that match, in reading order
+abbrev pub matchingAt : {A : Type 0} → Path → List (WalkedSelector A) → List (WalkedSelector A)
+matchingAt path ss = matchingBy (λ s. s .components) path ss
