@@ -153,7 +153,7 @@ module _ (code : List ℕ) (few : length code ≤ compiledLimit) (some : 0 < len
     -- its state stays as long
     pub document-long : length (documentStep code state texts .state) ≡ length state
     unfolding documentStep
-    document-long = length-opened (sets state (partPlace code 1) fresh) (partPlace code 0) (documentPassed .part) ∙ length-sets state (partPlace code 1) fresh
+    document-long = length-opened (sets state (partPlace code 1) fresh) (partPlace code 0) _ ∙ length-sets state (partPlace code 1) fresh
 
     -- and is ready for the row behind it
     pub document-ready : ReadyAt 1 (documentStep code state texts .state)
@@ -272,7 +272,7 @@ module _ (code : List ℕ) (few : length code ≤ compiledLimit) (some : 0 < len
         -- the state stays as long
         pub element-long : length (elementStep code settings e (depthOf nodes p) parent state texts .state) ≡ length state
         unfolding elementStep
-        element-long = length-opened counted (partPlace code (suc (depthOf nodes p))) (passed .part) ∙ length-raised state at
+        element-long = length-opened counted (partPlace code (suc (depthOf nodes p))) _ ∙ length-raised state at
 
         -- and the own part is open below the parent's
         pub element-ready : ReadyAt (suc (suc i)) (elementStep code settings e (depthOf nodes p) parent state texts .state)
