@@ -11,8 +11,9 @@ use Rattle.combinators.specs.Part.{part}
 use Rattle.combinators.proofs.Rules.{pick-holds}
 use Rattle.segments.specs.Visits.{toNext, blockBytes, Visited}
 use Rattle.segments.specs.Pass.{blockSet}
-use Rattle.segments.specs.Parts.{partSet, partSets}
+use Rattle.segments.specs.Parts.{partSet, partSets, Apart}
 use Rattle.segments.specs.Visiting.{blockStored}
+use Rattle.segments.proofs.StoreLaws.{SameOutside}
 use Rattle.segments.proofs.CodePartLaws.{length-part-set, part-above-all}
 
 -- ---- one byte
@@ -87,7 +88,7 @@ module _ (state : List ℕ) (own width : ℕ) (v : Visited) (next p : ℕ) where
   block-own = own-sets (blockBytes next (v .awaited) (v .flags)) state own width (p + toNext)
 
   -- the parent's part is as it was
-  pub block-above : (above : ℕ) → above + width ≤ own → part (blockStored state own width v next p) above width ≡ part state above width
+  pub block-above : (above : ℕ) → Apart above own width → part (blockStored state own width v next p) above width ≡ part state above width
   unfolding blockStored
   block-above above h = part-above-all (blockBytes next (v .awaited) (v .flags)) state above own width (p + toNext) h
 
@@ -95,3 +96,10 @@ module _ (state : List ℕ) (own width : ℕ) (v : Visited) (next p : ℕ) where
   pub length-block : length (blockStored state own width v next p) ≡ length state
   unfolding blockStored
   length-block = length-sets-own (blockBytes next (v .awaited) (v .flags)) state own width (p + toNext)
+
+  -- nothing outside of the own part changes
+  pub block-outside : SameOutside (blockStored state own width v next p) state own width
+  unfolding blockStored
+  block-outside =
+      let bytes = blockBytes next (v .awaited) (v .flags) in
+      record { before = front-sets bytes state own width (p + toNext); behind = behind-sets bytes state own width (p + toNext); long = length-sets-own bytes state own width (p + toNext) }

@@ -2,17 +2,18 @@
 use Prim.Native.Nat.{ℕ, zero, suc, _+_, _-_, _/_, _%_, _≤_, _<_}
 use mathlib.Core.Path.{_≡_, refl, sym, ap, _∙_}
 use mathlib.Core.List.{List, [], _∷_, _++_}
+use mathlib.Core.Logic.{inl, inr}
 use native.Mathlib.Omega.{arith}
-use borrow.Author.Tests.{lt-ltb, le-ltb}
+use borrow.Author.Tests.{lt-ltb, le-ltb, ltb-true}
 use lib.Dec.{ltb}
 use lib.ListN.{length, getD, take, drop, set, length-set, replicate, length-replicate}
-use lib.Seq.{take-set-le}
+use lib.Seq.{take-set-le, drop-set-lt}
 use Rattle.combinators.specs.Choice.{pick}
 use Rattle.combinators.specs.Part.{part}
 use Rattle.combinators.proofs.Rules.{pick-holds, is-yes-of, is-no-of}
 use Rattle.segments.specs.Sweep.{byteValues, pairAt, pairBytes, withoutTests, withTests, markBytes, markedTests}
 use Rattle.segments.specs.Before.{freshBytes}
-use Rattle.segments.specs.Parts.{partSet, partSets, flagsLimit}
+use Rattle.segments.specs.Parts.{partSet, partSets, Apart, flagsLimit}
 
 -- ---- the returns of `marked_tests`
 module _ (part : List ℕ) (j b : ℕ) (e : b ≡ getD part j 0) where
@@ -127,14 +128,24 @@ set-behind (suc a) w [] i b h = refl
 set-behind (suc a) w (x ∷ xs) zero b h = absurd (omega arith)
 set-behind (suc a) w (x ∷ xs) (suc i) b h = set-behind a w xs i b (omega arith)
 
+-- a byte stored before a part
+set-before : (a w : ℕ) (l : List ℕ) (i b : ℕ) → i < a → take w (drop a (set l i b)) ≡ take w (drop a l)
+set-before a w l i b h = ap (take w) (drop-set-lt a l i b h)
+
+-- a byte stored in the own part lies outside of one that stands apart
+set-outside : (above own width : ℕ) (l : List ℕ) (j b : ℕ) → j < width → Apart above own width → take width (drop above (set l (own + j) b)) ≡ take width (drop above l)
+set-outside above own width l j b n (inl h) = set-behind above width l (own + j) b (omega arith)
+set-outside above own width l j b n (inr h) = set-before above width l (own + j) b (omega arith)
+
 -- the parent's part stays as it was
-pub part-above : (state : List ℕ) (above own width j b : ℕ) → above + width ≤ own → part (partSet state own width j b) above width ≡ part state above width
+pub part-above : (state : List ℕ) (above own width j b : ℕ) → Apart above own width → part (partSet state own width j b) above width ≡ part state above width
 unfolding part partSet
 part-above state above own width j b h =
-    pick-holds (λ (x : List ℕ). take width (drop above x) ≡ take width (drop above state)) (ltb j width) _ _ (λ _. set-behind above width state (own + j) b (omega arith)) (λ _. refl)
+    pick-holds (λ (x : List ℕ). take width (drop above x) ≡ take width (drop above state)) (ltb j width) _ _
+    (λ e. set-outside above own width state j b (ltb-true j width e) h) (λ _. refl)
 
 -- after bytes too
-pub part-above-all : (bs state : List ℕ) (above own width j : ℕ) → above + width ≤ own → part (partSets state own width j bs) above width ≡ part state above width
+pub part-above-all : (bs state : List ℕ) (above own width j : ℕ) → Apart above own width → part (partSets state own width j bs) above width ≡ part state above width
 unfolding partSets
 part-above-all [] state above own width j h = refl
 part-above-all (b ∷ bs) state above own width j h = part-above-all bs (partSet state own width j b) above own width (j + 1) h ∙ part-above state above own width j b h

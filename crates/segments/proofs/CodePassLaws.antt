@@ -1,10 +1,11 @@
--- A pass in a state: its own part is that of `passFrom`, and the loop that makes it.
+-- A pass in a state: its own part is that of `passFrom`, the rest of the state stays, and the loop that makes it.
 use Prim.Native.Nat.{ℕ, zero, suc, _+_, _-_, _≤_, _<_}
 use mathlib.Core.Path.{_≡_, refl, ap, _∙_}
 use mathlib.Core.Bool.{Bool, true, false}
 use mathlib.Core.List.{List}
 use native.Mathlib.Omega.{arith}
 use lib.ListN.{length}
+use lib.Seq.{sets}
 use Rattle.combinators.specs.Choice.{pick, is}
 use Rattle.combinators.specs.Part.{part}
 use Rattle.combinators.proofs.Rules.{is-yes, is-no}
@@ -13,10 +14,11 @@ use Rattle.segments.specs.Sweep.{pairAt}
 use Rattle.segments.specs.Before.{noPlace}
 use Rattle.segments.specs.Visits.{toNext, Visited, visitAt}
 use Rattle.segments.specs.Pass.{Passed, blockSet, passFrom}
-use Rattle.segments.specs.Parts.{pairLimit}
+use Rattle.segments.specs.Parts.{Apart, pairLimit}
 use Rattle.segments.specs.Visiting.{VisitLent, blockStored}
 use Rattle.segments.specs.Passing.{nextFrom, visitStored, passStored}
-use Rattle.segments.proofs.CodeBlockLaws.{block-own, block-above, length-block}
+use Rattle.segments.proofs.StoreLaws.{SameOutside, outside-same, outside-then, outside-whole}
+use Rattle.segments.proofs.CodeBlockLaws.{block-own, block-above, length-block, block-outside}
 
 -- ---- one selector
 module _ (code : List ℕ) (row : Path) (above own width p : ℕ) (state : List ℕ) where
@@ -84,7 +86,7 @@ unfolding pick
 by-place true own width x y a b e f = e
 by-place false own width x y a b e f = f
 
-module _ (code : List ℕ) (row : Path) (above own width : ℕ) (h : above + width ≤ own) where
+module _ (code : List ℕ) (row : Path) (above own width : ℕ) (h : Apart above own width) where
   -- behind one selector
   visit-moved : (k p : ℕ) (state : List ℕ)
       → passFrom code row (part (visitStored code row above own width p state) above width) k (nextFrom state above width p) (part (visitStored code row above own width p state) own width) .part
@@ -104,3 +106,26 @@ module _ (code : List ℕ) (row : Path) (above own width : ℕ) (h : above + wid
   pass-own zero p state = refl
   pass-own (suc k) p state =
       by-place (is p noPlace) own width _ _ _ _ refl (pass-own k (nextFrom state above width p) (visitStored code row above own width p state) ∙ visit-moved k p state)
+
+-- ---- the whole state after a pass
+-- by whether there is a selector
+outside-by : (t : Bool) (own width : ℕ) (x y state : List ℕ) → SameOutside x state own width → SameOutside y state own width → SameOutside (pick t x y) state own width
+unfolding pick
+outside-by true own width x y state a b = a
+outside-by false own width x y state a b = b
+
+-- nothing outside of the own part changes
+pub pass-outside : (code : List ℕ) (row : Path) (above own width k p : ℕ) (state : List ℕ) → SameOutside (passStored code row above own width k p state) state own width
+unfolding passStored
+pass-outside code row above own width zero p state = outside-same state own width
+pass-outside code row above own width (suc k) p state =
+    let s₁ = visitStored code row above own width p state in
+    let one : SameOutside s₁ state own width = unfold visitStored in block-outside state own width (visitAt code row (part state above width) p) (nextFrom state above width p) p in
+    outside-by (is p noPlace) own width _ _ state (outside-same state own width)
+    (outside-then s₁ _ state own width (pass-outside code row above own width k (nextFrom state above width p) s₁) one)
+
+-- so it is the state with the own part of `passFrom`
+pub pass-whole : (code : List ℕ) (row : Path) (above own width k p : ℕ) (state : List ℕ) → own + width ≤ length state → Apart above own width
+    → passStored code row above own width k p state ≡ sets state own (passFrom code row (part state above width) k p (part state own width) .part)
+pass-whole code row above own width k p state h a =
+    outside-whole _ state own width h (pass-outside code row above own width k p state) ∙ ap (sets state own) (pass-own code row above own width a k p state)

@@ -13,7 +13,7 @@ use Rattle.syntax.specs.Layout.{flag, flagOf}
 use Rattle.page.specs.Path.{Path}
 use Rattle.segments.specs.Sweep.{testsPass, Ended, compoundAt, withoutTests, markBytes, markedTests, sweepAt}
 use Rattle.segments.specs.Met.{placeLimit}
-use Rattle.segments.specs.Parts.{partSet, partSets, flagsLimit}
+use Rattle.segments.specs.Parts.{partSet, partSets, Apart, flagsLimit}
 use Rattle.segments.specs.Swept.{sweptOne, sweptBehind, SweepLent}
 use Rattle.segments.specs.declared.sweeping.Swept.{Swept}
 use Rattle.segments.proofs.CodePartLaws.{length-part-set, stored-first, part-above}
@@ -66,7 +66,7 @@ pub record Sweeping (code : List ℕ) (row : Path) (state₀ : List ℕ) (above 
   pub same : part state above width ≡ part state₀ above width
   pub long : length state ≡ length state₀
   pub room : own + width ≤ length state
-  pub apart : above + width ≤ own
+  pub apart : Apart above own width
   pub few-flags : to + left < flagsLimit
   pub few : place ≤ placeLimit
 

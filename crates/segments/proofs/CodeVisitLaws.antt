@@ -20,7 +20,7 @@ use Rattle.compiled.proofs.Answers.{head-read, head-fault}
 use Rattle.segments.specs.Sweep.{pairAt, pairBytes, markBytes, sweepAt}
 use Rattle.segments.specs.Before.{Segment, beginning, segmentBefore, freshBytes}
 use Rattle.segments.specs.Visits.{toNext, toAwaited, toFlags, blockBytes, Visited, awaits, endedBy, endedAt, decided, visitAt}
-use Rattle.segments.specs.Parts.{partSets}
+use Rattle.segments.specs.Parts.{partSets, Apart}
 use Rattle.segments.specs.Swept.{sweptOne, sweptBehind}
 use Rattle.segments.specs.Visiting.{blockStored, behindFirst}
 use Rattle.segments.specs.declared.sweeping.Swept.{Swept}
@@ -84,7 +84,7 @@ module _ (code : List ℕ) (row : Path) (s₀ s₁ s₂ : List ℕ) (above own w
       block-stored s₀ s₁ s₂ own width p next awaited _ e (f ∙ ap (partSets s₁ own width (p + toFlags)) w)
 
   -- the flags of the others
-  pub stays-others : above + width ≤ own → one .marked ≡ false
+  pub stays-others : Apart above own width → one .marked ≡ false
       → s₂ ≡ partSets s₁ own width (p + toFlags) (sweepAt code row (part s₁ above width) (length code - 1) (p + toFlags + 1) (one .place)) → Stays
   stays-others h m f =
       let o : part s₁ above width ≡ part s₀ above width =

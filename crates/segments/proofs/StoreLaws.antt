@@ -1,10 +1,10 @@
--- A part inside a longer store: what is written byte by byte at its place is the part written whole.
+-- A part inside a longer store: what is written byte by byte at its place is the part written whole, and so is all that leaves what lies outside.
 use Prim.Native.Nat.{ℕ, zero, suc, _+_, _≤_, _<_}
-use mathlib.Core.Path.{_≡_, refl, ap, _∙_}
-use mathlib.Core.List.{List, [], _∷_}
+use mathlib.Core.Path.{_≡_, refl, sym, ap, ap₂, _∙_}
+use mathlib.Core.List.{List, [], _∷_, _++_}
 use native.Mathlib.Omega.{arith}
-use lib.ListN.{length, getD, set, take, drop, length-set}
-use lib.Seq.{sets, set-set, set-out, getD-set-same, set-getD, drop-cons}
+use lib.ListN.{length, getD, set, take, drop, length-set, length-drop, take-append-drop}
+use lib.Seq.{sets, sets-eq, set-set, set-out, getD-set-same, set-getD, drop-cons, take-add, length-take-le}
 use Rattle.combinators.specs.Part.{part}
 use Rattle.combinators.proofs.Wiped.{sets-apart}
 use Rattle.segments.proofs.PartLaws.{sets-before}
@@ -40,3 +40,35 @@ part-same zero store o h = refl
 part-same (suc n) store o h =
     ap (λ (l : List ℕ). sets store o (take (suc n) l)) (drop-cons store o 0 (omega arith))
     ∙ ap (λ (r : List ℕ). sets r (suc o) (take n (drop (suc o) store))) (set-getD store o 0) ∙ part-same n store (suc o) (omega arith)
+
+-- ---- a store that is another outside of a part
+pub record SameOutside (store other : List ℕ) (o n : ℕ) : Type 0 where
+  pub before : take o store ≡ take o other
+  pub behind : drop (o + n) store ≡ drop (o + n) other
+  pub long : length store ≡ length other
+
+-- nothing was done
+pub outside-same : (store : List ℕ) (o n : ℕ) → SameOutside store store o n
+outside-same store o n = record { before = refl; behind = refl; long = refl }
+
+-- one thing after another
+pub outside-then : (first second store : List ℕ) (o n : ℕ) → SameOutside second first o n → SameOutside first store o n → SameOutside second store o n
+outside-then first second store o n a b = record { before = a .before ∙ b .before; behind = a .behind ∙ b .behind; long = a .long ∙ b .long }
+
+-- a part has its length where the store has room for it
+length-part : (store : List ℕ) (o n : ℕ) → o + n ≤ length store → length (part store o n) ≡ n
+unfolding part
+length-part store o n h = length-take-le n (drop o store) (let l = length-drop o store in omega arith)
+
+-- a store is what lies before a part, the part, and what lies behind it
+part-split : (store : List ℕ) (o n : ℕ) → store ≡ take o store ++ part store o n ++ drop (o + n) store
+unfolding part
+part-split store o n = sym (take-append-drop (o + n) store) ∙ ap (λ (x : List ℕ). x ++ drop (o + n) store) (take-add o n store)
+
+-- so it is the other with the part written whole
+pub outside-whole : (store other : List ℕ) (o n : ℕ) → o + n ≤ length other → SameOutside store other o n → store ≡ sets other o (part store o n)
+outside-whole store other o n h s =
+    let x = part store o n in
+    let l : length x ≡ n = length-part store o n (omega (arith, s .long)) in
+    part-split store o n ∙ ap₂ (λ (a b : List ℕ). a ++ x ++ b) (s .before) (s .behind ∙ ap (λ (k : ℕ). drop (o + k) other) (sym l))
+    ∙ sym (sets-eq x other o (omega arith))

@@ -9,7 +9,7 @@ use Rattle.syntax.specs.Layout.{flagOf}
 use Rattle.page.specs.Path.{Path}
 use Rattle.segments.specs.Sweep.{testsPass, Ended, compoundAt, withoutTests, markBytes, markedTests, sweepAt}
 use Rattle.segments.specs.Met.{placeLimit}
-use Rattle.segments.specs.Parts.{flagsLimit}
+use Rattle.segments.specs.Parts.{Apart, flagsLimit}
 use Rattle.segments.specs.declared.sweeping.Swept.{Swept}
 
 -- the compound whose flag is at j and whose components stand from i on
@@ -22,9 +22,9 @@ sweptOne code row part j i =
 unfoldable pub sweptBehind : List ℕ → Path → List ℕ → ℕ → ℕ → Swept → List ℕ
 sweptBehind code row part k j s = pick (s .marked) (markBytes (s .tests)) (sweepAt code row part k (j + 1) (s .place))
 
--- the parent's part stands before the own, which has room; at most `left` flags are stored from `at` on
+-- the parent's part and the own stand apart, and the own has room; at most `left` flags are stored from `at` on
 pub record SweepLent (state : List ℕ) (above own width at left place : ℕ) : Type 0 where
   pub room : own + width ≤ length state
-  pub apart : above + width ≤ own
+  pub apart : Apart above own width
   pub few-flags : at + left < flagsLimit
   pub few : place ≤ placeLimit

@@ -7,14 +7,14 @@ use Rattle.page.specs.Path.{Path}
 use Rattle.compiled.specs.Sheet.{compiledLimit}
 use Rattle.segments.specs.Visits.{toNext, toFlags, blockBytes, Visited}
 use Rattle.segments.specs.Met.{placeLimit}
-use Rattle.segments.specs.Parts.{partSets}
+use Rattle.segments.specs.Parts.{partSets, Apart}
 use Rattle.segments.specs.Swept.{sweptBehind}
 use Rattle.segments.specs.declared.sweeping.Swept.{Swept}
 
--- the parent's part stands before the own, which has room; the place of the selector is no greater than a place of compiled bytes
+-- the parent's part and the own stand apart, and the own has room; the place of the selector is no greater than a place of compiled bytes
 pub record VisitLent (code state : List ℕ) (above own width p place : ℕ) : Type 0 where
   pub room : own + width ≤ length state
-  pub apart : above + width ≤ own
+  pub apart : Apart above own width
   pub few-bytes : length code ≤ compiledLimit
   pub near : p ≤ compiledLimit
   pub few : place ≤ placeLimit
