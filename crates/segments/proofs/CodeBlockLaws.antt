@@ -1,5 +1,5 @@
 -- What bytes stored in the own part leave: that part as `sets` has it, the parent's part and all that lies outside as they were. So the block that a visit stores is `blockSet`.
-use Prim.Native.Nat.{ℕ, zero, suc, _+_, _≤_}
+use Prim.Native.Nat.{ℕ, zero, suc, _+_}
 use mathlib.Core.Path.{_≡_, refl, sym, ap, _∙_}
 use mathlib.Core.List.{List, [], _∷_}
 use native.Mathlib.Omega.{arith}

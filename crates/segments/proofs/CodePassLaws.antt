@@ -17,7 +17,7 @@ use Rattle.segments.specs.Pass.{Passed, blockSet, passFrom}
 use Rattle.segments.specs.Parts.{Apart, pairLimit}
 use Rattle.segments.specs.Visiting.{VisitLent, blockStored}
 use Rattle.segments.specs.Passing.{nextFrom, visitStored, passStored}
-use Rattle.segments.proofs.StoreLaws.{SameOutside, outside-same, outside-then, outside-whole}
+use Rattle.segments.proofs.StoreLaws.{SameOutside, outside-same, outside-then, outside-either, outside-whole}
 use Rattle.segments.proofs.CodeBlockLaws.{block-own, block-above, length-block, block-outside}
 
 -- ---- one selector
@@ -108,12 +108,6 @@ module _ (code : List ℕ) (row : Path) (above own width : ℕ) (h : Apart above
       by-place (is p noPlace) own width _ _ _ _ refl (pass-own k (nextFrom state above width p) (visitStored code row above own width p state) ∙ visit-moved k p state)
 
 -- ---- the whole state after a pass
--- by whether there is a selector
-outside-by : (t : Bool) (own width : ℕ) (x y state : List ℕ) → SameOutside x state own width → SameOutside y state own width → SameOutside (pick t x y) state own width
-unfolding pick
-outside-by true own width x y state a b = a
-outside-by false own width x y state a b = b
-
 -- nothing outside of the own part changes
 pub pass-outside : (code : List ℕ) (row : Path) (above own width k p : ℕ) (state : List ℕ) → SameOutside (passStored code row above own width k p state) state own width
 unfolding passStored
@@ -121,7 +115,7 @@ pass-outside code row above own width zero p state = outside-same state own widt
 pass-outside code row above own width (suc k) p state =
     let s₁ = visitStored code row above own width p state in
     let one : SameOutside s₁ state own width = unfold visitStored in block-outside state own width (visitAt code row (part state above width) p) (nextFrom state above width p) p in
-    outside-by (is p noPlace) own width _ _ state (outside-same state own width)
+    outside-either (is p noPlace) _ _ state own width (outside-same state own width)
     (outside-then s₁ _ state own width (pass-outside code row above own width k (nextFrom state above width p) s₁) one)
 
 -- so it is the state with the own part of `passFrom`

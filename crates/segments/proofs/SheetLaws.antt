@@ -65,7 +65,7 @@ head-lower t least i n h l e =
     (rw (r .0) (w .rest), omega arith)
 
 -- the selector
-selector-lower : (t : List ℕ) (least i n : ℕ) (s : CompiledSelector) → agentOrigin ≤ least → selectorAt t least i ≡ read n s → (selectorAt t agentOrigin i ≡ read n s) × (agentOrigin ≤ s .origin)
+pub selector-lower : (t : List ℕ) (least i n : ℕ) (s : CompiledSelector) → agentOrigin ≤ least → selectorAt t least i ≡ read n s → (selectorAt t agentOrigin i ≡ read n s) × (agentOrigin ≤ s .origin)
 unfolding selectorAt andThen selectorOf
 selector-lower t least i n s l e =
     let w = steps (headAt t least i) (λ m h. mapped (selectorOf h) (partsAt t (h .count) m)) n s e in
@@ -162,7 +162,7 @@ style-count code i n s e =
     record { place = c .0; told = rw (w .head-read, w .components-read) (c .1); none-behind = c .2 }
 
 -- by the count
-has-style : (ds : List StyleDecl) → hasStyle ds ≡ pick (is (length ds) 0) false true
+pub has-style : (ds : List StyleDecl) → hasStyle ds ≡ pick (is (length ds) 0) false true
 unfolding hasStyle
 has-style [] = pick-true _ _ _ _ (is-yes 0 0 refl) refl
 has-style (d ∷ ds) = pick-false _ _ _ _ (is-no _ 0 (λ e. omega arith)) refl

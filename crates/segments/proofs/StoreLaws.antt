@@ -1,10 +1,12 @@
 -- A part inside a longer store: what is written byte by byte at its place is the part written whole, and so is all that leaves what lies outside.
 use Prim.Native.Nat.{ℕ, zero, suc, _+_, _≤_, _<_}
 use mathlib.Core.Path.{_≡_, refl, sym, ap, ap₂, _∙_}
+use mathlib.Core.Bool.{Bool, true, false}
 use mathlib.Core.List.{List, [], _∷_, _++_}
 use native.Mathlib.Omega.{arith}
 use lib.ListN.{length, getD, set, take, drop, length-set, length-drop, take-append-drop}
 use lib.Seq.{sets, sets-eq, set-set, set-out, getD-set-same, set-getD, drop-cons, take-add, length-take-le}
+use Rattle.combinators.specs.Choice.{pick}
 use Rattle.combinators.specs.Part.{part}
 use Rattle.combinators.proofs.Wiped.{sets-apart}
 use Rattle.segments.proofs.PartLaws.{sets-before}
@@ -54,6 +56,12 @@ outside-same store o n = record { before = refl; behind = refl; long = refl }
 -- one thing after another
 pub outside-then : (first second store : List ℕ) (o n : ℕ) → SameOutside second first o n → SameOutside first store o n → SameOutside second store o n
 outside-then first second store o n a b = record { before = a .before ∙ b .before; behind = a .behind ∙ b .behind; long = a .long ∙ b .long }
+
+-- one thing or another
+pub outside-either : (t : Bool) (first second store : List ℕ) (o n : ℕ) → SameOutside first store o n → SameOutside second store o n → SameOutside (pick t first second) store o n
+unfolding pick
+outside-either true first second store o n a b = a
+outside-either false first second store o n a b = b
 
 -- a part has its length where the store has room for it
 length-part : (store : List ℕ) (o n : ℕ) → o + n ≤ length store → length (part store o n) ≡ n

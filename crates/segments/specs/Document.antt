@@ -1,12 +1,13 @@
 -- The part that the document is told: of each selector that has a style the leftmost segment is awaited, and nothing of it has begun.
-use Prim.Native.Nat.{ℕ, zero, suc}
+use Prim.Native.Nat.{ℕ, zero, suc, _≤_}
+use mathlib.Core.Path.{_≡_}
 use mathlib.Core.List.{List}
 use Rattle.combinators.specs.Choice.{pick, is}
 use Rattle.syntax.specs.Style.{agentOrigin}
-use Rattle.compiled.specs.Decoded.{Decoded, onDecoded, andThen, counted}
+use Rattle.compiled.specs.Decoded.{Decoded, read, onDecoded, andThen, counted}
 use Rattle.compiled.specs.Number.{numberAt}
 use Rattle.compiled.specs.Component.{componentAt}
-use Rattle.compiled.specs.Sheet.{headAt, selectorAt}
+use Rattle.compiled.specs.Sheet.{CompiledSelector, headAt, selectorAt, selectorsAt}
 use Rattle.segments.specs.Before.{beginning, segmentBefore, noPlace}
 use Rattle.segments.specs.Placed.{hasStyle}
 use Rattle.segments.specs.Visits.{Visited, awaits}
@@ -39,3 +40,11 @@ styleCountAt code i = andThen (headAt code agentOrigin i) (λ n h. andThen (coun
 unfoldable pub firstStyled : List ℕ → ℕ → ℕ → ℕ
 firstStyled code zero i = noPlace
 firstStyled code (suc k) i = onDecoded (styleCountAt code i) (λ n count. pick (is count 0) (firstStyled code k n) i) (λ _. noPlace)
+
+-- k selectors from i on are read, as behind one of some origin: then this place is that of `styledFrom`
+pub record SelectorsRead (code : List ℕ) (k i : ℕ) : Type 0 where
+  pub least : ℕ
+  pub end : ℕ
+  pub selectors : List CompiledSelector
+  pub origin : agentOrigin ≤ least
+  pub told : selectorsAt k code least i ≡ read end selectors

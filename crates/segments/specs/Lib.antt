@@ -11,4 +11,5 @@ pub mod Parts
 pub mod Swept
 pub mod Visiting
 pub mod Passing
+pub mod Telling
 pub mod Cases
