@@ -104,13 +104,13 @@ first-low code part from p (s ∷ others) path c y t = rw (t .0) (let a = y .0 .
 -- ---- a pass
 
 -- no selector is left
-pass-none : (code above : List ℕ) (row : Path) (k : ℕ) (own : List ℕ) → passFrom code row above k noPlace own ≡ record { part = own; matched = [] }
+pub pass-none : (code above : List ℕ) (row : Path) (k : ℕ) (own : List ℕ) → passFrom code row above k noPlace own ≡ record { part = own; matched = [] }
 unfolding passFrom
 pass-none code above row zero own = refl
 pass-none code above row (suc k) own = sym (pick-true _ _ _ _ (is-yes noPlace noPlace refl) refl)
 
 -- one selector, then the others
-pass-more : (code above : List ℕ) (row : Path) (k p : ℕ) (own : List ℕ) → 0 < p
+pub pass-more : (code above : List ℕ) (row : Path) (k p : ℕ) (own : List ℕ) → 0 < p
     → let next = pairAt above (p + toNext) in
     let others = passFrom code row above k next (blockSet (visitAt code row above p) next p own) in
     passFrom code row above (suc k) p own ≡ record { part = others .part; matched = matchedHere (visitAt code row above p) p ++ others .matched }
