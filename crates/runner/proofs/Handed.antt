@@ -6,7 +6,7 @@ use mathlib.Core.Bool.{true}
 use mathlib.Core.List.{List, _∷_}
 use native.Mathlib.Omega.{arith}
 use lib.ListN.{length, getD, drop, length-drop}
-use lib.Seq.{length-take-le, getD-drop, getD-take}
+use lib.Seq.{length-take-le}
 use Rattle.combinators.specs.Part.{part}
 use Rattle.combinators.proofs.Rules.{and-true, is-true}
 use Rattle.page.specs.Accepted.{endsInZeros}
@@ -17,11 +17,7 @@ use Rattle.page.proofs.AcceptedPages.{Accepted}
 use Rattle.page.proofs.RowFacts.{document-zeros, kind-of-row, attributes-lent}
 use Rattle.styles.specs.Lent.{Page}
 use Rattle.runner.specs.Run.{handedFrom, handedAt}
-
--- a number of a part is that of the whole
-part-number : (l : List ℕ) (at n j : ℕ) → j < n → getD (part l at n) j 0 ≡ getD l (at + j) 0
-unfolding part
-part-number l at n j h = getD-take n (drop at l) j 0 h ∙ getD-drop at l j 0
+use Rattle.runner.proofs.StateParts.{part-number}
 
 -- ---- the row
 module _ (nodes : List ℕ) (i : ℕ) where

@@ -1,5 +1,12 @@
+pub mod StateParts
+pub mod StyleRows
 pub mod OpenRows
+pub mod OpenParts
 pub mod Handed
 pub mod RowBelow
+pub mod WalkedReads
+pub mod FoundLaws
 pub mod Steps
+pub mod Independence
+pub mod RunFree
 pub mod PageContents

@@ -8,6 +8,7 @@ pub mod PassLaws
 pub mod PlacedLaws
 pub mod DocumentLaws
 pub mod DownLaws
+pub mod FreeLaws
 pub mod SheetLaws
 pub mod CodePieceLaws
 pub mod CodeCompoundLaws

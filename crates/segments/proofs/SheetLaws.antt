@@ -55,7 +55,7 @@ head-origin t o m n h e =
     ap (λ (x : Head). x .origin) (v .made)
 
 -- the numbers before the components
-head-lower : (t : List ℕ) (least i n : ℕ) (h : Head) → agentOrigin ≤ least → headAt t least i ≡ read n h → (headAt t agentOrigin i ≡ read n h) × (least ≤ h .origin)
+pub head-lower : (t : List ℕ) (least i n : ℕ) (h : Head) → agentOrigin ≤ least → headAt t least i ≡ read n h → (headAt t agentOrigin i ≡ read n h) × (least ≤ h .origin)
 unfolding headAt andThen
 head-lower t least i n h l e =
     let w = steps (rangedAt t i least authorOrigin) (λ m o. pseudoAt t o m) n h e in

@@ -64,7 +64,7 @@ outside-either true first second store o n a b = a
 outside-either false first second store o n a b = b
 
 -- a part has its length where the store has room for it
-length-part : (store : List ℕ) (o n : ℕ) → o + n ≤ length store → length (part store o n) ≡ n
+pub length-part : (store : List ℕ) (o n : ℕ) → o + n ≤ length store → length (part store o n) ≡ n
 unfolding part
 length-part store o n h = length-take-le n (drop o store) (let l = length-drop o store in omega arith)
 

@@ -19,7 +19,7 @@ use Rattle.segments.specs.Sweep.{pairAt}
 use Rattle.segments.specs.Before.{Segment, beginning, segmentBefore, freshBytes}
 use Rattle.segments.specs.Placed.{Placed, piecesOf}
 use Rattle.segments.specs.Visits.{toAwaited, toFlags, Visited, awaits, endedBy, endedAt, decided, visitAt}
-use Rattle.segments.proofs.SegmentLaws.{asks, allowed, Arrived, asks-last, asks-other, stays, goes-on}
+use Rattle.segments.proofs.SegmentLaws.{asks, allowed, Arrived, asks-last, asks-other, stays, goes-on, arrived-once, child-of}
 use Rattle.segments.proofs.SweepLaws.{Lies, Holds, pairValues, told, sweep-told}
 use Rattle.segments.proofs.BeforeLaws.{segmentPlace, behindAll, place-all, length-segment, segment-lies, place-past, reading, next-segment}
 
@@ -165,19 +165,35 @@ pub record ToldAt (code part : List ℕ) (s : Placed) (p : Path) : Type 0 where
   pub tells : Tells code s p (pairAt part (s .place + toAwaited)) flags
   pub held : Holds part (s .place + toFlags) flags
 
--- a node that is told right says whether a selector matches, and tells its children right
-pub visit-right : (code part : List ℕ) (s : Placed) (p : Path) (e : Element) (from : ℕ) → length code ≤ pairValues → Lying code from s → ToldAt code part s p
-    → Right code s p e (visitAt code (alone p) part (s .place))
-unfolding visitAt
-visit-right code part s p e from c y t =
-    let k = t .tells .done in
-    let a = t .tells .arrived in
-    let l = length-segment k (piecesOf s) in
-    let r = y .room in
-    let m = y .ends in
-    rw (
-      t .tells .place,
-      sweep-told code part p e (length code) (segment k (piecesOf s)) (s .place + toFlags) (segmentPlace code k (piecesOf s) (s .first)) (segment-lies code k (piecesOf s) (s .first) (y .lies))
-          (omega arith) (omega arith) (omega arith) (a .begun) (rw (t .tells .right) at (t .held)),
-    )
-    (right-swept code s p e from y k a (asks (segment k (piecesOf s)) p) refl)
+-- what is decided where so many segments are done, of a node with the child e
+abbrev decidedBy : List ℕ → Placed → Path → Element → ℕ → Visited
+decidedBy code s p e k =
+    decided code (s .place) (segmentPlace code k (piecesOf s) (s .first)) (flag (asks (segment k (piecesOf s)) p) ∷ told 0 (segment k (piecesOf s)) (e ∷ p))
+
+module _ (code part : List ℕ) (s : Placed) (p : Path) (e : Element) (from : ℕ) (c : length code ≤ pairValues) (y : Lying code from s) (t : ToldAt code part s p) where
+  -- a node that is told right decides so
+  visit-by : visitAt code (alone p) part (s .place) ≡ decidedBy code s p e (t .tells .done)
+  unfolding visitAt
+  visit-by =
+      let k = t .tells .done in
+      let a = t .tells .arrived in
+      let l = length-segment k (piecesOf s) in
+      let r = y .room in
+      let m = y .ends in
+      rw (
+        t .tells .place,
+        sweep-told code part p e (length code) (segment k (piecesOf s)) (s .place + toFlags) (segmentPlace code k (piecesOf s) (s .first)) (segment-lies code k (piecesOf s) (s .first) (y .lies))
+            (omega arith) (omega arith) (omega arith) (a .begun) (rw (t .tells .right) at (t .held)),
+      )
+
+  -- it says whether a selector matches, and tells its children right
+  pub visit-right : Right code s p e (visitAt code (alone p) part (s .place))
+  visit-right = rw visit-by (right-swept code s p e from y (t .tells .done) (t .tells .arrived) (asks (segment (t .tells .done) (piecesOf s)) p) refl)
+
+-- two parts that tell right: the same is decided
+pub visit-once : (code part other : List ℕ) (s : Placed) (p : Path) (from : ℕ) → length code ≤ pairValues → Lying code from s → ToldAt code part s p → ToldAt code other s p
+    → visitAt code (alone p) part (s .place) ≡ visitAt code (alone p) other (s .place)
+visit-once code part other s p from c y t u =
+    visit-by code part s p child-of from c y t
+    ∙ ap (decidedBy code s p child-of) (arrived-once (piecesOf s) _ _ p (t .tells .arrived) (u .tells .arrived))
+    ∙ sym (visit-by code other s p child-of from c y u)
