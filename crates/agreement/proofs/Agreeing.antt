@@ -69,7 +69,7 @@ module _ (s : SheetTexts) (g : Page) (settings : Settings) (code : List ℕ) (c 
       let l = none-long (length (s .agent)) (length (s .user)) (length (s .author)) (c .short) in
       let h = run-lent code settings g b (t .suffices) in
       let m = c .sheets in
-      rw (c .bytes) (demand-3 (s .agent) (s .user) (s .author) (m .agent) (m .user) (m .author) (c .read) (l .0) (l .1) (l .2) g (t .page) settings (b .rows) (b .state) (rw (c .bytes) at h))
+      rw (c .bytes) (demand-3 (s .agent) (s .user) (s .author) (m .agent) (m .user) (m .author) (c .read) (l .0) (l .1) (l .2) (rw (c .bytes) at (t .few)) g (t .page) settings (b .rows) (b .state) (rw (c .bytes) at h))
 
   abbrev leaves : RunLeft
   leaves = ran (b .rows) (b .texts) (b .state) (b .rules) (b .tokens) (b .brackets) code settings g

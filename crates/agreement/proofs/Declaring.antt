@@ -20,22 +20,14 @@ use Rattle.compiled.specs.Sheet.{CompiledSelector}
 use Rattle.compiler.specs.Selectors.{compiledSelector, styledSelectors, ruleSelectors, sheetSelectors, selectorsOf}
 use Rattle.styles.specs.Said.{ruleStyles, ruleStyle, selectorSays, selectorsSay, rulesSay, meant, meantRule}
 use Rattle.styles.proofs.Placed.{rule-style-same}
-use Rattle.runner.specs.Walked.{WalkedSelector, meantSelector}
-use Rattle.runner.specs.Groups.{matchingAt}
+use Rattle.segments.specs.Down.{matchingBy}
+use Rattle.runner.specs.Walked.{WalkedSelector, meantSelector, matchingAt}
 use Rattle.runner.specs.Run.{selectorsDeclare}
+use Rattle.runner.proofs.FoundLaws.{declared-append}
 
--- ---- selectors one after the other
--- what they declare
-declared-append : {A : Type 0} (a b : List (WalkedSelector A)) → selectorsDeclare (a ++ b) ≡ selectorsDeclare a ++ selectorsDeclare b
-unfolding selectorsDeclare
-declared-append [] b = refl
-declared-append (s ∷ a) b =
-    rw (declared-append a b)
-    (sym (append-assoc (map (λ x. fromRule (s .origin) (ruleStyle (s .pseudo) (specificity (s .components)) x)) (s .styles)) (selectorsDeclare a) (selectorsDeclare b)))
-
--- which of them match
+-- ---- selectors one after the other: which of them match
 matching-append : {A : Type 0} (p : Path) (a b : List (WalkedSelector A)) → matchingAt p (a ++ b) ≡ matchingAt p a ++ matchingAt p b
-unfolding matchingAt
+unfolding matchingBy
 matching-append p [] b = refl
 matching-append p (s ∷ a) b = rw (matching-append p a b) (sym (append-assoc (pick (matches (s .components) p) (s ∷ []) []) (matchingAt p a) (matchingAt p b)))
 
@@ -64,7 +56,7 @@ module _ {A B : Type 0} (R : A → B → Type 0) where
 
   -- and match alike
   pub matching-alike : (p : Path) {xs : List (WalkedSelector A)} {ys : List (WalkedSelector B)} → Each SameSelector xs ys → Each SameSelector (matchingAt p xs) (matchingAt p ys)
-  unfolding matchingAt
+  unfolding matchingBy
   matching-alike p none = none
   matching-alike p (next {a = x} {b = y} h hs) =
       each-append SameSelector
@@ -91,14 +83,14 @@ module _ (p : Path) where
 
   -- it declares that where it matches
   first-said : (o : ℕ) (ds : List StyleDecl) (s : Selector) → said (compiledSelector o ds s ∷ []) ≡ map (fromRule o) (selectorSays p (map meant ds) s)
-  unfolding matchingAt selectorSays meantSelector compiledSelector
+  unfolding matchingBy selectorSays meantSelector compiledSelector
   first-said o ds s =
       ap selectorsDeclare (append-nil (pick (matches (s .components) p) (meantSelector (compiledSelector o ds s) ∷ []) [])) ∙ one-said (matches (s .components) p) o ds s
 
   -- the selectors of a rule
   selectors-said : (o : ℕ) (ds : List StyleDecl) (ss : List Selector) → said (map (compiledSelector o ds) ss) ≡ map (fromRule o) (selectorsSay p (map meant ds) ss)
   unfolding selectorsSay
-  selectors-said o ds [] = unfold matchingAt selectorsDeclare in refl
+  selectors-said o ds [] = unfold matchingBy selectorsDeclare in refl
   selectors-said o ds (s ∷ ss) =
       said-append (compiledSelector o ds s ∷ []) (map (compiledSelector o ds) ss)
       ∙ ap₂ _++_ (first-said o ds s) (selectors-said o ds ss)
@@ -119,13 +111,13 @@ module _ (p : Path) where
   -- the selectors of a rule that are compiled: all, or none where it has no style
   styled-said : (o : ℕ) (ds : List StyleDecl) (ss : List Selector) → said (styledSelectors o ds ss) ≡ map (fromRule o) (selectorsSay p (map meant ds) ss)
   unfolding styledSelectors
-  styled-said o [] ss = unfold matchingAt selectorsDeclare in rw (nothing-said ss)
+  styled-said o [] ss = unfold matchingBy selectorsDeclare in rw (nothing-said ss)
   styled-said o (d ∷ ds) ss = selectors-said o (d ∷ ds) ss
 
   -- the rules of a sheet
   sheet-said : (o : ℕ) (rs : List RuleSet) → said (sheetSelectors o rs) ≡ map (fromRule o) (rulesSay p (map meantRule rs))
   unfolding sheetSelectors ruleSelectors rulesSay meantRule ruleStyles
-  sheet-said o [] = unfold matchingAt selectorsDeclare in refl
+  sheet-said o [] = unfold matchingBy selectorsDeclare in refl
   sheet-said o (r ∷ rs) =
       said-append (styledSelectors o (stylesOf (r .declarations)) (r .selectors)) (sheetSelectors o rs)
       ∙ ap₂ _++_ (styled-said o (stylesOf (r .declarations)) (r .selectors)) (sheet-said o rs)

@@ -17,7 +17,7 @@ use Rattle.page.specs.Rows.{nodeCount, nodeAt, elementKind}
 use Rattle.page.proofs.AcceptedPages.{accepted}
 use Rattle.origins.specs.Reading.{rules, sheetsOf}
 use Rattle.origins.proofs.SheetsKnown.{sheets-known}
-use Rattle.compiled.specs.Sheet.{encode}
+use Rattle.compiled.specs.Sheet.{compiledLimit, encode}
 use Rattle.compiler.specs.Selectors.{selectorsOf}
 use Rattle.compiler.proofs.Range.{sheets-fit}
 use Rattle.styles.specs.declared.settings.Settings.{Settings}
@@ -32,10 +32,10 @@ use Rattle.runner.specs.Run.{Running, styleRowAt, runOf}
 use Rattle.agreement.specs.Demand.{AllRows}
 use Rattle.agreement.proofs.RunRight.{run-right}
 
--- three sheets that are read without a panic, none above its limit; an accepted page; document styles on or off
+-- three sheets that are read without a panic, none above its limit, nor their bytes; an accepted page; document styles on or off
 module _ (agent user author : List ℕ) (a u w : List RuleSet) (read : sheetsOf agent user author ≡ rules a u w)
     (agent-within : length agent ≤ sheetLimit) (user-within : length user ≤ sheetLimit) (author-within : length author ≤ sheetLimit)
-    (g : Page) (ok : pageRefusal (g .nodes) (g .attributes) (g .text) ≡ noRefusal) (settings : Settings) where
+    (few : length (encode (selectorsOf a u w)) ≤ compiledLimit) (g : Page) (ok : pageRefusal (g .nodes) (g .attributes) (g .text) ≡ noRefusal) (settings : Settings) where
   abbrev sheets : Rules RuleSet
   sheets = record { agent = a; user = u; author = w }
 
@@ -47,7 +47,7 @@ module _ (agent user author : List ℕ) (a u w : List RuleSet) (read : sheetsOf 
   demand-3 rows state lent =
       let k = sheets-known agent user author a u w read in
       let fits = sheets-fit agent user author (k .agent-read) (k .user-read) (k .author-read) agent-within user-within author-within in
-      run-right sheets fits settings g (accepted (g .nodes) (g .attributes) (g .text) ok) rows state (lent .for-rows) (lent .for-state)
+      run-right sheets fits few settings g (accepted (g .nodes) (g .attributes) (g .text) ok) rows state (lent .for-rows) (lent .for-state)
 
   abbrev Element : ℕ → Type 0
   Element i = (i < nodeCount (g .nodes)) × (nodeAt (g .nodes) i .kind ≡ elementKind)

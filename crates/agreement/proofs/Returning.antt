@@ -1,10 +1,10 @@
 -- Demand 3 of three calls whose contracts are given: one law for each function that makes them.
 use Prim.Native.Nat.{ℕ, _+_, _≤_}
-use mathlib.Core.Path.{_≡_, refl, ap, sym, subst, _∙_}
+use mathlib.Core.Path.{_≡_, ap, sym, subst, _∙_}
 use mathlib.Core.List.{List}
 use native.Mathlib.Omega.{arith}
 use lib.Dec.{leb}
-use lib.ListN.{length, take}
+use lib.ListN.{length}
 use Rattle.combinators.specs.LeastLengths.{storesSuffice}
 use Rattle.combinators.specs.Refusal.{refused, refusedIn, tooLong, shortStore, notUtf8, panic, noRoom}
 use Rattle.combinators.specs.declared.refusals.Refusal.{Refusal}

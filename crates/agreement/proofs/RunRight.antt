@@ -1,13 +1,14 @@
 -- A run over the bytes of three sheets whose selectors fit: every row that it writes is the computed style of the row's element. What holds before a row, what
 -- its step leaves, and so all rows.
 use Prim.Native.Nat.{ℕ, zero, suc, _+_, _*_, _≤_, _<_}
-use mathlib.Core.Path.{_≡_, refl, ap, ap₂, sym, subst, _∙_}
+use mathlib.Core.Path.{_≡_, refl, ap, sym, subst, _∙_}
 use mathlib.Core.Logic.{_⊎_, inl, inr}
 use mathlib.Core.List.{List, [], _∷_, _++_, append-nil}
 use native.Mathlib.Nat.{not-suc-le-zero}
 use native.Mathlib.Omega.{arith}
 use lib.ListN.{length, drop, length-append}
 use lib.Seq.{sets, length-sets, drop-drop}
+use Rattle.combinators.specs.Refusal.{noRefusal}
 use Rattle.combinators.proofs.Rules.{lt-or-ge}
 use Rattle.syntax.specs.Selector.{RuleSet}
 use Rattle.cascade.specs.Row.{styleRowWidth, rowOf, styleAt}
@@ -20,26 +21,26 @@ use Rattle.page.proofs.AcceptedPages.{Accepted}
 use Rattle.page.proofs.Paths.{path-document, path-element}
 use Rattle.page.proofs.RowFacts.{document-kind, parent-kind}
 use Rattle.syntax.specs.Stream.{textsMany}
+use Rattle.compiled.specs.Answer.{bytesRefusal}
+use Rattle.compiled.specs.Decoded.{onDecoded}
 use Rattle.compiled.specs.Number.{numberBytes}
-use Rattle.compiled.specs.Sheet.{CompiledSelector, selectorBytes, encode}
+use Rattle.compiled.specs.Sheet.{CompiledSelector, compiledLimit, selectorBytes, encode}
 use Rattle.compiled.proofs.NumberBack.{number-some}
 use Rattle.compiled.proofs.Fits.{SheetFits}
 use Rattle.compiled.proofs.RoundTrip.{round-trip}
 use Rattle.styles.specs.Said.{Rules}
 use Rattle.styles.specs.StyleCall.{inlineContents}
-use Rattle.syntax.specs.declared.styles.Value.{Value}
 use Rattle.styles.specs.declared.settings.Settings.{Settings}
-use Rattle.runner.specs.Walked.{WalkedSelector, walked}
-use Rattle.runner.specs.Groups.{allGroups, matching, matchingAt}
-use Rattle.runner.specs.State.{depths, partWidth, partPlace, raised, groupsFrom}
+use Rattle.runner.specs.Walked.{walked, matchingAt}
+use Rattle.runner.specs.State.{depths, partWidth}
 use Rattle.styles.specs.Lent.{Page}
-use Rattle.runner.specs.Run.{noStyle, rowBelow, Stepped, documentStep, elementStep, stepOn, handedAt, Running, styleRowAt, runStep, runFrom, runOf, rowContents, contentsBefore, pageContents}
+use Rattle.runner.specs.Run.{noStyle, selectorsDeclare, foundAt, rowBelow, Stepped, documentStep, elementStep, stepOn, handedAt, Running, styleRowAt, runStep, runFrom, runOf, rowContents, contentsBefore, pageContents}
 use Rattle.agreement.specs.Demand.{sheetsSelectors, AllRows}
-use Rattle.runner.proofs.GroupLaws.{matching-right}
 use Rattle.runner.proofs.StyleRows.{row-written, row-kept, behind-kept}
-use Rattle.runner.proofs.GroupsFit.{groups-fit}
+use Rattle.runner.proofs.RowBelow.{row-declared}
+use Rattle.runner.proofs.FoundLaws.{found-declares}
 use Rattle.runner.proofs.OpenRows.{parent-most, kinds}
-use Rattle.runner.proofs.OpenParts.{used, length-raised, length-opened, Ready, document-ready, other-ready, place-right, bytes-of, element-ready}
+use Rattle.runner.proofs.OpenParts.{Ready, document-long, document-ready, other-ready, place-right, found-of, element-long, element-ready}
 use Rattle.agreement.proofs.StepStyle.{RowStyled, document-styled, styled-further, styled-below}
 use Rattle.runner.proofs.Steps.{element-contents, no-contents, other-step, document-step, element-step}
 
@@ -48,8 +49,13 @@ some-bytes : (ss : List CompiledSelector) → 0 < length (encode ss)
 unfolding encode
 some-bytes ss = omega (arith, length-append (numberBytes (length ss)) (textsMany selectorBytes ss), number-some (length ss))
 
+-- and are not refused
+bytes-right : (ss : List CompiledSelector) → SheetFits ss → bytesRefusal (encode ss) ≡ noRefusal
+unfolding bytesRefusal onDecoded
+bytes-right ss fits = rw (round-trip ss fits)
+
 -- ---- a run
-module _ (rules : Rules RuleSet) (fits : SheetFits (sheetsSelectors rules)) (settings : Settings) (g : Page) (ok : Accepted (g .nodes) (g .attributes) (g .text))
+module _ (rules : Rules RuleSet) (fits : SheetFits (sheetsSelectors rules)) (few : length (encode (sheetsSelectors rules)) ≤ compiledLimit) (settings : Settings) (g : Page) (ok : Accepted (g .nodes) (g .attributes) (g .text))
     (rows₀ state₀ : List ℕ) where
   abbrev code : List ℕ
   code = encode (sheetsSelectors rules)
@@ -63,12 +69,12 @@ module _ (rules : Rules RuleSet) (fits : SheetFits (sheetsSelectors rules)) (set
   abbrev pathAt : ℕ → Path
   pathAt i = pathOf (g .nodes) (g .attributes) (g .text) i
 
-  -- a part has room for the bytes of all groups
-  pub groups-there : used (walked code) ≤ partWidth code
-  groups-there = groups-fit code (some-bytes (sheetsSelectors rules))
+  -- there are bytes
+  some : 0 < length code
+  some = some-bytes (sheetsSelectors rules)
 
   abbrev ReadyAt : ℕ → List ℕ → Type 0
-  ReadyAt i state = Ready code (walked code) (g .nodes) (g .attributes) (g .text) groups-there ok i state
+  ReadyAt i state = Ready code (g .nodes) (g .attributes) (g .text) i state
 
   -- a style row is right where the store has these contents
   pub record RowRight (filled row : List ℕ) (i : ℕ) : Type 0 where
@@ -154,8 +160,8 @@ module _ (rules : Rules RuleSet) (fits : SheetFits (sheetsSelectors rules)) (set
         (record {
           whole = refl;
           right = zeros-right (contentsBefore settings g 1) 0 no;
-          state-long = length-opened (r .state) (partPlace code 0) (allGroups [] (walked code) []);
-          ready = document-ready code (walked code) (g .nodes) (g .attributes) (g .text) groups-there ok (r .state) long;
+          state-long = document-long code few some (g .nodes) (g .attributes) (g .text) ok (r .state) (r .texts) long;
+          ready = document-ready code few some (g .nodes) (g .attributes) (g .text) ok (r .state) (r .texts) long;
           texts = nothing-new 0 (r .texts) no;
         })
 
@@ -176,7 +182,7 @@ module _ (rules : Rules RuleSet) (fits : SheetFits (sheetsSelectors rules)) (set
             whole = refl;
             right = zeros-right (contentsBefore settings g (suc (suc i))) (suc i) no;
             state-long = refl;
-            ready = other-ready code (walked code) (g .nodes) (g .attributes) (g .text) groups-there ok i there (r .state) long (b .ready) e;
+            ready = other-ready code few some (g .nodes) (g .attributes) (g .text) ok i there (r .state) long (b .ready) e;
             texts = nothing-new (suc i) (r .texts) no;
           })
 
@@ -204,23 +210,23 @@ module _ (rules : Rules RuleSet) (fits : SheetFits (sheetsSelectors rules)) (set
         abbrev filled : List ℕ
         filled = contentsBefore settings g (suc i)
 
-        abbrev bytes : List ℕ
-        bytes = allGroups (e ∷ []) (walked code) (groupsFrom (r .state) (partPlace code (depthOf (g .nodes) p)))
+        -- its step
+        abbrev left : Stepped
+        left = elementStep code settings e (depthOf (g .nodes) p) parent (r .state) (r .texts)
 
         -- its path
         path-here : pathAt (suc i) ≡ e ∷ pathAt p
         path-here = path-element (g .nodes) (g .attributes) (g .text) ok (suc i) there (omega arith) element
 
-        -- the selectors that match, by the bytes
-        matching-here : matching (walked code) bytes ≡ matchingAt (e ∷ pathAt p) (walked code)
-        matching-here =
-            ap (matching (walked code)) (bytes-of code (walked code) (g .nodes) (g .attributes) (g .text) groups-there ok i there (r .state) long (b .ready) element)
-            ∙ matching-right (walked code) (pathAt (suc i))
-            ∙ ap (λ (x : Path). matchingAt x (walked code)) path-here
-
-        -- the row, by the path
-        row-here : rowBelow parent (matching (walked code) bytes) settings (length code + length (r .texts)) e ≡ rowBelow parent (matchingAt (e ∷ pathAt p) (walked code)) settings (length code + length filled) e
-        row-here = ap₂ (λ (ss : List (WalkedSelector Value)) (l : List ℕ). rowBelow parent ss settings (length code + length l) e) matching-here (b .texts)
+        -- the selectors found declare what those that match at the path do
+        row-here : left .row ≡ rowBelow parent (matchingAt (e ∷ pathAt p) (walked code)) settings (length code + length filled) e
+        unfolding elementStep
+        row-here =
+            row-declared _ (matchingAt (e ∷ pathAt p) (walked code)) settings (length code + length (r .texts)) e parent
+            (ap (λ (places : List ℕ). selectorsDeclare (foundAt code places)) (found-of code few some (g .nodes) (g .attributes) (g .text) ok i there (r .state) long (b .ready) element)
+            ∙ found-declares code (bytes-right (sheetsSelectors rules) fits) (pathAt (suc i))
+            ∙ ap (λ (x : Path). selectorsDeclare (matchingAt x (walked code))) path-here)
+            ∙ ap (λ (l : List ℕ). rowBelow parent (matchingAt (e ∷ pathAt p) (walked code)) settings (length code + length l) e) (b .texts)
 
         -- which is the computed style
         below : RowStyled rules settings (filled ++ inlineContents settings e) (rowBelow parent (matchingAt (e ∷ pathAt p) (walked code)) settings (length code + length filled) e) (e ∷ pathAt p)
@@ -230,15 +236,14 @@ module _ (rules : Rules RuleSet) (fits : SheetFits (sheetsSelectors rules)) (set
         element-after : After (suc i) r (stepAt (suc i) r)
         unfolding elementStep contentsBefore
         element-after =
-            let place = place-right code (walked code) (g .nodes) (g .attributes) (g .text) groups-there ok i there (r .state) long (b .ready) element in
+            let place = place-right code few some (g .nodes) (g .attributes) (g .text) ok i there (r .state) long (b .ready) element in
             let new : rowContents settings g (suc i) ≡ inlineContents settings e = element-contents settings g (suc i) element in
-            let at : ℕ = partPlace code (depthOf (g .nodes) p) in
             subst (After (suc i) r) (sym (element-step code settings g parent (r .state) (r .texts) ok i there element place))
             (record {
               whole = ap length (row-here ∙ below .1) ∙ row-long (below .0) (below .2);
               right = record { styled = λ k. rw (row-here, new, path-here) below; zeros = λ d. absurd (d element) };
-              state-long = length-opened (raised (r .state) at) (partPlace code (suc (depthOf (g .nodes) p))) bytes ∙ length-raised (r .state) at;
-              ready = element-ready code (walked code) (g .nodes) (g .attributes) (g .text) groups-there ok i there (r .state) long (b .ready) element e refl;
+              state-long = element-long code few some (g .nodes) (g .attributes) (g .text) ok i there (r .state) long (b .ready) element settings parent (r .texts);
+              ready = element-ready code few some (g .nodes) (g .attributes) (g .text) ok i there (r .state) long (b .ready) element settings parent (r .texts);
               texts = ap (λ (x : List ℕ). r .texts ++ x) (sym new);
             })
 

@@ -164,7 +164,7 @@ module _ (code : List ℕ) (settings : Settings) (g : Page) (b b′ : RunBuffers
       let r : Running = runOf code settings g (b .rows) (b .state) in
       let r′ : Running = runOf code settings g (b′ .rows) (b′ .state) in
       let ok = accepted (g .nodes) (g .attributes) (g .text) (t .page) in
-      let free = run-free code (some-bytes code (t .bytes)) settings g ok (b .rows) (b .state) (b′ .rows) (b′ .state) (run-lent code settings g b (t .suffices)) (run-lent code settings g b′ (t′ .suffices)) in
+      let free = run-free code (t .few) (some-bytes code (t .bytes)) settings g ok (b .rows) (b .state) (b′ .rows) (b′ .state) (run-lent code settings g b (t .suffices)) (run-lent code settings g b′ (t′ .suffices)) in
       let long : length (r .rows) ≡ length (r′ .rows) = run-rows-long code settings g (b .rows) (b .state) ∙ same .rows ∙ sym (run-rows-long code settings g (b′ .rows) (b′ .state)) in
       let rows : cleared (rowsLeast g) (r .rows) ≡ cleared (rowsLeast g) (r′ .rows) =
       cleared-is (rowsLeast g) (r .rows) ∙ ap₂ (λ (x : List ℕ) (n : ℕ). x ++ replicate (n - rowsLeast g) 0) (free .0) long ∙ sym (cleared-is (rowsLeast g) (r′ .rows)) in

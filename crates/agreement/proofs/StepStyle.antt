@@ -29,8 +29,7 @@ use Rattle.styles.specs.StyleCall.{inlineContents, placedAttributes}
 use Rattle.styles.specs.Says.{Says}
 use Rattle.styles.proofs.Lying.{Lies}
 use Rattle.styles.proofs.Placed.{attributes-placed}
-use Rattle.runner.specs.Walked.{walked, meantSelector}
-use Rattle.runner.specs.Groups.{matchingAt}
+use Rattle.runner.specs.Walked.{walked, meantSelector, matchingAt}
 use Rattle.runner.specs.Run.{noStyle, selectorsDeclare, rowBelow}
 use Rattle.agreement.specs.Demand.{sheetsSelectors}
 use Rattle.runner.proofs.RowBelow.{declaredBelow, styleBelow, row-below}

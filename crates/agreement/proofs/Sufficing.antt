@@ -21,7 +21,7 @@ use Rattle.runner.specs.LeastLengths.{runTextBytes}
 use Rattle.runner.proofs.PageContents.{contents-short}
 use Rattle.running.specs.Ready.{RowReady, textsMost}
 use Rattle.running.proofs.Handed.{attributes-room}
-use Rattle.agreement.specs.LeastSuffice.{sheetsBytes, NoneLong, AcceptedPage, RunAsked, RoomFor, LeastSuffice}
+use Rattle.agreement.specs.LeastSuffice.{sheetsBytes, NoneLong, RunAsked, RoomFor, LeastSuffice}
 
 -- what suffices for n bytes suffices for fewer
 least-fewer : (n m rules tokens brackets texts : ℕ) → m ≤ n → Least n rules tokens brackets texts → Least m rules tokens brackets texts

@@ -36,14 +36,14 @@ use Rattle.runner.proofs.OpenRows.{Below, weaken, children-same, child-
 -- ---- parts by their depths
 
 -- the part of every depth has room
-pub room : (code state : List ℕ) (d : ℕ) → depths * partWidth code ≤ length state → d ≤ depthLimit → partPlace code d + partWidth code ≤ length state
+room : (code state : List ℕ) (d : ℕ) → depths * partWidth code ≤ length state → d ≤ depthLimit → partPlace code d + partWidth code ≤ length state
 room code state d l h =
     let m : suc d * partWidth code ≤ depths * partWidth code = mul-le-mul-right (partWidth code) (omega arith) in
     omega (arith, suc-mul d (partWidth code))
 
 module _ (code : List ℕ) where
   -- a part ends before those of greater depths
-  pub part-before : (k d : ℕ) → k < d → partPlace code k + partWidth code ≤ partPlace code d
+  part-before : (k d : ℕ) → k < d → partPlace code k + partWidth code ≤ partPlace code d
   part-before k d h =
       let m : suc k * partWidth code ≤ d * partWidth code = mul-le-mul-right (partWidth code) h in
       omega (arith, suc-mul k (partWidth code))
@@ -59,7 +59,7 @@ module _ (code : List ℕ) where
 
   module _ (some : 0 < length code) (state : List ℕ) (d : ℕ) (r : partPlace code d + partWidth code ≤ length state) where
     -- a raised count leaves them
-    pub raised-above : SameAbove d state (raised state (partPlace code d))
+    raised-above : SameAbove d state (raised state (partPlace code d))
     unfolding partOf raised pairBytes
     raised-above k h =
         part-kept state (pairBytes (pairAt state (partPlace code d) + 1)) (partPlace code d) (let z : partPlace code d + 2 ≤ length state = omega arith in z) (partPlace code k) (partWidth code)
@@ -153,7 +153,7 @@ module _ (code : List ℕ) (few : length code ≤ compiledLimit) (some : 0 < len
     -- its state stays as long
     pub document-long : length (documentStep code state texts .state) ≡ length state
     unfolding documentStep
-    document-long = length-opened (sets state (partPlace code 1) fresh) (partPlace code 0) (documentPassed .part) ∙ length-sets state (partPlace code 1) fresh
+    document-long = length-opened (sets state (partPlace code 1) fresh) (partPlace code 0) _ ∙ length-sets state (partPlace code 1) fresh
 
     -- and is ready for the row behind it
     pub document-ready : ReadyAt 1 (documentStep code state texts .state)
@@ -272,7 +272,7 @@ module _ (code : List ℕ) (few : length code ≤ compiledLimit) (some : 0 < len
         -- the state stays as long
         pub element-long : length (elementStep code settings e (depthOf nodes p) parent state texts .state) ≡ length state
         unfolding elementStep
-        element-long = length-opened counted (partPlace code (suc (depthOf nodes p))) (passed .part) ∙ length-raised state at
+        element-long = length-opened counted (partPlace code (suc (depthOf nodes p))) _ ∙ length-raised state at
 
         -- and the own part is open below the parent's
         pub element-ready : ReadyAt (suc (suc i)) (elementStep code settings e (depthOf nodes p) parent state texts .state)

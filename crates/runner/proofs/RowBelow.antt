@@ -44,3 +44,10 @@ module _ (ss : List (WalkedSelector Value)) (settings : Settings) (place : ℕ) 
       ap (λ (r : List ℕ). mergedRow Crate (mergedRow Crate r (selectorsDeclare ss)) (lateDeclared Crate (placedAttributes place (countedAttributes settings e)))) (inherit-layout Crate s f)
       ∙ sym (merged-append Crate (rowOf (inheritBy Crate s)) (selectorsDeclare ss) (map (fromAttribute false inlineSpecificity) (placedAttributes place (countedAttributes settings e))))
       ∙ merges-layout (updateBy Crate) declaredBelow (inheritBy Crate s) (inherit-formed s f)
+
+-- selectors that declare the same give the same row
+pub row-declared : (ss others : List (WalkedSelector Value)) (settings : Settings) (place : ℕ) (e : Element) (parent : List ℕ) → selectorsDeclare ss ≡ selectorsDeclare others
+    → rowBelow parent ss settings place e ≡ rowBelow parent others settings place e
+unfolding rowBelow
+row-declared ss others settings place e parent same =
+    ap (λ (l : List (Declared Value)). mergedRow Crate (mergedRow Crate (inheritedRow Crate parent) l) (lateDeclared Crate (placedAttributes place (countedAttributes settings e)))) same

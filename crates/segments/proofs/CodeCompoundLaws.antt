@@ -181,6 +181,10 @@ module _ (code : List ℕ) (stop count first i left start steps tests : ℕ) (v 
   abbrev Found : Type 0
   Found = record { start = start; steps = steps; tests = tests } ≡ segmentBefore code stop count (beginning first) first
 
+  -- by its parts
+  pub seek-parts : Found → (a b c : ℕ) → a ≡ start → b ≡ steps → c ≡ tests → record { start = a; steps = b; tests = c } ≡ segmentBefore code stop count (beginning first) first
+  seek-parts f a b c ea eb ec = rw (ea, eb, ec) f
+
   -- none is left
   pub seek-end : left ≤ 0 → Found
   seek-end h =

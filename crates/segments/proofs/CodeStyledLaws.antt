@@ -65,10 +65,10 @@ count-reaches code i =
 
 -- ---- the loop of `first_styled`
 -- the selectors that are left have the same first one
-abbrev pub Seeking : List ℕ → ℕ → ℕ → ℕ → ℕ → Type 0
-Seeking code count at left i = firstStyled code left i ≡ firstStyled code count at
+abbrev pub Finding : List ℕ → ℕ → ℕ → ℕ → ℕ → Type 0
+Finding code count at left i = firstStyled code left i ≡ firstStyled code count at
 
-module _ (code : List ℕ) (count at left i : ℕ) (v : Seeking code count at left i) where
+module _ (code : List ℕ) (count at left i : ℕ) (v : Finding code count at left i) where
   -- what is answered
   abbrev Found : ℕ → Type 0
   Found p = (p ≡ styledFrom code count at) × (p ≤ length code)
@@ -78,51 +78,51 @@ module _ (code : List ℕ) (count at left i : ℕ) (v : Seeking code count at le
   found-as s p e l = (e ∙ v ∙ first-styled code count (s .least) at (s .end) (s .selectors) (s .origin) (s .told), l)
 
   -- none is left
-  pub seek-end : SelectorsRead code count at → left ≤ 0 → Found noPlace
-  seek-end s h =
+  pub find-end : SelectorsRead code count at → left ≤ 0 → Found noPlace
+  find-end s h =
       let d : 0 ≡ left = omega arith in
       let e : noPlace ≡ firstStyled code 0 i = unfold firstStyled in refl in
       found-as s noPlace (e ∙ ap (λ (k : ℕ). firstStyled code k i) d) (omega arith)
 
   module _ (h : 0 < left) (r : NumberAnswer) (er : r ≡ numberAnswer (styleCountAt code i)) where
     -- one of them
-    seek-step : onDecoded (styleCountAt code i) (λ n styles. pick (is styles 0) (firstStyled code (left - 1) n) i) (λ _. noPlace) ≡ firstStyled code left i
-    seek-step =
+    find-step : onDecoded (styleCountAt code i) (λ n styles. pick (is styles 0) (firstStyled code (left - 1) n) i) (λ _. noPlace) ≡ firstStyled code left i
+    find-step =
         let d : suc (left - 1) ≡ left = omega arith in
         let e : onDecoded (styleCountAt code i) (λ n styles. pick (is styles 0) (firstStyled code (left - 1) n) i) (λ _. noPlace) ≡ firstStyled code (suc (left - 1)) i =
         unfold firstStyled in refl in
         e ∙ ap (λ (k : ℕ). firstStyled code k i) d
 
     -- there is none
-    pub seek-fault : SelectorsRead code count at → (f : ℕ) → r ≡ number.Fault f → Found noPlace
-    seek-fault s f q =
+    pub find-fault : SelectorsRead code count at → (f : ℕ) → r ≡ number.Fault f → Found noPlace
+    find-fault s f q =
         let e : noPlace ≡ onDecoded (styleCountAt code i) (λ n styles. pick (is styles 0) (firstStyled code (left - 1) n) i) (λ _. noPlace) =
         unfold onDecoded in rw (number-fault (styleCountAt code i) r er f q) in
-        found-as s noPlace (e ∙ seek-step) (omega arith)
+        found-as s noPlace (e ∙ find-step) (omega arith)
 
     module _ (n styles : ℕ) (q : r ≡ number.Number n styles) where
       -- it has so many styles
-      seek-count : pick (is styles 0) (firstStyled code (left - 1) n) i ≡ firstStyled code left i
-      seek-count =
+      find-count : pick (is styles 0) (firstStyled code (left - 1) n) i ≡ firstStyled code left i
+      find-count =
           let e : pick (is styles 0) (firstStyled code (left - 1) n) i
           ≡ onDecoded (styleCountAt code i) (λ n styles. pick (is styles 0) (firstStyled code (left - 1) n) i) (λ _. noPlace) =
           unfold onDecoded in rw (number-read (styleCountAt code i) r er n styles q) in
-          e ∙ seek-step
+          e ∙ find-step
 
       -- one or more
-      pub seek-found : SelectorsRead code count at → 0 < styles → Found i
-      seek-found s p =
+      pub find-styled : SelectorsRead code count at → 0 < styles → Found i
+      find-styled s p =
           let e : i ≡ pick (is styles 0) (firstStyled code (left - 1) n) i = unfold pick in rw (is-no styles 0 (λ z. omega arith)) in
           let l = reaches-end (length code) i 4 n styles (styleCountAt code i) (count-reaches code i) (number-read (styleCountAt code i) r er n styles q) in
           let a = l .0 in
           let b = l .1 in
-          found-as s i (e ∙ seek-count) (omega arith)
+          found-as s i (e ∙ find-count) (omega arith)
 
       -- none: the next one stands behind their count
-      pub seek-more : styles ≤ 0 → Seeking code count at (left - 1) n
-      seek-more p =
+      pub find-bare : styles ≤ 0 → Finding code count at (left - 1) n
+      find-bare p =
           let e : firstStyled code (left - 1) n ≡ pick (is styles 0) (firstStyled code (left - 1) n) i = unfold pick in rw (is-yes styles 0 (omega arith)) in
-          e ∙ seek-count ∙ v
+          e ∙ find-count ∙ v
 
 -- ---- the selectors of a sheet are read behind their count
 pub sheet-selectors : (code : List ℕ) (m : ℕ) (ss : List CompiledSelector) → decode code ≡ read m ss → (n k : ℕ) → numberAt code 0 ≡ read n k → SelectorsRead code k n

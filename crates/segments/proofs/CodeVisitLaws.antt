@@ -12,7 +12,7 @@ use Rattle.syntax.specs.Style.{agentOrigin}
 use Rattle.combinators.proofs.Rules.{is-yes, is-no}
 use Rattle.page.specs.Path.{Path}
 use Rattle.compiled.specs.Answer.{headAnswer}
-use Rattle.compiled.specs.Decoded.{onDecoded}
+use Rattle.compiled.specs.Decoded.{Decoded, read, fault, onDecoded}
 use Rattle.compiled.specs.Sheet.{Head, headAt}
 use Rattle.compiled.specs.declared.sheets.HeadAnswer.{HeadAnswer}
 use Rattle.compiled.specs.declared.sheets.HeadAnswer.the-variants as head
@@ -22,8 +22,10 @@ use Rattle.segments.specs.Before.{Segment, beginning, segmentBefore, fre
 use Rattle.segments.specs.Visits.{toNext, toAwaited, toFlags, blockBytes, Visited, awaits, endedBy, endedAt, decided, visitAt}
 use Rattle.segments.specs.Parts.{partSets, Apart}
 use Rattle.segments.specs.Swept.{sweptOne, sweptBehind}
-use Rattle.segments.specs.Visiting.{blockStored, behindFirst}
+use Rattle.segments.specs.Visiting.{blockStored, behindFirst, sweptVisit, nextAwaited, awaitedVisit}
 use Rattle.segments.specs.declared.sweeping.Swept.{Swept}
+use Rattle.segments.specs.declared.visiting.Awaited.{Awaited}
+use Rattle.segments.specs.declared.visiting.Awaited.the-variants as segment
 use Rattle.segments.proofs.CodePartLaws.{stored-then, part-above-all}
 use Rattle.segments.proofs.CodeSweepLaws.{sweep-step}
 
@@ -110,50 +112,78 @@ module _ (s₀ : List ℕ) (own width next p : ℕ) where
   unfolding blockStored
   told-stays b awaited flags s₁ e = (refl, e)
 
--- ---- the returns of `visit_ended`
-module _ (code flags s₀ : List ℕ) (own width p next awaited : ℕ) (r : HeadAnswer) (er : r ≡ headAnswer (headAt code agentOrigin p)) (s₁ : List ℕ) where
-  -- the last segment
-  pub ended-last : (first origin pseudo count : ℕ) → r ≡ head.Head first origin pseudo count → awaited ≡ first
-      → s₁ ≡ partSets s₀ own width (p + toNext) (blockBytes next awaited flags) → Told s₀ own width next p (endedAt code p awaited flags) true s₁
-  ended-last first origin pseudo count q e s =
-      told-as s₀ own width next p (endedAt code p awaited flags) (record { matched = true; awaited = awaited; flags = flags }) (by-head ∙ last) true s₁
-      (told-stays s₀ own width next p true awaited flags s₁ s)
-    where
-      by-head : endedAt code p awaited flags ≡ endedBy code awaited flags first count
-      by-head = unfold endedAt onDecoded in rw (head-read (headAt code agentOrigin p) r er first origin pseudo count q)
+-- ---- the returns of `next_awaited`
+module _ (code : List ℕ) (p awaited : ℕ) (ends : Bool) where
+  -- the segment does not end here
+  pub awaited-stays : ends ≡ false → segment.Same false ≡ nextAwaited code p awaited ends
+  unfolding nextAwaited pick
+  awaited-stays t = rw t
 
-      last : endedBy code awaited flags first count ≡ record { matched = true; awaited = awaited; flags = flags }
-      last = unfold endedBy pick in rw (is-yes awaited first e)
+  module _ (t : ends ≡ true) (r : HeadAnswer) (er : r ≡ headAnswer (headAt code agentOrigin p)) where
+    -- of a selector that is none
+    pub awaited-fault : (f : ℕ) → r ≡ head.Fault f → segment.Same false ≡ nextAwaited code p awaited ends
+    unfolding nextAwaited onDecoded pick
+    awaited-fault f q = rw (t, head-fault (headAt code agentOrigin p) r er f q)
 
-  -- another one
-  pub ended-next : (first origin pseudo count : ℕ) → r ≡ head.Head first origin pseudo count → ¬ (awaited ≡ first)
-      → s₁ ≡ blockStored s₀ own width (awaits (segmentBefore code awaited count (beginning first) first)) next p → Told s₀ own width next p (endedAt code p awaited flags) false s₁
-  ended-next first origin pseudo count q e s =
-      told-as s₀ own width next p (endedAt code p awaited flags) (awaits (segmentBefore code awaited count (beginning first) first)) (by-head ∙ another) false s₁ (unfold awaits in refl, s)
-    where
-      by-head : endedAt code p awaited flags ≡ endedBy code awaited flags first count
-      by-head = unfold endedAt onDecoded in rw (head-read (headAt code agentOrigin p) r er first origin pseudo count q)
+    module _ (first origin pseudo count : ℕ) (q : r ≡ head.Head first origin pseudo count) where
+      -- the last one
+      pub awaited-last : awaited ≡ first → segment.Same true ≡ nextAwaited code p awaited ends
+      unfolding nextAwaited onDecoded pick
+      awaited-last e = rw (t, head-read (headAt code agentOrigin p) r er first origin pseudo count q, is-yes awaited first e)
 
-      another : endedBy code awaited flags first count ≡ awaits (segmentBefore code awaited count (beginning first) first)
-      another = unfold endedBy pick in rw (is-no awaited first e)
+      -- another
+      pub awaited-before : ¬ (awaited ≡ first) → segment.Before count first ≡ nextAwaited code p awaited ends
+      unfolding nextAwaited onDecoded pick
+      awaited-before e = rw (t, head-read (headAt code agentOrigin p) r er first origin pseudo count q, is-no awaited first e)
 
-  -- of a selector that is none
-  pub ended-fault : (f : ℕ) → r ≡ head.Fault f → s₁ ≡ partSets s₀ own width (p + toNext) (blockBytes next awaited flags)
-      → Told s₀ own width next p (endedAt code p awaited flags) false s₁
-  ended-fault f q s =
-      told-as s₀ own width next p (endedAt code p awaited flags) (record { matched = false; awaited = awaited; flags = flags }) none false s₁ (told-stays s₀ own width next p false awaited flags s₁ s)
-    where
-      none : endedAt code p awaited flags ≡ record { matched = false; awaited = awaited; flags = flags }
-      none = unfold endedAt onDecoded in rw (head-fault (headAt code agentOrigin p) r er f q)
+-- ---- the returns of `visit_swept`
+module _ (code flags : List ℕ) (p awaited : ℕ) where
+  -- by whether it is the last
+  by-last : (t : Bool) (first count : ℕ)
+      → pick t (record { matched = true; awaited = awaited; flags = flags }) (awaits (segmentBefore code awaited count (beginning first) first))
+      ≡ awaitedVisit code awaited flags (pick t (segment.Same true) (segment.Before count first))
+  unfolding pick awaitedVisit
+  by-last true first count = refl
+  by-last false first count = refl
+
+  -- by its head
+  by-head : (d : Decoded Head)
+      → onDecoded d (λ first h. endedBy code awaited flags first (h .count)) (λ _. record { matched = false; awaited = awaited; flags = flags })
+      ≡ awaitedVisit code awaited flags (onDecoded d (λ first h. pick (is awaited first) (segment.Same true) (segment.Before (h .count) first)) (λ _. segment.Same false))
+  unfolding onDecoded endedBy awaitedVisit
+  by-head (read first h) = by-last (is awaited first) first (h .count)
+  by-head (fault f) = refl
+
+  -- by what is awaited next
+  decided-next : (ends : Bool) → decided code p awaited (flag ends ∷ flags) ≡ awaitedVisit code awaited flags (nextAwaited code p awaited ends)
+  unfolding decided endedAt nextAwaited flagOf flag is pick
+  decided-next true = by-head (headAt code agentOrigin p)
+  decided-next false = unfold awaitedVisit in refl
+
+module _ (code : List ℕ) (row : Path) (s₀ : List ℕ) (above own width p next awaited : ℕ) (one : Swept) (r : Awaited) (er : r ≡ nextAwaited code p awaited (one .ends)) (s₁ : List ℕ) where
+  -- what is told
+  abbrev Sweeps : Bool → Type 0
+  Sweeps b = Told s₀ own width next p (sweptVisit code row (part s₀ above width) p awaited one) b s₁
+
+  -- of what is awaited
+  sweeps-as : (w : Visited) → awaitedVisit code awaited (behindFirst code row (part s₀ above width) p one) r ≡ w → (b : Bool) → Told s₀ own width next p w b s₁ → Sweeps b
+  unfolding sweptVisit
+  sweeps-as w e b t =
+      let flags = behindFirst code row (part s₀ above width) p one in
+      told-as s₀ own width next p _ w (decided-next code flags p awaited (one .ends) ∙ ap (awaitedVisit code awaited flags) (sym er) ∙ e) b s₁ t
+
+  -- the same segment
+  pub swept-same : (b : Bool) → r ≡ segment.Same b → s₁ ≡ partSets s₀ own width (p + toNext) (blockBytes next awaited (behindFirst code row (part s₀ above width) p one)) → Sweeps b
+  swept-same b q s =
+      let flags = behindFirst code row (part s₀ above width) p one in
+      sweeps-as (record { matched = b; awaited = awaited; flags = flags }) (unfold awaitedVisit in rw q) b (told-stays s₀ own width next p b awaited flags s₁ s)
+
+  -- the one before it
+  pub swept-before : (count first : ℕ) → r ≡ segment.Before count first
+      → s₁ ≡ blockStored s₀ own width (awaits (segmentBefore code awaited count (beginning first) first)) next p → Sweeps false
+  swept-before count first q s = sweeps-as (awaits (segmentBefore code awaited count (beginning first) first)) (unfold awaitedVisit in rw q) false (unfold awaits in refl, s)
 
 -- ---- the returns of `visit`
--- what is decided by the first flag
-decided-first : (code : List ℕ) (p awaited : ℕ) (e : Bool) (flags : List ℕ)
-    → decided code p awaited (flag e ∷ flags) ≡ pick e (endedAt code p awaited flags) (record { matched = false; awaited = awaited; flags = flags })
-unfolding decided flagOf flag is pick
-decided-first code p awaited true flags = refl
-decided-first code p awaited false flags = refl
-
 module _ (code : List ℕ) (row : Path) (s₀ : List ℕ) (above own width p : ℕ) (flags : List ℕ) (ef : flags ≡ part s₀ above width)
     (next : ℕ) (en : next ≡ pairAt flags (p + toNext)) (awaited : ℕ) (ea : awaited ≡ pairAt flags (p + toAwaited)) (s₁ : List ℕ) where
   -- what is to be told
@@ -179,34 +209,16 @@ module _ (code : List ℕ) (row : Path) (s₀ : List ℕ) (above own width p : �
 
   module _ (h : 0 < length code) (one : Swept) (eo : one ≡ sweptOne code row flags (p + toFlags) awaited) where
     -- by its first compound
-    visit-first : decided code p awaited (sweepAt code row flags (length code) (p + toFlags) awaited)
-        ≡ pick (one .ends) (endedAt code p awaited (behindFirst code row (part s₀ above width) p one))
-        (record { matched = false; awaited = awaited; flags = behindFirst code row (part s₀ above width) p one })
-    unfolding behindFirst
+    visit-first : decided code p awaited (sweepAt code row flags (length code) (p + toFlags) awaited) ≡ sweptVisit code row (part s₀ above width) p awaited one
+    unfolding sweptVisit behindFirst
     visit-first =
         let k = length code - 1 in
         let d : length code ≡ suc k = omega arith in
         ap (λ (n : ℕ). decided code p awaited (sweepAt code row flags n (p + toFlags) awaited)) d
         ∙ ap (decided code p awaited) (sweep-step code row flags k (p + toFlags) awaited)
         ∙ ap (λ (x : Swept). decided code p awaited (flag (x .ends) ∷ sweptBehind code row flags k (p + toFlags) x)) (sym eo)
-        ∙ decided-first code p awaited (one .ends) (sweptBehind code row flags k (p + toFlags) one)
-        ∙ ap (λ (x : List ℕ). pick (one .ends) (endedAt code p awaited (sweptBehind code row x k (p + toFlags) one))
-        (record { matched = false; awaited = awaited; flags = sweptBehind code row x k (p + toFlags) one })) ef
+        ∙ ap (λ (x : List ℕ). decided code p awaited (flag (one .ends) ∷ sweptBehind code row x k (p + toFlags) one)) ef
 
-    -- the segment ends here
-    pub visit-ends : one .ends ≡ true → (b : Bool) → Told s₀ own width next p (endedAt code p awaited (behindFirst code row (part s₀ above width) p one)) b s₁ → Visits b
-    visit-ends e b t =
-        let w : pick (one .ends) (endedAt code p awaited (behindFirst code row (part s₀ above width) p one))
-        (record { matched = false; awaited = awaited; flags = behindFirst code row (part s₀ above width) p one })
-        ≡ endedAt code p awaited (behindFirst code row (part s₀ above width) p one) = unfold pick in rw e in
-        visits-as (endedAt code p awaited (behindFirst code row (part s₀ above width) p one)) (visit-first ∙ w) b t
-
-    -- it does not
-    pub visit-stays : one .ends ≡ false
-        → s₁ ≡ partSets s₀ own width (p + toNext) (blockBytes next awaited (behindFirst code row (part s₀ above width) p one)) → Visits false
-    visit-stays e s =
-        let q = behindFirst code row (part s₀ above width) p one in
-        let w : pick (one .ends) (endedAt code p awaited (behindFirst code row (part s₀ above width) p one))
-        (record { matched = false; awaited = awaited; flags = behindFirst code row (part s₀ above width) p one })
-        ≡ record { matched = false; awaited = awaited; flags = behindFirst code row (part s₀ above width) p one } = unfold pick in rw e in
-        visits-as (record { matched = false; awaited = awaited; flags = q }) (visit-first ∙ w) false (told-stays s₀ own width next p false awaited q s₁ s)
+    -- so it is told
+    pub visit-by : (b : Bool) → Told s₀ own width next p (sweptVisit code row (part s₀ above width) p awaited one) b s₁ → Visits b
+    visit-by b t = visits-as (sweptVisit code row (part s₀ above width) p awaited one) visit-first b t

@@ -113,6 +113,19 @@ pub fn compound_at(
     }
 }
 
+// A segment by its parts.
+fn segment_of(start: usize, steps: usize, tests: usize) -> Segment
+    ensures { λ r. ⌜ r .start ≡ start ⌝ }
+    ensures { λ r. ⌜ r .steps ≡ steps ⌝ }
+    ensures { λ r. ⌜ r .tests ≡ tests ⌝ }
+{
+    Segment {
+        start,
+        steps,
+        tests,
+    }
+}
+
 // Of `count` components from `first` on, the segment that stands before the one that begins at `stop`, or the leftmost where there is none.
 pub fn segment_before(compiled: &[u8], stop: usize, count: u32, first: usize) -> Segment
     ensures { λ r. ⌜ record { start = r .start; steps = r .steps; tests = r .tests }
@@ -140,11 +153,7 @@ pub fn segment_before(compiled: &[u8], stop: usize, count: u32, first: usize) ->
             }
             Met::Descendant(next) => {
                 if next == stop {
-                    return Segment {
-                        start,
-                        steps,
-                        tests,
-                    };
+                    return segment_of(start, steps, tests);
                 }
                 i = next;
                 start = next;
@@ -153,17 +162,9 @@ pub fn segment_before(compiled: &[u8], stop: usize, count: u32, first: usize) ->
                 left -= 1;
             }
             Met::Fault => {
-                return Segment {
-                    start,
-                    steps,
-                    tests,
-                };
+                return segment_of(start, steps, tests);
             }
         }
     }
-    Segment {
-        start,
-        steps,
-        tests,
-    }
+    segment_of(start, steps, tests)
 }

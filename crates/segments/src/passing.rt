@@ -9,7 +9,7 @@ ghost use Rattle.segments.specs.Visiting.{VisitLent};
 ghost use Rattle.segments.specs.Passing.{passStored};
 
 // No place of a selector.
-const NO_PLACE: usize = 0;
+pub const NO_PLACE: usize = 0;
 
 // At most `count` selectors from the one at `first` on: their blocks go to the own part. Which of them match is not asked, as for the document, which has no style.
 pub fn pass_blocks(

@@ -19,10 +19,10 @@ ghost use Rattle.combinators.specs.Part.{part};
 ghost use Rattle.compiled.specs.Sheet.{compiledLimit};
 ghost use Rattle.segments.specs.Sweep.{pairAt, pairBytes};
 ghost use Rattle.segments.specs.Before.{beginning, segmentBefore};
-ghost use Rattle.segments.specs.Visits.{toNext, awaits, blockBytes, endedAt, visitAt};
+ghost use Rattle.segments.specs.Visits.{toNext, awaits, blockBytes, visitAt};
 ghost use Rattle.segments.specs.Met.{rowAlone, handedElement};
 ghost use Rattle.segments.specs.Parts.{partSets};
-ghost use Rattle.segments.specs.Visiting.{VisitLent, blockStored, behindFirst};
+ghost use Rattle.segments.specs.Visiting.{VisitLent, blockStored, behindFirst, sweptVisit, nextAwaited};
 
 // From the place of a selector, to where its block has the place of the next selector, that of the segment that is awaited, and its flags.
 pub const TO_NEXT: usize = 1;
@@ -30,6 +30,12 @@ pub const TO_NEXT: usize = 1;
 const TO_AWAITED: usize = 3;
 
 pub const TO_FLAGS: usize = 5;
+
+// The segment that is awaited behind a row: the same one, with whether the selector matches; or the one before it, of so many components from a place on.
+pub enum Awaited {
+    Same(bool),
+    Before(u32, usize),
+}
 
 // Stores the two places that a block begins with.
 pub fn put_places(state: &mut [u8], own: usize, width: usize, p: usize, next: usize, awaited: usize)
@@ -106,8 +112,32 @@ fn put_stays(
     );
 }
 
-// A selector whose segment ends here: the last one matches and stays, behind another the one before it is awaited.
-fn visit_ended(
+// The segment that is awaited behind the row, by whether the one at `awaited` ends there: the last one matches and stays, behind another the one before it is awaited.
+fn next_awaited(compiled: &[u8], p: usize, awaited: usize, ends: bool) -> Awaited
+    ensures { λ r. ⌜ r ≡ nextAwaited (now (compiled .entry)) p awaited ends ⌝ }
+{
+    if ends {
+        match read_head(compiled, p, AGENT_ORIGIN) {
+            HeadAnswer::Head {
+                next: first,
+                count,
+                ..
+            } => {
+                if awaited == first {
+                    return Awaited::Same(true);
+                }
+                return Awaited::Before(count, first);
+            }
+            HeadAnswer::Fault(_) => {
+                return Awaited::Same(false);
+            }
+        }
+    }
+    Awaited::Same(false)
+}
+
+// A selector by its first compound `one`: whether it matches; its block goes to the own part.
+fn visit_swept(
     compiled: &[u8],
     state: &mut [u8],
     above: usize,
@@ -125,39 +155,12 @@ fn visit_ended(
 ) -> bool
     requires { ⌜ VisitLent (now compiled) (now state) above own width p place ⌝ }
     requires { ⌜ 0 < length (now compiled) ⌝ }
-    ensures { λ r. ⌜ r ≡ (endedAt (now (compiled .entry)) p awaited (behindFirst (now (compiled .entry)) (rowAlone element (handedElement (now (name .entry)) (now (attributes .entry)) (now (text .entry)) place)) (part (now (state .entry)) above width) p one)) .matched ⌝ }
+    ensures { λ r. ⌜ r ≡ (sweptVisit (now (compiled .entry)) (rowAlone element (handedElement (now (name .entry)) (now (attributes .entry)) (now (text .entry)) place)) (part (now (state .entry)) above width) p awaited one) .matched ⌝ }
     ensures { λ _. ⌜ now (state .exit) ≡ blockStored (now (state .entry)) own width
-        (endedAt (now (compiled .entry)) p awaited (behindFirst (now (compiled .entry)) (rowAlone element (handedElement (now (name .entry)) (now (attributes .entry)) (now (text .entry)) place)) (part (now (state .entry)) above width) p one)) next p ⌝ }
+        (sweptVisit (now (compiled .entry)) (rowAlone element (handedElement (now (name .entry)) (now (attributes .entry)) (now (text .entry)) place)) (part (now (state .entry)) above width) p awaited one) next p ⌝ }
 {
-    match read_head(compiled, p, AGENT_ORIGIN) {
-        HeadAnswer::Head {
-            next: first,
-            count,
-            ..
-        } => {
-            if awaited == first {
-                put_stays(
-                    compiled,
-                    state,
-                    above,
-                    own,
-                    width,
-                    p,
-                    next,
-                    awaited,
-                    one,
-                    element,
-                    name,
-                    attributes,
-                    text,
-                    place,
-                );
-                return true;
-            }
-            put_awaits(compiled, state, own, width, p, next, awaited, count, first);
-            return false;
-        }
-        HeadAnswer::Fault(_) => {
+    match next_awaited(compiled, p, awaited, one.ends) {
+        Awaited::Same(matched) => {
             put_stays(
                 compiled,
                 state,
@@ -174,6 +177,10 @@ fn visit_ended(
                 text,
                 place,
             );
+            return matched;
+        }
+        Awaited::Before(count, first) => {
+            put_awaits(compiled, state, own, width, p, next, awaited, count, first);
             return false;
         }
     }
@@ -214,25 +221,7 @@ pub fn visit(
             text,
             place,
         );
-        if one.ends {
-            return visit_ended(
-                compiled,
-                state,
-                above,
-                own,
-                width,
-                p,
-                next,
-                awaited,
-                one,
-                element,
-                name,
-                attributes,
-                text,
-                place,
-            );
-        }
-        put_stays(
+        return visit_swept(
             compiled,
             state,
             above,
@@ -248,7 +237,6 @@ pub fn visit(
             text,
             place,
         );
-        return false;
     }
     put_places(state, own, width, p, next, awaited);
     false

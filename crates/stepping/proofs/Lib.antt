@@ -1,9 +1,7 @@
-pub mod PieceLaws
-pub mod GroupReading
-pub mod WalkLaws
+pub mod ReadingLaws
 pub mod WeightLaws
-pub mod Parts
 pub mod WalkedReads
 pub mod StyleLaws
-pub mod SelectorLaws
+pub mod FoundLaws
+pub mod PassingLaws
 pub mod StepLaws

@@ -1,18 +1,18 @@
 -- The needs and returns of the functions that open a row, merge its attributes and make its step.
 use mathlib.Core.Path.{_≡_, refl, sym, ap, _∙_}
 use mathlib.Core.Bool.{true, false}
-use mathlib.Core.List.{List, [], _++_, append-nil}
-use Prim.Native.Nat.{ℕ, zero, suc, _+_, _-_, _*_, _≤_, _<_}
+use mathlib.Core.List.{List, [], _∷_, _++_, append-nil}
+use mathlib.Core.Logic.{inl}
+use Prim.Native.Nat.{ℕ, suc, _+_, _-_, _*_, _≤_, _<_}
 use native.Mathlib.Nat.{suc-mul, add-mul, mul-le-mul-right}
 use native.Mathlib.Omega.{arith}
-use lib.ListN.{length, take, replicate, length-set, length-append, length-replicate, drop-of-length-le, length-take}
+use lib.ListN.{length, take, set, replicate, length-set, length-append, length-replicate, drop-of-length-le, length-take}
 use lib.Seq.{sets, sets-eq, length-sets, length-take-le}
 use Rattle.combinators.specs.Choice.{pick}
+use Rattle.combinators.specs.Part.{part}
 use Rattle.combinators.specs.Store.{wiped}
 use Rattle.combinators.proofs.Rules.{pick-true, pick-false, is-yes, is-no}
-use Rattle.combinators.proofs.Wiped.{sets-append, sets-apart}
 use Rattle.syntax.specs.Stream.{textsMany}
-use Rattle.syntax.specs.declared.styles.Value.{Value}
 use Rattle.cascade.specs.declared.slots.Cascade.the-variants.{Crate}
 use Rattle.cascade.specs.Row.{styleRowWidth, RowRoom, Inherited, Emptied, inheritedRow, presentRow}
 use Rattle.page.specs.Path.{Attribute, Element, Path}
@@ -24,17 +24,19 @@ use Rattle.styles.specs.Merged.{mergedRow, lateDeclared}
 use Rattle.styles.specs.Said.{countedAttributes}
 use Rattle.styles.specs.StyleCall.{attributesContents, inlineContents, placedAttributes}
 use Rattle.styles.proofs.Merging.{merged-none, merged-long, late-none}
-use Rattle.runner.specs.Groups.{allGroups, matching, groupsCount}
-use Rattle.runner.specs.Run.{Handed, Stepped, noStyle, handedFrom, selectorsDeclare, rowBelow, documentStep, elementStep, openStep, stepOn}
-use Rattle.runner.specs.State.{depths, partPlace, countBytes, countAt, raised, groupsFrom, opened}
-use Rattle.runner.specs.Walked.{WalkedSelector, walked}
-use Rattle.runner.proofs.StateParts.{raised-groups}
-use Rattle.stepping.specs.Components.{rowAlone, handedElement, aboveFrom}
-use Rattle.stepping.specs.Count.{CountRoom, countLimit}
+use Rattle.segments.specs.Down.{passAt}
+use Rattle.segments.specs.Met.{handedElement}
+use Rattle.segments.specs.Parts.{partSet, partSets, flagsLimit, pairLimit}
+use Rattle.segments.specs.Pass.{Passed}
+use Rattle.segments.specs.Sweep.{pairAt, pairBytes}
+use Rattle.segments.proofs.CodeBlockLaws.{length-sets-own}
+use Rattle.segments.proofs.CodePartLaws.{set-there}
+use Rattle.runner.specs.Run.{Handed, Stepped, noStyle, handedFrom, selectorsDeclare, rowBelow, foundAt, documentStep, elementStep, openStep, stepOn}
+use Rattle.runner.specs.State.{depths, partPlace, partOf, raised, opened}
 use Rattle.stepping.specs.Lent.{StepLent}
-use Rattle.stepping.specs.Opened.{OpenLent, Below, childElement, childBytes, ElementOpened}
-use Rattle.stepping.specs.Passed.{SelectorsPassed, SheetLent}
-use Rattle.stepping.proofs.WalkedReads.{sheet-walked}
+use Rattle.stepping.specs.Opened.{OpenLent, Below, childElement, childPassed, ElementOpened}
+use Rattle.stepping.specs.Passing.{SheetLent, DocumentLent, documentPassed}
+use Rattle.stepping.proofs.PassingLaws.{some-bytes}
 
 -- ---- rows
 -- zeros over a whole row
@@ -51,15 +53,20 @@ unfolding inheritedRow presentRow
 inherited-long xs ys m = ap length (m .numbers) ∙ simp length-set
 
 -- ---- parts
--- a state stays as long as it is, where a count is raised
-pub raised-long : (state z : List ℕ) (at : ℕ) → z ≡ raised state at → length z ≡ length state
-unfolding raised
-raised-long state z at e = ap length e ∙ length-sets state at (countBytes (countAt state at + 1))
+-- bytes that lie in a part are all stored
+stored-within : (bs state : List ℕ) (own width j : ℕ) → j + length bs ≤ width → partSets state own width j bs ≡ sets state (own + j) bs
+unfolding partSets
+stored-within [] state own width j h = refl
+stored-within (b ∷ bs) state own width j h =
+    let e : own + (j + 1) ≡ suc (own + j) = omega arith in
+    stored-within bs (partSet state own width j b) own width (j + 1) (omega arith)
+    ∙ ap (λ (x : List ℕ). sets x (own + (j + 1)) bs) (sym (set-there state own width j b (omega arith)))
+    ∙ ap (λ (k : ℕ). sets (set state (own + j) b) k bs) e
 
--- and where selectors are passed
-pub passed-long : (row : Path) (ss : List (WalkedSelector Value)) (above : List ℕ) (own : ℕ) (state out state₁ out₁ : List ℕ) → SelectorsPassed row ss above own state out state₁ out₁
-    → length state₁ ≡ length state
-passed-long row ss above own state out state₁ out₁ p = ap length (p .stored) ∙ length-sets state own (allGroups row ss above)
+-- so are the two bytes of a count
+count-stored : (state : List ℕ) (own width n : ℕ) → 1 < width → partSets state own width 0 (pairBytes n) ≡ sets state own (pairBytes n)
+unfolding pairBytes
+count-stored state own width n h = let e : own + 0 ≡ own = omega arith in stored-within _ state own width 0 h ∙ rw e
 
 -- a part and two more, of so many
 parts-fit : (d w n : ℕ) → d + 2 ≤ depths → depths * w ≤ n → d * w + w + w ≤ n
@@ -67,11 +74,6 @@ parts-fit d w n h l =
     let a : (d + 2) * w ≤ depths * w = mul-le-mul-right w h in
     let e = add-mul d 2 w in
     omega arith
-
--- the part behind a part
-next-part : (depth w : ℕ) → 0 < depth → (depth - 1) * w + w ≡ depth * w
-next-part zero w h = absurd (omega arith)
-next-part (suc d) w h = let q : suc d - 1 ≡ d = omega arith in ap (λ (x : ℕ). x * w + w) q ∙ sym (suc-mul d w)
 
 -- ---- what opening a row knows
 module _ (code out state : List ℕ) (l : OpenLent code out state) where
@@ -83,106 +85,107 @@ module _ (code out state : List ℕ) (l : OpenLent code out state) where
   pub inherited-room : (out₁ : List ℕ) → Inherited Crate out out₁ → RowRoom out₁
   inherited-room out₁ m = record { room = omega (arith, l .one-row, inherited-long out out₁ m) }
 
-  -- the bytes of all groups fit a part
-  pub groups-fit : 2 + groupsCount (walked code) ≤ length code + 1
-  groups-fit = sheet-walked code (l .sheet) .long
+  -- a part has two bytes
+  wide : 1 < length code + 1
+  wide = omega (arith, some-bytes code (l .sheet))
 
   -- what passing the selectors at the document asks for
-  pub document-lent : SheetLent code 0 false state 0 2
-  document-lent =
-      record {
-        few-bytes = l .few;
-        sheet = l .sheet;
-        room = omega (arith, l .for-state, groups-fit);
-        apart = λ e. absurd (let z : _≡_ {A = ℕ} 0 1 = cc in omega arith);
-        order = omega arith;
-        few = omega arith;
-      }
-
-  -- a count at the start
-  pub first-count : (state₁ : List ℕ) → length state₁ ≡ length state → CountRoom state₁ 0
-  first-count state₁ e = record { room = omega (arith, e, l .for-state, groups-fit) }
+  pub document-lent : DocumentLent code state
+  document-lent = record { sheet = l .sheet; few-bytes = l .few; room = omega (arith, l .for-state) }
 
   -- what opening the document leaves
-  pub document-opened : (e : Element) (state₁ out₁ state₂ out₂ : List ℕ) → SelectorsPassed (rowAlone false e) (walked code) (aboveFrom false state 0) 2 state out state₁ out₁
-      → state₂ ≡ sets state₁ 0 (countBytes 0) → Emptied out₁ out₂
-      → (out₂ ≡ noStyle) × (state₂ ≡ opened state (partPlace code 0) (allGroups [] (walked code) []))
-  unfolding rowAlone aboveFrom opened countBytes
-  document-opened e state₁ out₁ state₂ out₂ p w m =
-      let z : partPlace code 0 ≡ 0 = omega arith in
-      let long : length out₁ ≡ length out = ap length (p .merged) ∙ merged-long Crate _ out in
-      let bytes : List ℕ = allGroups [] (walked code) [] in (
-        emptied out₁ out₂ (long ∙ l .one-row) m,
+  pub document-opened : (out₁ state₁ state₂ : List ℕ) → state₁ ≡ documentPassed code state → state₂ ≡ partSets state₁ 0 (length code + 1) 0 (pairBytes 0) → Emptied out out₁
+      → (out₁ ≡ noStyle) × (state₂ ≡ documentStep code state [] .state)
+  unfolding documentStep opened documentPassed
+  document-opened out₁ state₁ state₂ p w m =
+      let z : 0 ≡ partPlace code 0 = omega arith in (
+        emptied out out₁ (l .one-row) m,
         w
-            ∙ ap (λ (x : List ℕ). sets x 0 (countBytes 0)) (p .stored)
-            ∙ sets-apart state 0 2 (countBytes 0) bytes (omega arith)
-            ∙ sym (sets-append state 0 (countBytes 0) bytes)
-            ∙ ap (λ (x : ℕ). sets state x (countBytes 0 ++ bytes)) (sym z),
+            ∙ count-stored state₁ 0 (length code + 1) 0 wide
+            ∙ ap (λ (x : List ℕ). sets x 0 (pairBytes 0)) p
+            ∙ ap (λ (k : ℕ). sets (documentPassed code state) k (pairBytes 0)) z,
       )
 
   module _ (depth : ℕ) (b : Below depth) where
-    -- the parts of a row and of its parent lie in the state
+    -- where the part of its parent begins, and its own
+    abbrev parent : ℕ
+    parent = (depth - 1) * (length code + 1)
+
+    abbrev own : ℕ
+    own = parent + (length code + 1)
+
+    -- both parts lie in the state
     pub parts-there : (depth - 1) * (length code + 1) + (length code + 1) + (length code + 1) ≤ length state
     parts-there = parts-fit (depth - 1) (length code + 1) (length state) (omega (arith, b .deep, b .shallow)) (l .for-state)
 
-    -- and so do their counts
-    pub parent-count : (state₁ : List ℕ) → length state₁ ≡ length state → CountRoom state₁ ((depth - 1) * (length code + 1))
-    parent-count state₁ e = record { room = omega (arith, e, parts-there, groups-fit) }
+    -- the count of the parent has a low place
+    pub parent-low : (depth - 1) * (length code + 1) ≤ flagsLimit
+    parent-low =
+        let m : (depth - 1) * (length code + 1) ≤ depths * (length code + 1) = mul-le-mul-right (length code + 1) (let h : depth - 1 ≤ depths = omega (arith, b .shallow) in h) in
+        omega (arith, m, l .few)
 
-    -- its own count
-    pub own-count : (state₁ : List ℕ) → length state₁ ≡ length state → CountRoom state₁ ((depth - 1) * (length code + 1) + (length code + 1))
-    own-count state₁ e = record { room = omega (arith, e, parts-there, groups-fit) }
+    module _ (n : ℕ) (en : n ≡ pairAt state ((depth - 1) * (length code + 1))) (small : n < pairLimit)
+        (state₁ : List ℕ) (e₁ : state₁ ≡ partSets state ((depth - 1) * (length code + 1)) (length code + 1) 0 (pairBytes (n + 1))) where
+      -- the state stays as long
+      raised-long : length state₁ ≡ length state
+      raised-long = ap length e₁ ∙ length-sets-own (pairBytes (n + 1)) state parent (length code + 1) 0
 
-    -- what passing the selectors at an element asks for
-    pub element-lent : (n : ℕ) → n < countLimit → (state₁ : List ℕ) → length state₁ ≡ length state
-        → SheetLent code (n + 1) true state₁ ((depth - 1) * (length code + 1) + 2) ((depth - 1) * (length code + 1) + (length code + 1) + 2)
-    element-lent n h state₁ e =
-        record {
-          few-bytes = l .few;
-          sheet = l .sheet;
-          room = omega (arith, e, parts-there, groups-fit);
-          apart = λ _. omega (arith, groups-fit);
-          order = omega arith;
-          few = omega (arith, h);
-        }
+      -- the parent has one child more
+      raises : state₁ ≡ raised state parent
+      unfolding raised
+      raises = e₁ ∙ count-stored state parent (length code + 1) (n + 1) wide ∙ rw en
 
-    module _ (node attributes text name : List ℕ) (n : ℕ) (en : n ≡ countAt state ((depth - 1) * (length code + 1))) (named : name ≡ nameOf node text 0)
-        (state₁ out₁ : List ℕ) (raises : state₁ ≡ raised state ((depth - 1) * (length code + 1))) (inherits : Inherited Crate out out₁) where
-      -- where the part of its parent begins
-      abbrev parent : ℕ
-      parent = (depth - 1) * (length code + 1)
+      -- what passing the selectors at an element asks for
+      pub element-lent : SheetLent code state₁ ((depth - 1) * (length code + 1)) ((depth - 1) * (length code + 1) + (length code + 1)) (length code + 1) (n + 1)
+      element-lent =
+          record { sheet = l .sheet; few-bytes = l .few; room = omega (arith, raised-long, parts-there); apart = inl (omega arith); few = omega (arith, small) }
 
-      -- the element that is opened
-      abbrev child : Element
-      child = childElement node attributes text state parent
+      -- its own part lies in the state behind that too
+      pub own-room : (row : Path) (above before state₂ : List ℕ) → state₂ ≡ sets state₁ ((depth - 1) * (length code + 1) + (length code + 1)) (passAt code row above before .part)
+          → (depth - 1) * (length code + 1) + (length code + 1) + (length code + 1) ≤ length state₂
+      own-room row above before state₂ e =
+          let n : length state₂ ≡ length state₁ = ap length e ∙ length-sets state₁ own (passAt code row above before .part) in
+          omega (arith, n, raised-long, parts-there)
 
-      -- raising the count of the parent leaves its bytes of groups, so these are those of the element
-      bytes-are : allGroups (rowAlone true (handedElement name attributes text (n + 1))) (walked code) (aboveFrom true state₁ (parent + 2)) ≡ childBytes code child state parent
-      unfolding rowAlone aboveFrom childBytes childElement groupsFrom
-      bytes-are = rw (en, named) (ap (allGroups _ (walked code)) (ap (λ (x : List ℕ). groupsFrom x parent) raises ∙ raised-groups state parent))
+      module _ (node attributes text name : List ℕ) (named : name ≡ nameOf node text 0) (out₁ : List ℕ) (inherits : Inherited Crate out out₁) where
+        -- the element that is opened
+        abbrev child : Element
+        child = childElement node attributes text state parent
 
-      -- what opening an element leaves
-      pub element-opened : (state₂ out₂ state₃ : List ℕ)
-          → SelectorsPassed (rowAlone true (handedElement name attributes text (n + 1))) (walked code) (aboveFrom true state₁ (parent + 2)) (parent + (length code + 1) + 2) state₁ out₁ state₂ out₂
-          → state₃ ≡ sets state₂ (parent + (length code + 1)) (countBytes 0)
-          → ElementOpened code child depth out state out₂ state₃
-      unfolding opened countBytes
-      element-opened state₂ out₂ state₃ p w =
-          let own : ℕ = parent + (length code + 1) in
-          let bytes : List ℕ = childBytes code child state parent in
-          record {
-            row =
-                p .merged
-                ∙ ap (λ (x : List ℕ). mergedRow Crate out₁ (selectorsDeclare (matching (walked code) x))) bytes-are
-                ∙ ap (λ (x : List ℕ). mergedRow Crate x (selectorsDeclare (matching (walked code) bytes))) (inherits .numbers);
-            part =
-                w
-                ∙ ap (λ (x : List ℕ). sets x own (countBytes 0)) (p .stored ∙ ap (sets state₁ (own + 2)) bytes-are)
-                ∙ sets-apart state₁ own (own + 2) (countBytes 0) bytes (omega arith)
-                ∙ sym (sets-append state₁ own (countBytes 0) bytes)
-                ∙ ap (λ (x : List ℕ). sets x own (countBytes 0 ++ bytes)) raises
-                ∙ ap (λ (x : ℕ). sets (raised state parent) x (countBytes 0 ++ bytes)) (next-part depth (length code + 1) (b .deep));
-          }
+        -- what is passed at the element as it is handed
+        abbrev passed : Passed
+        passed = passAt code (handedElement name attributes text (n + 1) ∷ []) (part state₁ parent (length code + 1)) (part state₁ own (length code + 1))
+
+        -- its own part begins behind its parent's
+        own-place : own ≡ partPlace code (suc (depth - 1))
+        own-place = sym (suc-mul (depth - 1) (length code + 1))
+
+        -- that is what is passed at the child
+        passed-is : passed ≡ childPassed code child (depth - 1) state
+        unfolding childPassed childElement partOf
+        passed-is = rw (raises, own-place, en, named)
+
+        -- what opening an element leaves
+        pub element-opened : (state₂ out₂ state₃ : List ℕ)
+            → (state₂ ≡ sets state₁ ((depth - 1) * (length code + 1) + (length code + 1)) (passed .part)) × (out₂ ≡ mergedRow Crate out₁ (selectorsDeclare (foundAt code (passed .matched))))
+            → state₃ ≡ partSets state₂ ((depth - 1) * (length code + 1) + (length code + 1)) (length code + 1) 0 (pairBytes 0)
+            → ElementOpened code child (depth - 1) out state out₂ state₃
+        unfolding opened
+        element-opened state₂ out₂ state₃ p w =
+            let blocks = childPassed code child (depth - 1) state .part in
+            let found = childPassed code child (depth - 1) state .matched in
+            record {
+              row =
+                  p .1
+                  ∙ ap (λ (x : Passed). mergedRow Crate out₁ (selectorsDeclare (foundAt code (x .matched)))) passed-is
+                  ∙ ap (λ (x : List ℕ). mergedRow Crate x (selectorsDeclare (foundAt code found))) (inherits .numbers);
+              part =
+                  w
+                  ∙ count-stored state₂ own (length code + 1) 0 wide
+                  ∙ ap (λ (x : List ℕ). sets x own (pairBytes 0)) (p .0 ∙ ap (λ (x : Passed). sets state₁ own (x .part)) passed-is)
+                  ∙ ap (λ (x : List ℕ). sets (sets x own blocks) own (pairBytes 0)) raises
+                  ∙ ap (λ (k : ℕ). opened (raised state parent) k blocks) own-place;
+            }
 
 -- ---- returns of `merge_inline`
 -- so many attributes are those that are lent
@@ -253,7 +256,7 @@ module _ (code attributes text : List ℕ) (depth : ℕ) (out state rules tokens
   below d = record { deep = omega arith; shallow = l .shallow }
 
   -- its row has room
-  pub opened-room : (e : Element) (out₁ state₁ : List ℕ) → ElementOpened code e depth out state out₁ state₁ → RowRoom out₁
+  pub opened-room : (e : Element) (out₁ state₁ : List ℕ) → ElementOpened code e (depth - 1) out state out₁ state₁ → RowRoom out₁
   unfolding inheritedRow presentRow
   opened-room e out₁ state₁ p =
       let a : length out₁ ≡ length out = ap length (p .row) ∙ merged-long Crate _ (inheritedRow Crate out) ∙ simp length-set in
@@ -273,16 +276,16 @@ module _ (settings : Settings) (code node attributes text out state texts : List
 
   -- its row, its part of the state and its texts are those of the step
   element-is : (out₁ state₁ out₂ texts₂ : List ℕ) (r : ℕ)
-      → out₁ ≡ mergedRow Crate (inheritedRow Crate out) (selectorsDeclare (matching (walked code) (childBytes code childAt state (partPlace code d))))
-      → state₁ ≡ opened (raised state (partPlace code d)) (partPlace code (suc d)) (childBytes code childAt state (partPlace code d))
+      → out₁ ≡ mergedRow Crate (inheritedRow Crate out) (selectorsDeclare (foundAt code (childPassed code childAt d state .matched)))
+      → state₁ ≡ opened (raised state (partPlace code d)) (partPlace code (suc d)) (childPassed code childAt d state .part)
       → out₂ ≡ mergedRow Crate out₁ (lateDeclared Crate (placedAttributes (length code + fill) (counting settings attributes text (length code) fill out texts)))
       → take r texts₂ ≡ take fill texts ++ attributesContents (counting settings attributes text (length code) fill out texts)
       → record { row = out₂; state = state₁; texts = take r texts₂ } ≡ openStep code settings (handedFrom node attributes text) (suc d) out state (take fill texts)
-  unfolding openStep elementStep rowBelow handedFrom childElement handedElement childBytes countedAttributes inlineContents
+  unfolding openStep elementStep rowBelow handedFrom childElement handedElement childPassed countedAttributes inlineContents
   element-is out₁ state₁ out₂ texts₂ r row part row₂ t =
       let long : length (take fill texts) ≡ fill = length-take-le fill texts f in
       let xs : List Attribute = counting settings attributes text (length code) fill out texts in
-      let merged : List ℕ = mergedRow Crate (inheritedRow Crate out) (selectorsDeclare (matching (walked code) (childBytes code childAt state (partPlace code d)))) in
+      let merged : List ℕ = mergedRow Crate (inheritedRow Crate out) (selectorsDeclare (foundAt code (childPassed code childAt d state .matched))) in
       stepped _ _ _ _ _ _
       (row₂
       ∙ ap (λ (x : List ℕ). mergedRow Crate x (lateDeclared Crate (placedAttributes (length code + fill) xs))) row
@@ -313,7 +316,7 @@ module _ (settings : Settings) (code node attributes text : List ℕ) (depth : �
     opens x q = pick-false _ _ _ _ (is-no _ _ (λ z. h (e ∙ z))) q
 
     -- the document
-    pub document-step : depth ≡ 0 → (out₁ state₁ : List ℕ) → (out₁ ≡ noStyle) × (state₁ ≡ opened state (partPlace code 0) (allGroups [] (walked code) []))
+    pub document-step : depth ≡ 0 → (out₁ state₁ : List ℕ) → (out₁ ≡ noStyle) × (state₁ ≡ documentStep code state [] .state)
         → (record { row = out₁; state = state₁; texts = take fill texts } ≡ stepOn code settings handed depth out state (take fill texts)) × (fill ≤ length texts)
     unfolding openStep documentStep
     document-step d out₁ state₁ p =
@@ -321,7 +324,7 @@ module _ (settings : Settings) (code node attributes text : List ℕ) (depth : �
 
     -- an element
     pub element-step : ¬ (depth ≡ 0) → (out₁ state₁ : List ℕ)
-        → ElementOpened code (childElement node attributes text state (partPlace code (depth - 1))) depth out state out₁ state₁ → (out₂ texts₂ : List ℕ) (r : ℕ)
+        → ElementOpened code (childElement node attributes text state (partPlace code (depth - 1))) (depth - 1) out state out₁ state₁ → (out₂ texts₂ : List ℕ) (r : ℕ)
         → (out₂ ≡ mergedRow Crate out₁ (lateDeclared Crate (placedAttributes (length code + fill) (counting settings attributes text (length code) fill out texts))))
         × ((take r texts₂ ≡ take fill texts ++ attributesContents (counting settings attributes text (length code) fill out texts))
         × (r ≤ length texts₂))
@@ -330,7 +333,7 @@ module _ (settings : Settings) (code node attributes text : List ℕ) (depth : �
         let e : suc (depth - 1) ≡ depth = omega arith in (
           opens _
               (element-is settings code node attributes text out state texts fill (depth - 1) fits out₁ state₁ out₂ texts₂ r (p .row)
-              (p .part ∙ ap (λ (x : ℕ). opened (raised state (partPlace code (depth - 1))) (partPlace code x) (childBytes code (childElement node attributes text state (partPlace code (depth - 1))) state (partPlace code (depth - 1)))) (sym e))
+              (p .part)
               (q .0) (q .1 .0)
               ∙ ap (λ (x : ℕ). openStep code settings handed x out state (take fill texts)) e),
           q .1 .1,

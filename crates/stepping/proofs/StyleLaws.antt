@@ -1,82 +1,33 @@
--- Declarations merged into a row one after the other, and the returns and turns of the functions that merge or pass over the styles of a selector.
+-- Declarations merged into a row one after the other, and the returns and turns of the functions that merge the styles of a selector.
 use mathlib.Core.Path.{_≡_, refl, sym, ap, _∙_}
-use mathlib.Core.Bool.{Bool, true, false}
 use mathlib.Core.List.{List, [], _∷_, _++_}
-use Prim.Native.Nat.{ℕ, zero, suc, _+_, _-_, _≤_, _<_}
+use Prim.Native.Nat.{ℕ, _-_, _≤_, _<_}
 use native.Mathlib.Omega.{arith}
 use lib.ListN.{length}
-use Rattle.combinators.proofs.Rules.{pick-true, pick-false}
 use Rattle.syntax.specs.declared.styles.StyleNumbers.{StyleNumbers}
 use Rattle.syntax.specs.declared.styles.Value.{Value}
 use Rattle.cascade.specs.declared.slots.Cascade.the-variants.{Crate}
 use Rattle.cascade.specs.declared.specificity.Specificity.{Specificity}
 use Rattle.cascade.specs.Record.{Styled, Declared, fromRule}
 use Rattle.cascade.specs.Row.{RowRoom, Merged}
-use Rattle.matching.specs.Specificity.{specificity}
 use Rattle.styles.specs.Merged.{mergedRow}
 use Rattle.styles.specs.Said.{ruleStyle}
 use Rattle.styles.specs.StyleCall.{inNumbers}
 use Rattle.styles.proofs.Merging.{merged-none, merged-more, merged-append, merged-long}
-use Rattle.compiled.specs.Decoded.{Decoded, read, fault, onDecoded, counted}
+use Rattle.compiled.specs.Decoded.{Decoded, read, fault, counted}
 use Rattle.compiled.specs.Number.{numberAt}
 use Rattle.compiled.specs.Style.{styleNumbersAt}
-use Rattle.compiled.specs.Sheet.{stylesAt}
-use Rattle.compiled.specs.Answer.{numberAnswer, placeAnswer, styleAnswer}
+use Rattle.compiled.specs.Answer.{numberAnswer, styleAnswer}
 use Rattle.compiled.specs.declared.numbers.NumberAnswer.{NumberAnswer}
 use Rattle.compiled.specs.declared.numbers.NumberAnswer.the-variants as number
-use Rattle.compiled.specs.declared.places.PlaceAnswer.{PlaceAnswer}
-use Rattle.compiled.specs.declared.places.PlaceAnswer.the-variants as place
 use Rattle.compiled.specs.declared.styles.StyleAnswer.{StyleAnswer}
 use Rattle.compiled.specs.declared.styles.StyleAnswer.the-variants as style
-use Rattle.compiled.proofs.Answers.{number-read, number-fault, place-read, place-fault}
+use Rattle.compiled.proofs.Answers.{number-read, number-fault}
 use Rattle.compiled.proofs.Following.{then-read, then-fault, mapped-read, mapped-fault}
-use Rattle.compiled.proofs.Walking.{counted-first, counted-none}
-use Rattle.runner.specs.Walked.{WalkedSelector, walkedStylesAt}
-use Rattle.stepping.specs.Passed.{listed, walkedStyleAt, stylesDeclare, CountedLent, StylesLent, declaredIf}
-use Rattle.stepping.proofs.WalkedReads.{styles-place}
-
--- ---- readings
--- what is read is no fault
-pub no-fault : {A : Type 0} (d : Decoded A) (n p : ℕ) (a : A) → d ≡ read n a → d ≡ fault p → ⊥
-no-fault d n p a e f = let z : _≡_ {A = ℕ} 0 1 = cc in omega arith
-
--- a list that is read
-pub listed-is : {A : Type 0} (d : Decoded (List A)) (n : ℕ) (xs : List A) → d ≡ read n xs → listed d ≡ xs
-unfolding listed onDecoded
-listed-is d n xs e = rw e
-
--- named by the reading
-pub listed-at : {A : Type 0} (d : Decoded (List A)) (n : ℕ) (xs : List A) → d ≡ read n xs → d ≡ read n (listed d)
-listed-at d n xs e = e ∙ ap (read n) (sym (listed-is d n xs e))
-
--- the place behind what is read, by any reading of it
-pub ends-so : {A : Type 0} (d : Decoded A) (n m : ℕ) (a b : A) → d ≡ read n a → d ≡ read m b → n ≡ m
-ends-so d n m a b e f = cc
-
--- and its value
-pub value-so : {A : Type 0} (d : Decoded A) (n m : ℕ) (a b : A) → d ≡ read n a → d ≡ read m b → a ≡ b
-value-so d n m a b e f = cc
-
--- the others, behind the first of so many
-pub counted-next : {A : Type 0} (u : ℕ → Decoded A) (left i end n : ℕ) (others : List A) (a : A) → 0 < left → counted u left i ≡ read end others → u i ≡ read n a
-    → (rest : List A) × (counted u (left - 1) n ≡ read end rest) × (others ≡ a ∷ rest)
-counted-next u zero i end n others a h e f = absurd (omega arith)
-counted-next u (suc k) i end n others a h e f =
-    let w = counted-first u k i end others e in
-    let p : w .place ≡ n = ends-so (u i) _ _ _ _ (w .first) f in
-    let v : w .value ≡ a = value-so (u i) _ _ _ _ (w .first) f in
-    let q : suc k - 1 ≡ k = omega arith in
-    (w .others, ap (λ (j : ℕ). counted u j n) q ∙ ap (counted u k) (sym p) ∙ w .rest, w .split ∙ ap (λ x. x ∷ w .others) v)
-
--- one of so many is no fault
-pub counted-there : {A : Type 0} (u : ℕ → Decoded A) (left i end p : ℕ) (others : List A) → 0 < left → counted u left i ≡ read end others → u i ≡ fault p → ⊥
-counted-there u zero i end p others h e f = omega arith
-counted-there u (suc k) i end p others h e f = let w = counted-first u k i end others e in no-fault (u i) _ _ _ (w .first) f
-
--- none is left
-pub counted-end : {A : Type 0} (u : ℕ → Decoded A) (left i end : ℕ) (others : List A) → left ≤ 0 → counted u left i ≡ read end others → (end ≡ i) × (others ≡ [])
-counted-end u zero i end others h e = counted-none u i end others e
-counted-end u (suc k) i end others h e = absurd (omega arith)
+use Rattle.runner.specs.Walked.{walkedStylesAt}
+use Rattle.stepping.specs.Reading.{listed}
+use Rattle.stepping.specs.Merging.{walkedStyleAt, stylesDeclare, CountedLent, StylesLent}
+use Rattle.stepping.proofs.ReadingLaws.{no-fault, listed-at, counted-next, counted-there, counted-end}
 
 -- ---- a loop that merges declarations into a row
 -- what has the length of a row with room has room
@@ -139,7 +90,6 @@ module _ (code : List ℕ) (count at origin pseudo : ℕ) (spec : Specificity) (
   pub record StylesMerging (left i : ℕ) (row : List ℕ) : Type 0 where
     pub end : ℕ
     pub others : List (Styled Value)
-    pub whole : counted (walkedStyleAt code) count at ≡ read end all
     pub told : counted (walkedStyleAt code) left i ≡ read end others
     pub merging : Merging row₀ (stylesDeclare origin pseudo spec all) row (stylesDeclare origin pseudo spec others)
 
@@ -147,7 +97,7 @@ module _ (code : List ℕ) (count at origin pseudo : ℕ) (spec : Specificity) (
   pub styles-begin : RowRoom row₀ → CountedLent code at count → StylesMerging count at row₀
   styles-begin r l =
       let e = listed-at _ _ _ (l .reads .told) in
-      record { end = l .reads .end; others = all; whole = e; told = e; merging = merging-begin row₀ _ r }
+      record { end = l .reads .end; others = all; told = e; merging = merging-begin row₀ _ r }
 
   -- one style is merged
   style-merged : (row z : List ℕ) (x : StyleNumbers) → Merged Crate row z (record { pseudo = pseudo; slot = x .slot; candidate = record { weight = record { important = x .important; origin = origin; spec = spec }; value = x .value } })
@@ -173,11 +123,10 @@ module _ (code : List ℕ) (count at origin pseudo : ℕ) (spec : Specificity) (
         → StylesMerging (left - 1) n z
     styles-more h r e n x p z d =
         let u = mapped-read inNumbers (styleNumbersAt code i) n x (style-read (styleNumbersAt code i) r e n x p) in
-        let w = counted-next (walkedStyleAt code) left i (m .end) n (m .others) (inNumbers x) h (m .told) u in
+        let w = counted-next (walkedStyleAt code) left i (m .end) (m .others) (m .told) n (inNumbers x) h u in
         record {
           end = m .end;
           others = w .0;
-          whole = m .whole;
           told = w .1;
           merging = merging-more row₀ _ row _ (m .merging) _ _ (one-declared (m .others) (w .0) (inNumbers x) (w .2)) z (style-merged row z x d);
         }
@@ -185,13 +134,11 @@ module _ (code : List ℕ) (count at origin pseudo : ℕ) (spec : Specificity) (
     -- there is one
     pub styles-there : 0 < left → (r : StyleAnswer) → r ≡ styleAnswer (styleNumbersAt code i) → (p : ℕ) → r ≡ style.Fault p → ⊥
     styles-there h r e p q =
-        counted-there (walkedStyleAt code) left i (m .end) p (m .others) h (m .told) (mapped-fault inNumbers (styleNumbersAt code i) p (style-fault (styleNumbersAt code i) r e p q))
+        counted-there (walkedStyleAt code) left i (m .end) (m .others) (m .told) p h (mapped-fault inNumbers (styleNumbersAt code i) p (style-fault (styleNumbersAt code i) r e p q))
 
     -- all are merged
-    pub styles-done : left ≤ 0 → (row ≡ mergedRow Crate row₀ (stylesDeclare origin pseudo spec all)) × (counted (walkedStyleAt code) count at ≡ read i all)
-    styles-done h =
-        let w = counted-end (walkedStyleAt code) left i (m .end) (m .others) h (m .told) in
-        (merging-done row₀ _ row _ (m .merging) (none-declared (m .others) (w .1)), m .whole ∙ ap (λ (k : ℕ). read k all) (w .0))
+    pub styles-done : left ≤ 0 → row ≡ mergedRow Crate row₀ (stylesDeclare origin pseudo spec all)
+    styles-done h = merging-done row₀ _ row _ (m .merging) (none-declared (m .others) (counted-end (walkedStyleAt code) left i (m .end) (m .others) (m .told) h))
 
 -- ---- returns of `merge_styles`
 module _ (code : List ℕ) (at : ℕ) (r : NumberAnswer) (e : r ≡ numberAnswer (numberAt code at)) (l : StylesLent code at) where
@@ -211,30 +158,6 @@ module _ (code : List ℕ) (at : ℕ) (r : NumberAnswer) (e : r ≡ numberAnswer
     counted-lent = record { few = omega (arith, l .few); reads = record { end = l .reads .end; value = l .reads .value; told = sym styles-behind ∙ l .reads .told } }
 
     -- and are merged
-    pub styles-merged : (origin pseudo : ℕ) (spec : Specificity) (row z : List ℕ) (end : ℕ)
-        → (z ≡ mergedRow Crate row (stylesDeclare origin pseudo spec (listed (counted (walkedStyleAt code) k n))))
-        × (counted (walkedStyleAt code) k n ≡ read end (listed (counted (walkedStyleAt code) k n)))
-        → (z ≡ mergedRow Crate row (stylesDeclare origin pseudo spec (listed (walkedStylesAt code at)))) × (walkedStylesAt code at ≡ read end (listed (walkedStylesAt code at)))
-    styles-merged origin pseudo spec row z end h = rw styles-behind h
-
--- ---- returns of `pass_styles`
-module _ (s : WalkedSelector Value) where
-  -- they are merged
-  pub passed-merged : (m : Bool) → m ≡ true → (spec : Specificity) → spec ≡ specificity (s .components) → (row z : List ℕ)
-      → z ≡ mergedRow Crate row (stylesDeclare (s .origin) (s .pseudo) spec (s .styles)) → z ≡ mergedRow Crate row (declaredIf m s)
-  unfolding declaredIf
-  passed-merged m h spec q row z e = e ∙ ap (mergedRow Crate row) (pick-true _ _ _ m h (rw q))
-
-  -- they are not
-  pub passed-over : (m : Bool) → m ≡ false → (row : List ℕ) → row ≡ mergedRow Crate row (declaredIf m s)
-  unfolding declaredIf
-  passed-over m h row = sym (merged-none Crate row) ∙ ap (mergedRow Crate row) (pick-false _ _ _ m h refl)
-
-module _ (code : List ℕ) (at : ℕ) (l : StylesLent code at) (r : PlaceAnswer) (e : r ≡ placeAnswer (stylesAt code at)) where
-  -- the place behind them
-  pub passed-behind : (n : ℕ) → r ≡ place.At n → walkedStylesAt code at ≡ read n (listed (walkedStylesAt code at))
-  passed-behind n p = let w = place-read (walkedStylesAt code at) r (e ∙ styles-place code at) n p in listed-at _ n (w .0) (w .1)
-
-  -- there is one
-  pub passed-there : (p : ℕ) → r ≡ place.Fault p → ⊥
-  passed-there p q = no-fault (walkedStylesAt code at) _ p _ (l .reads .told) (place-fault (walkedStylesAt code at) r (e ∙ styles-place code at) p q)
+    pub styles-merged : (origin pseudo : ℕ) (spec : Specificity) (row z : List ℕ)
+        → z ≡ mergedRow Crate row (stylesDeclare origin pseudo spec (listed (counted (walkedStyleAt code) k n))) → z ≡ mergedRow Crate row (stylesDeclare origin pseudo spec (listed (walkedStylesAt code at)))
+    styles-merged origin pseudo spec row z h = rw styles-behind h

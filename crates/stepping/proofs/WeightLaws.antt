@@ -18,10 +18,10 @@ use Rattle.compiled.specs.Answer.{componentAnswer}
 use Rattle.compiled.specs.declared.components.ComponentAnswer.{ComponentAnswer}
 use Rattle.compiled.specs.declared.components.ComponentAnswer.the-variants as component
 use Rattle.compiled.proofs.Walking.{First, at-mark, at-name, at-numbers, at-names, at-fault}
-use Rattle.stepping.specs.Components.{Reads, componentsFrom, weightAt}
-use Rattle.stepping.specs.declared.components.Weight.{Weight}
-use Rattle.stepping.specs.declared.components.Weight.the-variants as weight
-use Rattle.stepping.proofs.WalkLaws.{reads-whole, first-left, none-left}
+use Rattle.stepping.specs.Reading.{Reads, listed, weightAt}
+use Rattle.stepping.specs.declared.specificity.Weight.{Weight}
+use Rattle.stepping.specs.declared.specificity.Weight.the-variants as weight
+use Rattle.stepping.proofs.ReadingLaws.{listed-at, counted-left, counted-end}
 
 -- as the code's constant has it
 abbrev nothing : Specificity
@@ -135,7 +135,7 @@ pub record Adding (code : List ℕ) (at count : ℕ) (s : Specificity) (i left :
   pub end : ℕ
   pub rest : List Component
   pub rest-read : counted (componentAt code) left i ≡ read end rest
-  pub total : sum s (specificity rest) ≡ specificity (componentsFrom code count at)
+  pub total : sum s (specificity rest) ≡ specificity (listed (counted (componentAt code) count at))
   pub ids : s .id + left ≤ count
   pub classes : s .class + left ≤ count
   pub types : s .typ + left ≤ count
@@ -145,9 +145,9 @@ pub add-begin : (code : List ℕ) (at count : ℕ) → Reads (counted (component
 add-begin code at count r =
     record {
       end = r .end;
-      rest = componentsFrom code count at;
-      rest-read = reads-whole code count at r;
-      total = sum-first (specificity (componentsFrom code count at));
+      rest = listed (counted (componentAt code) count at);
+      rest-read = listed-at _ (r .end) (r .value) (r .told);
+      total = sum-first (specificity (listed (counted (componentAt code) count at)));
       ids = omega arith;
       classes = omega arith;
       types = omega arith;
@@ -155,13 +155,13 @@ add-begin code at count r =
 
 module _ (code : List ℕ) (at count : ℕ) (s : Specificity) (i left : ℕ) (v : Adding code at count s i left) where
   -- all is added
-  pub add-end : left ≤ 0 → s ≡ specificity (componentsFrom code count at)
+  pub add-end : left ≤ 0 → s ≡ specificity (listed (counted (componentAt code) count at))
   unfolding specificity
-  add-end h = sym (sum-last s) ∙ ap (λ (cs : List Component). sum s (specificity cs)) (sym (none-left code left i (v .end) (v .rest) h (v .rest-read) .1)) ∙ v .total
+  add-end h = sym (sum-last s) ∙ ap (λ (cs : List Component). sum s (specificity cs)) (sym (counted-end (componentAt code) left i (v .end) (v .rest) (v .rest-read) h)) ∙ v .total
 
   module _ (h : 0 < left) (q : Weight) (eq : q ≡ weightAt code i) where
     first : First (componentAt code) (left - 1) i (v .end) (v .rest)
-    first = first-left code left i (v .end) (v .rest) h (v .rest-read)
+    first = counted-left (componentAt code) left i (v .end) (v .rest) (v .rest-read) h
 
     there : q ≡ weight.Added (first .place) (added (first .value))
     there = eq ∙ sym (weight-read code i (first .place) (first .value) _ (first .first) refl)
@@ -189,7 +189,7 @@ module _ (code : List ℕ) (at count : ℕ) (s : Specificity) (i left : ℕ) (v 
             type-fits = omega (arith, few .1 .1, v .types);
           }
 
-      total-is : sum (sum s x) (specificity (first .others)) ≡ specificity (componentsFrom code count at)
+      total-is : sum (sum s x) (specificity (first .others)) ≡ specificity (listed (counted (componentAt code) count at))
       unfolding specificity
       total-is =
           sum-assoc s x (specificity (first .others)) ∙ ap (λ (y : Specificity). sum s (sum y (specificity (first .others)))) value-is

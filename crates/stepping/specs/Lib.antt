@@ -1,5 +1,5 @@
-pub mod Components
-pub mod Count
-pub mod Passed
+pub mod Reading
+pub mod Merging
+pub mod Passing
 pub mod Opened
 pub mod Lent

@@ -1,25 +1,33 @@
-// The styles of a selector in compiled bytes, merged into a style row or passed over.
-use crate::components::specificity_at;
+// The styles of a selector in compiled bytes, merged into a style row.
+use crate::specificity::specificity_at;
 use cascade::rows::merge_computed_style;
 use cascade::slots::Cascade;
 use cascade::specificity::Specificity;
+use compiled::components::skip_components;
 use compiled::numbers::NumberAnswer;
 use compiled::numbers::read_number;
 use compiled::places::PlaceAnswer;
+use compiled::sheets::HeadAnswer;
+use compiled::sheets::read_head;
 use compiled::styles::StyleAnswer;
 use compiled::styles::read_style;
 use compiled::styles::skip_styles;
+use syntax::rows::AGENT_ORIGIN;
 ghost use mathlib.Core.Path.{_≡_};
+ghost use mathlib.Core.List.{[], _∷_};
+ghost use Prim.Native.Nat.{_≤_};
+ghost use lib.ListN.{length};
 ghost use Rattle.cascade.specs.declared.slots.Cascade.the-variants.{Crate};
 ghost use Rattle.cascade.specs.Row.{RowRoom};
 ghost use Rattle.styles.specs.Merged.{mergedRow};
-ghost use Rattle.compiled.specs.Component.{componentAt};
-ghost use Rattle.compiled.specs.Decoded.{read, counted};
+ghost use Rattle.compiled.specs.Decoded.{counted};
+ghost use Rattle.compiled.specs.Sheet.{compiledLimit};
+ghost use Rattle.runner.specs.Run.{selectorsDeclare, foundAt};
 ghost use Rattle.runner.specs.Walked.{walkedStylesAt};
-ghost use Rattle.stepping.specs.Components.{Reads, componentsFrom};
-ghost use Rattle.stepping.specs.Passed.{listed, walkedStyleAt, stylesDeclare, CountedLent, StylesLent, declaredIf};
+ghost use Rattle.stepping.specs.Reading.{listed};
+ghost use Rattle.stepping.specs.Merging.{walkedStyleAt, stylesDeclare, CountedLent, StylesLent};
 
-// Merges `count` styles from `at` on, as those of a selector; the place behind them.
+// Merges `count` styles from `at` on, as those of a selector.
 fn merge_counted(
     compiled: &[u8],
     at: usize,
@@ -28,11 +36,10 @@ fn merge_counted(
     pseudo: u32,
     spec: Specificity,
     out: &mut [u32],
-) -> usize
+)
     requires { ⌜ RowRoom (now out) ⌝ }
     requires { ⌜ CountedLent (now compiled) at count ⌝ }
     ensures { λ _. ⌜ now (out .exit) ≡ mergedRow Crate (now (out .entry)) (stylesDeclare origin pseudo spec (listed (counted (walkedStyleAt (now (compiled .entry))) count at))) ⌝ }
-    ensures { λ r. ⌜ counted (walkedStyleAt (now (compiled .entry))) count at ≡ read r (listed (counted (walkedStyleAt (now (compiled .entry))) count at)) ⌝ }
 {
     let mut i = at;
     let mut left = count;
@@ -42,67 +49,67 @@ fn merge_counted(
                 merge_computed_style(out, Cascade::Crate, pseudo as usize, origin, spec, style);
                 i = next;
             }
-            StyleAnswer::Fault(place) => {
-                return place;
+            StyleAnswer::Fault(_) => {
+                return;
             }
         }
         left -= 1;
     }
-    i
 }
 
-// Merges the styles at `at`, which start with their count; the place behind them.
-pub fn merge_styles(
+// Merges the styles at `at`, which start with their count.
+fn merge_styles(
     compiled: &[u8],
     at: usize,
     origin: u32,
     pseudo: u32,
     spec: Specificity,
     out: &mut [u32],
-) -> usize
+)
     requires { ⌜ RowRoom (now out) ⌝ }
     requires { ⌜ StylesLent (now compiled) at ⌝ }
     ensures { λ _. ⌜ now (out .exit) ≡ mergedRow Crate (now (out .entry)) (stylesDeclare origin pseudo spec (listed (walkedStylesAt (now (compiled .entry)) at))) ⌝ }
-    ensures { λ r. ⌜ walkedStylesAt (now (compiled .entry)) at ≡ read r (listed (walkedStylesAt (now (compiled .entry)) at)) ⌝ }
 {
     match read_number(compiled, at) {
         NumberAnswer::Number(next, count) => {
-            return merge_counted(compiled, next, count, origin, pseudo, spec, out);
+            merge_counted(compiled, next, count, origin, pseudo, spec, out);
+            return;
         }
-        NumberAnswer::Fault(place) => {
-            return place;
+        NumberAnswer::Fault(_) => {
+            return;
         }
     }
 }
 
-// Behind the `count` components at `first`, the styles at `at`: merged where the selector matches, and passed over elsewhere. The place behind them.
-pub fn pass_styles(
-    compiled: &[u8],
-    first: usize,
-    count: u32,
-    at: usize,
-    matched: bool,
-    origin: u32,
-    pseudo: u32,
-    out: &mut [u32],
-) -> usize
+// Merges the styles of the selector at `p`; where none reads to its end, nothing is declared.
+pub fn merge_found(compiled: &[u8], p: usize, out: &mut [u32])
     requires { ⌜ RowRoom (now out) ⌝ }
-    requires { ⌜ Reads (counted (componentAt (now compiled)) count first) ⌝ }
-    requires { ⌜ StylesLent (now compiled) at ⌝ }
-    ensures { λ _. ⌜ now (out .exit) ≡ mergedRow Crate (now (out .entry))
-        (declaredIf matched (record { origin = origin; pseudo = pseudo; components = componentsFrom (now (compiled .entry)) count first; styles = listed (walkedStylesAt (now (compiled .entry)) at) })) ⌝ }
-    ensures { λ r. ⌜ walkedStylesAt (now (compiled .entry)) at ≡ read r (listed (walkedStylesAt (now (compiled .entry)) at)) ⌝ }
+    requires { ⌜ length (now compiled) ≤ compiledLimit ⌝ }
+    ensures { λ _. ⌜ now (out .exit) ≡ mergedRow Crate (now (out .entry)) (selectorsDeclare (foundAt (now (compiled .entry)) (p ∷ []))) ⌝ }
 {
-    if matched {
-        let spec = specificity_at(compiled, first, count);
-        return merge_styles(compiled, at, origin, pseudo, spec, out);
-    }
-    match skip_styles(compiled, at) {
-        PlaceAnswer::At(next) => {
-            return next;
-        }
-        PlaceAnswer::Fault(place) => {
-            return place;
+    match read_head(compiled, p, AGENT_ORIGIN) {
+        HeadAnswer::Head {
+            next,
+            origin,
+            pseudo,
+            count,
+        } => match skip_components(compiled, next, count) {
+            PlaceAnswer::At(styles) => match skip_styles(compiled, styles) {
+                PlaceAnswer::At(_) => {
+                    let spec = specificity_at(compiled, next, count);
+                    merge_styles(compiled, styles, origin, pseudo, spec, out);
+                    return;
+                }
+                PlaceAnswer::Fault(_) => {
+                    return;
+                }
+            },
+            PlaceAnswer::Fault(_) => {
+                return;
+            }
+        },
+        HeadAnswer::Fault(_) => {
+            return;
         }
     }
 }

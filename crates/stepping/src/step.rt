@@ -1,9 +1,6 @@
 // One row of a run.
-use crate::selectors::pass_selectors;
-use crate::state::COUNT_WIDTH;
-use crate::state::count_at;
-use crate::state::raise_count;
-use crate::state::write_count;
+use crate::passing::pass_document;
+use crate::passing::pass_element;
 use attributes::merging::merge_attributes;
 use cascade::rows::clear_row;
 use cascade::rows::inherit;
@@ -12,6 +9,8 @@ use page::rows::OTHER;
 use page::rows::attribute_rows;
 use page::rows::kind_of;
 use page::rows::name_of;
+use segments::parts::pair_at;
+use segments::parts::put_pair;
 use styles::settings::Settings;
 ghost use mathlib.Core.Path.{_≡_};
 ghost use mathlib.Core.List.{[], _++_};
@@ -25,12 +24,13 @@ ghost use Rattle.page.specs.Rows.{attributeRows};
 ghost use Rattle.attributes.specs.Merging.{InlineRoom};
 ghost use Rattle.styles.specs.Merged.{mergedRow, lateDeclared};
 ghost use Rattle.styles.specs.StyleCall.{attributesContents, placedAttributes};
-ghost use Rattle.runner.specs.Groups.{allGroups};
-ghost use Rattle.runner.specs.Run.{noStyle, handedFrom, stepOn};
-ghost use Rattle.runner.specs.State.{partPlace, opened};
-ghost use Rattle.runner.specs.Walked.{walked};
+ghost use Rattle.runner.specs.Run.{noStyle, handedFrom, documentStep, stepOn};
+ghost use Rattle.runner.specs.State.{partPlace};
 ghost use Rattle.stepping.specs.Lent.{StepLent};
 ghost use Rattle.stepping.specs.Opened.{OpenLent, Below, childElement, ElementOpened};
+
+// Where in a part the count of the element children stands.
+const TO_COUNT: usize = 0;
 
 // The document: its part of the state, and no style.
 fn open_document(
@@ -42,22 +42,11 @@ fn open_document(
 )
     requires { ⌜ OpenLent (now compiled) (now out) (now state) ⌝ }
     ensures { λ _. ⌜ now (out .exit) ≡ noStyle ⌝ }
-    ensures { λ _. ⌜ now (state .exit) ≡ opened (now (state .entry)) (partPlace (now (compiled .entry)) 0) (allGroups [] (walked (now (compiled .entry))) []) ⌝ }
+    ensures { λ _. ⌜ now (state .exit) ≡ documentStep (now (compiled .entry)) (now (state .entry)) [] .state ⌝ }
 {
-    // above the document there is nothing, and it has no name, attributes or place
-    pass_selectors(
-        compiled,
-        false,
-        text,
-        attributes,
-        text,
-        0,
-        state,
-        0,
-        COUNT_WIDTH,
-        out,
-    );
-    write_count(state, 0, 0);
+    let width = compiled.len() + 1;
+    pass_document(compiled, state, attributes, text);
+    put_pair(state, 0, width, TO_COUNT, 0);
     clear_row(out);
 }
 
@@ -75,28 +64,28 @@ fn open_element(
     requires { ⌜ Below depth ⌝ }
     ensures { λ _. ⌜ ElementOpened (now (compiled .entry))
         (childElement (now (node .entry)) (now (attributes .entry)) (now (text .entry)) (now (state .entry)) (partPlace (now (compiled .entry)) (depth - 1)))
-        depth (now (out .entry)) (now (state .entry)) (now (out .exit)) (now (state .exit)) ⌝ }
+        (depth - 1) (now (out .entry)) (now (state .entry)) (now (out .exit)) (now (state .exit)) ⌝ }
 {
     let width = compiled.len() + 1;
     let parent = (depth - 1) * width;
     let own = parent + width;
-    let place = count_at(state, parent) + 1;
-    raise_count(state, parent);
+    let place = pair_at(state, parent) + 1;
+    put_pair(state, parent, width, TO_COUNT, place);
     inherit(out, Cascade::Crate);
     let name = name_of(node, text, 0);
-    pass_selectors(
+    pass_element(
         compiled,
-        true,
+        state,
+        parent,
+        own,
+        width,
         name,
         attributes,
         text,
         place,
-        state,
-        parent + COUNT_WIDTH,
-        own + COUNT_WIDTH,
         out,
     );
-    write_count(state, own, 0);
+    put_pair(state, own, width, TO_COUNT, 0);
 }
 
 // What the attributes of a row say, if document styles are on; the fill behind their contents, whose starts count from `base` on. What `rules`, `tokens` and

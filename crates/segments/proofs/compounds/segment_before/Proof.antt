@@ -1,3 +1,4 @@
+-- What is left to read says the same segment as all of it: a test and a child step are counted, a descendant step begins the next segment or ends the walk.
 use Rattle.segments.proofs.CodeCompoundLaws as laws
 use borrow.Author.Needs.{needs}
 use Rattle.segments.proofs.compounds.segment_before.Statement.{statement}
@@ -52,10 +53,16 @@ loop-again-2 c = let n = c .before in
 enum-known-next-3 : tie.Need-enum-known-next-3 Inv-loop μ-loop
 enum-known-next-3 c = search needs
 
+segment-of-requires : tie.Need-segment-of-requires Inv-loop μ-loop
+segment-of-requires c κs = search needs
+
 returns : tie.Need-returns Inv-loop μ-loop
-returns c = let n = c .before .before in
+returns c = let b = c .before in
+    let n = b .before .before in
     let k = n .before .before in
-    (laws.seek-stop _ _ _ _ _ _ _ _ _ (k .before .before .loop .inv) (k .before .loop-test .taken) _ (k .pass-met .ensures) _ (n .next3 .given .1) (c .if1 .taken), (search needs, search needs))
+    let v = k .before .before .loop .inv in
+    let e = c .segment-of .ensures in
+    (laws.seek-parts _ _ _ _ _ _ _ _ _ v (laws.seek-stop _ _ _ _ _ _ _ _ _ v (k .before .loop-test .taken) _ (k .pass-met .ensures) _ (n .next3 .given .1) (b .if1 .taken)) _ _ _ (e .0) (e .1 .0) (e .1 .1), (search needs, search needs))
 
 sub-left-3 : tie.Need-sub-left-3 Inv-loop μ-loop
 sub-left-3 c = search needs
@@ -71,12 +78,24 @@ loop-again-3 c = let n = c .before .before in
 enum-told : tie.Need-enum-told Inv-loop μ-loop
 enum-told c = search needs
 
+segment-of-requires-2 : tie.Need-segment-of-requires-2 Inv-loop μ-loop
+segment-of-requires-2 c κs = search needs
+
 returns-2 : tie.Need-returns-2 Inv-loop μ-loop
-returns-2 c = let k = c .before .before in
-    (laws.seek-fault _ _ _ _ _ _ _ _ _ (k .before .before .loop .inv) (k .before .loop-test .taken) _ (k .pass-met .ensures) (c .enum-told .given .1), (search needs, search needs))
+returns-2 c = let b = c .before in
+    let k = b .before .before in
+    let v = k .before .before .loop .inv in
+    let e = c .segment-of2 .ensures in
+    (laws.seek-parts _ _ _ _ _ _ _ _ _ v (laws.seek-fault _ _ _ _ _ _ _ _ _ v (k .before .loop-test .taken) _ (k .pass-met .ensures) (b .enum-told .given .1)) _ _ _ (e .0) (e .1 .0) (e .1 .1), (search needs, search needs))
+
+segment-of-requires-3 : tie.Need-segment-of-requires-3 Inv-loop μ-loop
+segment-of-requires-3 c κs = search needs
 
 returns-3 : tie.Need-returns-3 Inv-loop μ-loop
-returns-3 c = (laws.seek-end _ _ _ _ _ _ _ _ _ (c .before .loop .inv) (c .loop-test .left), (search needs, search needs))
+returns-3 c = let b = c .before in
+    let v = b .before .loop .inv in
+    let e = c .segment-of3 .ensures in
+    (laws.seek-parts _ _ _ _ _ _ _ _ _ v (laws.seek-end _ _ _ _ _ _ _ _ _ v (b .loop-test .left)) _ _ _ (e .0) (e .1 .0) (e .1 .1), (search needs, search needs))
 
 pub segment-before-spec : {M : Type 1} → statement M
 segment-before-spec =
@@ -97,10 +116,13 @@ segment-before-spec =
     loop-less-2
     loop-again-2
     enum-known-next-3
+    segment-of-requires
     returns
     sub-left-3
     loop-less-3
     loop-again-3
     enum-told
+    segment-of-requires-2
     returns-2
+    segment-of-requires-3
     returns-3)

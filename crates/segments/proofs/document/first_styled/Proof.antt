@@ -6,7 +6,7 @@ use Rattle.segments.proofs.document.first_styled.Statement.{statement}
 use Rattle.segments.proofs.document.first_styled.Tie as tie
 
 abbrev Inv-loop : tie.InvT-loop
-Inv-loop compiled at count i₀ left₀ i left = laws.Seeking compiled count at left i
+Inv-loop compiled at count i₀ left₀ i left = laws.Finding compiled count at left i
 
 abbrev μ-loop : tie.MeasureT-loop
 μ-loop compiled at count i₀ left₀ i left = left
@@ -24,7 +24,7 @@ returns : tie.Need-returns Inv-loop μ-loop
 returns c = let n = c .before .before in
     let k = n .before .before in
     let l = k .before .before in
-    laws.seek-found _ _ _ _ _ (l .loop .inv) (k .before .loop-test .taken) _ (k .style-count .ensures) _ _ (n .next .given .1) (l .before .before .pre) (c .if1 .taken)
+    laws.find-styled _ _ _ _ _ (l .loop .inv) (k .before .loop-test .taken) _ (k .style-count .ensures) _ _ (n .next .given .1) (l .before .before .pre) (c .if1 .taken)
 
 sub-left : tie.Need-sub-left Inv-loop μ-loop
 sub-left c = search needs
@@ -35,7 +35,7 @@ loop-less c = search needs
 loop-again : tie.Need-loop-again Inv-loop μ-loop
 loop-again c = let n = c .before .before in
     let k = n .before .before in
-    laws.seek-more _ _ _ _ _ (k .before .before .loop .inv) (k .before .loop-test .taken) _ (k .style-count .ensures) _ _ (n .next .given .1) (c .if1 .left)
+    laws.find-bare _ _ _ _ _ (k .before .before .loop .inv) (k .before .loop-test .taken) _ (k .style-count .ensures) _ _ (n .next .given .1) (c .if1 .left)
 
 enum-told : tie.Need-enum-told Inv-loop μ-loop
 enum-told c = search needs
@@ -43,10 +43,10 @@ enum-told c = search needs
 returns-2 : tie.Need-returns-2 Inv-loop μ-loop
 returns-2 c = let k = c .before .before in
     let l = k .before .before in
-    laws.seek-fault _ _ _ _ _ (l .loop .inv) (k .before .loop-test .taken) _ (k .style-count .ensures) (l .before .before .pre) _ (c .enum-told .given .1)
+    laws.find-fault _ _ _ _ _ (l .loop .inv) (k .before .loop-test .taken) _ (k .style-count .ensures) (l .before .before .pre) _ (c .enum-told .given .1)
 
 returns-3 : tie.Need-returns-3 Inv-loop μ-loop
-returns-3 c = let l = c .before in laws.seek-end _ _ _ _ _ (l .loop .inv) (l .before .before .pre) (c .loop-test .left)
+returns-3 c = let l = c .before in laws.find-end _ _ _ _ _ (l .loop .inv) (l .before .before .pre) (c .loop-test .left)
 
 pub first-styled-spec : {M : Type 1} → statement M
 first-styled-spec =

@@ -1,3 +1,4 @@
+-- The places are those of the parent's part, and the first compound begins the sweep: what is told by it is what the visit tells. Of no bytes there is no compound.
 use Rattle.segments.proofs.CodeVisitLaws as laws
 use borrow.Author.Needs.{needs}
 use Rattle.segments.proofs.visiting.visit.Statement.{statement}
@@ -24,32 +25,30 @@ add-sweep-one c = search needs
 sweep-one-requires : tie.Need-sweep-one-requires
 sweep-one-requires c κs = search needs
 
-visit-ended-requires : tie.Need-visit-ended-requires
-visit-ended-requires c κs = search needs
+visit-swept-requires : tie.Need-visit-swept-requires
+visit-swept-requires c κs = search needs
 
 same-length : tie.Need-same-length
 same-length c = search needs
 
 returns : tie.Need-returns
-returns c = laws.visit-ends _ _ _ _ _ _ _ _ (c .before .before .before .before .before .before .before .before .before .part-of .ensures) _ (c .before .before .before .before .before .before .before .before .pair-at .ensures .0) _ (c .before .before .before .before .before .before .before .pair-at2 .ensures .0) _ (c .before .before .before .before .before .before .if1 .taken) _ (c .before .before .before .before .before .sweep-one .ensures) (c .before .before .before .before .if2 .taken) _ (c .before .before .visit-ended .ensures)
+returns c = let p = c .before .before in
+    let o = p .before .before in
+    let t = o .before in
+    let k = t .before in
+    laws.visit-by _ _ _ _ _ _ _ _ (k .before .before .part-of .ensures) _ (k .before .pair-at .ensures .0) _ (k .pair-at2 .ensures .0) _ (t .if1 .taken) _ (o .sweep-one .ensures) _ (p .visit-swept .ensures)
 
-put-stays-requires : tie.Need-put-stays-requires
-put-stays-requires c κs = search needs
+put-places-requires : tie.Need-put-places-requires
+put-places-requires c κs = search needs
 
 same-length-2 : tie.Need-same-length-2
 same-length-2 c = search needs
 
 returns-2 : tie.Need-returns-2
-returns-2 c = laws.visit-stays _ _ _ _ _ _ _ _ (c .before .before .before .before .before .before .before .before .before .part-of .ensures) _ (c .before .before .before .before .before .before .before .before .pair-at .ensures .0) _ (c .before .before .before .before .before .before .before .pair-at2 .ensures .0) _ (c .before .before .before .before .before .before .if1 .taken) _ (c .before .before .before .before .before .sweep-one .ensures) (c .before .before .before .before .if2 .left) (c .before .before .put-stays .ensures)
-
-put-places-requires : tie.Need-put-places-requires
-put-places-requires c κs = search needs
-
-same-length-3 : tie.Need-same-length-3
-same-length-3 c = search needs
-
-returns-3 : tie.Need-returns-3
-returns-3 c = laws.visit-none _ _ _ _ _ _ _ _ (c .before .before .before .before .before .before .before .part-of .ensures) _ (c .before .before .before .before .before .before .pair-at .ensures .0) _ (c .before .before .before .before .before .pair-at2 .ensures .0) _ (c .before .before .before .before .if1 .left) (c .before .before .put-places .ensures)
+returns-2 c = let p = c .before .before in
+    let t = p .before .before in
+    let k = t .before in
+    laws.visit-none _ _ _ _ _ _ _ _ (k .before .before .part-of .ensures) _ (k .before .pair-at .ensures .0) _ (k .pair-at2 .ensures .0) _ (t .if1 .left) (p .put-places .ensures)
 
 pub visit-spec : {M : Type 1} → statement M
 visit-spec =
@@ -62,12 +61,9 @@ visit-spec =
     pair-at-requires-2
     add-sweep-one
     sweep-one-requires
-    visit-ended-requires
+    visit-swept-requires
     same-length
     returns
-    put-stays-requires
-    same-length-2
-    returns-2
     put-places-requires
-    same-length-3
-    returns-3)
+    same-length-2
+    returns-2)

@@ -11,7 +11,9 @@ abbrev μ-loop : tie.MeasureT-loop
 μ-loop compiled at count origin pseudo spec out₀ i₀ left₀ out i left = left
 
 loop-holds : tie.Need-loop-holds Inv-loop μ-loop
-loop-holds c = laws.styles-begin _ _ _ _ _ _ _ (c .before .before .pre .0) (c .before .before .pre .1)
+loop-holds c =
+    let start = c .before .before in
+    laws.styles-begin _ _ _ _ _ _ _ (start .pre .0) (start .pre .1)
 
 read-style-requires : tie.Need-read-style-requires Inv-loop μ-loop
 read-style-requires c κs = search needs
@@ -22,16 +24,18 @@ enum-known-next c = search needs
 merge-computed-style-requires : tie.Need-merge-computed-style-requires Inv-loop μ-loop
 merge-computed-style-requires c κs = search needs
 
-enum-known-place : tie.Need-enum-known-place Inv-loop μ-loop
-enum-known-place c = search needs
+enum-told : tie.Need-enum-told Inv-loop μ-loop
+enum-told c = search needs
 
 same-length : tie.Need-same-length Inv-loop μ-loop
 same-length c = search needs
 
 returns : tie.Need-returns Inv-loop μ-loop
-returns c = let n = c .before in
-    let k = n .before .before in
-    absurd (laws.styles-there _ _ _ _ _ _ _ _ _ _ (k .before .before .loop .inv) (k .before .loop-test .taken) _ (k .read-style .ensures .0) _ (n .place .given .1))
+returns c =
+    let at-read-style = c .before .before in
+    let at-loop-test = at-read-style .before in
+    let at-loop = at-loop-test .before in
+    absurd (laws.styles-there _ _ _ _ _ _ _ _ _ _ (at-loop .loop .inv) (at-loop-test .loop-test .taken) _ (at-read-style .read-style .ensures .0) _ (c .enum-told .given .1))
 
 sub-left : tie.Need-sub-left Inv-loop μ-loop
 sub-left c = search needs
@@ -40,10 +44,13 @@ loop-less : tie.Need-loop-less Inv-loop μ-loop
 loop-less c = search needs
 
 loop-again : tie.Need-loop-again Inv-loop μ-loop
-loop-again c = let m = c .before .before in
-    let n = m .before .before .before in
-    let k = n .before .before in
-    laws.styles-more _ _ _ _ _ _ _ _ _ _ (k .before .before .loop .inv) (k .before .loop-test .taken) _ (k .read-style .ensures .0) _ _ (n .next .given .1) _ (m .merge-computed-style .ensures)
+loop-again c =
+    let at-merge-computed-style = c .before .before in
+    let at-next = at-merge-computed-style .before .before .before in
+    let at-read-style = at-next .before .before in
+    let at-loop-test = at-read-style .before in
+    let at-loop = at-loop-test .before in
+    laws.styles-more _ _ _ _ _ _ _ _ _ _ (at-loop .loop .inv) (at-loop-test .loop-test .taken) _ (at-read-style .read-style .ensures .0) _ _ (at-next .next .given .1) _ (at-merge-computed-style .merge-computed-style .ensures)
 
 same-length-2 : tie.Need-same-length-2 Inv-loop μ-loop
 same-length-2 c = search needs
@@ -61,7 +68,7 @@ merge-counted-spec =
     read-style-requires
     enum-known-next
     merge-computed-style-requires
-    enum-known-place
+    enum-told
     same-length
     returns
     sub-left

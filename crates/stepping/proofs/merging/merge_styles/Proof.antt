@@ -11,22 +11,31 @@ enum-known-next : tie.Need-enum-known-next
 enum-known-next c = search needs
 
 merge-counted-requires : tie.Need-merge-counted-requires
-merge-counted-requires c κs = let a = c .before .before .before .before .before .before .before in let n = c .before .before in
-    (a .pre .0, laws.counted-lent _ _ _ (n .before .before .read-number .ensures .0) (a .pre .1) _ _ (n .next .given .1))
+merge-counted-requires c κs =
+    let at-next = c .before .before in
+    let at-read-number = at-next .before .before in
+    let start = at-read-number .before .before .before in
+    (start .pre .0, laws.counted-lent _ _ _ (at-read-number .read-number .ensures .0) (start .pre .1) _ _ (at-next .next .given .1))
 
 same-length : tie.Need-same-length
 same-length c = search needs
 
 returns : tie.Need-returns
-returns c = let n = c .before .before .before .before .before in
-    laws.styles-merged _ _ _ (n .before .before .read-number .ensures .0) (n .before .before .before .before .before .pre .1) _ _ (n .next .given .1) _ _ _ _ _ _ (c .before .before .merge-counted .ensures)
+returns c =
+    let at-merge-counted = c .before .before in
+    let at-next = at-merge-counted .before .before .before in
+    let at-read-number = at-next .before .before in
+    let start = at-read-number .before .before .before in
+    laws.styles-merged _ _ _ (at-read-number .read-number .ensures .0) (start .pre .1) _ _ (at-next .next .given .1) _ _ _ _ _ (at-merge-counted .merge-counted .ensures)
 
-enum-known-place : tie.Need-enum-known-place
-enum-known-place c = search needs
+enum-told : tie.Need-enum-told
+enum-told c = search needs
 
 returns-2 : tie.Need-returns-2
-returns-2 c = let n = c .before in
-    absurd (laws.count-there _ _ _ (n .before .before .read-number .ensures .0) (n .before .before .before .before .before .pre .1) _ (n .place .given .1))
+returns-2 c =
+    let at-read-number = c .before .before in
+    let start = at-read-number .before .before .before in
+    absurd (laws.count-there _ _ _ (at-read-number .read-number .ensures .0) (start .pre .1) _ (c .enum-told .given .1))
 
 pub merge-styles-spec : {M : Type 1} → statement M
 merge-styles-spec =
@@ -37,5 +46,5 @@ merge-styles-spec =
     merge-counted-requires
     same-length
     returns
-    enum-known-place
+    enum-told
     returns-2)
