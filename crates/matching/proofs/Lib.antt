@@ -14,3 +14,4 @@ pub mod Roots
 pub mod ClimbLaws
 pub mod RecursionLaws
 pub mod CallLaws
+pub mod WordList
