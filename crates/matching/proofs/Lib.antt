@@ -15,3 +15,4 @@ pub mod ClimbLaws
 pub mod RecursionLaws
 pub mod CallLaws
 pub mod WordList
+pub mod Documents

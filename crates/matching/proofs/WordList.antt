@@ -15,14 +15,27 @@ use Rattle.combinators.proofs.Repeats.{many-took, many-stop, many-from}
 use Rattle.combinators.proofs.Rules.{never, pick-true, pick-false, pick-holds, is-yes, is-no, either, or-left}
 use Rattle.combinators.proofs.Words.{same-is, same-self}
 use Rattle.unicode.specs.Trim.{whiteOf, whiteTaken, wordOf, wordTaken, trimmedStart}
-use Rattle.unicode.specs.Utf8.{isScalar, utf8, scalarOf, encode, Scalars}
+use Rattle.unicode.specs.Utf8.{isScalar, utf8, scalarOf, valid, encode, Scalars}
 use Rattle.unicode.specs.Utf8.Scalars.{none, more}
 use Rattle.unicode.specs.WhiteSpace.{isWhiteSpace}
+use Rattle.unicode.specs.declared.utf8.Scalar.{Scalar}
+use Rattle.unicode.specs.declared.utf8.Scalar.the-variants.{Value, NoScalar}
 use Rattle.unicode.proofs.RoundTrip.{read-back}
 use Rattle.unicode.proofs.Scalars.{utf8-some}
+use Rattle.unicode.proofs.Texts.{valid-is}
 use Rattle.matching.specs.Texts.{wordLength, wordAmong, hasWord}
-use Rattle.matching.specs.Documents.{Some, longer, pieces, withoutEmpty, words, WordOf}
+use Rattle.matching.specs.Documents.{Some, isSelectorsWhiteSpace, longer, pieces, withoutEmpty, words, WordOf, PlainText}
 use Rattle.matching.proofs.Selectors.{Exactly, or-yes}
+
+-- ---- two things that each follow from the other
+
+-- one behind the other
+pub exactly-then : (P Q R : Type 0) → Exactly P Q → Exactly Q R → Exactly P R
+exactly-then P Q R f g = ((λ p. g .0 (f .0 p)), (λ r. f .1 (g .1 r)))
+
+-- either of two
+pub exactly-either : (P Q R S : Type 0) → Exactly P Q → Exactly R S → Exactly (P ⊎ R) (Q ⊎ S)
+exactly-either P Q R S f g = (⊎-elim (λ p. inl (f .0 p)) (λ r. inr (g .0 r)), ⊎-elim (λ q. inl (f .1 q)) (λ s. inr (g .1 s)))
 
 -- ---- a text up to the first character that passes a test, and what is left from there on
 unfoldable front : (ℕ → Bool) → List ℕ → List ℕ
@@ -293,3 +306,95 @@ found w (suc k) vs h l = found-by w k vs h l (found w k) _ refl
 pub has-word-exactly : (w vs : List ℕ) → Scalars vs → Exactly (hasWord w (encode vs) ≡ true) (Some (λ x. encode x ≡ w) (words isWhiteSpace vs))
 unfolding hasWord
 has-word-exactly w vs h = found w (length (encode vs)) vs h (omega arith)
+
+-- ---- by characters
+
+-- the value of a character that was read
+unfoldable valueOf : ℕ → Scalar → ℕ
+valueOf d (Value n v) = v
+valueOf d NoScalar = d
+
+-- two texts with the same bytes have the same characters
+pub encode-once : (a b : List ℕ) → Scalars a → Scalars b → encode a ≡ encode b → a ≡ b
+unfolding encode
+encode-once a b none none e = refl
+encode-once a b none (more {v = v} {vs = vs} s h) e = absurd (omega (arith, ap length e, utf8-some v, length-append (utf8 v) (encode vs)))
+encode-once a b (more {v = v} {vs = vs} s h) none e = absurd (omega (arith, ap length e, utf8-some v, length-append (utf8 v) (encode vs)))
+encode-once a b (more {v = v} {vs = vs} s h) (more {v = u} {vs = us} r g) e = ap (λ l. v ∷ l) (encode-once vs us h g (behind-first v u vs us (first-same v u vs us s r e) e)) ∙ ap (λ x. x ∷ us) (first-same v u vs us s r e)
+  where
+    first-same : (v u : ℕ) (vs us : List ℕ) → isScalar v ≡ true → isScalar u ≡ true → utf8 v ++ encode vs ≡ utf8 u ++ encode us → v ≡ u
+    first-same v u vs us s r e = unfold valueOf in ap (valueOf 0) (sym (read-back v (encode vs) s) ∙ ap scalarOf e ∙ read-back u (encode us) r)
+
+    behind-first : (v u : ℕ) (vs us : List ℕ) → v ≡ u → utf8 v ++ encode vs ≡ utf8 u ++ encode us → encode vs ≡ encode us
+    behind-first v u vs us d e =
+        sym (drop-append-seam (utf8 v) (encode vs)) ∙ ap (drop (length (utf8 v))) e ∙ ap (λ x. drop (length (utf8 x)) (utf8 u ++ encode us)) d ∙ drop-append-seam (utf8 u) (encode us)
+
+-- every word of a text has scalar values where the text has
+pieces-scalars : (white : ℕ → Bool) (vs : List ℕ) → Scalars vs → All Scalars (pieces white vs)
+unfolding pieces
+pieces-scalars white vs none = (none, tt)
+pieces-scalars white vs (more {v = v} {vs = ws} s h) =
+    pick-holds (All Scalars) (white v) _ _ (λ _. (none, pieces-scalars white ws h)) (λ _. longer-scalars v s (pieces white ws) (pieces-scalars white ws h))
+  where
+    longer-scalars : (v : ℕ) → isScalar v ≡ true → (ps : List (List ℕ)) → All Scalars ps → All Scalars (longer v ps)
+    longer-scalars v s [] h = unfold longer in (more s none, tt)
+    longer-scalars v s (p ∷ ps) h = unfold longer in (more s (h .0), h .1)
+
+kept-scalars : (ps : List (List ℕ)) → All Scalars ps → All Scalars (withoutEmpty ps)
+unfolding withoutEmpty
+kept-scalars [] h = tt
+kept-scalars ([] ∷ ps) h = kept-scalars ps (h .1)
+kept-scalars ((v ∷ p) ∷ ps) h = (h .0, kept-scalars ps (h .1))
+
+-- a list of words has one with the bytes of w exactly if it has w
+by-characters : (w : List ℕ) → Scalars w → (l : List (List ℕ)) → All Scalars l → Exactly (Some (λ x. encode x ≡ encode w) l) (Some (λ x. x ≡ w) l)
+by-characters w s [] h = ((λ q. q), (λ q. q))
+by-characters w s (x ∷ l) h = exactly-either _ _ _ _ ((λ e. encode-once x w (h .0) s e), (λ e. ap encode e)) (by-characters w s l (h .1))
+
+-- the same law where the word, too, is given by its characters
+pub has-word-of-characters : (w vs : List ℕ) → Scalars w → Scalars vs → Exactly (hasWord (encode w) (encode vs) ≡ true) (Some (λ x. x ≡ w) (words isWhiteSpace vs))
+has-word-of-characters w vs s h = exactly-then _ _ _ (has-word-exactly (encode w) vs h) (by-characters w s (words isWhiteSpace vs) all)
+  where
+    all : All Scalars (words isWhiteSpace vs)
+    all = unfold words in kept-scalars (pieces isWhiteSpace vs) (pieces-scalars isWhiteSpace vs h)
+
+-- tests that agree on a text give it the same words
+same-pieces : (f g : ℕ → Bool) (vs : List ℕ) → All (λ v. f v ≡ g v) vs → pieces f vs ≡ pieces g vs
+unfolding pieces
+same-pieces f g [] h = refl
+same-pieces f g (v ∷ vs) h = ap (λ t. pick t ([] ∷ pieces f vs) (longer v (pieces f vs))) (h .0) ∙ ap (λ ps. pick (g v) ([] ∷ ps) (longer v ps)) (same-pieces f g vs (h .1))
+
+pub same-words : (f g : ℕ → Bool) (vs : List ℕ) → All (λ v. f v ≡ g v) vs → words f vs ≡ words g vs
+unfolding words
+same-words f g vs h = ap withoutEmpty (same-pieces f g vs h)
+
+-- ---- by the bytes of an attribute's value
+
+-- what is well formed is a list of words, one of which is exactly w, where the test finds it
+pub word-exactly : (w t : List ℕ) → valid t ≡ true → Exactly (hasWord w t ≡ true) (WordOf isWhiteSpace w t)
+word-exactly w t h = (there, back)
+  where
+    there : hasWord w t ≡ true → WordOf isWhiteSpace w t
+    there q =
+        let r = valid-is t h in
+        record { characters = r .scalars; scalars = r .all; in-utf8 = r .same; some = has-word-exactly w (r .scalars) (r .all) .0 (ap (hasWord w) (sym (r .same)) ∙ q) }
+
+    back : WordOf isWhiteSpace w t → hasWord w t ≡ true
+    back r = ap (hasWord w) (r .in-utf8) ∙ has-word-exactly w (r .characters) (r .scalars) .1 (r .some)
+
+-- where the only white space of a text is the document's, so are its words
+pub plain-word : (w t : List ℕ) → PlainText t → Exactly (WordOf isWhiteSpace w t) (WordOf isSelectorsWhiteSpace w t)
+plain-word w t p = (there, back)
+  where
+    same : (vs : List ℕ) → Scalars vs → t ≡ encode vs → words isWhiteSpace vs ≡ words isSelectorsWhiteSpace vs
+    same vs s e =
+        let d : p .characters ≡ vs = encode-once (p .characters) vs (p .scalars) s (sym (p .in-utf8) ∙ e) in
+        same-words isWhiteSpace isSelectorsWhiteSpace vs (subst (All (λ v. isWhiteSpace v ≡ isSelectorsWhiteSpace v)) d (p .plain))
+
+    there : WordOf isWhiteSpace w t → WordOf isSelectorsWhiteSpace w t
+    there r =
+        record { characters = r .characters; scalars = r .scalars; in-utf8 = r .in-utf8; some = subst (Some (λ x. encode x ≡ w)) (same (r .characters) (r .scalars) (r .in-utf8)) (r .some) }
+
+    back : WordOf isSelectorsWhiteSpace w t → WordOf isWhiteSpace w t
+    back r =
+        record { characters = r .characters; scalars = r .scalars; in-utf8 = r .in-utf8; some = subst (Some (λ x. encode x ≡ w)) (sym (same (r .characters) (r .scalars) (r .in-utf8))) (r .some) }
