@@ -9,3 +9,4 @@ pub mod RowBack
 pub mod Cascading
 pub mod Inheriting
 pub mod Relating
+pub mod Agreeing
