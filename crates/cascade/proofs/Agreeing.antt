@@ -271,3 +271,102 @@ module _ {A : Type 0} where
   unfolding maybeUpdate bookUpdate
   same-slot [] ks p = refl
   same-slot (x ∷ xs) ks p = from-held xs x (ks .0) (ks .1) (p .0) (p .1)
+
+  -- the weight of what a slot holds
+  abbrev weightOr : Weight → Slot A → Weight
+  weightOr w empty = w
+  weightOr w (held c) = c .weight
+
+  -- of two declarations alone that is exactly where they do
+  pub two-exactly : (x y : Candidate A) → Known x → Known y
+      → Exactly (foldl maybeUpdate empty (x ∷ y ∷ []) ≡ foldl bookUpdate empty (x ∷ y ∷ [])) (DecidedAlike (x .weight) (y .weight))
+  two-exactly x y kx ky = ((λ e. alike-exactly (x .weight) (y .weight) kx ky .0 (go _ _ refl refl (unfold maybeUpdate bookUpdate in e))), (λ a. same-slot (x ∷ y ∷ []) (kx, (ky, tt)) ((a, tt), (tt, tt))))
+    where
+      -- a value stays against none of its own weight
+      not-own : heldAgainst (x .weight) (y .weight) ≡ true → held x ≡ held y → ⊥
+      not-own h e =
+          let d : x .weight ≡ y .weight = ap (weightOr (x .weight)) e in
+          let w = y .weight in
+          never
+          (sym (not-held w w (λ p. never (sym (p .0) ∙ p .1)) (λ p. let l = p .1 in absurd (omega arith)) (λ p. let l = p .1 in absurd (omega arith)) (not-itself (w .spec)))
+          ∙ ap (λ v. heldAgainst v w) (sym d) ∙ h)
+
+      go : (a b : Bool) → heldAgainst (x .weight) (y .weight) ≡ a → heldInBook (x .weight) (y .weight) ≡ b
+          → pick (heldAgainst (x .weight) (y .weight)) (held x) (held y) ≡ pick (heldInBook (x .weight) (y .weight)) (held x) (held y)
+          → heldAgainst (x .weight) (y .weight) ≡ heldInBook (x .weight) (y .weight)
+      go true true e f h = e ∙ sym f
+      go false false e f h = e ∙ sym f
+      go true false e f h = absurd (not-own e (pick-true _ _ _ _ e refl ∙ h ∙ sym (pick-false _ _ _ _ f refl)))
+      go false true e f h = never (sym e ∙ crate-keeps-too (x .weight) (y .weight) kx ky f)
+
+  -- ---- what is inherited, c in the crate's cascade and d in the book order
+  module _ (c d : Candidate A) (kc : Known c) (w : d .weight ≡ inheritedWeight) (v : c .value ≡ d .value) where
+    inherited-chosen : (t : Bool) (y : Candidate A) (ys : List (Candidate A)) → SameOrInherited (foldl maybeUpdate (held c) ys) (foldl bookUpdate (held d) ys)
+        → foldl maybeUpdate (held y) ys ≡ foldl bookUpdate (held y) ys
+        → SameOrInherited (foldl maybeUpdate (pick t (held c) (held y)) ys) (foldl bookUpdate (pick t (held d) (held y)) ys)
+    unfolding pick
+    inherited-chosen true y ys p q = p
+    inherited-chosen false y ys p q = same q
+
+    inherited-updated : (y : Candidate A) (ys : List (Candidate A)) → heldAgainst (c .weight) (y .weight) ≡ heldInBook inheritedWeight (y .weight)
+        → SameOrInherited (foldl maybeUpdate (held c) ys) (foldl bookUpdate (held d) ys) → foldl maybeUpdate (held y) ys ≡ foldl bookUpdate (held y) ys
+        → SameOrInherited (foldl maybeUpdate (maybeUpdate (held c) y) ys) (foldl bookUpdate (bookUpdate (held d) y) ys)
+    unfolding maybeUpdate bookUpdate
+    inherited-updated y ys e p q =
+        subst (λ (b : Bool). SameOrInherited (foldl maybeUpdate (pick (heldAgainst (c .weight) (y .weight)) (held c) (held y)) ys) (foldl bookUpdate (pick b (held d) (held y)) ys)) (e ∙ ap (λ u. heldInBook u (y .weight)) (sym w))
+        (inherited-chosen (heldAgainst (c .weight) (y .weight)) y ys p q)
+
+    from-inherited : (xs : List (Candidate A)) → All Known xs → All (λ y. InheritedAlike (c .weight) (y .weight)) xs → AllDecidedAlike xs
+        → SameOrInherited (foldl maybeUpdate (held c) xs) (foldl bookUpdate (held d) xs)
+    from-inherited [] ks a p = inherited c d refl refl w v
+    from-inherited (y ∷ ys) ks a p =
+        inherited-updated y ys (inherited-exactly (c .weight) (y .weight) (ks .0) kc .1 (a .0)) (from-inherited ys (ks .1) (a .1) (p .1)) (from-held ys y (ks .0) (ks .1) (p .0) (p .1))
+
+  -- P holds of what a slot holds
+  abbrev pub Holds : (Candidate A → Type 0) → Slot A → Type 0
+  Holds P empty = Unit
+  Holds P (held c) = P c
+
+  -- what holds of every declaration, and of what was in the slot, holds of what the crate's cascade leaves there
+  pub holds-after : (P : Candidate A → Type 0) (xs : List (Candidate A)) (s : Slot A) → Holds P s → All P xs → Holds P (foldl maybeUpdate s xs)
+  unfolding maybeUpdate
+  holds-after P [] s h a = h
+  holds-after P (x ∷ xs) empty h a = holds-after P xs (held x) (a .0) (a .1)
+  holds-after P (x ∷ xs) (held c) h a = holds-after P xs (pick (heldAgainst (c .weight) (x .weight)) (held c) (held x)) (pick-holds (Holds P) _ (held c) (held x) (λ _. h) (λ _. a .0)) (a .1)
+
+  -- what is the same or inherited in both is filled in both, with one value
+  abbrev filled : Slot A → ℕ
+  filled empty = 0
+  filled (held c) = 1
+
+  abbrev valueOr : A → Slot A → A
+  valueOr a empty = a
+  valueOr a (held c) = c .value
+
+  one-empty : (d : Candidate A) → SameOrInherited empty (held d) → ⊥
+  one-empty d (same e) = absurd (omega (arith, ap filled e))
+  one-empty d (inherited c b e f w v) = absurd (omega (arith, ap filled e))
+
+  other-empty : (c : Candidate A) → SameOrInherited (held c) empty → ⊥
+  other-empty c (same e) = absurd (omega (arith, ap filled e))
+  other-empty c (inherited a b e f w v) = absurd (omega (arith, ap filled f))
+
+  one-value-of : (c d : Candidate A) → SameOrInherited (held c) (held d) → c .value ≡ d .value
+  one-value-of c d (same e) = ap (valueOr (c .value)) e
+  one-value-of c d (inherited a b e f w v) = ap (valueOr (c .value)) e ∙ v ∙ ap (valueOr (d .value)) (sym f)
+
+  -- so both show the same
+  pub same-value : (s t : Slot A) → SameOrInherited s t → SameValue s t
+  same-value empty empty r = nothing
+  same-value empty (held d) r = absurd (one-empty d r)
+  same-value (held c) empty r = absurd (other-empty c r)
+  same-value (held c) (held d) r = one-value (one-value-of c d r)
+
+  -- the slot of a child, where its parent's is the same or inherited in both, and the child's declarations replace what the crate's parent holds alike
+  pub slot-agrees : (s t : Slot A) (xs : List (Candidate A)) → SameOrInherited s t → All Known xs → Holds (λ c. Known c × All (λ y. InheritedAlike (c .weight) (y .weight)) xs) s → AllDecidedAlike xs
+      → SameOrInherited (foldl maybeUpdate s xs) (foldl bookUpdate (inheritedSlot t) xs)
+  unfolding inheritedSlot inheritedCandidate
+  slot-agrees empty empty xs r ks h p = same (same-slot xs ks p)
+  slot-agrees empty (held d) xs r ks h p = absurd (one-empty d r)
+  slot-agrees (held c) empty xs r ks h p = absurd (other-empty c r)
+  slot-agrees (held c) (held d) xs r ks h p = from-inherited c (record { weight = inheritedWeight; value = d .value }) (h .0) refl (one-value-of c d r) xs ks (h .1) p
