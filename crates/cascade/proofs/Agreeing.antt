@@ -11,7 +11,7 @@ use lib.Dec.{ltb}
 use Rattle.combinators.specs.All.{All}
 use Rattle.combinators.specs.Choice.{pick, or, and, is}
 use Rattle.combinators.proofs.Rules.{never, pick-true, pick-false, pick-holds, either, or-left, or-none, is-yes, is-no, is-true, is-false, same-test, lt-or-ge}
-use Rattle.combinators.proofs.AllLaws.{all-append, all-map, all-weaker}
+use Rattle.combinators.proofs.AllLaws.{all-weaker, all-both}
 use Rattle.syntax.specs.Layout.{flag}
 use Rattle.syntax.specs.Style.{agentOrigin, userOrigin, authorOrigin}
 use Rattle.cascade.specs.declared.specificity.Specificity.{Specificity}
@@ -370,3 +370,39 @@ module _ {A : Type 0} where
   slot-agrees empty (held d) xs r ks h p = absurd (one-empty d r)
   slot-agrees (held c) empty xs r ks h p = absurd (other-empty c r)
   slot-agrees (held c) (held d) xs r ks h p = from-inherited c (record { weight = inheritedWeight; value = d .value }) (h .0) refl (one-value-of c d r) xs ks (h .1) p
+
+-- ---- lists of declarations that meet the condition
+
+-- what every two values have that have something each, every two values of a list have
+each-pair : {A : Type 0} (P : A → Type 0) (Q : A → A → Type 0) → ((x y : A) → P x → P y → Q x y) → (xs : List A) → All P xs → EachPair Q xs
+each-pair P Q f [] p = tt
+each-pair P Q f (x ∷ xs) p = (all-weaker P (Q x) (λ y q. f x y (p .0) q) xs (p .1), each-pair P Q f xs (p .1))
+
+-- the same of values that stand in an order
+each-ordered : {A : Type 0} (P : A → Type 0) (R Q : A → A → Type 0) → ((x y : A) → P x → P y → R x y → Q x y) → (xs : List A) → All P xs → EachPair R xs → EachPair Q xs
+each-ordered P R Q f [] p r = tt
+each-ordered P R Q f (x ∷ xs) p r = (all-both P (R x) (Q x) (λ y a b. f x y (p .0) a b) xs (p .1) (r .0), each-ordered P R Q f xs (p .1) (r .1))
+
+module _ {A : Type 0} (xs : List (Candidate A)) where
+  -- all of one origin, and all normal or all important
+  pub one-origin : (o : ℕ) (i : Bool) → All (λ x. (x .weight .origin ≡ o) × (x .weight .important ≡ i)) xs → AllDecidedAlike xs
+  one-origin o i = each-pair _ _ (λ x y p q. record { stronger = λ h. absurd (no-rank (x .weight) (y .weight) (p .0 ∙ sym (q .0)) (p .1 ∙ sym (q .1)) h); important = λ a b. never (sym a ∙ p .1 ∙ sym (q .1) ∙ b) }) xs
+    where
+      no-rank : (x y : Weight) → x .origin ≡ y .origin → x .important ≡ y .important → ¬ (rankOf x < rankOf y)
+      no-rank x y e f h = let d : rankOf x ≡ rankOf y = unfold rankOf in rw (e, f) in absurd (omega arith)
+
+  -- none important, and none less specific than one before it of an earlier origin
+  pub normal-in-order : All (λ x. KnownOrigin (x .weight) × (x .weight .important ≡ false)) xs
+      → EachPair (λ x y. x .weight .origin < y .weight .origin → ¬ (LessSpecific (y .weight .spec) (x .weight .spec))) xs → AllDecidedAlike xs
+  normal-in-order =
+      each-ordered _ _ _
+      (λ x y p q r. record { stronger = λ h. r (omega (arith, normal-rank (x .weight) (p .0) (p .1), normal-rank (y .weight) (q .0) (q .1))); important = λ a b. never (sym (q .1) ∙ b) }) xs
+
+  -- all important, the origins in reading order: agent, user, author
+  pub important-in-order : All (λ x. KnownOrigin (x .weight) × (x .weight .important ≡ true)) xs → EachPair (λ x y. x .weight .origin ≤ y .weight .origin) xs → AllDecidedAlike xs
+  important-in-order =
+      each-ordered _ _ _
+      (λ x y p q r. record {
+        stronger = λ h. absurd (omega (arith, important-rank (x .weight) (p .0) (p .1), important-rank (y .weight) (q .0) (q .1)));
+        important = λ a b. never (sym a ∙ p .1);
+      }) xs

@@ -10,3 +10,4 @@ pub mod Cascading
 pub mod Inheriting
 pub mod Relating
 pub mod Agreeing
+pub mod AgreeingStyles
