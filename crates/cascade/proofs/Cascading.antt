@@ -8,8 +8,8 @@ use Prim.Native.Nat.{ℕ, _<_}
 use native.Mathlib.Omega.{arith}
 use lib.ListN.{length, getD, length-set, length-map, List·getD-map}
 use lib.Seq.{getD-set-same, getD-set-other}
-use Rattle.combinators.specs.Choice.{pick, and, is}
-use Rattle.combinators.proofs.Rules.{pick-true, pick-false, and-both, and-left, and-right, is-yes, is-no, is-true, is-false}
+use Rattle.combinators.specs.Choice.{pick, or, and, is}
+use Rattle.combinators.proofs.Rules.{pick-true, pick-false, or-false, and-both, and-left, and-right, is-yes, is-no, is-true, is-false}
 use Rattle.cascade.specs.declared.slots.Cascade.{Cascade}
 use Rattle.cascade.specs.declared.slots.Cascade.the-variants.{Crate, Book}
 use Rattle.cascade.specs.Slot.{Candidate, Slot, empty, held, Decided, unset, decided, maybeUpdate, bookUpdate, updateBy, inheritedCandidate, inheritedSlot}
@@ -21,6 +21,11 @@ use Rattle.cascade.proofs.Winners.{won, won-inherited}
 either-way : (t : Bool) → (t ≡ true) ⊎ (t ≡ false)
 either-way true = inl refl
 either-way false = inr refl
+
+or-second : (a b : Bool) → b ≡ true → or a b ≡ true
+unfolding or
+or-second true b e = refl
+or-second false b e = e
 
 fold-append : {A B : Type 0} (f : B → A → B) (b : B) (xs ys : List A) → foldl f b (xs ++ ys) ≡ foldl f (foldl f b xs) ys
 fold-append f b [] ys = refl
@@ -117,6 +122,27 @@ module _ {A : Type 0} where
               (⊎-elim (λ (f : is (d .pseudo) r ≡ true). when-here (is-true (d .pseudo) r f))
               (λ (f : is (d .pseudo) r ≡ false). rw (other-record (d .slot) v s (d .pseudo) r (which (d .pseudo) (named-says (d .pseudo) (d .slot) e .0)) (which r h) (is-false (d .pseudo) r f)) p)
               (either-way (is (d .pseudo) r)))
+
+      -- a declaration makes the record present that it names, and no other
+      pub merge-present : recordIn (mergeBy u s d) r .present ≡ or (recordIn s r .present) (and (isNamed (d .pseudo) (d .slot)) (is (d .pseudo) r))
+      merge-present = go (isNamed (d .pseudo) (d .slot)) (is (d .pseudo) r) refl refl
+        where
+          kept : recordIn (mergeBy u s d) r ≡ recordIn s r → and (isNamed (d .pseudo) (d .slot)) (is (d .pseudo) r) ≡ false
+              → recordIn (mergeBy u s d) r .present ≡ or (recordIn s r .present) (and (isNamed (d .pseudo) (d .slot)) (is (d .pseudo) r))
+          kept e n = ap (λ (p : Record A). p .present) e ∙ sym (or-false (recordIn s r .present) _ n)
+
+          go : (a b : Bool) → isNamed (d .pseudo) (d .slot) ≡ a → is (d .pseudo) r ≡ b
+              → recordIn (mergeBy u s d) r .present ≡ or (recordIn s r .present) (and (isNamed (d .pseudo) (d .slot)) (is (d .pseudo) r))
+          go false b e f = kept (ap (λ (t : ComputedStyle A). recordIn t r) (merge-unnamed e)) (and-left _ _ e)
+          go true false e f =
+              kept (ap (λ (t : ComputedStyle A). recordIn t r) (merge-named e) ∙ other-record (d .slot) v s (d .pseudo) r (which (d .pseudo) (named-says (d .pseudo) (d .slot) e .0)) (which r h) (is-false (d .pseudo) r f))
+              (and-right _ _ f)
+          go true true e f =
+              let g : d .pseudo ≡ r = is-true (d .pseudo) r f in
+              ap (λ (t : ComputedStyle A). recordIn t r .present) (merge-named e)
+              ∙ ap (λ (n : ℕ). recordIn (updateStyle n (d .slot) v s) r .present) g
+              ∙ ap (λ (p : Record A). p .present) (own-record (d .slot) v s r (which r h))
+              ∙ now-present (d .slot) v (recordIn s r) ∙ sym (or-second (recordIn s r .present) _ (and-both _ _ e f))
 
       -- a record once present stays present
       pub stays-present : recordIn s r .present ≡ true → recordIn (mergeBy u s d) r .present ≡ true
@@ -248,14 +274,19 @@ module _ {A : Type 0} where
   decides empty (x ∷ xs) = unfold inheritedSlot in unfold inheritedCandidates in decided (won x xs)
   decides (held c) xs = unfold inheritedCandidates in decided (won-inherited c xs)
 
-  -- each slot of the style holds the value of the last greatest of all its candidates: what is inherited, then the declarations in order of appearance
+  -- each slot of the style is what its candidates make, one after the other, of what is inherited
+  pub book-folds : (parent : ComputedStyle A) (x : Sources A) (r k : ℕ) → Formed parent → r < recordCount → k < slotCount
+      → slotIn (cascadeBy Book parent x) r k ≡ foldl bookUpdate (inheritedSlot (slotIn parent r k)) (candidatesFor r k (bookDeclared x))
+  unfolding cascadeBy inheritBy declaredBy
+  book-folds parent x r k f h l =
+      let cs = candidatesFor r k (bookDeclared x) in
+      slot-folds (updateBy Book) r h k l (bookDeclared x) (inheritInBookOrder parent) (formed-record (inheritInBookOrder parent) r (inherit-book-formed parent f) h)
+      ∙ ap (λ (s : Slot A). foldl (updateBy Book) s cs) (inherits-slot parent r k h) ∙ by-book cs (inheritedSlot (slotIn parent r k))
+
+  -- it holds the value of the last greatest of all its candidates: what is inherited, then the declarations in order of appearance
   pub book-decides : (parent : ComputedStyle A) (x : Sources A) (r k : ℕ) → Formed parent → r < recordCount → k < slotCount
       → Decided (slotIn (cascadeBy Book parent x) r k) (inheritedCandidates (slotIn parent r k) ++ candidatesFor r k (bookDeclared x))
-  unfolding cascadeBy inheritBy declaredBy
-  book-decides parent x r k f h l =
-      let ds = bookDeclared x in
-      rw (slot-folds (updateBy Book) r h k l ds (inheritInBookOrder parent) (formed-record (inheritInBookOrder parent) r (inherit-book-formed parent f) h), inherits-slot parent r k h, by-book (candidatesFor r k ds) (inheritedSlot (slotIn parent r k)))
-      (decides (slotIn parent r k) (candidatesFor r k ds))
+  book-decides parent x r k f h l = rw (book-folds parent x r k f h l) (decides (slotIn parent r k) (candidatesFor r k (bookDeclared x)))
 
   -- ---- what holds of every style that a cascade leaves
   -- all its records have all their slots

@@ -9,3 +9,5 @@ pub mod RowBack
 pub mod Cascading
 pub mod Inheriting
 pub mod Relating
+pub mod Agreeing
+pub mod AgreeingStyles

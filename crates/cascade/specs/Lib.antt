@@ -4,3 +4,4 @@ pub mod Record
 pub mod Row
 pub mod Related
 pub mod Cases
+pub mod Agreeing

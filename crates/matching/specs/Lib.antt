@@ -6,3 +6,4 @@ pub mod Selectors
 pub mod Rows
 pub mod Recursion
 pub mod Climb
+pub mod Documents

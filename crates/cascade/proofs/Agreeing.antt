@@ -1,0 +1,408 @@
+-- Where the crate's cascade is the book's: two declarations are decided alike exactly if the condition of specs/Agreeing.antt holds, and where it holds of every two
+-- for a slot, both cascades leave the same in it. Assumes nothing.
+use mathlib.Core.Path.{_≡_, refl, sym, ap, subst, _∙_}
+use mathlib.Core.Bool.{Bool, true, false}
+use mathlib.Core.List.{List, [], _∷_, _++_, map, foldl}
+use mathlib.Core.Logic.{_⊎_, inl, inr, ⊎-elim}
+use Prim.Native.Nat.{ℕ, _+_, _≤_, _<_}
+use native.Mathlib.Omega.{arith}
+use borrow.Author.Tests.{lt-ltb, le-ltb, ltb-true, ltb-false}
+use lib.Dec.{ltb}
+use Rattle.combinators.specs.All.{All}
+use Rattle.combinators.specs.Choice.{pick, or, and, is}
+use Rattle.combinators.proofs.Rules.{never, pick-true, pick-false, pick-holds, either, or-left, or-none, is-yes, is-no, is-true, is-false, same-test, lt-or-ge}
+use Rattle.combinators.proofs.AllLaws.{all-weaker, all-both}
+use Rattle.syntax.specs.Layout.{flag}
+use Rattle.syntax.specs.Style.{agentOrigin, userOrigin, authorOrigin}
+use Rattle.cascade.specs.declared.specificity.Specificity.{Specificity}
+use Rattle.cascade.specs.declared.slots.Weight.{Weight}
+use Rattle.cascade.specs.Specificity.{specificityOf, noSpecificity, inlineSpecificity, lessBySelector, less, LessSpecific, by-inline, by-id, by-class, by-type}
+use Rattle.cascade.specs.Slot.{Candidate, Slot, empty, held, heldByImportance, heldByOrigin, heldAgainst, maybeUpdate, normalAuthor, importantAgent, rank, rankOf, weaker, heldInBook, bookUpdate, inheritedWeight, inheritedCandidate, inheritedSlot}
+use Rattle.cascade.specs.Agreeing.{KnownOrigin, DecidedAlike, EachPair, AllDecidedAlike, InheritedAlike, by-author, by-important, no-replacement, SameOrInherited, same, inherited, SameValue, nothing, one-value}
+use Rattle.cascade.proofs.Orders.{then-lower, then-higher, then-equal, then-true, less-says, less-said}
+
+-- each of the two follows from the other
+abbrev pub Exactly : Type 0 → Type 0 → Type 0
+Exactly P Q = (P → Q) × (Q → P)
+
+or-yes : (a b : Bool) → b ≡ true → or a b ≡ true
+unfolding or
+or-yes true b e = refl
+or-yes false b e = e
+
+-- ---- ranks by numbers
+
+-- a normal one is the higher the later its origin
+rank-normal : (o : ℕ) → agentOrigin ≤ o → o ≤ authorOrigin → rank o false + 1 ≡ o
+unfolding rank pick
+rank-normal o l h =
+    pick-holds (λ n. n + 1 ≡ o) (is o agentOrigin) _ _ (λ e. let d = is-true o agentOrigin e in omega arith)
+    (λ e. pick-holds (λ n. n + 1 ≡ o) (is o userOrigin) _ _ (λ f. let d = is-true o userOrigin f in omega arith)
+    (λ f. let c = is-false o agentOrigin e in let d = is-false o userOrigin f in omega arith))
+
+-- an important one the lower
+rank-important : (o : ℕ) → agentOrigin ≤ o → o ≤ authorOrigin → rank o true + o ≡ importantAgent + agentOrigin
+unfolding rank pick
+rank-important o l h =
+    pick-holds (λ n. n + o ≡ importantAgent + agentOrigin) (is o agentOrigin) _ _ (λ e. let d = is-true o agentOrigin e in omega arith)
+    (λ e. pick-holds (λ n. n + o ≡ importantAgent + agentOrigin) (is o userOrigin) _ _ (λ f. let d = is-true o userOrigin f in omega arith)
+    (λ f. let c = is-false o agentOrigin e in let d = is-false o userOrigin f in omega arith))
+
+module _ (w : Weight) (k : KnownOrigin w) where
+  normal-rank : w .important ≡ false → rankOf w + 1 ≡ w .origin
+  unfolding rankOf
+  normal-rank e = ap (λ i. rank (w .origin) i + 1) e ∙ rank-normal (w .origin) (k .least) (k .most)
+
+  important-rank : w .important ≡ true → rankOf w + w .origin ≡ importantAgent + agentOrigin
+  unfolding rankOf
+  important-rank e = ap (λ i. rank (w .origin) i + w .origin) e ∙ rank-important (w .origin) (k .least) (k .most)
+
+-- ---- what the crate's tests say of x in the slot and y new
+module _ (x y : Weight) where
+  by-importance : y .important ≡ false → x .important ≡ true → heldAgainst x y ≡ true
+  unfolding heldAgainst heldByImportance
+  by-importance e f = or-left _ _ (sym (pick-false _ _ _ _ e (sym f)))
+
+  by-later-origin : y .important ≡ true → x .origin < y .origin → heldAgainst x y ≡ true
+  unfolding heldAgainst heldByOrigin
+  by-later-origin e h = or-yes _ _ (or-left _ _ (sym (pick-true _ _ _ _ e (sym (lt-ltb (x .origin) (y .origin) h)))))
+
+  by-earlier-origin : y .important ≡ false → y .origin < x .origin → heldAgainst x y ≡ true
+  unfolding heldAgainst heldByOrigin
+  by-earlier-origin e h = or-yes _ _ (or-left _ _ (sym (pick-false _ _ _ _ e (sym (lt-ltb (y .origin) (x .origin) h)))))
+
+  by-less : LessSpecific (y .spec) (x .spec) → heldAgainst x y ≡ true
+  unfolding heldAgainst
+  by-less l = or-yes _ _ (or-yes _ _ (less-said (y .spec) (x .spec) l))
+
+  not-less : ¬ (LessSpecific (y .spec) (x .spec)) → less (y .spec) (x .spec) ≡ false
+  not-less n = go (less (y .spec) (x .spec)) refl
+    where
+      go : (t : Bool) → less (y .spec) (x .spec) ≡ t → less (y .spec) (x .spec) ≡ false
+      go true e = absurd (n (less-says (y .spec) (x .spec) e))
+      go false e = e
+
+  -- a value that stays does so for one of four reasons
+  held-says : (P : Type 0) → heldAgainst x y ≡ true → (y .important ≡ false → x .important ≡ true → P) → (y .important ≡ true → x .origin < y .origin → P)
+      → (y .important ≡ false → y .origin < x .origin → P) → (LessSpecific (y .spec) (x .spec) → P) → P
+  unfolding heldAgainst heldByImportance heldByOrigin
+  held-says P e f g h l =
+      either P _ _ e (λ a. importance (y .important) refl a)
+      (λ b. either P _ _ b (λ a. origin (y .important) refl a) (λ a. l (less-says (y .spec) (x .spec) a)))
+    where
+      importance : (i : Bool) → y .important ≡ i → pick (y .important) false (x .important) ≡ true → P
+      importance true d a = never (pick-true _ _ _ _ d refl ∙ a)
+      importance false d a = f d (pick-false _ _ _ _ d refl ∙ a)
+
+      origin : (i : Bool) → y .important ≡ i → pick (y .important) (ltb (x .origin) (y .origin)) (ltb (y .origin) (x .origin)) ≡ true → P
+      origin true d a = g d (ltb-true (x .origin) (y .origin) (pick-true _ _ _ _ d refl ∙ a))
+      origin false d a = h d (ltb-true (y .origin) (x .origin) (pick-false _ _ _ _ d refl ∙ a))
+
+  -- it does not where none of them holds
+  not-held : ¬ ((y .important ≡ false) × (x .important ≡ true)) → ¬ ((y .important ≡ true) × (x .origin < y .origin)) → ¬ ((y .important ≡ false) × (y .origin < x .origin))
+      → ¬ (LessSpecific (y .spec) (x .spec)) → heldAgainst x y ≡ false
+  not-held f g h l = go (heldAgainst x y) refl
+    where
+      go : (t : Bool) → heldAgainst x y ≡ t → heldAgainst x y ≡ false
+      go true e = held-says (heldAgainst x y ≡ false) e (λ a b. absurd (f (a, b))) (λ a b. absurd (g (a, b))) (λ a b. absurd (h (a, b))) (λ a. absurd (l a))
+      go false e = e
+
+-- ---- two declarations are decided alike exactly if the condition holds
+module _ (x y : Weight) (kx : KnownOrigin x) (ky : KnownOrigin y) where
+  -- the book order keeps x
+  lower : rankOf y < rankOf x → heldInBook x y ≡ true
+  unfolding heldInBook weaker
+  lower h = sym (then-lower (rankOf y) (rankOf x) _ h)
+
+  higher : rankOf x < rankOf y → heldInBook x y ≡ false
+  unfolding heldInBook weaker
+  higher h = sym (then-higher (rankOf y) (rankOf x) _ h)
+
+  -- what the crate keeps by origin and importance, under the condition
+  kept-alike : DecidedAlike x y → heldAgainst x y ≡ true → heldInBook x y ≡ true
+  kept-alike a e =
+      held-says x y (heldInBook x y ≡ true) e
+      (λ i j. lower (omega (arith, normal-rank y ky i, important-rank x kx j, kx .most, ky .most)))
+      (λ i h. go-important i h (x .important) refl)
+      (λ i h. go-normal i h (x .important) refl)
+      (λ l. go-less l (lt-or-ge (rankOf x) (rankOf y)))
+    where
+      go-important : y .important ≡ true → x .origin < y .origin → (j : Bool) → x .important ≡ j → heldInBook x y ≡ true
+      go-important i h true j = lower (omega (arith, important-rank y ky i, important-rank x kx j))
+      go-important i h false j = let n = a .important j i in absurd (omega arith)
+
+      go-normal : y .important ≡ false → y .origin < x .origin → (j : Bool) → x .important ≡ j → heldInBook x y ≡ true
+      go-normal i h true j = lower (omega (arith, normal-rank y ky i, important-rank x kx j, kx .most, ky .most))
+      go-normal i h false j = lower (omega (arith, normal-rank y ky i, normal-rank x kx j))
+
+      go-less : LessSpecific (y .spec) (x .spec) → (rankOf x < rankOf y) ⊎ (rankOf y ≤ rankOf x) → heldInBook x y ≡ true
+      go-less l (inl h) = absurd (a .stronger h l)
+      go-less l (inr h) = ⊎-elim lower (λ (g : rankOf x ≤ rankOf y). unfold heldInBook weaker in sym (then-equal (rankOf y) (rankOf x) _ true (omega arith) (sym (less-said (y .spec) (x .spec) l)))) (lt-or-ge (rankOf y) (rankOf x))
+
+  -- what the book order keeps, the crate keeps in any case
+  pub crate-keeps-too : heldInBook x y ≡ true → heldAgainst x y ≡ true
+  unfolding heldInBook weaker
+  crate-keeps-too e = ⊎-elim (λ (h : rankOf y < rankOf x). go h (x .important) (y .important) refl refl) (λ h. by-less x y (less-says (y .spec) (x .spec) (h .1))) (then-true (rankOf y) (rankOf x) _ e)
+    where
+      go : rankOf y < rankOf x → (i j : Bool) → x .important ≡ i → y .important ≡ j → heldAgainst x y ≡ true
+      go h true false i j = by-importance x y j i
+      go h true true i j = by-later-origin x y j (omega (arith, important-rank x kx i, important-rank y ky j))
+      go h false false i j = by-earlier-origin x y j (omega (arith, normal-rank x kx i, normal-rank y ky j))
+      go h false true i j = absurd (omega (arith, normal-rank x kx i, important-rank y ky j, kx .most, ky .most))
+
+  -- the two tests are the same exactly if the condition holds
+  pub alike-exactly : Exactly (heldAgainst x y ≡ heldInBook x y) (DecidedAlike x y)
+  alike-exactly = (there, (λ a. same-test _ _ (kept-alike a) crate-keeps-too))
+    where
+      there : heldAgainst x y ≡ heldInBook x y → DecidedAlike x y
+      there e = record { stronger = λ h l. never (sym (higher h) ∙ sym e ∙ by-less x y l); important = λ i j. no-later i j (lt-or-ge (x .origin) (y .origin)) }
+        where
+          no-later : x .important ≡ false → y .important ≡ true → (x .origin < y .origin) ⊎ (y .origin ≤ x .origin) → y .origin ≤ x .origin
+          no-later i j (inl h) = never (sym (higher (omega (arith, normal-rank x kx i, important-rank y ky j, kx .most, ky .most))) ∙ sym e ∙ by-later-origin x y j h)
+          no-later i j (inr h) = h
+
+-- ---- one declaration against what is inherited, likewise
+
+-- nothing is less specific than itself, nor than a selector that names nothing
+not-itself : (s : Specificity) → ¬ (LessSpecific s s)
+not-itself s (by-inline e f) = never (sym e ∙ f)
+not-itself s (by-id i h) = absurd (omega arith)
+not-itself s (by-class i d h) = absurd (omega arith)
+not-itself s (by-type i d c h) = absurd (omega arith)
+
+not-below-none : (s : Specificity) → ¬ (LessSpecific s noSpecificity)
+unfolding noSpecificity specificityOf
+not-below-none s (by-inline e f) = never f
+not-below-none s (by-id i h) = absurd (omega arith)
+not-below-none s (by-class i d h) = absurd (omega arith)
+not-below-none s (by-type i d c h) = absurd (omega arith)
+
+inherited-rank : rankOf inheritedWeight ≡ normalAuthor
+unfolding rankOf inheritedWeight rank pick is
+inherited-rank = refl
+
+module _ (c y : Weight) (ky : KnownOrigin y) where
+  -- the book order keeps what is inherited against a normal agent or user value, and nothing else
+  book-replaces-important : y .important ≡ true → heldInBook inheritedWeight y ≡ false
+  unfolding heldInBook weaker
+  book-replaces-important i = sym (then-higher (rankOf y) (rankOf inheritedWeight) _ (omega (arith, inherited-rank, important-rank y ky i, ky .most)))
+
+  book-replaces-author : y .important ≡ false → authorOrigin ≤ y .origin → heldInBook inheritedWeight y ≡ false
+  unfolding heldInBook weaker inheritedWeight
+  book-replaces-author i h =
+      sym (then-equal (rankOf y) (rankOf inheritedWeight) _ false (omega (arith, inherited-rank, normal-rank y ky i, ky .most)) (sym (not-less (record { important = false; origin = authorOrigin; spec = noSpecificity }) y (not-below-none (y .spec)))))
+
+  book-keeps-inherited : y .important ≡ false → y .origin < authorOrigin → heldInBook inheritedWeight y ≡ true
+  unfolding heldInBook weaker
+  book-keeps-inherited i h = sym (then-lower (rankOf y) (rankOf inheritedWeight) _ (omega (arith, inherited-rank, normal-rank y ky i)))
+
+  module _ (kc : KnownOrigin c) where
+    inherited-alike : InheritedAlike c y → heldAgainst c y ≡ heldInBook inheritedWeight y
+    inherited-alike (by-author i o j n) =
+        not-held c y (λ w. never (sym j ∙ w .1)) (λ w. never (sym i ∙ w .0)) (λ w. let h = w .1 in absurd (omega (arith, kc .most))) n ∙ sym (book-replaces-author i (omega arith))
+    inherited-alike (by-important i o n) =
+        not-held c y (λ w. never (sym (w .0) ∙ i)) (λ w. let h = w .1 in absurd (omega arith)) (λ w. never (sym (w .0) ∙ i)) n ∙ sym (book-replaces-important i)
+    inherited-alike (no-replacement i o w) = stays w ∙ sym (book-keeps-inherited i o)
+      where
+        stays : (c .important ≡ true) ⊎ ((y .origin < c .origin) ⊎ LessSpecific (y .spec) (c .spec)) → heldAgainst c y ≡ true
+        stays (inl j) = by-importance c y i j
+        stays (inr (inl h)) = by-earlier-origin c y i h
+        stays (inr (inr l)) = by-less c y l
+
+    -- the crate's test against c is the book's against an inherited value exactly if the condition holds
+    pub inherited-exactly : Exactly (heldAgainst c y ≡ heldInBook inheritedWeight y) (InheritedAlike c y)
+    inherited-exactly = (there, inherited-alike)
+      where
+        normal : heldAgainst c y ≡ heldInBook inheritedWeight y → y .important ≡ false → (y .origin < authorOrigin) ⊎ (authorOrigin ≤ y .origin) → InheritedAlike c y
+        normal e i (inl h) =
+            held-says c y (InheritedAlike c y) (e ∙ book-keeps-inherited i h) (λ a b. no-replacement i h (inl b)) (λ a b. never (sym i ∙ a)) (λ a b. no-replacement i h (inr (inl b))) (λ l. no-replacement i h (inr (inr l)))
+        normal e i (inr h) = not-important (c .important) refl
+          where
+            free : heldAgainst c y ≡ false
+            free = e ∙ book-replaces-author i h
+
+            not-important : (t : Bool) → c .important ≡ t → InheritedAlike c y
+            not-important true j = never (sym free ∙ by-importance c y i j)
+            not-important false j = by-author i (omega (arith, ky .most)) j (λ l. never (sym free ∙ by-less c y l))
+
+        there : heldAgainst c y ≡ heldInBook inheritedWeight y → InheritedAlike c y
+        there e = go (y .important) refl
+          where
+            go : (t : Bool) → y .important ≡ t → InheritedAlike c y
+            go false i = normal e i (lt-or-ge (y .origin) authorOrigin)
+            go true i = important (lt-or-ge (c .origin) (y .origin))
+              where
+                free : heldAgainst c y ≡ false
+                free = e ∙ book-replaces-important i
+
+                important : (c .origin < y .origin) ⊎ (y .origin ≤ c .origin) → InheritedAlike c y
+                important (inl h) = never (sym free ∙ by-later-origin c y i h)
+                important (inr h) = by-important i h (λ l. never (sym free ∙ by-less c y l))
+
+-- ---- the declarations for a slot, one after the other
+module _ {A : Type 0} where
+  abbrev Known : Candidate A → Type 0
+  Known x = KnownOrigin (x .weight)
+
+  chosen : (t : Bool) (x y : Candidate A) (ys : List (Candidate A)) → foldl maybeUpdate (held x) ys ≡ foldl bookUpdate (held x) ys → foldl maybeUpdate (held y) ys ≡ foldl bookUpdate (held y) ys
+      → foldl maybeUpdate (pick t (held x) (held y)) ys ≡ foldl bookUpdate (pick t (held x) (held y)) ys
+  chosen t x y ys p q = pick-holds (λ s. foldl maybeUpdate s ys ≡ foldl bookUpdate s ys) t (held x) (held y) (λ _. p) (λ _. q)
+
+  -- the tests of one update
+  updated : (x y : Candidate A) (ys : List (Candidate A)) → heldAgainst (x .weight) (y .weight) ≡ heldInBook (x .weight) (y .weight)
+      → foldl maybeUpdate (held x) ys ≡ foldl bookUpdate (held x) ys → foldl maybeUpdate (held y) ys ≡ foldl bookUpdate (held y) ys
+      → foldl maybeUpdate (maybeUpdate (held x) y) ys ≡ foldl bookUpdate (bookUpdate (held x) y) ys
+  updated x y ys e p q = opened ∙ chosen (heldAgainst (x .weight) (y .weight)) x y ys p q ∙ shut
+    where
+      opened : foldl maybeUpdate (maybeUpdate (held x) y) ys ≡ foldl maybeUpdate (pick (heldAgainst (x .weight) (y .weight)) (held x) (held y)) ys
+      opened = ap (λ (s : Slot A). foldl maybeUpdate s ys) (unfold maybeUpdate in refl)
+
+      shut : foldl bookUpdate (pick (heldAgainst (x .weight) (y .weight)) (held x) (held y)) ys ≡ foldl bookUpdate (bookUpdate (held x) y) ys
+      shut = ap (λ (s : Slot A). foldl bookUpdate s ys) (ap (λ t. pick t (held x) (held y)) e ∙ (unfold bookUpdate in refl))
+
+  from-held : (xs : List (Candidate A)) (x : Candidate A) → Known x → All Known xs → All (λ y. DecidedAlike (x .weight) (y .weight)) xs → AllDecidedAlike xs
+      → foldl maybeUpdate (held x) xs ≡ foldl bookUpdate (held x) xs
+  from-held [] x kx ks a p = refl
+  from-held (y ∷ ys) x kx ks a p =
+      updated x y ys (alike-exactly (x .weight) (y .weight) kx (ks .0) .1 (a .0)) (from-held ys x kx (ks .1) (a .1) (p .1)) (from-held ys y (ks .0) (ks .1) (p .0) (p .1))
+
+  -- where every two declarations for a slot are decided alike, and the slot holds nothing before, both cascades leave the same in it
+  pub same-slot : (xs : List (Candidate A)) → All Known xs → AllDecidedAlike xs → foldl maybeUpdate empty xs ≡ foldl bookUpdate empty xs
+  unfolding maybeUpdate bookUpdate
+  same-slot [] ks p = refl
+  same-slot (x ∷ xs) ks p = from-held xs x (ks .0) (ks .1) (p .0) (p .1)
+
+  -- the weight of what a slot holds
+  abbrev weightOr : Weight → Slot A → Weight
+  weightOr w empty = w
+  weightOr w (held c) = c .weight
+
+  -- of two declarations alone that is exactly where they do
+  pub two-exactly : (x y : Candidate A) → Known x → Known y
+      → Exactly (foldl maybeUpdate empty (x ∷ y ∷ []) ≡ foldl bookUpdate empty (x ∷ y ∷ [])) (DecidedAlike (x .weight) (y .weight))
+  two-exactly x y kx ky = ((λ e. alike-exactly (x .weight) (y .weight) kx ky .0 (go _ _ refl refl (unfold maybeUpdate bookUpdate in e))), (λ a. same-slot (x ∷ y ∷ []) (kx, (ky, tt)) ((a, tt), (tt, tt))))
+    where
+      -- a value stays against none of its own weight
+      not-own : heldAgainst (x .weight) (y .weight) ≡ true → held x ≡ held y → ⊥
+      not-own h e =
+          let d : x .weight ≡ y .weight = ap (weightOr (x .weight)) e in
+          let w = y .weight in
+          never
+          (sym (not-held w w (λ p. never (sym (p .0) ∙ p .1)) (λ p. let l = p .1 in absurd (omega arith)) (λ p. let l = p .1 in absurd (omega arith)) (not-itself (w .spec)))
+          ∙ ap (λ v. heldAgainst v w) (sym d) ∙ h)
+
+      go : (a b : Bool) → heldAgainst (x .weight) (y .weight) ≡ a → heldInBook (x .weight) (y .weight) ≡ b
+          → pick (heldAgainst (x .weight) (y .weight)) (held x) (held y) ≡ pick (heldInBook (x .weight) (y .weight)) (held x) (held y)
+          → heldAgainst (x .weight) (y .weight) ≡ heldInBook (x .weight) (y .weight)
+      go true true e f h = e ∙ sym f
+      go false false e f h = e ∙ sym f
+      go true false e f h = absurd (not-own e (pick-true _ _ _ _ e refl ∙ h ∙ sym (pick-false _ _ _ _ f refl)))
+      go false true e f h = never (sym e ∙ crate-keeps-too (x .weight) (y .weight) kx ky f)
+
+  -- ---- what is inherited, c in the crate's cascade and d in the book order
+  module _ (c d : Candidate A) (kc : Known c) (w : d .weight ≡ inheritedWeight) (v : c .value ≡ d .value) where
+    inherited-chosen : (t : Bool) (y : Candidate A) (ys : List (Candidate A)) → SameOrInherited (foldl maybeUpdate (held c) ys) (foldl bookUpdate (held d) ys)
+        → foldl maybeUpdate (held y) ys ≡ foldl bookUpdate (held y) ys
+        → SameOrInherited (foldl maybeUpdate (pick t (held c) (held y)) ys) (foldl bookUpdate (pick t (held d) (held y)) ys)
+    unfolding pick
+    inherited-chosen true y ys p q = p
+    inherited-chosen false y ys p q = same q
+
+    inherited-updated : (y : Candidate A) (ys : List (Candidate A)) → heldAgainst (c .weight) (y .weight) ≡ heldInBook inheritedWeight (y .weight)
+        → SameOrInherited (foldl maybeUpdate (held c) ys) (foldl bookUpdate (held d) ys) → foldl maybeUpdate (held y) ys ≡ foldl bookUpdate (held y) ys
+        → SameOrInherited (foldl maybeUpdate (maybeUpdate (held c) y) ys) (foldl bookUpdate (bookUpdate (held d) y) ys)
+    unfolding maybeUpdate bookUpdate
+    inherited-updated y ys e p q =
+        subst (λ (b : Bool). SameOrInherited (foldl maybeUpdate (pick (heldAgainst (c .weight) (y .weight)) (held c) (held y)) ys) (foldl bookUpdate (pick b (held d) (held y)) ys)) (e ∙ ap (λ u. heldInBook u (y .weight)) (sym w))
+        (inherited-chosen (heldAgainst (c .weight) (y .weight)) y ys p q)
+
+    from-inherited : (xs : List (Candidate A)) → All Known xs → All (λ y. InheritedAlike (c .weight) (y .weight)) xs → AllDecidedAlike xs
+        → SameOrInherited (foldl maybeUpdate (held c) xs) (foldl bookUpdate (held d) xs)
+    from-inherited [] ks a p = inherited c d refl refl w v
+    from-inherited (y ∷ ys) ks a p =
+        inherited-updated y ys (inherited-exactly (c .weight) (y .weight) (ks .0) kc .1 (a .0)) (from-inherited ys (ks .1) (a .1) (p .1)) (from-held ys y (ks .0) (ks .1) (p .0) (p .1))
+
+  -- P holds of what a slot holds
+  abbrev pub Holds : (Candidate A → Type 0) → Slot A → Type 0
+  Holds P empty = Unit
+  Holds P (held c) = P c
+
+  -- what holds of every declaration, and of what was in the slot, holds of what the crate's cascade leaves there
+  pub holds-after : (P : Candidate A → Type 0) (xs : List (Candidate A)) (s : Slot A) → Holds P s → All P xs → Holds P (foldl maybeUpdate s xs)
+  unfolding maybeUpdate
+  holds-after P [] s h a = h
+  holds-after P (x ∷ xs) empty h a = holds-after P xs (held x) (a .0) (a .1)
+  holds-after P (x ∷ xs) (held c) h a = holds-after P xs (pick (heldAgainst (c .weight) (x .weight)) (held c) (held x)) (pick-holds (Holds P) _ (held c) (held x) (λ _. h) (λ _. a .0)) (a .1)
+
+  -- what is the same or inherited in both is filled in both, with one value
+  abbrev filled : Slot A → ℕ
+  filled empty = 0
+  filled (held c) = 1
+
+  abbrev valueOr : A → Slot A → A
+  valueOr a empty = a
+  valueOr a (held c) = c .value
+
+  one-empty : (d : Candidate A) → SameOrInherited empty (held d) → ⊥
+  one-empty d (same e) = absurd (omega (arith, ap filled e))
+  one-empty d (inherited c b e f w v) = absurd (omega (arith, ap filled e))
+
+  other-empty : (c : Candidate A) → SameOrInherited (held c) empty → ⊥
+  other-empty c (same e) = absurd (omega (arith, ap filled e))
+  other-empty c (inherited a b e f w v) = absurd (omega (arith, ap filled f))
+
+  one-value-of : (c d : Candidate A) → SameOrInherited (held c) (held d) → c .value ≡ d .value
+  one-value-of c d (same e) = ap (valueOr (c .value)) e
+  one-value-of c d (inherited a b e f w v) = ap (valueOr (c .value)) e ∙ v ∙ ap (valueOr (d .value)) (sym f)
+
+  -- so both show the same
+  pub same-value : (s t : Slot A) → SameOrInherited s t → SameValue s t
+  same-value empty empty r = nothing
+  same-value empty (held d) r = absurd (one-empty d r)
+  same-value (held c) empty r = absurd (other-empty c r)
+  same-value (held c) (held d) r = one-value (one-value-of c d r)
+
+  -- the slot of a child, where its parent's is the same or inherited in both, and the child's declarations replace what the crate's parent holds alike
+  pub slot-agrees : (s t : Slot A) (xs : List (Candidate A)) → SameOrInherited s t → All Known xs → Holds (λ c. Known c × All (λ y. InheritedAlike (c .weight) (y .weight)) xs) s → AllDecidedAlike xs
+      → SameOrInherited (foldl maybeUpdate s xs) (foldl bookUpdate (inheritedSlot t) xs)
+  unfolding inheritedSlot inheritedCandidate
+  slot-agrees empty empty xs r ks h p = same (same-slot xs ks p)
+  slot-agrees empty (held d) xs r ks h p = absurd (one-empty d r)
+  slot-agrees (held c) empty xs r ks h p = absurd (other-empty c r)
+  slot-agrees (held c) (held d) xs r ks h p = from-inherited c (record { weight = inheritedWeight; value = d .value }) (h .0) refl (one-value-of c d r) xs ks (h .1) p
+
+-- ---- lists of declarations that meet the condition
+
+-- what every two values have that have something each, every two values of a list have
+each-pair : {A : Type 0} (P : A → Type 0) (Q : A → A → Type 0) → ((x y : A) → P x → P y → Q x y) → (xs : List A) → All P xs → EachPair Q xs
+each-pair P Q f [] p = tt
+each-pair P Q f (x ∷ xs) p = (all-weaker P (Q x) (λ y q. f x y (p .0) q) xs (p .1), each-pair P Q f xs (p .1))
+
+-- the same of values that stand in an order
+each-ordered : {A : Type 0} (P : A → Type 0) (R Q : A → A → Type 0) → ((x y : A) → P x → P y → R x y → Q x y) → (xs : List A) → All P xs → EachPair R xs → EachPair Q xs
+each-ordered P R Q f [] p r = tt
+each-ordered P R Q f (x ∷ xs) p r = (all-both P (R x) (Q x) (λ y a b. f x y (p .0) a b) xs (p .1) (r .0), each-ordered P R Q f xs (p .1) (r .1))
+
+module _ {A : Type 0} (xs : List (Candidate A)) where
+  -- all of one origin, and all normal or all important
+  pub one-origin : (o : ℕ) (i : Bool) → All (λ x. (x .weight .origin ≡ o) × (x .weight .important ≡ i)) xs → AllDecidedAlike xs
+  one-origin o i = each-pair _ _ (λ x y p q. record { stronger = λ h. absurd (no-rank (x .weight) (y .weight) (p .0 ∙ sym (q .0)) (p .1 ∙ sym (q .1)) h); important = λ a b. never (sym a ∙ p .1 ∙ sym (q .1) ∙ b) }) xs
+    where
+      no-rank : (x y : Weight) → x .origin ≡ y .origin → x .important ≡ y .important → ¬ (rankOf x < rankOf y)
+      no-rank x y e f h = let d : rankOf x ≡ rankOf y = unfold rankOf in rw (e, f) in absurd (omega arith)
+
+  -- none important, and none less specific than one before it of an earlier origin
+  pub normal-in-order : All (λ x. KnownOrigin (x .weight) × (x .weight .important ≡ false)) xs
+      → EachPair (λ x y. x .weight .origin < y .weight .origin → ¬ (LessSpecific (y .weight .spec) (x .weight .spec))) xs → AllDecidedAlike xs
+  normal-in-order =
+      each-ordered _ _ _
+      (λ x y p q r. record { stronger = λ h. r (omega (arith, normal-rank (x .weight) (p .0) (p .1), normal-rank (y .weight) (q .0) (q .1))); important = λ a b. never (sym (q .1) ∙ b) }) xs
+
+  -- all important, the origins in reading order: agent, user, author
+  pub important-in-order : All (λ x. KnownOrigin (x .weight) × (x .weight .important ≡ true)) xs → EachPair (λ x y. x .weight .origin ≤ y .weight .origin) xs → AllDecidedAlike xs
+  important-in-order =
+      each-ordered _ _ _
+      (λ x y p q r. record {
+        stronger = λ h. absurd (omega (arith, important-rank (x .weight) (p .0) (p .1), important-rank (y .weight) (q .0) (q .1)));
+        important = λ a b. never (sym a ∙ p .1);
+      }) xs
