@@ -267,7 +267,7 @@ class AnttFile:
         head = next((i for i, line in enumerate(said) if re.search(r"\bwhere\s*$", line)), len(said))
         found = []
         for line in said[head + 1 :]:
-            m = re.match(r"\s*(?:pub )?((?:\S+ )+):(\s|$)", line)
+            m = re.match(r"\s*(?:pub )?((?:(?!: )[^\s(){}.;,@]+ )+):(\s|$)", line)
             if m and indent_of(line) == indent_of(said[head + 1]):
                 found += map(plain, m.group(1).split())
         return found

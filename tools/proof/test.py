@@ -60,7 +60,7 @@ class Reading(unittest.TestCase):
         file = AnttFile("none.antt", "\n".join([
             "-- what it is for", "use lib.ListN.{length, take as front}", "use a.B as b", "", "-- a record", "pub record R (n : ℕ) : Type 0 where",
             "  pub long : n ≡ 0", "  -- a word", "  pub short :", "      n ≡ 1", "", "module _ {A : Type 0} (x : A)", "    where", "  -- a law", "  pub law : (",
-            "    x ≡ x", "  )", "  unfolding f", "  law = refl", "", "pub data D : Type 0 where", "  one two : D", "  three : ℕ → D",
+            "    x ≡ x", "  )", "  unfolding f", "  law = refl", "", "pub data D : Type 0 where", "  one two : D", "  three : {k : ℕ} → ℕ → D",
         ]))
         self.assertEqual(file.uses, [("lib.ListN", "length", "length"), ("lib.ListN", "take", "front"), ("a.B", None, "b")])
         self.assertEqual([(d.name, d.kind, d.comment, d.first, d.last) for d in file.declarations],
@@ -176,6 +176,32 @@ class Twice(unittest.TestCase):
         twice = tool("twice")
         groups = [{d.name for d in g} for g in twice.definitions().values() if len(g) > 1]
         self.assertNotIn({"SheetTexts", "Page"}, groups)
+
+
+class Believing(unittest.TestCase):
+    def setUp(self):
+        self.believe = tool("believe")
+        self.statements = {s.name: s for s in list(self.believe.entry_points()) + list(self.believe.theorems())}
+
+    def rests_on(self, name):
+        return {n.name for n in self.believe.closure(self.statements[name])[0].values()}
+
+    def test_a_theorem_rests_on_its_statement_and_not_on_its_proof(self):
+        self.assertEqual(self.rests_on("places-rule"), {"number", "places"})
+
+    def test_an_entry_point_rests_on_its_contract(self):
+        found = self.rests_on("hicsolmab_check_page")
+        self.assertLessEqual({"PageResult", "refusalIn", "pageRefusal", "Refusal", "pick"}, found)
+        self.assertNotIn("matches", found)
+
+    def test_nothing_is_listed_before_what_it_uses(self):
+        seen = set()
+        for n in self.believe.in_order(self.believe.closure(self.statements["demand3"])[0]):
+            seen.add(n.key)
+            self.assertLessEqual({m.key for m in self.believe.direct(n)[0]}, seen, n)
+
+    def test_numbers_as_ranges(self):
+        self.assertEqual(self.believe.spans([3, 1, 2, 7]), "1-3, 7")
 
 
 if __name__ == "__main__":
