@@ -1,6 +1,6 @@
 #!/usr/bin/env bash
-# Builds the examples in C and in Rust, runs both, and compares what they print with styles.stdout. In the repository it first checks that the header and the
-# bindings declare what the engine exports.
+# Builds the examples in C and in Rust, runs them, and compares what they print with styles.stdout, and with levels.stdout. In the repository it first checks that
+# the header and the bindings declare what the engine exports.
 #
 #     rt staticlib engine       once: the library. Another one: HICSOLMAB_LIBRARY=PATH
 #     bash examples/run.sh
@@ -31,8 +31,12 @@ fi
 built=$(mktemp -d)
 trap 'rm -rf "$built"' EXIT
 
-cc -std=c11 -O2 -Wall -Wextra -Wpedantic -Wconversion -Werror -I "$root/include" -o "$built/styles" "$here/c/styles.c" "$library"
+for program in styles levels; do
+    cc -std=c11 -O2 -Wall -Wextra -Wpedantic -Wconversion -Werror -I "$root/include" -o "$built/$program" "$here/c/$program.c" "$library"
+done
 "$built/styles" > "$built/c.stdout"
+"$built/levels" > "$built/levels.stdout"
+diff -u "$here/levels.stdout" "$built/levels.stdout" || fail "examples/c/levels.c prints something else than examples/levels.stdout"
 
 (cd "$crate" && HICSOLMAB_LIBRARY=$library CARGO_TARGET_DIR=$built/cargo cargo run --quiet --offline --locked --jobs 1 --example styles) > "$built/rust.stdout"
 

@@ -188,7 +188,7 @@ module _ (base fill : ℕ) (value v rules tokens brackets texts : List ℕ) (e :
   pub style-room : ValueRoom (length value) base fill rules tokens brackets texts
   style-room = rw e o
 
-  -- as a colour
+  -- room for a `style` attribute's value is room for a colour's
   pub colour-room : Room (length value) fill tokens brackets texts
   colour-room =
       let l = ap length e in
@@ -221,7 +221,7 @@ module _ (attributes names : List ℕ) (row : ℕ) (name value : List ℕ) (en :
     unfolding isNamed attributeOf
     style-test = rw (← en) (ap (sameText name) style-name ∙ sym e)
 
-    -- it is
+    -- an attribute called `style`, behind the author's rules: its styles are merged and its contents kept
     pub late-style : t ≡ true → (out′ : List ℕ) (r : ℕ) (texts′ : List ℕ)
         → out′ ≡ mergedRow c out (lateDeclared c (map (attributeStyle true) (placedStyles (base + fill) (styleAttribute value))))
         → r ≡ fill + length (styleTexts (styleAttribute value)) → take r texts′ ≡ take fill texts ++ styleTexts (styleAttribute value)

@@ -48,13 +48,13 @@ module _ (spec : Specificity) (slot : ℕ) where
       map (fromAttribute false spec)
       (onFound f (λ x. attributeStyle false (inNumbers (record { slot = slot; important = false; value = record { number = colourNumber x; second = 0 } })) ∷ []) [])
 
-  -- a colour
+  -- a value that names a colour declares that colour
   said-colour : (f : Found Colour) (n : ℕ) → answer.Colour n ≡ colourAnswer f → said f ≡ numberDeclared n ∷ []
   unfolding said colourAnswer onFound fromAttribute attributeStyle inNumbers
   said-colour (found x) n e = let q : n ≡ colourNumber x = cc in rw q
   said-colour missing n e = absurd (let z : _≡_ {A = ℕ} 0 1 = cc in omega arith)
 
-  -- no colour
+  -- a value that names no colour declares nothing
   said-none : (f : Found Colour) → answer.NoColour ≡ colourAnswer f → said f ≡ []
   unfolding said colourAnswer onFound
   said-none (found x) e = absurd (let z : _≡_ {A = ℕ} 0 1 = cc in omega arith)
@@ -63,7 +63,7 @@ module _ (spec : Specificity) (slot : ℕ) where
 -- what `parse_color_attribute` left
 module _ (s tokens brackets texts : List ℕ) (fill : ℕ) {r : ColourAnswer} {x b z : List ℕ}
     (e : record { answer = r; tokens = x; brackets = b; store = z } ≡ colourLeft s tokens brackets texts fill) where
-  -- its answer
+  -- the reader's answer is the colour that the value names
   answer-is : r ≡ colourAnswer (colourAttribute s)
   unfolding colourLeft
   answer-is = ap (λ (l : ColourLeft). l .answer) e
@@ -85,7 +85,7 @@ module _ (s tokens brackets texts : List ℕ) (fill : ℕ) {r : ColourAnswer} {x
         ∙ sym (merged-more c out (numberDeclared spec slot n) [])
         ∙ sym (ap (mergedRow c out) (said-colour spec slot (colourAttribute s) n (sym q ∙ answer-is)))
 
-    -- there is none
+    -- where no colour is named the row stays as it was
     pub colour-missing : r ≡ answer.NoColour → out ≡ mergedRow c out (map (fromAttribute false spec) (colourSays slot s))
     unfolding colourSays said
     colour-missing q = sym (merged-none c out) ∙ sym (ap (mergedRow c out) (said-none spec slot (colourAttribute s) (sym q ∙ answer-is)))
@@ -107,7 +107,7 @@ module _ (name value : List ℕ) (c : Cascade) (spec : Specificity) (out : List 
   unfolding isNamed
   color-test = ap (sameText name) color-name ∙ sym e
 
-  -- it is
+  -- an attribute called `color` declares the colour slot
   pub colour-named : t ≡ true → (out′ : List ℕ) → out′ ≡ mergedRow c out (map (fromAttribute false spec) (colourSays colourSlot value))
       → out′ ≡ mergedRow c out (map (fromAttribute false spec) (attributeColours (record { name = name; value = value })))
   unfolding attributeColours
@@ -119,14 +119,14 @@ module _ (name value : List ℕ) (c : Cascade) (spec : Specificity) (out : List 
     unfolding isNamed
     bgcolor-test = ap (sameText name) bgcolor-name ∙ sym q
 
-    -- it is
+    -- an attribute called `bgcolor` declares the background slot
     pub background-named : u ≡ true → (out′ : List ℕ) → out′ ≡ mergedRow c out (map (fromAttribute false spec) (colourSays backgroundSlot value))
         → out′ ≡ mergedRow c out (map (fromAttribute false spec) (attributeColours (record { name = name; value = value })))
     unfolding attributeColours
     background-named k out′ p =
         p ∙ ap (λ l. mergedRow c out (map (fromAttribute false spec) l)) (pick-false _ _ _ _ (color-test ∙ h) (pick-true _ _ _ _ (bgcolor-test ∙ k) refl))
 
-    -- it is neither
+    -- an attribute of another name declares no colour
     pub other-named : u ≡ false → out ≡ mergedRow c out (map (fromAttribute false spec) (attributeColours (record { name = name; value = value })))
     unfolding attributeColours
     other-named k =

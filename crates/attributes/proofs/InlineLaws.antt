@@ -72,19 +72,19 @@ module _ (c : Cascade) (base count : ℕ) (t out₀ : List ℕ) where
     pub long : length out ≡ length out₀
     pub rest : mergedRow c out (rowsDeclared c base left (drop at t)) ≡ mergedRow c out₀ (rowsDeclared c base count t)
 
--- none is left
+-- with no row left nothing is merged
 ended : (c : Cascade) (base k : ℕ) (t out : List ℕ) → k ≤ 0 → mergedRow c out (rowsDeclared c base k t) ≡ out
 unfolding rowsDeclared numbersIn
 ended c base zero t out h = merged-none c out
 ended c base (suc k) t out h = absurd (omega arith)
 
 module _ (c : Cascade) (base count : ℕ) (t out₀ : List ℕ) where
-  -- at the first
+  -- before the first style the row is as it was lent
   pub merging-begin : InlineRows base count t → Merging c base count t out₀ 0 count out₀
   merging-begin r = record { place = omega arith; bits = r .few; shiftable = r .shiftable; long = refl; rest = refl }
 
   module _ (at left : ℕ) (out : List ℕ) (v : Merging c base count t out₀ at left out) where
-    -- behind the last
+    -- behind the last style the row is the one with all of them merged
     pub merging-end : left ≤ 0 → out ≡ mergedRow c out₀ (rowsDeclared c base count t)
     merging-end h = sym (ended c base left (drop at t) out h) ∙ v .rest
 
@@ -102,7 +102,7 @@ module _ (c : Cascade) (base count : ℕ) (t out₀ : List ℕ) where
       unfolding numbersIn
       row-shiftable x e = rw e (all-shiftable .0)
 
-      -- it is merged
+      -- a turn: one style is merged, and one less is left
       pub merging-next : (x s : StyleNumbers) (out′ : List ℕ) → x ≡ numbersAt (drop at t) → s ≡ inlineStyle c base x
           → Merged c out out′ (record { pseudo = mainRecord; slot = s .slot; candidate = record { weight = record { important = s .important; origin = authorOrigin; spec = inlineSpecificity }; value = s .value } })
           → Merging c base count t out₀ (at + styleWidth) (left - 1) out′
@@ -140,7 +140,7 @@ module _ (base : ℕ) where
   start-fits f (style.whiteSpace w) h e = absurd (omega arith)
   start-fits f (style.content x) h e = h
 
-  -- in all rows
+  -- in all rows of a `style` attribute's styles a content's start can be moved by the base
   rows-shiftable : (ds : List StyleDecl) (f : ℕ) (t : List ℕ) → base + f + length (styleTexts ds) < 2 ^ 32 → All (Shiftable base) (numbersIn (length ds) (styleRows f ds ++ t))
   unfolding numbersIn styleRows styleTexts rowsMany textsMany styleRow numbersFrom
   rows-shiftable [] f t h = tt

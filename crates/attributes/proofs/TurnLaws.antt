@@ -75,14 +75,14 @@ module _ (attributes names : List ℕ) (at count : ℕ) where
   abbrev pub behind : ℕ → List Attribute
   behind i = attributesFrom attributes names (count - i) (at + i)
 
-  -- all of them
+  -- from the first attribute on there are all of them
   all-behind : behind 0 ≡ attributesFrom attributes names count at
   all-behind =
       let n : count - 0 ≡ count = omega arith in
       let k : at + 0 ≡ at = omega arith in
       ap₂ (attributesFrom attributes names) n k
 
-  -- none
+  -- behind the last attribute there is none
   none-behind : (i : ℕ) → count ≤ i → behind i ≡ []
   unfolding attributesFrom
   none-behind i h = let z : count - i ≡ 0 = omega arith in ap (λ (k : ℕ). attributesFrom attributes names k (at + i)) z
@@ -98,7 +98,7 @@ module _ (attributes names : List ℕ) (at count : ℕ) where
 
 -- ---- what they say behind the author's rules
 module _ (c : Cascade) (base : ℕ) where
-  -- none
+  -- no attribute declares nothing behind the author's rules
   late-done : (f : ℕ) (out : List ℕ) → mergedRow c out (lateDeclared c (placedAttributes (base + f) [])) ≡ out
   unfolding placedAttributes
   late-done f out = ap (mergedRow c out) (late-none c) ∙ merged-none c out
@@ -119,7 +119,7 @@ contents-more : (a : Attribute) (xs : List Attribute) → attributesContents (a 
 unfolding attributesContents textsMany
 contents-more a xs = refl
 
--- those of none
+-- no attribute has no contents
 contents-none : attributesContents [] ≡ []
 unfolding attributesContents textsMany
 contents-none = refl
@@ -140,7 +140,7 @@ module _ (attributes names : List ℕ) (at count : ℕ) (c : Cascade) (base fill
     pub lies : take f texts ++ attributesContents (behind attributes names at count i) ≡ take fill texts₀ ++ attributesContents (attributesFrom attributes names count at)
 
 module _ (attributes names : List ℕ) (at count : ℕ) (c : Cascade) (base fill : ℕ) (out₀ rules₀ tokens₀ brackets₀ texts₀ : List ℕ) where
-  -- before the first
+  -- before the first attribute everything is as it was lent
   pub turn-begin : InlineRoom (attributesFrom attributes names count at) base fill rules₀ tokens₀ brackets₀ texts₀
       → Turn attributes names at count c base fill out₀ rules₀ tokens₀ brackets₀ texts₀ fill 0 out₀ rules₀ tokens₀ brackets₀ texts₀
   turn-begin o =
@@ -159,7 +159,7 @@ module _ (attributes names : List ℕ) (at count : ℕ) (c : Cascade) (base fill
       }
 
   module _ (f i : ℕ) (out rules tokens brackets texts : List ℕ) (v : Turn attributes names at count c base fill out₀ rules₀ tokens₀ brackets₀ texts₀ f i out rules tokens brackets texts) where
-    -- behind the last
+    -- behind the last attribute all are merged, and all contents lie behind the fill
     pub turn-end : count ≤ i
         → (out ≡ mergedRow c out₀ (lateDeclared c (placedAttributes (base + fill) (attributesFrom attributes names count at))))
         × ((f ≡ fill + length (attributesContents (attributesFrom attributes names count at)))
@@ -184,7 +184,7 @@ module _ (attributes names : List ℕ) (at count : ℕ) (c : Cascade) (base fill
       unfolding attributeOf
       turn-room = room-first _ _ base f rules tokens brackets texts next-room
 
-      -- it is merged
+      -- a turn: what the attribute says is merged, and its contents are kept
       pub turn-next : (f′ : ℕ) (out′ rules′ tokens′ brackets′ texts′ : List ℕ)
           → out′ ≡ mergedRow c out (lateDeclared c (attributeSays (placedStyles (base + f)) (attributeOf attributes names (at + i))))
           → f′ ≡ f + length (attributeContents (attributeOf attributes names (at + i)))
@@ -258,7 +258,7 @@ module _ (attributes names : List ℕ) (at count : ℕ) (c : Cascade) (fill : �
     pub lies : take fill texts ≡ take fill texts₀
 
 module _ (attributes names : List ℕ) (at count : ℕ) (c : Cascade) (fill : ℕ) (out₀ tokens₀ brackets₀ texts₀ : List ℕ) where
-  -- before the first
+  -- before the first attribute everything is as it was lent
   pub colours-begin : InlineRoom (attributesFrom attributes names count at) 0 fill tokens₀ tokens₀ brackets₀ texts₀
       → ColourTurn attributes names at count c fill out₀ tokens₀ brackets₀ texts₀ 0 out₀ tokens₀ brackets₀ texts₀
   colours-begin o =
@@ -266,7 +266,7 @@ module _ (attributes names : List ℕ) (at count : ℕ) (c : Cascade) (fill : �
       record { within-count = omega arith; room = rw e o; out-long = refl; tokens-long = refl; brackets-long = refl; texts-long = refl; row = rw e; lies = refl }
 
   module _ (i : ℕ) (out tokens brackets texts : List ℕ) (v : ColourTurn attributes names at count c fill out₀ tokens₀ brackets₀ texts₀ i out tokens brackets texts) where
-    -- behind the last
+    -- behind the last attribute all colours are merged, and the texts up to the fill are as they were
     pub colours-end : count ≤ i
         → (out ≡ mergedRow c out₀ (map (fromAttribute false noSpecificity) (coloursSay (attributesFrom attributes names count at)))) × (take fill texts ≡ take fill texts₀)
     unfolding coloursSay

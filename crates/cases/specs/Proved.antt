@@ -49,6 +49,7 @@ unfoldable pub selects : List ℕ → List ℕ → ℕ → Bool
 selects s name place =
     onOutcome (selectorOf s) (λ n selector. matches (selector .components) (record { name = name; attributes = []; place = place } ∷ [])) false (λ p. false)
 
+-- "The P cases form one list with one theorem": each as it stands in the scope, and the statement that it is
 abbrev pub cases : List (Type 0)
 cases =
     -- `p{color:red}`: one rule, stop 12

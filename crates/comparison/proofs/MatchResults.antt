@@ -50,6 +50,7 @@ module _ (components : List ℕ) (count : ℕ) (texts nodes attributes text : Li
             (rw (ef, em, es texts) refl)
 
   -- ---- the call
+  -- a call with more components than a selector may have is refused with 1
   pub too-many : componentLimit < count → refusedMatch tooLong 0 ≡ matchCalled components count texts nodes attributes text row
   unfolding matchCalled
   too-many h = pick-true _ _ _ _ (lt-ltb componentLimit count h) refl

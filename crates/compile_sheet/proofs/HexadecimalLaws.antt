@@ -19,7 +19,7 @@ pub decimal : (n : ℕ) → n < decimalBase → digitZero + n ≡ hexDigit n
 unfolding hexDigit
 decimal n h = pick-true _ _ _ _ (lt-ltb n decimalBase h) refl
 
--- a letter
+-- from ten on a digit is a letter
 pub letter : (n : ℕ) → decimalBase ≤ n → smallA + (n - decimalBase) ≡ hexDigit n
 unfolding hexDigit
 letter n h = pick-false _ _ _ _ (le-ltb n decimalBase h) refl
@@ -73,7 +73,7 @@ module _ (s st₀ : List ℕ) (fill : ℕ) where
             long = m ∙ k ∙ c .long;
           }
 
-    -- the line ends
+    -- behind the last byte the line feed ends the line
     pub lining-done : length s ≤ i → (z : List ℕ) (g : ℕ) → record { bytes = z; fill = g } ≡ emits (record { bytes = st; fill = f }) (lineFeed ∷ [])
         → record { bytes = z; fill = g } ≡ emits (record { bytes = st₀; fill = fill }) (hexLine s)
     unfolding hexLine hexPairs

@@ -37,7 +37,7 @@ module _ (nodes rows : List ℕ) (i p : ℕ) (ep : p ≡ nodeAt nodes i .parent)
   unfolding withParent
   parent-none h = pick-false _ _ _ _ (rw (← ep) (le-ltb p i h)) refl
 
-  -- it does
+  -- where the parent comes before the row, its style row is copied to the row's place
   pub parent-placed : p < i → (ys : List ℕ) → ys ≡ sets rows (i * styleRowWidth) (take styleRowWidth (drop (p * styleRowWidth) rows)) → ys ≡ withParent nodes i rows
   unfolding withParent styleRowAt
   parent-placed h ys e = pick-true _ _ _ _ (rw (← ep) (lt-ltb p i h)) (e ∙ ap (λ (n : ℕ). sets rows (i * styleRowWidth) (take styleRowWidth (drop (n * styleRowWidth) rows))) ep)
@@ -334,7 +334,7 @@ module _ {code : List ℕ} {settings : Settings} {g : Page} {rows₀ state₀ ru
         filled = v .filled;
       }
 
-  -- behind it
+  -- behind a step the loop's invariant holds for the next row
   pub again : (count : ℕ) → count ≡ nodeCount (g .nodes) → i < count → (n : ℕ) (rows state rules₂ tokens brackets texts : List ℕ)
       → record { rows = rows; state = state; texts = take n texts } ≡ runStep code settings g i (record { rows = rows₁; state = state₁; texts = take fill texts₁ })
       → n ≤ length texts → n ≤ textsMost g (i + 1)

@@ -79,7 +79,7 @@ loud : (n place : ℕ) → Quiet (record { number = suc n; text = 0; place = pla
 unfolding Quiet
 loud n place e = absurd (omega (arith, e))
 
--- of a page
+-- a page that is refused with number 0 is not refused
 page-quiet : (nodes attributes text : List ℕ) → Quiet (pageRefusal nodes attributes text)
 unfolding pageRefusal rowsRefusal Quiet
 page-quiet nodes attributes text =
@@ -87,7 +87,7 @@ page-quiet nodes attributes text =
     (λ _. pick-holds Quiet _ _ _ (λ _. loud _ _) (λ _. pick-holds Quiet _ _ _ (λ _. loud _ _) (λ _. pick-holds Quiet _ _ _ (λ _. loud _ _) (λ _ e. refl))))
     (λ _. loud _ _)
 
--- and of bytes
+-- bytes that are refused with number 0 are not refused
 bytes-quiet : (code : List ℕ) → Quiet (bytesRefusal code)
 unfolding bytesRefusal
 bytes-quiet code = go (decode code)

@@ -14,7 +14,7 @@ pub record Lies (t : List ℕ) (f : ℕ) (xs : List ℕ) : Type 0 where
 
 -- what lies there does so in its parts
 module _ (t : List ℕ) (f : ℕ) (xs ys : List ℕ) (h : Lies t f (xs ++ ys)) where
-  -- the first
+  -- where two texts lie one behind the other, the first lies there
   pub lies-left : Lies t f xs
   lies-left = record { within = omega (arith, h .within, length-append xs ys); there = held-left t f xs ys (h .there) }
 

@@ -17,7 +17,7 @@ use Rattle.cascade.proofs.Merging.{merge-long}
 use Rattle.styles.specs.Merged.{mergedRow, earlyDeclared, lateDeclared}
 
 module _ (c : Cascade) where
-  -- nothing
+  -- no declaration merged leaves the row as it was
   pub merged-none : (row : List ℕ) → mergedRow c row [] ≡ row
   unfolding mergedRow
   merged-none row = refl
@@ -62,7 +62,7 @@ module _ {A : Type 0} where
   early-append Crate xs ys = refl
   early-append Book xs ys = colours-append xs ys
 
-  -- and behind them
+  -- what two lists of attributes declare behind the author's rules is one behind the other
   pub late-append : (c : Cascade) (xs ys : List (AttributeStyle A)) → lateDeclared c (xs ++ ys) ≡ lateDeclared c xs ++ lateDeclared c ys
   unfolding lateDeclared
   late-append Crate xs ys = map-append _ xs ys

@@ -108,7 +108,7 @@ module _ (t : List ℕ) where
       next (record { selectors-same = refl; styles-same = styles-placed (ruleStyles r) f (lies-left t f (ruleContents r) (rulesContents rs) h) })
       (rules-placed rs (f + length (ruleContents r)) (lies-right t f (ruleContents r) (rulesContents rs) h))
 
-  -- of three
+  -- the rules of three sheets, by numbers over the texts that lie in t, say what the rules mean
   pub sheets-placed : (rules : Rules RuleSet) → Lies t 0 (sheetsContents rules) → SameRules (Says t) (placedSheets rules) (meantRules rules)
   unfolding placedSheets meantRules sheetsContents
   sheets-placed rules h =

@@ -55,7 +55,7 @@ no-styles : (a : Attribute) → short a []
 unfolding styleTexts textsMany
 no-styles a = omega arith
 
--- of an attribute
+-- the contents of one attribute are at most two bytes longer than its value
 pub attribute-short : (a : Attribute) → length (attributeContents a) ≤ length (a .value) + 2
 unfolding attributeContents attributeStyles
 attribute-short a =
@@ -64,7 +64,7 @@ attribute-short a =
     (λ _. pick-holds (short a) (isNamed (text "bgcolor") a) _ _ (λ _. omega (arith, colour-short style.background (colourAttribute (a .value)) (λ x. unfold styleTextOf in refl)))
     (λ _. no-styles a)))
 
--- of many attributes
+-- the contents of many attributes are at most two bytes for each longer than their values
 pub attributes-short : (xs : List Attribute) → length (attributesContents xs) ≤ valuesOf xs + 2 * length xs
 unfolding attributesContents textsMany valuesOf
 attributes-short [] = omega arith
@@ -82,14 +82,14 @@ no-attributes : (e : Element) → length (attributesContents []) ≤ valuesOf (e
 unfolding attributesContents textsMany
 no-attributes e = omega arith
 
--- of an element
+-- the contents of an element's attributes are at most two bytes for each longer than their values
 pub inline-short : (settings : Settings) (e : Element) → length (inlineContents settings e) ≤ valuesOf (e .attributes) + 2 * length (e .attributes)
 unfolding inlineContents countedAttributes
 inline-short settings e =
     pick-holds (λ (x : List Attribute). length (attributesContents x) ≤ valuesOf (e .attributes) + 2 * length (e .attributes)) (settings .«document_styles») _ _
     (λ _. attributes-short (e .attributes)) (λ _. no-attributes e)
 
--- of a path
+-- the contents along a path are at most two bytes for each attribute longer than the values
 pub path-short : (settings : Settings) (p : Path) → length (pathContents settings p) ≤ valuesAlong p + 2 * attributesAlong p
 unfolding pathContents valuesAlong attributesAlong
 path-short settings [] = omega arith
@@ -125,7 +125,7 @@ module _ (attributes text : List ℕ) where
 
 -- ---- the path of a row: its values and its attributes are no more than those of the rows up to it
 module _ (nodes attributes text : List ℕ) where
-  -- an element's own
+  -- the values of an element fit between the bytes before its row and those before the next
   own-values : (row : ℕ) → bytesBefore nodes attributes row + valuesOf (elementAt nodes attributes text row .attributes) ≤ bytesBefore nodes attributes (suc row)
   unfolding bytesBefore textsEnd elementAt
   own-values row =
@@ -136,7 +136,7 @@ module _ (nodes attributes text : List ℕ) where
   unfolding attributesBefore elementAt
   own-attributes row = let n = nodeAt nodes row in omega (arith, attributes-counted attributes text (n .attributeCount) (n .firstAttribute))
 
-  -- the totals grow
+  -- the bytes before a row are no fewer than those before an earlier one
   bytes-grow : (m k : ℕ) → bytesBefore nodes attributes m ≤ bytesBefore nodes attributes (k + m)
   bytes-grow m zero = let e : 0 + m ≡ m = omega arith in rw e (omega arith)
   bytes-grow m (suc k) = let e : suc k + m ≡ suc (k + m) = omega arith in rw e (omega (arith, own-values (k + m), bytes-grow m k))

@@ -1,3 +1,4 @@
+-- The count of vectors falls, and the window keeps its length.
 use mathlib.Core.Path.{_≡_}
 use lib.ListN.{length}
 use borrow.Author.Needs.{needs}

@@ -1,3 +1,4 @@
+-- The index stays below the six results.
 use Prim.Native.Nat.{_≤_, _-_}
 use borrow.Author.Needs.{needs}
 use Rattle.replay.proofs.settle_results.Statement.{statement}

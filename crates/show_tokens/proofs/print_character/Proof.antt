@@ -1,3 +1,4 @@
+-- The bytes of a character are at most four, so they lie within the array.
 use Rattle.show_tokens.proofs.Printing as laws
 use lib.Seq.{length-take-le}
 use mathlib.Core.Path.{sym}

@@ -1,3 +1,4 @@
+-- A token ends within the text, and its texts are no longer than the bytes taken and two more, which the store has.
 use mathlib.Core.Path.{refl}
 use mathlib.Core.List.{List}
 use Prim.Native.Nat.{ℕ, _-_}

@@ -1,3 +1,4 @@
+-- Each part that is printed lies within the texts of the token, and these within the store.
 use native.Mathlib.Omega.{arith}
 use mathlib.Core.Path.{sym}
 use lib.Seq.{length-take-le}

@@ -1,3 +1,4 @@
+-- The texts of the token lie within the store, as its caller shows.
 use native.Mathlib.Omega.{arith}
 use mathlib.Core.Path.{ap}
 use Rattle.show_tokens.specs.Texts.{textsLength}

@@ -1,3 +1,4 @@
+-- Each token ends within the text, and the store keeps its length.
 use mathlib.Core.Path.{_≡_}
 use Prim.Native.Nat.{_≤_, _-_}
 use lib.ListN.{length}

@@ -1,3 +1,4 @@
+-- Bytes that are too many are refused; the others are answered as the check of a sheet answers, in numbers.
 use Rattle.comparison.specs.Bytes.{refusalIn}
 use Rattle.comparison.proofs.BytesResults as results
 use borrow.Author.Needs.{needs}

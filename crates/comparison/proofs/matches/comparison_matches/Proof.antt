@@ -1,3 +1,4 @@
+-- The refusals in their order, each by its own test; a page that is accepted is asked for the row.
 use mathlib.Core.Path.{_∙_}
 use Rattle.comparison.proofs.MatchResults as results
 use borrow.Author.Needs.{needs}

@@ -1,3 +1,4 @@
+-- A row beyond the page and a row that is no element are refused; any other is an element of an accepted page, so the matcher may be asked.
 use mathlib.Core.Path.{_∙_}
 use Rattle.comparison.proofs.MatchResults as results
 use borrow.Author.Needs.{needs}

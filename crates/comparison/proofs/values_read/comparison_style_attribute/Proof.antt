@@ -1,3 +1,4 @@
+-- A value that is too long and stores that are too short are refused; stores of the least lengths have room for the reader, whose answer is told in numbers.
 use Rattle.comparison.proofs.AttributeResults as results
 use borrow.Author.Needs.{needs}
 use Rattle.comparison.proofs.values_read.comparison_style_attribute.Statement.{statement}

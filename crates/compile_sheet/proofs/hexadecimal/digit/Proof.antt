@@ -1,3 +1,4 @@
+-- Below ten a decimal digit, from ten on a letter: the two cases of the definition.
 use Rattle.compile_sheet.proofs.HexadecimalLaws as laws
 use borrow.Author.Needs.{needs}
 use Rattle.compile_sheet.proofs.hexadecimal.digit.Statement.{statement}

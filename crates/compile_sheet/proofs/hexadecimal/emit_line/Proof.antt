@@ -1,3 +1,4 @@
+-- What is left to write at a byte is what was to be written; behind the last byte that is the end of the line.
 use Rattle.compile_sheet.proofs.HexadecimalLaws as laws
 use Prim.Native.Nat.{_-_}
 use lib.ListN.{length}

@@ -1,3 +1,4 @@
+-- Two digits, one behind the other, are the pair.
 use Rattle.compile_sheet.proofs.HexadecimalLaws as laws
 use borrow.Author.Needs.{needs}
 use Rattle.compile_sheet.proofs.hexadecimal.emit_pair.Statement.{statement}

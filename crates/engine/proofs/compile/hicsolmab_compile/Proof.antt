@@ -1,3 +1,4 @@
+-- The contract of `compile`, whose answer is told in numbers.
 use Rattle.engine.proofs.Results as results
 use borrow.Author.Needs.{needs}
 use Rattle.engine.proofs.compile.hicsolmab_compile.Statement.{statement}

@@ -1,3 +1,4 @@
+-- Field by field the numbers of the answer.
 use Rattle.engine.specs.Compile.{numbersIn}
 use borrow.Author.Needs.{needs}
 use Rattle.engine.proofs.compile.result_of.Statement.{statement}

@@ -1,3 +1,4 @@
+-- The contract of `check_page`, whose answer is told in numbers.
 use Rattle.engine.specs.Page.{refusalIn}
 use Rattle.engine.proofs.Results as results
 use borrow.Author.Needs.{needs}

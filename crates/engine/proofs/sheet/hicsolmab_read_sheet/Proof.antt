@@ -1,3 +1,4 @@
+-- The contract of `read_sheet`, whose answer is told in numbers.
 use Rattle.engine.proofs.Results as results
 use borrow.Author.Needs.{needs}
 use Rattle.engine.proofs.sheet.hicsolmab_read_sheet.Statement.{statement}

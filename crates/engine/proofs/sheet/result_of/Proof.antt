@@ -1,3 +1,4 @@
+-- Field by field the numbers of the answer.
 use Rattle.engine.specs.Sheet.{numbersIn}
 use Rattle.engine.proofs.Results as results
 use borrow.Author.Needs.{needs}

@@ -1,3 +1,4 @@
+-- The buffer keeps its length, and each index is tested against it.
 use Prim.Native.Nat.{_≤_, _-_}
 use mathlib.Core.Path.{_≡_}
 use lib.ListN.{length}

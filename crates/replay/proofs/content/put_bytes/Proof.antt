@@ -1,3 +1,4 @@
+-- The count of parts falls to zero, and the buffer keeps its length.
 use mathlib.Core.Path.{_≡_}
 use lib.ListN.{length}
 use borrow.Author.Needs.{needs}

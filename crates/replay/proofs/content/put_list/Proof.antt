@@ -1,3 +1,4 @@
+-- Each number is written within the buffer, which keeps its length; the count falls to zero.
 use mathlib.Core.Path.{_≡_}
 use lib.ListN.{length}
 use borrow.Author.Needs.{needs}

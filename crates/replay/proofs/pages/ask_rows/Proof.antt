@@ -1,3 +1,4 @@
+-- The row goes up to the count of rows, and the store keeps its length.
 use Prim.Native.Nat.{_≤_, _-_}
 use mathlib.Core.Path.{_≡_}
 use lib.ListN.{length}

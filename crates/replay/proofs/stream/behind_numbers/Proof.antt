@@ -1,3 +1,4 @@
+-- The count falls to zero.
 use Prim.Native.Nat.{_≤_, _-_}
 use borrow.Author.Needs.{needs}
 use Rattle.replay.proofs.stream.behind_numbers.Statement.{statement}

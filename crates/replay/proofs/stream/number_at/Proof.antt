@@ -1,3 +1,4 @@
+-- The place stays within the text; the value is cut before it grows, so that it fits.
 use Prim.Native.Nat.{_≤_, _-_}
 use lib.ListN.{length}
 use borrow.Author.Needs.{needs}

@@ -1,3 +1,4 @@
+-- The place that is read is never before the one that is written, and both stay within the window.
 use Prim.Native.Nat.{_≤_, _-_}
 use mathlib.Core.Path.{_≡_}
 use lib.ListN.{length, length-set}

@@ -1,3 +1,4 @@
+-- There are no more lines than bytes.
 use Prim.Native.Nat.{_≤_, _-_}
 use lib.ListN.{length}
 use borrow.Author.Needs.{needs}

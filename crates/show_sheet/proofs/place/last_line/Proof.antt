@@ -1,3 +1,4 @@
+-- The index starts within the text and falls.
 use Prim.Native.Nat.{_≤_}
 use lib.ListN.{length}
 use borrow.Author.Needs.{needs}

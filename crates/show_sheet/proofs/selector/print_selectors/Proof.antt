@@ -1,3 +1,4 @@
+-- The count falls to zero.
 use Prim.Native.Nat.{_≤_}
 use borrow.Author.Needs.{needs}
 use Rattle.show_sheet.proofs.selector.print_selectors.Statement.{statement}
