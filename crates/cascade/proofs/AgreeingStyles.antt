@@ -13,9 +13,13 @@ use Rattle.combinators.proofs.AllLaws.{all-append, all-map}
 use Rattle.syntax.specs.Style.{agentOrigin, userOrigin, authorOrigin}
 use Rattle.cascade.specs.declared.specificity.Specificity.{Specificity}
 use Rattle.cascade.specs.Specificity.{noSpecificity, inlineSpecificity}
-use Rattle.cascade.specs.Slot.{Candidate, Slot}
-use Rattle.cascade.specs.Record.{mainRecord, Declared, AttributeStyle, Sources, fromRule, fromAttribute, crateDeclared, colourAttributes, styleAttributes, bookDeclared, candidatesFor}
-use Rattle.cascade.specs.Agreeing.{KnownOrigin, CountedAlike}
+use Rattle.cascade.specs.declared.slots.Cascade.{Cascade}
+use Rattle.cascade.specs.declared.slots.Cascade.the-variants.{Crate, Book}
+use Rattle.cascade.specs.Slot.{Candidate, Slot, empty, maybeUpdate, bookUpdate, updateBy, inheritedSlot}
+use Rattle.cascade.specs.Record.{slotCount, recordCount, mainRecord, beforeRecord, afterRecord, Record, ComputedStyle, Formed, recordIn, slotIn, isNamed, mergeBy, inherit, inheritRecord, inheritInBookOrder, inheritBy, declaredBy, cascadeBy, Declared, AttributeStyle, Sources, fromRule, fromAttribute, crateDeclared, colourAttributes, styleAttributes, bookDeclared, candidatesFor}
+use Rattle.cascade.specs.Agreeing.{KnownOrigin, AllDecidedAlike, InheritedAlike, SameOrInherited, CountedAlike, declaredFor, ReplacedAlike}
+use Rattle.cascade.proofs.Agreeing.{Holds, same-slot, slot-agrees}
+use Rattle.cascade.proofs.Cascading.{book-folds, crate-folds, merge-present, cascade-main-present}
 
 -- what holds of every value holds of those of a list
 of-all : {A : Type 0} (P : A → Type 0) → ((a : A) → P a) → (l : List A) → All P l
@@ -129,3 +133,22 @@ module _ {A : Type 0} where
         behind w m c s e f =
             candidates-append w m ∙ ap (λ l. candidatesFor r k w ++ l) (sym e) ∙ sym (candidates-append w s)
             ∙ sym (candidates-append c (w ++ s) ∙ ap (λ l. l ++ candidatesFor r k (w ++ s)) f)
+
+  -- ---- the style of an element, whose parent has p in the crate's cascade and q in the book order
+  module _ (p q : ComputedStyle A) (x : Sources A) (fp : Formed p) (fq : Formed q) (r k : ℕ) (h : r < recordCount) (l : k < slotCount)
+      (counted : All (CountedAlike r k) (x .attributes)) (alike : AllDecidedAlike (declaredFor r k x)) where
+    -- where nothing is inherited, both leave the same in the slot, with its origin, specificity and importance
+    pub same-declared : slotIn p r k ≡ empty → slotIn q r k ≡ empty → slotIn (cascadeBy Crate p x) r k ≡ slotIn (cascadeBy Book q x) r k
+    same-declared e f =
+        crate-folds p x r k fp h l ∙ ap (λ (s : Slot A). foldl maybeUpdate s (declaredFor r k x)) e
+        ∙ same-slot (declaredFor r k x) (known-origins r k x) alike
+        ∙ ap (foldl bookUpdate empty) (counted-same r k x counted)
+        ∙ ap (λ (s : Slot A). foldl bookUpdate s (candidatesFor r k (bookDeclared x))) (sym (ap inheritedSlot f ∙ (unfold inheritedSlot in refl)))
+        ∙ sym (book-folds q x r k fq h l)
+
+    -- where what is inherited is replaced alike, they leave the same, or both what is inherited
+    pub cascade-agrees : SameOrInherited (slotIn p r k) (slotIn q r k) → Holds (λ c. KnownOrigin (c .weight) × ReplacedAlike r k x c) (slotIn p r k)
+        → SameOrInherited (slotIn (cascadeBy Crate p x) r k) (slotIn (cascadeBy Book q x) r k)
+    cascade-agrees s held =
+        rw (crate-folds p x r k fp h l, book-folds q x r k fq h l, ← counted-same r k x counted)
+        (slot-agrees (slotIn p r k) (slotIn q r k) (declaredFor r k x) s (known-origins r k x) held alike)
