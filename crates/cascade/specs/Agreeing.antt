@@ -61,15 +61,27 @@ module _ {A : Type 0} (r k : ℕ) where
   abbrev pub declaredFor : Sources A → List (Candidate A)
   declaredFor x = candidatesFor r k (crateDeclared x)
 
-  -- one of the element replaces those of all elements above it alike
-  abbrev pub ReplacesAlike : List (Sources A) → Candidate A → Type 0
-  ReplacesAlike above y = All (λ z. All (λ c. InheritedAlike (c .weight) (y .weight)) (declaredFor z)) above
+  -- every declaration of the element against one of an element above it
+  abbrev pub ReplacedAlike : Sources A → Candidate A → Type 0
+  ReplacedAlike x c = All (λ y. InheritedAlike (c .weight) (y .weight)) (declaredFor x)
 
-  -- all of it
+  -- an attribute counts alike, and so do every two declarations of one element, and one of an element with one of an element above it
   abbrev pub AgreesDown : List (Sources A) → Type 0
   AgreesDown [] = Unit
   AgreesDown (x ∷ above) =
-      All (CountedAlike r k) (x .attributes) × (AllDecidedAlike (declaredFor x) × (All (ReplacesAlike above) (declaredFor x) × AgreesDown above))
+      All (CountedAlike r k) (x .attributes) × (AllDecidedAlike (declaredFor x) × (All (λ z. All (ReplacedAlike x) (declaredFor z)) above × AgreesDown above))
+
+  -- what sheets of the author alone have without `!important`, where no element's declaration is less specific than one of an element above it
+  abbrev pub NormalAuthor : Candidate A → Type 0
+  NormalAuthor c = (c .weight .origin ≡ authorOrigin) × (c .weight .important ≡ false)
+
+  abbrev pub NotLessSpecific : Sources A → Candidate A → Type 0
+  NotLessSpecific x c = All (λ y. ¬ (LessSpecific (y .weight .spec) (c .weight .spec))) (declaredFor x)
+
+  abbrev pub AuthorDown : List (Sources A) → Type 0
+  AuthorDown [] = Unit
+  AuthorDown (x ∷ above) =
+      All (CountedAlike r k) (x .attributes) × (All NormalAuthor (declaredFor x) × (All (λ z. All (NotLessSpecific x) (declaredFor z)) above × AuthorDown above))
 
 -- ---- two styles show the same: the same records, and in each slot the same value or none
 pub record ShowsSame {A : Type 0} (s t : ComputedStyle A) : Type 0 where

@@ -3,3 +3,4 @@ pub mod Placed
 pub mod Called
 pub mod Room
 pub mod Merging
+pub mod Agreeing
