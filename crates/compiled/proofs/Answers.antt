@@ -136,7 +136,7 @@ module _ {A : Type 0} (d : Decoded A) (r : PlaceAnswer) (e : r ≡ placeAnswer d
 
 -- ---- the numbers before the components of a selector
 module _ (d : Decoded Head) (r : HeadAnswer) (e : r ≡ headAnswer d) where
-  -- they were read
+  -- an answer with a head says that the head was read
   pub head-read : (n origin pseudo count : ℕ) → r ≡ head.Head n origin pseudo count → d ≡ read n (record { origin = origin; pseudo = pseudo; count = count })
   unfolding headAnswer
   head-read n origin pseudo count p = go d (sym p ∙ e)

@@ -31,7 +31,7 @@ unfolding Reaches
 reaches-fault A len i k = λ h. h
 
 module _ {A : Type 0} (len i : ℕ) where
-  -- a value
+  -- a value that ends within the bytes, and takes so many, reaches no further
   pub reaches-read : (k n : ℕ) (a : A) → i + k ≤ n → n ≤ len → Reaches k len i (read n a)
   unfolding Reaches
   reaches-read k n a h l = (h, l)
@@ -78,6 +78,7 @@ module _ {A : Type 0} (len : ℕ) (u : ℕ → Decoded A) (one : (n : ℕ) → n
 
 module _ (t : List ℕ) where
   -- ---- numbers
+  -- a number in its range ends within the bytes, and one out of it is a fault where it starts
   limited-reaches : (i n v : ℕ) → i < n → n ≤ length t → Reaches 1 (length t) i (limited i n v)
   unfolding limited
   limited-reaches i n v h l = pick-holds (Reaches 1 (length t) i) (ltb v numberLimit) (read n v) (fault i) (λ _. reaches-read (length t) i 1 n v (omega arith) l) (λ _. reaches-fault ℕ (length t) i 1)
@@ -91,7 +92,7 @@ module _ (t : List ℕ) where
       pick-holds (Reaches 1 (length t) i) (ltb (getD t n 0) groupValues) _ _ (λ _. limited-reaches i (n + 1) _ (omega arith) (omega arith))
       (λ _. groups-reaches k i (v + (getD t n 0 - groupValues) * scale) (scale * groupValues) (n + 1) (omega arith)))
 
-  -- a number
+  -- a number takes at least a byte and ends within the bytes
   pub number-reaches : (i : ℕ) → Reaches 1 (length t) i (numberAt t i)
   unfolding numberAt
   number-reaches i = groups-reaches mostGroups i 0 1 i (omega arith)
@@ -112,6 +113,7 @@ module _ (t : List ℕ) where
   ranged-reaches i lo hi = reaches-test (numberAt t i) i (λ n v. within v lo hi) (λ n v. read n v) (number-reaches i) (λ n v e l. reaches-read (length t) n 0 n v (omega arith) l)
 
   -- ---- texts
+  -- a text takes at least a byte and ends within the bytes
   pub span-reaches : (i : ℕ) → Reaches 1 (length t) i (spanAt t i)
   unfolding spanAt
   span-reaches i =
@@ -123,6 +125,7 @@ module _ (t : List ℕ) where
   weaker k n d h = reaches-less (length t) d k n 0 n h (omega arith) (omega arith) (λ g. g)
 
   -- ---- components
+  -- what stands behind a component's kind ends within the bytes
   body-reaches : (kind n : ℕ) → n ≤ length t → Reaches 0 (length t) n (bodyAt t kind n)
   unfolding bodyAt nameAt secondNumberAt numbersAt secondNameAt namesAt
   body-reaches kind n l =
@@ -139,12 +142,13 @@ module _ (t : List ℕ) where
   written-reaches i =
       reaches-then (length t) (rangedAt t i starKind attributeEqualKind) (λ n kind. bodyAt t kind n) 1 0 i (ranged-reaches i starKind attributeEqualKind) (λ n kind l. body-reaches kind n l)
 
-  -- a component
+  -- a component takes at least a byte and ends within the bytes
   pub component-reaches : (i : ℕ) → Reaches 1 (length t) i (componentAt t i)
   unfolding componentAt
   component-reaches i = reaches-mapped (length t) (componentIn t) (writtenAt t i) 1 i (written-reaches i)
 
   -- ---- styles
+  -- a style's value ends within the bytes
   value-reaches : (slot n : ℕ) → n ≤ length t → Reaches 0 (length t) n (valueAt t slot n)
   unfolding valueAt contentAt numberUpTo
   value-reaches slot n l =
@@ -163,7 +167,7 @@ module _ (t : List ℕ) where
       (λ n important _. weaker 1 n _ (reaches-then (length t) (rangedAt t n colourSlot lastSlot) _ 1 0 n (ranged-reaches n colourSlot lastSlot)
       (λ m slot l. reaches-mapped (length t) _ (valueAt t slot m) 0 m (value-reaches slot m l))))
 
-  -- a style
+  -- a style takes at least a byte and ends within the bytes
   pub style-reaches : (i : ℕ) → Reaches 1 (length t) i (styleAt t i)
   unfolding styleAt
   style-reaches i = reaches-mapped (length t) (styleIn t) (styleNumbersAt t i) 1 i (style-numbers-reach i)
@@ -195,7 +199,7 @@ module _ (t : List ℕ) where
       reaches-then (length t) (counted (componentAt t) count i) _ 0 1 i (components-reach count i l)
       (λ m cs _. reaches-mapped (length t) _ (stylesAt t m) 1 m (styles-reach m))
 
-  -- a selector
+  -- a selector takes at least four bytes and ends within the bytes
   pub selector-reaches : (least i : ℕ) → Reaches 4 (length t) i (selectorAt t least i)
   unfolding selectorAt
   selector-reaches least i =
@@ -209,7 +213,7 @@ module _ (t : List ℕ) where
       reaches-then (length t) (selectorAt t least i) _ 0 0 i (weaker 4 i _ (selector-reaches least i))
       (λ n s m. reaches-mapped (length t) (λ r. s ∷ r) (selectorsAt k t (s .origin) n) 0 n (selectors-reach k (s .origin) n m))
 
-  -- a sheet
+  -- a sheet takes at least a byte and ends within the bytes
   pub sheet-reaches : Reaches 1 (length t) 0 (decode t)
   unfolding decode wholeAt ending
   sheet-reaches =
@@ -229,12 +233,12 @@ module _ {A : Type 0} (P : ℕ → A → Type 0) where
   unfolding Holds
   holds-read d n a h e = rw e at h
 
-  -- of a value
+  -- what holds of a value holds of its reading
   pub holds-value : (n : ℕ) (a : A) → P n a → Holds P (read n a)
   unfolding Holds
   holds-value n a h = h
 
-  -- of none
+  -- of a fault anything holds
   pub holds-fault : (p : ℕ) → Holds P (fault p)
   unfolding Holds
   holds-fault p = tt

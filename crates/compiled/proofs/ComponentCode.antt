@@ -24,12 +24,12 @@ use Rattle.compiled.proofs.Answers.{number-read, number-fault, text-rea
 use Rattle.compiled.proofs.Bounds.{Reaches, written-reaches, Holds, holds-value, holds-then, holds-mapped, span-inside}
 use Rattle.compiled.proofs.Following.{then-read, then-fault, mapped-read, mapped-fault}
 
--- what was read
+-- where a component was read, the answer is what stands written
 answered : (d : Decoded Written) (n : ℕ) (w : Written) → d ≡ read n w → writtenAnswer n w ≡ componentAnswer d
 unfolding componentAnswer
 answered d n w e = ap componentAnswer (sym e)
 
--- a fault
+-- where it was not, the answer is the place of the fault
 answered-fault : (d : Decoded Written) (p : ℕ) → d ≡ fault p → component.Fault p ≡ componentAnswer d
 unfolding componentAnswer
 answered-fault d p e = ap componentAnswer (sym e)
@@ -60,7 +60,7 @@ module _ (s : List ℕ) where
 module _ (s : List ℕ) (at : ℕ) where
   -- ---- behind the kind
   module _ (r : TextAnswer) (e : r ≡ textAnswer (spanAt s at)) where
-    -- one text
+    -- one text read makes a component of that kind with its text
     pub name-read : (kind n start size : ℕ) → r ≡ text.Text n start size → component.Name n kind start size ≡ componentAnswer (nameAt s kind at)
     unfolding nameAt writtenAnswer
     name-read kind n start size p = answered _ n (name kind _) (mapped-read (λ x. name kind x) (spanAt s at) n _ (text-read (spanAt s at) r e n start size p))
@@ -81,7 +81,7 @@ module _ (s : List ℕ) (at : ℕ) where
     second-name-fault a b p q =
         answered-fault _ p (mapped-fault (λ y. names (record { start = a; size = b }) y) (spanAt s at) p (text-fault (spanAt s at) r e p q))
 
-    -- both
+    -- with its first text read, a component is what its second text makes of it
     pub names-read : (n start size : ℕ) → r ≡ text.Text n start size → (q : ComponentAnswer)
         → q ≡ componentAnswer (secondNameAt s (record { start = start; size = size }) n) → q ≡ componentAnswer (namesAt s at)
     unfolding namesAt
@@ -102,7 +102,7 @@ module _ (s : List ℕ) (at : ℕ) where
     unfolding secondNumberAt
     second-number-fault a p q = answered-fault _ p (mapped-fault (λ v. numbers a v) (numberAt s at) p (number-fault (numberAt s at) r e p q))
 
-    -- both
+    -- with a read, nth is what b makes of it
     pub numbers-read : (n a : ℕ) → r ≡ number.Number n a → (q : ComponentAnswer) → q ≡ componentAnswer (secondNumberAt s a n)
         → q ≡ componentAnswer (numbersAt s at)
     unfolding numbersAt
@@ -114,13 +114,13 @@ module _ (s : List ℕ) (at : ℕ) where
 
   -- ---- by the kind
   module _ (kind : ℕ) where
-    -- a kind alone
+    -- a kind without anything behind it is the whole component
     pub body-mark : isMark kind ≡ true → component.Mark at kind ≡ componentAnswer (bodyAt s kind at)
     unfolding bodyAt componentAnswer writtenAnswer
     body-mark h = ap componentAnswer (pick-true _ _ _ _ h refl)
 
     module _ (h : isMark kind ≡ false) (r : ComponentAnswer) where
-      -- nth
+      -- behind the kind of nth stand two numbers
       pub body-numbers : kind ≡ nthKind → r ≡ componentAnswer (numbersAt s at) → r ≡ componentAnswer (bodyAt s kind at)
       unfolding bodyAt
       body-numbers k e = e ∙ ap componentAnswer (pick-false _ _ _ _ h (pick-true _ _ _ _ (is-yes _ _ k) refl))
@@ -132,13 +132,14 @@ module _ (s : List ℕ) (at : ℕ) where
         body-names l e =
             e ∙ ap componentAnswer (pick-false _ _ _ _ h (pick-false _ _ _ _ (is-no _ _ k) (pick-true _ _ _ _ (is-yes _ _ l) refl)))
 
-        -- one text
+        -- behind any other kind that is left stands one text
         pub body-name : ¬ (kind ≡ attributeEqualKind) → r ≡ componentAnswer (nameAt s kind at) → r ≡ componentAnswer (bodyAt s kind at)
         unfolding bodyAt
         body-name l e =
             e ∙ ap componentAnswer (pick-false _ _ _ _ h (pick-false _ _ _ _ (is-no _ _ k) (pick-false _ _ _ _ (is-no _ _ l) refl)))
 
   -- ---- a component
+  -- what was read, and its texts, end within the bytes, as the answer is to say
   within-read : (d : Decoded Written) → Reaches 1 (length s) at d → Holds (Inside (length s)) d → componentWithin (length s) (componentAnswer d)
   unfolding componentAnswer writtenAnswer componentWithin Reaches Holds
   within-read (read n (mark kind)) h k = h .1
@@ -151,7 +152,7 @@ module _ (s : List ℕ) (at : ℕ) where
   bounded q e = (e, rw e (within-read (writtenAt s at) (written-reaches s at) (written-inside s at)))
 
   module _ (r : NumberAnswer) (e : r ≡ numberAnswer (rangedAt s at starKind attributeEqualKind)) where
-    -- behind its kind
+    -- with its kind read, a component is what stands behind it
     pub component-read : (n kind : ℕ) → r ≡ number.Number n kind → (q : ComponentAnswer) → q ≡ componentAnswer (bodyAt s kind n)
         → (q ≡ componentAnswer (writtenAt s at)) × componentWithin (length s) q
     unfolding writtenAt

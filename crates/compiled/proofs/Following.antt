@@ -41,7 +41,7 @@ module _ {A B : Type 0} (d : Decoded A) (f : ℕ → A → Decoded B) where
   unfolding andThen
   then-read n a e = rw e
 
-  -- a fault stays
+  -- a fault of the first reading is that of both
   pub then-fault : (p : ℕ) → d ≡ fault p → andThen d f ≡ fault p
   unfolding andThen
   then-fault p e = rw e
@@ -52,7 +52,7 @@ module _ {A B : Type 0} (f : A → B) (d : Decoded A) where
   unfolding mapped
   mapped-read n a e = rw e
 
-  -- a fault stays
+  -- a fault stays one, whatever is made of values
   pub mapped-fault : (p : ℕ) → d ≡ fault p → mapped f d ≡ fault p
   unfolding mapped
   mapped-fault p e = rw e

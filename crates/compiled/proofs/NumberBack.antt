@@ -73,7 +73,7 @@ module _ (v : ℕ) where
   unfolding numberBytes
   number-few = groups-few 4 v
 
-  -- they are bytes
+  -- the groups of a number are bytes
   pub number-bytes : v < numberLimit → Bytes (numberBytes v)
   unfolding numberBytes
   number-bytes h = groups-bytes 4 v (omega arith)
@@ -87,7 +87,7 @@ worth v acc scale =
     rw d (omega arith)
 
 module _ (t : List ℕ) (i : ℕ) where
-  -- the last group
+  -- a group without its top bit ends the number
   pub last-at : (k b acc scale n : ℕ) → n < length t → getD t n 0 ≡ b → b < groupValues → groupsAt (suc k) t i acc scale n ≡ limited i (n + 1) (acc + b * scale)
   unfolding groupsAt pick
   last-at k b acc scale n l e h = rw (lt-leb (length t) n l, e, lt-ltb b groupValues h)

@@ -24,7 +24,7 @@ pub limited-yes : (i n v : ℕ) → v < numberLimit → number.Number n v ≡ nu
 unfolding limited numberAnswer
 limited-yes i n v h = ap numberAnswer (pick-true _ _ _ _ (lt-ltb v numberLimit h) refl)
 
--- it is not
+-- a number beyond its range is a fault where it starts
 pub limited-no : (i n v : ℕ) → numberLimit ≤ v → number.Fault i ≡ numberAnswer (limited i n v)
 unfolding limited numberAnswer
 limited-no i n v h = ap numberAnswer (pick-false _ _ _ _ (le-ltb v numberLimit h) refl)
@@ -158,7 +158,7 @@ module _ (s : List ℕ) (at lo hi : ℕ) (r : NumberAnswer) (e : r ≡ numberAns
   unfolding numberAnswer
   ranged-in n v p h l = answered _ (ap numberAnswer (pick-true _ _ (fault at) _ (within-yes v lo hi h l) refl ∙ sym (chosen n v p)))
 
-  -- there is none
+  -- where no number was read, the fault is that of the number
   pub ranged-fault : (p : ℕ) → r ≡ number.Fault p → (number.Fault p ≡ numberAnswer (rangedAt s at lo hi)) × numberWithin (length s) (number.Fault p)
   unfolding numberAnswer rangedAt
   ranged-fault p q =

@@ -21,7 +21,7 @@ pub writing-begin : (v : ℕ) (st : List ℕ) (fill : ℕ) → v < numberLimit �
 unfolding numberBytes
 writing-begin v st fill h = record { groups = 4; held = omega arith; work = refl; long = refl }
 
--- one group more
+-- a number of more than one group writes its lowest group, and then the rest with one group less
 more-groups : (k left : ℕ) → groupValues ≤ left → left < values k
     → (j : ℕ) × (left / groupValues < values j) × (groupBytes k left ≡ (left % groupValues + groupValues) ∷ groupBytes j (left / groupValues))
 more-groups zero left h b = absurd (omega arith)
@@ -40,7 +40,7 @@ module _ (v : ℕ) (st₀ : List ℕ) (fill : ℕ) (st : List ℕ) (f left : ℕ
         long = l ∙ c .long;
       }
 
-  -- the last group
+  -- a number below 128 is its own last group
   pub writing-done : left < groupValues → record { bytes = z; fill = g } ≡ emits (record { bytes = st; fill = f }) (left ∷ [])
       → record { bytes = z; fill = g } ≡ emits (record { bytes = st₀; fill = fill }) (numberBytes v)
   writing-done h e = e ∙ sym (ap (emits _) (group-last (c .groups) left h)) ∙ c .work

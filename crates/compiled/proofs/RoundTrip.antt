@@ -116,7 +116,7 @@ module _ (t : List ℕ) where
 pub whole : (xs : List ℕ) → Held xs 0 xs
 whole xs = record { more = []; held = sym (append-nil xs) }
 
--- the round trip
+-- the bytes of a sheet that fits decode to the sheet, all of them
 pub round-trip : (ss : List CompiledSelector) → SheetFits ss → decode (encode ss) ≡ read (length (encode ss)) ss
 unfolding decode wholeAt ending encode
 round-trip ss f =

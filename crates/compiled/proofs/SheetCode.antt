@@ -35,7 +35,7 @@ unfolding headAnswer
 faulty d p e = ap headAnswer (sym e)
 
 module _ (s : List ℕ) (at origin pseudo : ℕ) (r : NumberAnswer) (e : r ≡ numberAnswer (numberAt s at)) where
-  -- the count
+  -- with the count read, the head is whole
   pub count-read : (n count : ℕ) → r ≡ number.Number n count → head.Head n origin pseudo count ≡ headAnswer (countAt s origin pseudo at)
   unfolding countAt headAnswer
   count-read n count p = ap headAnswer (sym (mapped-read _ (numberAt s at) n count (number-read _ r e n count p)))
@@ -65,7 +65,7 @@ module _ (s : List ℕ) (at least : ℕ) where
   bounded q e = (e, rw e (within-read (headAt s least at) (head-reaches s least at)))
 
   module _ (r : NumberAnswer) (e : r ≡ numberAnswer (rangedAt s at least authorOrigin)) where
-    -- behind the origin
+    -- with the origin read, the head is what stands behind it
     pub origin-read : (n origin : ℕ) → r ≡ number.Number n origin → (q : HeadAnswer) → q ≡ headAnswer (pseudoAt s origin n)
         → (q ≡ headAnswer (headAt s least at)) × headWithin (length s) q
     unfolding headAt
@@ -78,7 +78,7 @@ module _ (s : List ℕ) (at least : ℕ) where
 
 -- ---- `skip_parts`
 module _ (s : List ℕ) (at count : ℕ) (r : PlaceAnswer) (e : r ≡ placeAnswer (counted (componentAt s) count at)) where
-  -- behind the components
+  -- with the components passed, the selector is what its styles make of it
   pub parts-skipped : (n : ℕ) → r ≡ place.At n → (q : PlaceAnswer) → q ≡ placeAnswer (stylesAt s n) → q ≡ placeAnswer (partsAt s count at)
   unfolding partsAt
   parts-skipped n p q h =
@@ -93,6 +93,7 @@ module _ (s : List ℕ) (at count : ℕ) (r : PlaceAnswer) (e : r ≡ placeAnswe
       (place-fault (counted (componentAt s) count at) r e p q)))
 
 -- ---- `skip_selector`
+-- where no selector was read, the answer is the place of the fault
 faulty-selector : (d : Decoded CompiledSelector) (p : ℕ) → d ≡ fault p → selector.Fault p ≡ selectorAnswer d
 unfolding selectorAnswer
 faulty-selector d p e = ap selectorAnswer (sym e)
@@ -117,7 +118,7 @@ module _ (s : List ℕ) (at least : ℕ) (r : HeadAnswer) (e : r ≡ headAnswer 
   selector-parts-fault n origin pseudo count k q h p l =
       faulty-selector _ p (behind n origin pseudo count k ∙ mapped-fault _ (partsAt s count n) p (place-fault (partsAt s count n) q h p l))
 
-  -- or before them
+  -- a fault in the head is that of the selector
   pub selector-head-fault : (p : ℕ) → r ≡ head.Fault p → selector.Fault p ≡ selectorAnswer (selectorAt s least at)
   unfolding selectorAt
   selector-head-fault p q =
@@ -209,7 +210,7 @@ module _ (s : List ℕ) where
     unfolding decode
     sheet-checked n count p q h = checked q (h ∙ ap checkAnswer (sym (then-read (numberAt s 0) (λ m k. wholeAt s k m) n count (number-read _ r e n count p))))
 
-    -- there is none
+    -- where no count was read, the bytes are refused at its fault
     pub sheet-fault : (p : ℕ) → r ≡ number.Fault p → (refusalOf (check.Fault p) ≡ bytesRefusal s) × checkWithin (length s) (check.Fault p)
     unfolding decode checkAnswer
     sheet-fault p q = checked _ (ap checkAnswer (sym (then-fault (numberAt s 0) (λ m k. wholeAt s k m) p (number-fault _ r e p q))))

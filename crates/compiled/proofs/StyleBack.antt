@@ -63,7 +63,7 @@ abbrev pub textPlace : ℕ → Style → ℕ
 textPlace n s = n + length (numberBytes (length (styleTextOf s)))
 
 module _ (t : List ℕ) where
-  -- nothing lies anywhere
+  -- the empty text lies at every place
   held-none : (f : ℕ) → Held t f []
   held-none f = record { more = drop f t; held = refl }
 

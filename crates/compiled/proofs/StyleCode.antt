@@ -36,7 +36,7 @@ valued : (d : Decoded Value) (n : ℕ) (v : Value) → d ≡ read n v → value.
 unfolding valueAnswer
 valued d n v e = ap valueAnswer (sym e)
 
--- a fault
+-- where no value was read, the answer is the place of the fault
 valued-fault : (d : Decoded Value) (p : ℕ) → d ≡ fault p → value.Fault p ≡ valueAnswer d
 unfolding valueAnswer
 valued-fault d p e = ap valueAnswer (sym e)
@@ -46,7 +46,7 @@ answered : (d : Decoded StyleNumbers) (n : ℕ) (x : StyleNumbers) → d ≡ rea
 unfolding styleAnswer
 answered d n x e = ap styleAnswer (sym e)
 
--- a fault
+-- where no style was read, the answer is the place of the fault
 answered-fault : (d : Decoded StyleNumbers) (p : ℕ) → d ≡ fault p → style.Fault p ≡ styleAnswer d
 unfolding styleAnswer
 answered-fault d p e = ap styleAnswer (sym e)
@@ -59,7 +59,7 @@ text-numbers len r w l n start size e = let h : (n ≤ len) × (start + size ≡
 module _ (s : List ℕ) (at : ℕ) where
   -- ---- behind the slot
   module _ (r : TextAnswer) (e : r ≡ textAnswer (spanAt s at)) where
-    -- a text
+    -- a text read is the value of a content: its start and its length
     pub content-read : (n start size : ℕ) → r ≡ text.Text n start size → value.Value n (record { number = start; second = size }) ≡ valueAnswer (contentAt s at)
     unfolding contentAt
     content-read n start size p = valued _ n _ (mapped-read _ (spanAt s at) n _ (text-read (spanAt s at) r e n start size p))
@@ -70,7 +70,7 @@ module _ (s : List ℕ) (at : ℕ) where
         valued-fault _ p (mapped-fault (λ (x : Span). record { number = x .start; second = x .size }) (spanAt s at) p (text-fault (spanAt s at) r e p q))
 
   module _ (greatest : ℕ) (r : NumberAnswer) (e : r ≡ numberAnswer (rangedAt s at 0 greatest)) where
-    -- a number
+    -- a number in its range is the value
     pub number-up-to : (n v : ℕ) → r ≡ number.Number n v → value.Value n (record { number = v; second = 0 }) ≡ valueAnswer (numberUpTo greatest s at)
     unfolding numberUpTo
     number-up-to n v p = valued _ n _ (mapped-read _ (rangedAt s at 0 greatest) n v (number-read (rangedAt s at 0 greatest) r e n v p))
@@ -88,19 +88,19 @@ module _ (s : List ℕ) (at : ℕ) where
     value-display h = valued _ at _ (sym (pick-true _ _ _ _ (is-yes _ _ h) refl))
 
     module _ (h : ¬ (slot ≡ displaySlot)) (r : ValueAnswer) where
-      -- a text
+      -- the content slot has a text
       pub value-content : slot ≡ contentSlot → r ≡ valueAnswer (contentAt s at) → r ≡ valueAnswer (valueAt s slot at)
       unfolding valueAt
       value-content k e = e ∙ ap valueAnswer (pick-false _ _ _ _ (is-no _ _ h) (pick-true _ _ _ _ (is-yes _ _ k) refl))
 
       module _ (k : ¬ (slot ≡ contentSlot)) where
-        -- a word's number
+        -- the white space slot has a number of a word
         pub value-white-space : slot ≡ whiteSpaceSlot → r ≡ valueAnswer (numberUpTo greatestWhiteSpace s at) → r ≡ valueAnswer (valueAt s slot at)
         unfolding valueAt
         value-white-space l e =
             e ∙ ap valueAnswer (pick-false _ _ _ _ (is-no _ _ h) (pick-false _ _ _ _ (is-no _ _ k) (pick-true _ _ _ _ (is-yes _ _ l) refl)))
 
-        -- a colour
+        -- the two slots that are left have a colour
         pub value-colour : ¬ (slot ≡ whiteSpaceSlot) → r ≡ valueAnswer (numberUpTo greatestColour s at) → r ≡ valueAnswer (valueAt s slot at)
         unfolding valueAt
         value-colour l e =
@@ -120,13 +120,13 @@ module _ (s : List ℕ) (at : ℕ) where
           answered-fault _ p (mapped-fault (λ (v : Value). record { slot = slot; important = important; value = v }) (valueAt s slot at) p (value-fault (valueAt s slot at) r e p q))
 
 module _ (s : List ℕ) (at : ℕ) (important : Bool) (r : NumberAnswer) (e : r ≡ numberAnswer (rangedAt s at colourSlot lastSlot)) where
-  -- behind the slot
+  -- with the slot read, the style is what its value makes of it
   pub slot-read : (n slot : ℕ) → r ≡ number.Number n slot → (q : StyleAnswer) → q ≡ styleAnswer (valuedAt s important slot n) → q ≡ styleAnswer (slotAt s important at)
   unfolding slotAt
   slot-read n slot p q h =
       h ∙ ap styleAnswer (sym (then-read (rangedAt s at colourSlot lastSlot) (λ m k. valuedAt s important k m) n slot (number-read _ r e n slot p)))
 
-  -- there is none
+  -- where no slot was read, the fault is that of the slot
   pub slot-fault : (p : ℕ) → r ≡ number.Fault p → style.Fault p ≡ styleAnswer (slotAt s important at)
   unfolding slotAt
   slot-fault p q = answered-fault _ p (then-fault (rangedAt s at colourSlot lastSlot) (λ m k. valuedAt s important k m) p (number-fault _ r e p q))
@@ -149,7 +149,7 @@ module _ (s : List ℕ) (at : ℕ) where
     style-read n important p q h =
         bounded q (h ∙ ap styleAnswer (sym (then-read (rangedAt s at 0 1) (λ m i. slotAt s (eqb i 1) m) n important (number-read _ r e n important p))))
 
-    -- there is none
+    -- where the mark of importance was not read, the fault is that of the mark
     pub style-fault : (p : ℕ) → r ≡ number.Fault p → (style.Fault p ≡ styleAnswer (styleNumbersAt s at)) × styleWithin (length s) (style.Fault p)
     unfolding styleNumbersAt
     style-fault p q = bounded _ (answered-fault _ p (then-fault (rangedAt s at 0 1) (λ m i. slotAt s (flagOf i) m) p (number-fault _ r e p q)))
@@ -172,12 +172,12 @@ style-skipped s at r q e p = ap placeOf (sym p ∙ e) ∙ place-of (styleNumbers
 
 -- ---- `skip_styles`
 module _ (s : List ℕ) (at : ℕ) (r : NumberAnswer) (e : r ≡ numberAnswer (numberAt s at)) where
-  -- behind their count
+  -- with their count read, the styles are passed one behind the other
   pub styles-skipped : (n count : ℕ) → r ≡ number.Number n count → (q : PlaceAnswer) → q ≡ placeAnswer (counted (styleAt s) count n) → q ≡ placeAnswer (stylesAt s at)
   unfolding stylesAt
   styles-skipped n count p q h = h ∙ ap placeAnswer (sym (then-read (numberAt s at) (λ m k. counted (styleAt s) k m) n count (number-read _ r e n count p)))
 
-  -- there is none
+  -- where no count was read, the fault is that of the count
   pub styles-fault : (p : ℕ) → r ≡ number.Fault p → place.Fault p ≡ placeAnswer (stylesAt s at)
   unfolding stylesAt placeAnswer
   styles-fault p q = ap placeAnswer (sym (then-fault (numberAt s at) (λ m k. counted (styleAt s) k m) p (number-fault _ r e p q)))

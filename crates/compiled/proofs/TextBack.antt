@@ -27,7 +27,7 @@ module _ (x : List ℕ) where
   text-some = omega (arith, text-length, number-some (length x))
 
 module _ (t : List ℕ) (i : ℕ) (x : List ℕ) (h : Held t i (textBytes x)) where
-  -- where it lies
+  -- where the text lies: behind its length, with its length
   abbrev pub span : Span
   span = record { start = i + length (numberBytes (length x)); size = length x }
 

@@ -39,7 +39,7 @@ module _ (s : List ℕ) (at : ℕ) (r : NumberAnswer) (e : r ≡ numberAnswer (n
   unfolding textAnswer
   text-there n v p l h = answered _ (ap textAnswer (pick-true _ _ (fault at) _ (le-leb (n + v) (length s) (omega arith)) refl ∙ sym (chosen n v p)))
 
-  -- it runs out
+  -- a text that is longer than what is left is a fault where its length starts
   pub text-short : (n v : ℕ) → r ≡ number.Number n v → length s - n < v
       → (text.Fault at ≡ textAnswer (spanAt s at)) × textWithin (length s) (text.Fault at)
   unfolding textAnswer

@@ -61,7 +61,7 @@ module _ (s : List ℕ) (at : ℕ) (r : ComponentAnswer) (e : r ≡ componentAns
   unfolding mapped componentIn textIn
   at-name n kind start size p = component-is _ p
 
-  -- nth
+  -- an answer with two numbers says that nth was read
   pub at-numbers : (n a b : ℕ) → r ≡ component.Numbers n a b → componentAt s at ≡ read n (nth (signedOf a) (signedOf b))
   unfolding mapped componentIn
   at-numbers n a b p = component-is _ p
@@ -71,12 +71,13 @@ module _ (s : List ℕ) (at : ℕ) (r : ComponentAnswer) (e : r ≡ componentAns
   unfolding mapped componentIn textIn
   at-names n a b start size p = component-is _ p
 
-  -- there is none
+  -- an answer with a fault says that no component was read
   pub at-fault : (p : ℕ) → r ≡ component.Fault p → componentAt s at ≡ fault p
   unfolding mapped
   at-fault p q = component-is _ q
 
 -- ---- one style
+-- the reading that an answer on a style stands for
 abbrev styleNumbersOf : StyleAnswer → Decoded StyleNumbers
 styleNumbersOf (style.Style n x) = read n x
 styleNumbersOf (style.Fault p) = fault p
@@ -96,7 +97,7 @@ module _ (s : List ℕ) (at : ℕ) (r : StyleAnswer) (e : r ≡ styleAnswer (sty
   unfolding mapped
   at-style n x p = style-is _ p
 
-  -- there is none
+  -- an answer with a fault says that no style was read
   pub at-style-fault : (p : ℕ) → r ≡ style.Fault p → styleAt s at ≡ fault p
   unfolding mapped
   at-style-fault p q = style-is _ q
@@ -145,7 +146,7 @@ module _ {A : Type 0} (u : ℕ → Decoded A) where
       let v = source (λ r. w .value ∷ r) (counted u k (w .place)) m xs (w .rest) in
       record { place = w .place; value = w .value; others = v .value; first = w .first; rest = v .first; split = v .made }
 
-  -- none
+  -- no value read ends where it began
   pub counted-none : (i m : ℕ) (xs : List A) → counted u 0 i ≡ read m xs → (m ≡ i) × (xs ≡ [])
   unfolding counted
   counted-none i m xs e = (cc, cc)
@@ -230,12 +231,13 @@ selectors-first t k least i m ss e =
     let v = source (λ r. w .value ∷ r) (selectorsAt k t (w .value .origin) (w .place)) m ss (w .rest) in
     record { place = w .place; selector = w .value; others = v .value; first = w .first; rest = v .first; split = v .made }
 
--- none
+-- no selector read ends where it began
 pub selectors-none : (t : List ℕ) (least i m : ℕ) (ss : List CompiledSelector) → selectorsAt 0 t least i ≡ read m ss → (m ≡ i) × (ss ≡ [])
 unfolding selectorsAt
 selectors-none t least i m ss e = (cc, cc)
 
 -- ---- a sheet
+-- the parts of a sheet that was read: its count, its selectors, and that nothing is left over
 pub record SheetSteps (t : List ℕ) (m : ℕ) (ss : List CompiledSelector) : Type 0 where
   pub count : ℕ
   pub behind-count : ℕ

@@ -52,7 +52,7 @@ module _ (t : List ℕ) (kind f a b : ℕ) (o₀ o₁ : Store) where
       (λ e. rw (is-true kind childKind e) (append-nil (numberBytes childKind)))
       (λ e. rw (is-true kind descendantKind e) (append-nil (numberBytes descendantKind))))
 
-  -- a kind alone
+  -- a component that is a kind alone is written as its kind
   pub mark-written : isMark kind ≡ true → o₁ ≡ emits o₀ (numberBytes kind) → o₁ ≡ emits o₀ (componentBytes (componentFrom t kind f a b))
   mark-written h p = p ∙ ap (emits o₀) (sym (mark-bytes h))
 
@@ -60,7 +60,7 @@ module _ (t : List ℕ) (kind f a b : ℕ) (o₀ o₁ : Store) where
   unfolding componentBytes componentFrom componentKind componentBody pick is
   nth-bytes k = rw (k, signed-number-back a, signed-number-back b)
 
-  -- nth
+  -- nth is written as its kind and its two numbers
   pub nth-written : kind ≡ nthKind → o₁ ≡ emits o₀ (numberBytes nthKind ++ (numberBytes a ++ numberBytes b))
       → o₁ ≡ emits o₀ (componentBytes (componentFrom t kind f a b))
   nth-written k p = p ∙ ap (emits o₀) (sym (nth-bytes k))
@@ -72,12 +72,12 @@ module _ (t : List ℕ) (kind f a b : ℕ) (o₀ o₁ : Store) where
       (λ k. either _ (is kind elementKind) _ k (λ e. rw (is-true kind elementKind e))
       (λ l. either _ (is kind hashKind) _ l (λ e. rw (is-true kind hashKind e)) (λ e. rw (is-true kind attributeKind e))))
 
-  -- one text
+  -- a component of one text is written as its kind and that text
   pub named-written : isName kind ≡ true → o₁ ≡ emits o₀ (numberBytes kind ++ textBytes (part t f a))
       → o₁ ≡ emits o₀ (componentBytes (componentFrom t kind f a b))
   named-written h p = p ∙ ap (emits o₀) (sym (named-bytes h))
 
-  -- any other kind
+  -- a component of any other kind is read as an attribute that equals a value
   equal-is : isMark kind ≡ false → ¬ (kind ≡ nthKind) → isName kind ≡ false
       → componentFrom t kind f a b ≡ attributeEqual (part t f a) (part t (f + a) b)
   unfolding componentFrom isMark isName pick
@@ -93,7 +93,7 @@ module _ (t : List ℕ) (kind f a b : ℕ) (o₀ o₁ : Store) where
   unfolding componentBytes componentKind componentBody
   equal-bytes x y = refl
 
-  -- two texts
+  -- such a component is written as that kind and two texts
   pub equal-written : isMark kind ≡ false → ¬ (kind ≡ nthKind) → isName kind ≡ false
       → o₁ ≡ emits o₀ (numberBytes attributeEqualKind ++ (textBytes (part t f a) ++ textBytes (part t (f + a) b)))
       → o₁ ≡ emits o₀ (componentBytes (componentFrom t kind f a b))
@@ -141,13 +141,13 @@ module _ (t : List ℕ) (slot : ℕ) (v : Value) (o₀ o₁ : Store) where
       → o₁ ≡ emits o₀ (slotBytes (styleOf t slot v))
   stated s xs e f p = p ∙ ap (emits o₀) (sym (ap slotBytes e ∙ f))
 
-  -- a colour
+  -- a colour is written as its slot and its number
   pub colour-written : slot ≡ colourSlot → o₁ ≡ emits o₀ (numberBytes colourSlot ++ numberBytes (v .number)) → o₁ ≡ emits o₀ (slotBytes (styleOf t slot v))
   unfolding styleOf styleSlotOf styleBody
   colour-written a p = stated (style.colour (colourOf (v .number))) _ (sym (pick-true _ _ _ _ (is-yes _ _ a) refl)) (rw (colour-number (v .number))) p
 
   module _ (a : ¬ (slot ≡ colourSlot)) where
-    -- a background
+    -- a background is written as its slot and its number
     pub background-written : slot ≡ backgroundSlot → o₁ ≡ emits o₀ (numberBytes backgroundSlot ++ numberBytes (v .number))
         → o₁ ≡ emits o₀ (slotBytes (styleOf t slot v))
     unfolding styleOf styleSlotOf styleBody
@@ -155,7 +155,7 @@ module _ (t : List ℕ) (slot : ℕ) (v : Value) (o₀ o₁ : Store) where
         stated (style.background (colourOf (v .number))) _ (sym (pick-false _ _ _ _ (is-no _ _ a) (pick-true _ _ _ _ (is-yes _ _ b) refl))) (rw (colour-number (v .number))) p
 
     module _ (b : ¬ (slot ≡ backgroundSlot)) where
-      -- `display: none`
+      -- `display: none` is written as its slot alone
       pub display-written : slot ≡ displaySlot → o₁ ≡ emits o₀ (numberBytes displaySlot) → o₁ ≡ emits o₀ (slotBytes (styleOf t slot v))
       unfolding styleOf styleSlotOf styleBody
       display-written c p =
@@ -172,7 +172,7 @@ module _ (t : List ℕ) (slot : ℕ) (v : Value) (o₀ o₁ : Store) where
             (sym (pick-false _ _ _ _ (is-no _ _ a) (pick-false _ _ _ _ (is-no _ _ b) (pick-false _ _ _ _ (is-no _ _ c) (pick-true _ _ _ _ (is-yes _ _ d) refl)))))
             (rw e) p
 
-        -- a content
+        -- a content is written as its slot and its text
         pub content-written : ¬ (slot ≡ whiteSpaceSlot) → o₁ ≡ emits o₀ (numberBytes contentSlot ++ textBytes (part t (v .number) (v .second)))
             → o₁ ≡ emits o₀ (slotBytes (styleOf t slot v))
         unfolding styleOf styleSlotOf styleBody

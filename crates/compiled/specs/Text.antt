@@ -9,6 +9,7 @@ use Rattle.combinators.specs.Part.{part}
 use Rattle.compiled.specs.Decoded.{Decoded, read, fault, andThen, mapped}
 use Rattle.compiled.specs.Number.{groupBytes, numberBytes, limited, groupsAt, numberAt}
 
+-- a text is its length, then its bytes: "Texts are compared as bytes and need not be UTF-8"
 unfoldable pub textBytes : List ℕ → List ℕ
 textBytes x = numberBytes (length x) ++ x
 

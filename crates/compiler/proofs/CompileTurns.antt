@@ -142,7 +142,7 @@ module _ {agent user author rules₀ tokens₀ brackets₀ texts₀ : List ℕ} 
           q-is : q ≡ roomOf (length k₁)
           q-is = eq ∙ ap roomOf k-long
 
-          -- the bytes fit
+          -- the bytes fit into the room: the answer is the compiled sheet
           pub fits : w ≤ q → Left (Compiled w (s .end)) k₃ t₂ y₃ x₃ b₂
           unfolding compiledLeft answeredWithin answered numbersOf sheetsTexts sheetsRules bytes
           fits h =
@@ -155,7 +155,7 @@ module _ {agent user author rules₀ tokens₀ brackets₀ texts₀ : List ℕ} 
               ∙ pick-true _ _ _ _ (le-leb (length bytes) (roomOf (length compiled₀)) (omega (arith, z .0, same-room))) refl
               ∙ ap (compiledLeft compiled₀ texts₀ rules₀ tokens₀ brackets₀) (sym (m .is))
 
-          -- they do not
+          -- the bytes pass the room: the answer is refusal 10, and the buffers are cleared
           pub over : q < w → {k₄ t₄ : List ℕ} → k₄ ≡ cleared 0 k₃ → t₄ ≡ cleared 0 t₂ → Left NoRoom k₄ t₄ y₃ x₃ b₂
           unfolding compiledLeft answeredWithin zeroed numbersOf bytes
           over h {k₄} {t₄} ek₄ et₄ =

@@ -13,7 +13,7 @@ use Rattle.compiler.specs.Writing.{past}
 
 -- ---- bytes passed the end of a store
 module _ (n f : ℕ) where
-  -- `is_past`
+  -- a fill within the room is not past it
   pub before-end : f ≤ n → false ≡ past n f
   unfolding past
   before-end h = sym (is-no f (n + 1) (λ (e : f ≡ n + 1). omega (arith, h, e)))
@@ -66,13 +66,13 @@ module _ {A : Type 0} (u : List ℕ → Read A) (w : A → List ℕ) (rows : Lis
   none-left (suc k) t h = absurd (omega arith)
 
   module _ (n place : ℕ) (st : List ℕ) (f : ℕ) (c : Emitting n place st f) where
-    -- one is written
+    -- a turn: one value is read and its bytes are written
     pub emitting-more : 0 < n → (z : List ℕ) (g : ℕ) → record { bytes = z; fill = g } ≡ emits (record { bytes = st; fill = f }) (w (u (drop place rows) .value))
         → length z ≡ length st → (next : ℕ) → drop next rows ≡ u (drop place rows) .rest → Emitting (n - 1) next z g
     emitting-more h z g e k next d =
         record { left = onto _ _ _ _ e ∙ sym (ap (emits (record { bytes = st; fill = f })) (one-less n place next h d)) ∙ c .left; long = k ∙ c .long }
 
-    -- all are written
+    -- with none left the bytes of all values are written
     pub emitting-done : n ≤ 0
         → record { bytes = st; fill = f } ≡ emits (record { bytes = st₀; fill = fill }) (textsMany w (readMany u count (drop at rows) .value))
     emitting-done h = sym (ap (emits (record { bytes = st; fill = f })) (none-left n (drop place rows) h) ∙ emits-none _) ∙ c .left

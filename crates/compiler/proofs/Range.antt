@@ -296,7 +296,7 @@ module _ (s : List ℕ) (stop : ℕ) (rs : List RuleSet) (e : sheetOf s ≡ read
         all-weaker (RuleHolds (ruleWidth * stop)) (λ (r : RuleSet). length (r .selectors) < 2 ^ 32)
         (λ r h. omega (arith, rule-sized r, h .size, stop-small)) rs rules-hold
 
-    -- its selectors fit
+    -- the selectors of a sheet that was read are in range
     read-fit : (origin : ℕ) → origin ≤ authorOrigin → All SelectorFits (sheetSelectors origin rs)
     read-fit origin h = sheet-fit origin (ruleWidth * stop) h (omega (arith, stop-small)) rs rules-hold
 

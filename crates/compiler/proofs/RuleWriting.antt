@@ -34,13 +34,13 @@ module _ (origin : ℕ) where
   none-styled [] ss h = refl
   none-styled (d ∷ ds) ss h = absurd (omega (arith, h))
 
-  -- of another, all
+  -- a rule that has a style has all its selectors compiled
   all-styled : (ds : List StyleDecl) (ss : List Selector) → ¬ (length ds ≡ 0) → styledSelectors origin ds ss ≡ map (compiledSelector origin ds) ss
   unfolding styledSelectors
   all-styled [] ss h = absurd (h refl)
   all-styled (d ∷ ds) ss h = refl
 
-  -- their bytes
+  -- the bytes of compiled selectors are those of the selectors, each with the rule's styles
   styled-bytes : (ds : List StyleDecl) (ss : List Selector) → textsMany selectorBytes (map (compiledSelector origin ds) ss) ≡ textsMany (styledBytes origin ds) ss
   unfolding textsMany styledBytes
   styled-bytes ds [] = refl
@@ -71,7 +71,7 @@ module _ (rows : List ℕ) (at declarations count : ℕ) (d : (texts : List ℕ)
   unfolding ruleSelectors
   rule-uncounted h = sym (ap length (none-styled origin _ _ (sym count-is ∙ h)))
 
-  -- it has one
+  -- a rule that has a style counts with all its selectors
   pub rule-counted : ¬ (x ≡ 0) → (n : ℕ) → n ≡ getD rows (at + layout.ruleSelectors) 0 → n ≡ length (ruleSelectors origin (readRule texts (drop at rows) .value))
   unfolding ruleSelectors readRule
   rule-counted h n g =
@@ -95,12 +95,12 @@ module _ (rows : List ℕ) (at origin : ℕ) (tokens : List ℕ) (styles : ℕ) 
   unfolding stylesAt
   long = many-length (readStyle texts) styles tokens
 
-  -- it has none
+  -- a rule without styles writes nothing
   pub styled-none : styles ≡ 0 → (o : Store) → o ≡ emits o styledText
   unfolding textsMany
   styled-none h o = sym (emits-none o) ∙ ap (emits o) (ap (textsMany selectorBytes) (sym (none-styled origin ds _ (long ∙ h))))
 
-  -- it has some
+  -- a rule with styles writes the bytes of all its selectors
   pub styled-all : ¬ (styles ≡ 0) → (n : ℕ) → n ≡ getD rows (at + layout.ruleSelectors) 0 → (first : ℕ) → drop first rows ≡ drop (at + ruleHead) rows → (o₀ o₁ : Store)
       → o₁ ≡ emits o₀ (textsMany (styledBytes origin ds) (readMany (readSelector texts) n (drop first rows) .value)) → o₁ ≡ emits o₀ styledText
   unfolding readRule
@@ -161,7 +161,7 @@ module _ (rows : List ℕ) (count at origin : ℕ) (tokens₀ texts st₀ : List
           same = ex ∙ c .same;
         }
 
-    -- all are written
+    -- with no rule left the bytes of all rules are written, and the store of tokens is as it was
     pub writing-done : n ≤ 0 → (tokens ≡ tokens₀)
         × (record { bytes = st; fill = f } ≡ emits (record { bytes = st₀; fill = fill }) (textsMany selectorBytes (sheetSelectors origin (readMany (readRule texts) count (drop at rows) .value))))
     writing-done h =
@@ -220,6 +220,6 @@ module _ (rows : List ℕ) (count at : ℕ) where
                     (sheetSelectors (few .origin) (readMany (readRule (few .texts)) k (readRule (few .texts) (drop place rows) .rest) .value)),
               )
 
-    -- all rules
+    -- with no rule left the selectors of all rules are counted
     pub counting-done : n ≤ 0 → (origin : ℕ) (texts : List ℕ) → total ≡ selectorsFrom origin texts count at
     counting-done h origin texts = omega (arith, c .left origin texts, none-left origin texts n place h)

@@ -71,18 +71,19 @@ module _ (rows : List ℕ) (at count : ℕ) (texts st₀ : List ℕ) (fill : ℕ
   none-left n h = let q : n ≡ 0 = omega arith in rw q
 
   module _ (n : ℕ) (st : List ℕ) (f : ℕ) (c : Returning n st f) where
-    -- one is written
+    -- a turn: the component before the last one written is written
     pub returning-more : 0 < n → (place : ℕ) → drop place rows ≡ drop (at + componentWidth * (n - 1)) rows → (z : List ℕ) (g : ℕ)
         → record { bytes = z; fill = g } ≡ emits (record { bytes = st; fill = f }) (componentBytes (readComponent texts (drop place rows) .value))
         → length z ≡ length st → Returning (n - 1) z g
     returning-more h place d z g e k =
         record { left = onto _ _ _ _ e ∙ sym (ap (emits (record { bytes = st; fill = f })) (last-first n place h d)) ∙ c .left; long = k ∙ c .long; few = omega (arith, c .few) }
 
-    -- all are written
+    -- with none left the components are written, the last first
     pub returning-done : n ≤ 0 → record { bytes = st; fill = f } ≡ emits (record { bytes = st₀; fill = fill }) (backwards count)
     returning-done h = sym (ap (emits (record { bytes = st; fill = f })) (none-left n h) ∙ emits-none _) ∙ c .left
 
 -- ---- pseudo elements
+-- the number of a selector without a pseudo element is 0
 pub pseudo-none : (n : ℕ) → n ≡ 0 → 0 ≡ pseudoNumber (pseudoFrom n)
 unfolding pseudoNumber pseudoFrom
 pseudo-none n e = ap pseudoNumber (pick-true _ _ _ _ (is-yes n 0 e) refl)
@@ -105,7 +106,7 @@ module _ (rows : List ℕ) (at origin : ℕ) (o₀ o₁ : Store) where
       → o₁ ≡ emits o₀ (headBytes origin q n) → o₁ ≡ emits o₀ headAt
   head-at p q n ep eq en e = e ∙ rw (eq, ep, en, getD-drop at rows selectorPseudo 0, getD-drop at rows selectorComponents 0)
 
-  -- all of it
+  -- head, components and styles, one behind the other, are the bytes of the selector
   pub selector-written : o₁ ≡ emits o₀ headAt → (n first : ℕ) → n ≡ getD rows (at + selectorComponents) 0 → drop first rows ≡ drop (at + selectorHead) rows
       → (texts : List ℕ) (o₂ o₃ : Store) → o₂ ≡ emits o₁ (textsMany componentBytes (reverse (readMany (readComponent texts) n (drop first rows) .value)))
       → (ds : List StyleDecl) → o₃ ≡ emits o₂ (stylesBytes ds) → o₃ ≡ emits o₀ (styledBytes origin ds (readSelector texts (drop at rows) .value))

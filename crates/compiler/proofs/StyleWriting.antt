@@ -26,12 +26,12 @@ use Rattle.compiled.specs.Sheet.{stylesBytes}
 
 -- ---- the style that a declaration asks for by itself
 module _ (t : List ℕ) (r : OwnStyle) (e : r ≡ ownNumbersAt t) where
-  -- there is one
+  -- a declaration that has a style of its own takes one row
   pub own-one : (x : StyleNumbers) → r ≡ Style x → (styleWidth * 1 ≡ length (ownRow t)) × (1 ≤ 1)
   unfolding ownRow rowOfOwn
   own-one x h = (sym (length-style x) ∙ ap (λ (o : OwnStyle). length (rowOfOwn o)) (sym h ∙ e), omega arith)
 
-  -- there is none
+  -- a declaration that has none takes no row
   pub own-none : r ≡ NoStyle → (styleWidth * 0 ≡ length (ownRow t)) × (0 ≤ 1)
   unfolding ownRow rowOfOwn
   own-none h = (ap (λ (o : OwnStyle). length (rowOfOwn o)) (sym h ∙ e), omega arith)
@@ -48,7 +48,7 @@ pub finding-begin : (rows : List ℕ) (count at : ℕ) → Finding rows count at
 unfolding or
 finding-begin rows count at = record { left = omega arith; height = refl; overflow = refl; few = omega arith }
 
--- a declaration less
+-- the rows of n declarations are those of the first and of the n - 1 behind it
 rows-step : (n : ℕ) (t : List ℕ) → 0 < n → ownRows n t ≡ ownRow t ++ ownRows (n - 1) (drop declarationWidth t)
 unfolding ownRows
 rows-step zero t h = absurd (omega arith)
@@ -59,7 +59,7 @@ unfolding anyRow
 any-step p zero t h = absurd (omega arith)
 any-step p (suc k) t h = let q : suc k - 1 ≡ k = omega arith in rw q
 
--- none left
+-- no declaration has no rows
 rows-none : (n : ℕ) (t : List ℕ) → n ≤ 0 → ownRows n t ≡ []
 unfolding ownRows
 rows-none zero t h = refl
@@ -85,7 +85,7 @@ added-length false = refl
 
 module _ (rows : List ℕ) (count at own : ℕ) (height-zero overflow-hidden : Bool) (place n : ℕ)
     (c : Finding rows count at own height-zero overflow-hidden place n) where
-  -- a declaration
+  -- a turn: one declaration's style is counted, and whether it is a zero height or a hidden overflow is noted
   pub finding-more : 0 < n → (r : ℕ) → styleWidth * r ≡ length (ownRow (drop place rows)) → r ≤ 1 → (x y : Bool) → x ≡ zeroRow (drop place rows)
       → y ≡ hiddenRow (drop place rows) → (next : ℕ) → drop next rows ≡ drop (place + declarationWidth) rows
       → Finding rows count at (own + r) (height-zero || x) (overflow-hidden || y) next (n - 1)
@@ -130,24 +130,24 @@ module _ (rows : List ℕ) (count at own : ℕ) (height-zero overflow-hidden : B
         let ds = declarationsAt (drop at rows) [] count in
         omega (arith, total-is f e, count-styles [] (drop at rows) count, styles-few ds, many-length (readDeclaration []) count (drop at rows))
 
-    -- all is counted
+    -- with none left the styles are counted, the display of a zero height with a hidden overflow among them
     pub finding-done : (f : ℕ) → f ≡ flag (height-zero && overflow-hidden) → own + f ≡ styleCount (drop at rows) count
     finding-done f e = total-is f e
 
 -- ---- styles from their rows
 module _ (rows : List ℕ) (at : ℕ) (texts : List ℕ) where
-  -- one
+  -- the bytes of the numbers of a style row are those of the style
   pub style-there : (x : StyleNumbers) → x ≡ numbersAt (drop at rows) → (o₀ o₁ : Store) → o₁ ≡ emits o₀ (styleBytes (styleIn texts x))
       → o₁ ≡ emits o₀ (styleBytes (readStyle texts (drop at rows) .value))
   unfolding readStyle
   style-there x e o₀ o₁ p = p ∙ ap (λ (y : StyleNumbers). emits o₀ (styleBytes (styleIn texts y))) e
 
-  -- the next
+  -- the place a row's width further is behind the style
   pub behind-style : (place : ℕ) → drop place rows ≡ drop (at + styleWidth) rows → drop place rows ≡ readStyle texts (drop at rows) .rest
   unfolding readStyle
   behind-style place p = p ∙ sym (drop-drop styleWidth at rows)
 
--- with their count
+-- the count, and the styles behind it, are the bytes of all styles
 pub styles-written : (rows texts : List ℕ) (count : ℕ) (o₀ o₁ o₂ : Store) → o₁ ≡ emits o₀ (numberBytes count) → o₂ ≡ emits o₁ (textsMany styleBytes (stylesAt rows texts count))
     → o₂ ≡ emits o₀ (stylesBytes (stylesAt rows texts count))
 unfolding stylesBytes stylesAt

@@ -48,6 +48,7 @@ texts-both (x ∷ xs) ys =
     ap (λ (r : List ℕ). selectorBytes x ++ r) (texts-both xs ys) ∙ sym (append-assoc (selectorBytes x) (textsMany selectorBytes xs) (textsMany selectorBytes ys))
 
 -- ---- a sheet
+-- the selectors of the rules that lie in a sheet's part of the stores are those of the sheet
 pub sheet-written : (rows texts : List ℕ) (s : SheetRules) (origin : ℕ) (o₀ o₁ : Store)
     → o₁ ≡ emits o₀ (textsMany selectorBytes (sheetSelectors origin (readMany (readRule (take (length texts - s .from) (drop (s .from) texts))) (s .count) (drop (s .place) rows) .value)))
     → o₁ ≡ emits o₀ (textsMany selectorBytes (sheetSelectors origin (rulesFrom rows texts s)))

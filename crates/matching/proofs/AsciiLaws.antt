@@ -32,7 +32,7 @@ graphic-is-none b l h =
     (or-none _ _ (sym (within-false b 0x202f 0x202f (omega arith))) (or-none _ _ (sym (within-false b 0x205f 0x205f (omega arith)))
     (or-none _ _ (sym (within-false b 0x3000 0x3000 (omega arith))) refl))))))))))
 
--- a space is
+-- U+0020 is White_Space
 space-is-white : isWhiteSpace 0x20 ≡ true
 unfolding isWhiteSpace member or is
 space-is-white = refl
@@ -62,7 +62,7 @@ module _ (s : List ℕ) (i : ℕ) (inside : i < length s) (b : ℕ) (eb : b ≡ 
     no-white : isWhiteSpace b ≡ false
     no-white = graphic-is-none b (between-ends .0) (between-ends .1)
 
-    -- it is ASCII
+    -- a visible ASCII character is a byte of one-byte UTF-8
     ascii : b ≤ 0x7f
     ascii = let h = between-ends .1 in omega arith
 
@@ -79,7 +79,7 @@ module _ (s : List ℕ) (i : ℕ) (inside : i < length s) (b : ℕ) (eb : b ≡ 
 
   -- ---- a space
   module _ (e : b ≡ 0x20) where
-    -- it is White_Space
+    -- the byte of a space is White_Space
     white : true ≡ isWhiteSpace b
     white = sym (ap isWhiteSpace e ∙ space-is-white)
 

@@ -79,7 +79,7 @@ module _ (ask : List Attribute → Bool) (attributes names : List ℕ) (at count
       let k : at + 0 ≡ at = omega arith in
       record { within-count = omega arith; left = ap₂ (λ (x y : ℕ). ask (attributesFrom attributes names x y)) n k }
 
-  -- all were asked
+  -- once all attributes were asked, the answer is that of none left
   looked : (i : ℕ) → Looking ask attributes names at count i → count ≤ i → ask [] ≡ ask (attributesFrom attributes names count at)
   unfolding attributesFrom
   looked i v h = let z : count - i ≡ 0 = omega arith in sym (ap (λ (k : ℕ). ask (attributesFrom attributes names k (at + i))) z) ∙ v .left

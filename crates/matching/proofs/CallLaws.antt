@@ -45,11 +45,11 @@ no-match e = absurd (let z : _≡_ {A = ℕ} 0 1 = cc in omega arith)
 
 -- ---- products
 module _ (m d : ℕ) where
-  -- the call itself
+  -- the call itself is within the bound
   one-call : 1 ≤ suc m * suc d
   one-call = omega (arith, suc-mul m (suc d))
 
-  -- a component more
+  -- what is within the bound for fewer components is within it for one more
   more-components : (k : ℕ) → k ≤ m * suc d → k ≤ suc m * suc d
   more-components k h = omega (arith, suc-mul m (suc d))
 
@@ -78,7 +78,7 @@ else-local FailsCompletely t e = no-complete e
 
 -- ---- one component more
 module _ (f : Path → SelectorMatch) (k : Path → ℕ) (m : ℕ) (bounded : (p : Path) → Bounded m (length p) (f p) (k p)) where
-  -- a child combinator
+  -- a child combinator adds one call to those at the parent
   bounded-child : (p : Path) → Bounded (suc m) (length p) (resultOnParent f p) (1 + callsOnParent k p)
   unfolding resultOnParent callsOnParent
   bounded-child [] = record { all = one-call m 0; local = λ e. no-complete e }
@@ -94,14 +94,14 @@ module _ (f : Path → SelectorMatch) (k : Path → ℕ) (m : ℕ) (bounded : (p
   never-local [] e = no-complete e
   never-local (x ∷ up) e = never-local up (else-local (f up) (resultOnAncestors f up) e)
 
-  -- a descendant combinator
+  -- a descendant combinator adds one call to those at the ancestors that are tried
   bounded-descendant : (p : Path) → Bounded (suc m) (length p) (resultOnAncestors f p) (1 + callsOnAncestors f k p)
   unfolding resultOnAncestors callsOnAncestors
   bounded-descendant [] = record { all = one-call m 0; local = λ e. no-complete e }
   bounded-descendant (x ∷ up) =
       bounded-else m (length up) (f up) (resultOnAncestors f up) (k up) (callsOnAncestors f k up) (bounded up) (bounded-descendant up) (never-local up)
 
-  -- a simple selector
+  -- a simple component takes the calls of what is left, or one where it does not pass
   bounded-simple : (p : Path) (b : Bool) → Bounded (suc m) (length p) (pick b (f p) FailsLocally) (pick b (k p) 1)
   unfolding pick
   bounded-simple p true =

@@ -51,7 +51,7 @@ module _ (store components nodes attributes text : List ℕ) where
         no-zero : ¬ (n ≡ 0)
         no-zero z = absurd (omega arith)
 
-        -- a descendant combinator
+        -- at a descendant combinator the climb stops, with what is left of the components
         pub at-descendant : k ≡ descendantKind → ClimbedTo store components nodes attributes text left row (Descendant (n - 1) at)
         unfolding ClimbedTo
         at-descendant e =
@@ -80,7 +80,7 @@ module _ (store components nodes attributes text : List ℕ) where
               }
 
         module _ (no-child : ¬ (k ≡ childKind)) (no-descendant : ¬ (k ≡ descendantKind)) where
-          -- a test
+          -- a component that is neither combinator is a test
           pub is-test : SimpleAt components (n - 1)
           is-test = one.match-simple store components nodes attributes text n at no-zero (g .rooted) k ek no-child no-descendant
 
@@ -95,14 +95,14 @@ module _ (store components nodes attributes text : List ℕ) where
                   same = g .same ∙ one.match-passes store components nodes attributes text n at no-zero (g .rooted) k ek no-child no-descendant b eb h;
                 }
 
-            -- or not
+            -- a test that fails ends the climb: the selector fails here
             pub test-ends : b ≡ false → ClimbedTo store components nodes attributes text left row (Ended FailsLocally)
             unfolding ClimbedTo
             test-ends h = sym (g .same ∙ one.match-fails store components nodes attributes text n at no-zero (g .rooted) k ek no-child no-descendant b eb h)
 
   -- ---- the next ancestor that is tried
   module _ (n row : ℕ) where
-    -- the parent
+    -- the parent of a row is the next ancestor to be tried
     pub next-parent : Inner nodes row → (p : ℕ) → p ≡ nodeAt nodes row .parent → NextAncestor store components nodes attributes text n row p
     unfolding resultOnAncestors
     next-parent i p ep =
@@ -171,7 +171,7 @@ module _ (store components nodes attributes text : List ℕ) where
           tried : Result left row ≡ orElse r (Above n q)
           tried = d .same ∙ next .same ∙ ap (λ (x : SelectorMatch). orElse x (Above n q)) (sym er)
 
-          -- the ancestor matches
+          -- an ancestor that matches what is left makes the selector match
           pub ancestor-matches : r ≡ Matches → Matches ≡ Result left row
           unfolding orElse
           ancestor-matches e = sym (tried ∙ ap (λ (x : SelectorMatch). orElse x (Above n q)) e)

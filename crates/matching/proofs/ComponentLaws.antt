@@ -35,7 +35,7 @@ module _ (store components : List ℕ) (i start first : ℕ) (es : start ≡ com
   unfolding firstText
   first-part r e = rw (← es, ← ef) e
 
-  -- and the second
+  -- the second text of a component lies behind its first
   pub second-part : (second : ℕ) → second ≡ componentNumber components i componentSecondAt → (r : List ℕ) → r ≡ part store (start + first) second
       → r ≡ secondText store components i
   unfolding secondText
@@ -58,7 +58,7 @@ read-rest store (suc k) t =
     let e : componentWidth + k * componentWidth ≡ suc k * componentWidth = omega arith in
     read-rest store k (drop componentWidth t) ∙ drop-drop (k * componentWidth) componentWidth t ∙ ap (λ (n : ℕ). drop n t) e
 
--- the component there
+-- the component at the k-th row is read from k rows further on
 read-there : (store : List ℕ) (k : ℕ) (t : List ℕ) → readComponent store (drop (k * componentWidth) t) .value ≡ componentAt store t k
 unfolding readComponent componentAt componentNumber
 read-there store k t =
@@ -111,7 +111,7 @@ module _ (store : List ℕ) (k f a b : ℕ) where
   abbrev AsClass : Component → Type 0
   AsClass c = specificityOf 0 1 0 ≡ added c
 
-  -- any other
+  -- a component of any other kind counts as a class
   pub adds-class : ¬ (k ≡ starKind) → ¬ (k ≡ elementKind) → ¬ (k ≡ hashKind) → ¬ (k ≡ childKind) → ¬ (k ≡ descendantKind) → AsClass (componentFrom store k f a b)
   unfolding componentFrom added
   adds-class no-star no-element no-hash no-child no-descendant =
@@ -156,7 +156,7 @@ add-begin components n =
       types = omega arith;
     }
 
--- all were added
+-- once all components were added the sum is the specificity
 pub add-end : (components : List ℕ) (n i : ℕ) (r : Specificity) → Adding components n i r → n ≤ i → (store : List ℕ) → r ≡ specificity (componentsAt store components n)
 add-end components n i r v h store =
     let l = v .within-count in

@@ -21,13 +21,13 @@ use Rattle.matching.proofs.PathLaws.{top-path, other-path}
 
 -- ---- `passes`
 module _ (store components nodes attributes text : List ℕ) (i row k : ℕ) (ek : k ≡ componentNumber components i componentKindAt) where
-  -- star
+  -- star passes on every path
   pub star-passes : k ≡ starKind → true ≡ matches (componentAt store components i ∷ []) (pathOf nodes attributes text row)
   unfolding componentAt
   star-passes e = from-star store _ _ _ _ (pathOf nodes attributes text row) (sym ek ∙ e)
 
   module _ (simple : SimpleAt components i) (rooted : Rooted nodes row) (no-star : ¬ (k ≡ starKind)) where
-    -- an element
+    -- of an element a component asks what the element has
     pub element-passes : ¬ (row ≡ 0) → (r : Bool) → r ≡ elementPasses store components i (elementAt nodes attributes text row)
         → r ≡ matches (componentAt store components i ∷ []) (pathOf nodes attributes text row)
     unfolding componentAt elementPasses firstText secondText
@@ -35,7 +35,7 @@ module _ (store components nodes attributes text : List ℕ) (i row k : ℕ) (ek
         rw (other-path nodes attributes text row rooted z)
         (p ∙ asked-of-element store _ _ _ _ (simple .no-child) (simple .no-descendant) (λ y. no-star (ek ∙ y)) (elementAt nodes attributes text row) _)
 
-    -- the document
+    -- the document passes nothing but star
     pub document-passes : row ≡ 0 → false ≡ matches (componentAt store components i ∷ []) (pathOf nodes attributes text row)
     unfolding componentAt
     document-passes z = rw (top-path nodes attributes text row rooted z) (document-fails store _ _ _ _ (λ y. no-star (ek ∙ y)))

@@ -12,6 +12,7 @@ use Rattle.combinators.proofs.Rules.{never, is-true, is-yes}
 use Rattle.matching.specs.Nth.{isZero, nthMatches, NthChild}
 
 -- ---- 0
+-- a number that is tested to be 0 is 0
 pub zero-is : (z : ℤ) → isZero z ≡ true → z ≡ pos 0
 unfolding isZero
 zero-is (pos n) e = ap pos (is-true n 0 e)

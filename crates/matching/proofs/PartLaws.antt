@@ -47,6 +47,6 @@ module _ (text : List ℕ) (start n : ℕ) (t : List ℕ) where
     part-starts e r p =
         p ∙ ap (startsWith t) (rest text start) ∙ starts-part n (drop start text) t (long ∙ e)
 
-    -- more or fewer
+    -- a part that is longer or shorter than the text is not the same
     pub part-differs : ¬ (m ≡ length t) → false ≡ sameText (part text start n) t
     part-differs d = same-lengths _ _ (λ e. d (sym long ∙ e))

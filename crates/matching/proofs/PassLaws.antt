@@ -40,20 +40,20 @@ module _ (store components nodes attributes text : List ℕ) (i row k : ℕ) (na
   abbrev AsksFor : Bool → Type 0
   AsksFor r = r ≡ attributesPass k (firstText store components i) (secondText store components i) (elementAt nodes attributes text row .attributes)
 
-  -- a class
+  -- a class component asks for a class of that name
   pub class-asked : k ≡ classKind → (r : Bool) → r ≡ anyAttribute (isClass name) (attributesFrom attributes text count at) → AsksFor r
   unfolding attributesPass elementAt
   class-asked e r p = pick-true _ _ _ (is k classKind) (is-yes _ _ e) (rw (← en, ← ea, ← ec) p)
 
   module _ (no-class : ¬ (k ≡ classKind)) where
-    -- an id
+    -- a hash component asks for an id of that name
     pub hash-asked : k ≡ hashKind → (r : Bool) → r ≡ anyAttribute (isId name) (attributesFrom attributes text count at) → AsksFor r
     unfolding attributesPass elementAt
     hash-asked e r p =
         pick-false _ _ _ (is k classKind) (is-no _ _ no-class) (pick-true _ _ _ (is k hashKind) (is-yes _ _ e) (rw (← en, ← ea, ← ec) p))
 
     module _ (no-hash : ¬ (k ≡ hashKind)) where
-      -- an attribute
+      -- an attribute component asks for an attribute of that name
       pub attribute-asked : k ≡ attributeKind → (r : Bool) → r ≡ anyAttribute (isNamed name) (attributesFrom attributes text count at) → AsksFor r
       unfolding attributesPass elementAt
       attribute-asked e r p =
@@ -71,7 +71,7 @@ module _ (store components nodes attributes text : List ℕ) (i row k : ℕ) (na
 
 -- ---- the returns of `element_passes`
 module _ (store components nodes attributes text : List ℕ) (i row k : ℕ) (ek : k ≡ componentNumber components i componentKindAt) where
-  -- a name
+  -- an element component asks for the element's name
   pub name-passes : k ≡ elementKind → (name : List ℕ) → name ≡ firstText store components i → (r : Bool) → r ≡ sameText (nameOf nodes text row) name
       → r ≡ elementPasses store components i (elementAt nodes attributes text row)
   unfolding elementPasses elementAt nameIs
@@ -82,14 +82,14 @@ module _ (store components nodes attributes text : List ℕ) (i row k : ℕ) (ek
       (p ∙ ap (sameText (nameOf nodes text row)) en))
 
   module _ (no-name : ¬ (k ≡ elementKind)) where
-    -- a place
+    -- nth asks for the element's place among its siblings
     pub nth-passes : k ≡ nthKind → (r : Bool)
         → r ≡ nthMatches (signedOf (componentNumber components i componentFirstAt)) (signedOf (componentNumber components i componentSecondAt)) (placeOf nodes row)
         → r ≡ elementPasses store components i (elementAt nodes attributes text row)
     unfolding elementPasses elementAt
     nth-passes e r p = pick-true _ _ _ (is (componentNumber components i componentKindAt) nthKind) (is-yes _ _ (sym ek ∙ e)) p
 
-    -- attributes
+    -- every other simple component asks for the attributes
     pub attributes-passes : ¬ (k ≡ nthKind) → (r : Bool)
         → r ≡ attributesPass k (firstText store components i) (secondText store components i) (elementAt nodes attributes text row .attributes)
         → r ≡ elementPasses store components i (elementAt nodes attributes text row)

@@ -75,19 +75,19 @@ module _ (f : Path → Bool) where
 
 -- ---- all of them, where s is the result of f
 module _ (f : Path → Bool) (s : Path → SelectorMatch) (holds : (p : Path) → ResultHolds f p (s p)) where
-  -- a child combinator
+  -- what holds of the result at the parent holds of a child combinator's
   at-child : (p : Path) → ResultHolds (onParent f) p (resultOnParent s p)
   unfolding ResultHolds onParent onAncestors onAncestorsOrSelf resultOnParent or
   at-child [] = refl
   at-child (x ∷ up) = child-holds f x up (s up) (holds up)
 
-  -- a descendant combinator
+  -- what holds of the results at the ancestors holds of a descendant combinator's
   at-descendant : (p : Path) → ResultHolds (onAncestors f) p (resultOnAncestors s p)
   unfolding ResultHolds onAncestors onAncestorsOrSelf resultOnAncestors or
   at-descendant [] = refl
   at-descendant (x ∷ up) = descendant-holds f x up (s up) (resultOnAncestors s up) (holds up) (at-descendant up)
 
-  -- star
+  -- what holds of the result of what is left holds of star's
   at-star : (p : Path) → ResultHolds f p (pick (matches (star ∷ []) p) (s p) FailsLocally)
   unfolding matches step pick
   at-star p = holds p
@@ -99,7 +99,7 @@ module _ (f : Path → Bool) (s : Path → SelectorMatch) (holds : (p : Path) �
       simple-holds f (matches (c ∷ [])) (λ q. and (here u q) (f q)) (λ q. ap (λ (b : Bool). and b (f q)) (sym (and-yes (here u q)) ∙ e q)) p
       (matches (c ∷ []) p) (s p) refl (holds p)
 
--- no component
+-- with no component left the selector matches
 nothing-left : (p : Path) → ResultHolds (matches []) p Matches
 unfolding ResultHolds matches
 nothing-left p = refl
@@ -125,17 +125,17 @@ module _ (cs : List Component) (p : Path) (r : SelectorMatch) (e : r ≡ matchRe
   holds-of : {s : SelectorMatch} → r ≡ s → ResultHolds (matches cs) p s
   holds-of h = subst (ResultHolds (matches cs) p) (sym e ∙ h) (result-holds cs p)
 
-  -- the selector matches
+  -- the result `Matches` says that the components match
   pub selector-matches : r ≡ Matches → true ≡ matches cs p
   unfolding ResultHolds
   selector-matches h = sym (holds-of h)
 
-  -- it fails locally
+  -- the result `FailsLocally` says that the components do not match
   pub fails-locally : r ≡ FailsLocally → false ≡ matches cs p
   unfolding ResultHolds
   fails-locally h = sym (holds-of h)
 
-  -- it fails completely
+  -- the result `FailsCompletely` says that the components do not match
   pub fails-here : r ≡ FailsCompletely → false ≡ matches cs p
   unfolding ResultHolds onAncestorsOrSelf
   fails-here h = let z : onAncestorsOrSelf (matches cs) p ≡ false = holds-of h in sym (neither (matches cs p) _ z .0)

@@ -82,13 +82,13 @@ module _ (nodes attributes : List ℕ) (n : ℕ) (right : (k : ℕ) → k < n �
 
 -- ---- the rows of an accepted page keep them
 module _ (nodes attributes text : List ℕ) (e : pageRefusal nodes attributes text ≡ noRefusal) where
-  -- the law
+  -- from every row of an accepted page that may be a parent, parents lead to the document
   pub accepted-rooted : (row : ℕ) → row < nodeCount nodes → isParent nodes row ≡ true → Rooted nodes row
   accepted-rooted =
       let ok = accepted nodes attributes text e in
       rooted nodes attributes (nodeCount nodes) (ok .rules) (λ (p : ℕ) (l : p < nodeCount nodes). none-yet nodes attributes text ok p (suc p) l (omega arith))
 
-  -- of an element
+  -- from every element of an accepted page parents lead to the document
   pub accepted-element : (row : ℕ) → row < nodeCount nodes → nodeAt nodes row .kind ≡ elementKind → Rooted nodes row
   unfolding isParent
   accepted-element row h k = accepted-rooted row h (or-yes (is row 0) (is (nodeAt nodes row .kind) elementKind) (is-yes (nodeAt nodes row .kind) elementKind k))

@@ -98,7 +98,7 @@ module _ {a b x : ℤ} {idx : ℕ} (fa : SFits w64 a) (fb : SFits w64 b) (fx : S
   quot-is : quotZ DD AA ≡ quotZ (pos idx -ℤ b) a
   quot-is = ap (λ (z : ℤ). quotZ z AA) dd-is ∙ ap (λ (y : ℤ). quotZ (pos idx -ℤ b) y) (toZ-ofZ fa)
 
-  -- nothing overflows
+  -- the place less b fits 64 bits
   pub offset-computed : SFits w64 D
   offset-computed = subst (SFits w64) (sym d-is) offset-fits
 
@@ -110,7 +110,7 @@ module _ {a b x : ℤ} {idx : ℕ} (fa : SFits w64 a) (fb : SFits w64 b) (fx : S
       ap (λ (z : ℤ). eqb (ofZ w64 z) 0) rem-is
       ∙ zero-test (remZ (pos idx -ℤ b) a) (sfits-le (mag-rem (pos idx -ℤ b) a) offset-fits)
 
-  -- a is 0
+  -- where a is 0 the place has to be b
   pub nth-constant : ofZ w64 a ≡ 0 → eqb (ofZ w64 D) 0 ≡ nthMatches a b idx
   unfolding nthMatches
   nth-constant z =
@@ -129,7 +129,7 @@ module _ {a b x : ℤ} {idx : ℕ} (fa : SFits w64 a) (fb : SFits w64 b) (fx : S
         (pick-true _ _ _ (isZero (remZ (pos idx -ℤ b) a)) (sym rem-test ∙ eq-eqb (ofZ w64 (remZ DD AA)) 0 z)
         (ap (leZ (pos 0)) (ap (λ (y : ℤ). toZ w64 (ofZ w64 y)) quot-is ∙ toZ-ofZ quotient-fits)))
 
-    -- it is not
+    -- where the remainder is not 0 the place is no multiple
     pub nth-other : ¬ (ofZ w64 (remZ DD AA) ≡ 0) → false ≡ nthMatches a b idx
     unfolding nthMatches
     nth-other z =
@@ -159,7 +159,7 @@ module _ {v : ℕ} {h : ℤ} (fv : Fits w32 v) (fh : SFits w64 h) (e : h ≡ pos
   pub even-size : natAbs (toZ w64 (ofZ w64 h)) ≤ 2 ^ 31
   even-size = subst (λ (x : ℤ). natAbs x ≤ 2 ^ 31) (sym even-is) (omega (arith, half))
 
-  -- nothing overflows
+  -- the negative number that an odd one stands for fits 64 bits
   pub odd-computed : SFits w64 (negsuc 0 -ℤ toZ w64 (ofZ w64 h))
   odd-computed = subst (SFits w64) (sym odd-is) (record { sfits = omega (arith, half) })
 
@@ -182,7 +182,7 @@ module _ (a b : ℤ) (ha : natAbs a ≤ 2 ^ 31) (hb : natAbs b ≤ 2 ^ 31) (idx 
   fits-b : SFits w64 b
   fits-b = fits-by-size b (omega arith)
 
-  -- they are small
+  -- numbers of 32 bits and a place below 2^62 are small enough
   pub both-small : idx ≤ 2 ^ 62 → Small (toZ w64 (ofZ w64 a)) (toZ w64 (ofZ w64 b)) idx
   both-small h =
       record {

@@ -31,7 +31,7 @@ pub split-begin : (w s : List ℕ) → Splitting w s 0
 unfolding hasWord
 split-begin w s = record { within-text = omega arith; words = length s; enough = omega arith; left = refl }
 
--- nothing is left
+-- where nothing is left the word was not found
 pub split-end : (w s : List ℕ) (i : ℕ) → Splitting w s i → length s ≤ i → false ≡ hasWord w s
 split-end w s i v h = sym (ap (wordAmong (v .words) w) (drop-of-length-le s h) ∙ none-left (v .words) w) ∙ v .left
 
@@ -57,7 +57,7 @@ module _ (w s : List ℕ) (i : ℕ) (v : Splitting w s i) (inside : i < length s
       let e : suc (v .words - 1) ≡ v .words = omega arith in
       sym (opened (v .words - 1)) ∙ ap (λ k. wordAmong k w (drop i s)) e ∙ v .left
 
-  -- there is none
+  -- where only White_Space is left the word was not found
   pub split-none : n ≡ 0 → false ≡ hasWord w s
   split-none e = pick-true _ _ _ (is n 0) (is-yes n 0 e) refl ∙ turned
 
@@ -65,7 +65,7 @@ module _ (w s : List ℕ) (i : ℕ) (v : Splitting w s i) (inside : i < length s
     compared : sameText (take n (drop (i + a) s)) w ≡ r
     compared = let e : n ≡ i + a + n - (i + a) = omega arith in ap (λ k. sameText (take k (drop (i + a) s)) w) e ∙ sym same
 
-    -- it is w
+    -- a word of the text that is the one sought is found
     pub split-found : r ≡ true → true ≡ hasWord w s
     split-found e = sym (or-left _ _ (compared ∙ e)) ∙ pick-false _ _ _ (is n 0) (is-no n 0 some) refl ∙ turned
 

@@ -9,6 +9,7 @@ use Rattle.combinators.specs.Choice.{pick, is}
 unfoldable pub isZero : ℤ → Bool
 isZero z = is (natAbs z) 0
 
+-- "The sums are exact; where the crate's 32 bits overflow, that is a difference": integers have no bounds
 unfoldable pub nthMatches : ℤ → ℤ → ℕ → Bool
 nthMatches a b idx =
     let offset = pos idx -ℤ b in

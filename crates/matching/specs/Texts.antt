@@ -24,7 +24,7 @@ wordAmong (suc k) w s =
     let n = wordLength t in
     pick (is n 0) false (or (sameText (take n t) w) (wordAmong k w (drop n t)))
 
--- a word has at least one byte
+-- a word has at least one byte; "Splitting classes at ASCII blanks" would be wrong: "the crate uses Unicode White_Space"
 unfoldable pub hasWord : List ℕ → List ℕ → Bool
 hasWord w s = wordAmong (length s) w s
 

@@ -59,7 +59,7 @@ module _ (rows : List ℕ) (at d place count : ℕ) (e : (texts : List ℕ) → 
   unfolding ruleStyles
   numbers-are = rw (lent-is [], count-is) refl
 
-  -- what is left
+  -- the store of styles holds those of the rule, and reads back as what its declarations mean
   pub styles-left : (n : ℕ) (x y : List ℕ) → y ≡ sets x 0 (styleNumbers lent count) → n ≡ styleCount lent count
       → ((texts : List ℕ) → stylesAt y texts n ≡ stylesOf (declarationsAt lent texts count))
       → (y ≡ sets x 0 (ruleStyles (drop at rows)))
@@ -75,7 +75,7 @@ module _ (rows : List ℕ) (at d place count : ℕ) (e : (texts : List ℕ) → 
 
 -- ---- rules that were written
 module _ (texts : List ℕ) (l : ℕ) where
-  -- one
+  -- a rule that was written has room for its styles in a store of so many numbers
   rule-room : (f : ℕ) (r : RuleSet) (t : List ℕ) → Held texts f (ruleText r) → styleWidth * (length (r .declarations) + 1) ≤ l → RuleRoom (ruleRow f r ++ t) l
   unfolding ruleRow ruleText selectorsRead
   rule-room f r t h k =
@@ -90,7 +90,7 @@ module _ (texts : List ℕ) (l : ℕ) where
         styled = k;
       }
 
-  -- each of them
+  -- each of the rules that were written has that room
   pub each-room : (rs : List RuleSet) (f : ℕ) (t : List ℕ) → RulesFit rs → Held texts f (ruleTexts rs)
       → All (λ r. styleWidth * (length (r .declarations) + 1) ≤ l) rs → EachRoom texts (length rs) (ruleRows f rs ++ t) l
   unfolding EachRoom ruleRows rowsMany ruleTexts textsMany

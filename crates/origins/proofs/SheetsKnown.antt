@@ -115,7 +115,7 @@ record Lies (rows texts : List ℕ) (s : SheetRules) (rs : List RuleSet) : Type 
   texts-at : drop (s .from) texts ≡ ruleTexts rs ++ more
 
 module _ {rows texts : List ℕ} {s : SheetRules} {rs : List RuleSet} (l : Lies rows texts s rs) (fit : RulesFit rs) where
-  -- are read back
+  -- the rules that lie in the stores are read back
   back : rulesFrom rows texts s ≡ rs
   unfolding rulesFrom
   back = rw (l .counted, l .rows-at) (rules-back (drop (s .from) texts) rs 0 (l .behind) fit (record { more = l .more; held = l .texts-at }))

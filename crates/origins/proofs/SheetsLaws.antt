@@ -98,7 +98,7 @@ taken-back : (l y z xs : List ℕ) (n : ℕ) → Zeros l 0 → y ≡ sets l 0 xs
 taken-back l y z xs n zl ey en ez = ez ∙ ap (wiped 0 n) ey ∙ zeros-back l 0 zl xs n (omega (arith, en))
 
 module _ {a u w y₀ x₀ b₀ z₀ : List ℕ} (o : SheetsRoom a u w y₀ x₀ b₀ z₀) where
-  -- what `read_sheets` leaves
+  -- what `read_sheets` leaves in the stores with its answer
   abbrev Left : SheetsRead → List ℕ → List ℕ → List ℕ → List ℕ → Type 0
   Left r y x b z =
       (r ≡ sheetsAnswer (sheetsOf a u w))

@@ -36,7 +36,7 @@ module _ {A : Type 0} (u : List ℕ → Read A) where
     many-next k t =
         ap (λ (r : Read (List A)). r .value) (read-behind u k 1 t) ∙ ap (λ (x : List ℕ). readMany u k t .value ++ (u x .value ∷ [])) (many-rest k t)
 
--- components, and declarations
+-- behind k components lies what is k rows further
 pub component-rest : (texts : List ℕ) (k : ℕ) (t : List ℕ) → readMany (readComponent texts) k t .rest ≡ drop (componentWidth * k) t
 unfolding readComponent
 component-rest texts k t = many-rest (readComponent texts) componentWidth (λ _. refl) k t
@@ -47,12 +47,12 @@ declaration-rest texts k t = many-rest (readDeclaration texts) declarationWidth 
 
 -- ---- places
 module _ (rows : List ℕ) (at : ℕ) where
-  -- behind a declaration
+  -- a row's width further lies what is behind the declaration
   pub behind-declaration : (texts : List ℕ) (place : ℕ) → drop place rows ≡ drop (at + declarationWidth) rows → drop place rows ≡ readDeclaration texts (drop at rows) .rest
   unfolding readDeclaration
   behind-declaration texts place p = p ∙ sym (drop-drop declarationWidth at rows)
 
-  -- behind a selector
+  -- head and components further lies what is behind the selector
   pub behind-selector : (n place : ℕ) → n ≡ getD rows (at + selectorComponents) 0 → drop place rows ≡ drop (at + (selectorHead + componentWidth * n)) rows
       → (texts : List ℕ) → drop place rows ≡ readSelector texts (drop at rows) .rest
   unfolding readSelector
@@ -70,7 +70,7 @@ module _ (rows : List ℕ) (at : ℕ) where
   behind-selectors n first place e f p texts =
       p texts ∙ rw (e, f, getD-drop at rows ruleSelectors 0, drop-drop ruleHead at rows)
 
-  -- behind a rule
+  -- behind its selectors, and its declarations' rows further, lies what is behind the rule
   pub behind-rule : (n declarations place : ℕ) → n ≡ getD rows (at + ruleDeclarations) 0
       → ((texts : List ℕ) → drop declarations rows ≡ selectorsRead texts (drop at rows) .rest) → drop place rows ≡ drop (declarations + declarationWidth * n) rows
       → (texts : List ℕ) → drop place rows ≡ readRule texts (drop at rows) .rest

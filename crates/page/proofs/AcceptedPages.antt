@@ -17,7 +17,7 @@ use Rattle.page.specs.Rows.{nodeWidth, nodeCount, attributeWidth, attrib
 use Rattle.page.specs.Accepted.{nodeLimit, attributeLimit, textLimit, withinLimits, rowRight, textsRight, firstFault, firstBadRow, firstBadText, rowsRefusal, pageRefusal}
 use Rattle.page.proofs.FirstFault.{fault-passed, fault-fails, fault-none}
 
--- an accepted page
+-- a page that is accepted: within the limits, every row by the rules, every text readable
 pub record Accepted (nodes attributes text : List ℕ) : Type 0 where
   pub some : 0 < nodeCount nodes
   pub few : nodeCount nodes ≤ nodeLimit
@@ -77,7 +77,7 @@ limit-tests true false false true r u e = absurd (let n : badText ≡ tooLarge =
 limit-tests true false false false r u e = absurd (let n : 0 ≡ tooLarge = numbers e in omega arith)
 limit-tests false z b t r u e = refl
 
--- of refusal 7
+-- a page that is refused with 7 failed at a text, in the row that is named
 bad-text-tests : (w z b t : Bool) (r u row : ℕ) → tested w z b t r u ≡ refusedAt badText row
     → (w ≡ true) × (z ≡ false) × (b ≡ false) × (t ≡ true) × (row ≡ u)
 unfolding pick

@@ -114,7 +114,7 @@ module _ (nodes : List ℕ) where
 
 -- ---- `depth_of`: the steps taken and the depth of where it stands are the row's depth
 module _ (nodes : List ℕ) (row depth above p : ℕ) (i : depth + depthOf nodes above ≡ depthOf nodes row) (e : p ≡ nodeAt nodes above .parent) where
-  -- nothing is above
+  -- a row whose parent is not before it has nothing above it: the depth is counted
   pub depth-done : above ≤ p → depth ≡ depthOf nodes row
   depth-done h = let z : depthOf nodes above ≡ 0 = top-depth nodes above (rw (← e) h) in omega arith
 
@@ -127,17 +127,18 @@ module _ (nodes : List ℕ) (row depth above p : ℕ) (i : depth + depthOf nodes
     pub depth-few : depth < row
     depth-few = omega (arith, up, depth-most nodes row)
 
-    -- one step up
+    -- one step up counts one more
     pub depth-more : (depth + 1) + depthOf nodes p ≡ depthOf nodes row
     depth-more = omega (arith, up)
 
 -- ---- `climb_to`
+-- a climb from a row: where it arrives is where it would from here, and so much depth is left
 pub record Climbing (nodes : List ℕ) (from row target left : ℕ) : Type 0 where
   pub same : climbed nodes row target ≡ climbed nodes from target
   pub deep : left ≡ depthOf nodes row
 
 module _ (nodes : List ℕ) (from row target left : ℕ) (i : Climbing nodes from row target left) where
-  -- the climb arrives
+  -- at the row that is sought the climb arrives
   pub climb-done : row ≡ target → Reached left ≡ climbed nodes from target
   unfolding climbed member
   climb-done e =
@@ -152,7 +153,7 @@ module _ (nodes : List ℕ) (from row target left : ℕ) (i : Climbing nodes fro
     unfolding member
     past l f = sym (or-gives _ _ _ (is-no target row (λ z. d (sym z))) refl) ∙ ap (member target) f
 
-    -- nothing is above
+    -- a row whose parent is not before it is the last: the climb does not arrive
     pub climb-stop : row ≤ p → NotThere ≡ climbed nodes from target
     unfolding climbed member
     climb-stop h = pick-false _ _ _ _ (past [] (top-ancestors nodes row (rw (← e) h))) refl ∙ i .same
@@ -162,7 +163,7 @@ module _ (nodes : List ℕ) (from row target left : ℕ) (i : Climbing nodes fro
       pub climb-deep : 1 ≤ left
       climb-deep = omega (arith, below-depth nodes row (rw (← e) l), i .deep)
 
-      -- one step up
+      -- one step up, with one depth less
       pub climb-on : Climbing nodes from p target (left - 1)
       unfolding climbed
       climb-on =

@@ -39,18 +39,18 @@ pub record Counting (nodes : List ℕ) (p rows count i : ℕ) : Type 0 where
   pub le : i ≤ rows
 
 module _ (nodes : List ℕ) (p rows : ℕ) where
-  -- no row yet
+  -- before the first row no child is counted
   pub count-begin : Counting nodes p rows 0 0
   unfolding elementChildren
   count-begin = record { so-far = refl; few = omega arith; le = omega arith }
 
   module _ (count i : ℕ) (c : Counting nodes p rows count i) where
-    -- one row more
+    -- one row more: a child of the parent counts one
     pub count-on : (one : ℕ) → one ≡ childAt nodes p i → one ≤ 1 → i < rows → Counting nodes p rows (count + one) (i + 1)
     unfolding elementChildren
     count-on one e h l = record { so-far = rw (add-one i, ← (c .so-far), e); few = omega (arith, c .few); le = omega arith }
 
-    -- all rows
+    -- behind the last row all children are counted, and they are no more than the rows
     pub count-done : rows ≤ i → (count ≡ elementChildren nodes p rows) × (count ≤ rows)
     count-done h = let e : i ≡ rows = omega (arith, c .le) in (c .so-far ∙ ap (elementChildren nodes p) e, omega (arith, c .few))
 

@@ -34,11 +34,11 @@ module _ (right : ℕ → Bool) (rows : ℕ) where
           let z : rows - row ≡ suc (rows - (row + 1)) = omega arith in
           ap (λ (k : ℕ). firstFault right k row) z
 
-      -- this row passes
+      -- a row that passes is not the first to fail
       pub seek-on : right row ≡ true → Seeking right rows (row + 1)
       seek-on e = record { work = pick-true _ _ _ _ e refl ∙ sym next ∙ i .work; le = omega arith }
 
-      -- this row fails
+      -- a row that fails behind rows that pass is the first
       pub seek-stop : right row ≡ false → row ≡ firstFault right rows 0
       seek-stop e = pick-false _ _ _ _ e refl ∙ sym next ∙ i .work
 

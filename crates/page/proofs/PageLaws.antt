@@ -18,7 +18,7 @@ module _ (nodes attributes text : List ℕ) where
   abbrev All : Bool
   All = withinLimits nodes attributes text
 
-  -- too many bytes
+  -- a page with too many bytes is not within the limits
   pub many-bytes : textLimit < length text → false ≡ All
   unfolding withinLimits
   many-bytes h = and-gives-false _ _ (and-right _ _ (and-right _ _ (lt-leb (length text) textLimit h)))
@@ -29,7 +29,7 @@ module _ (nodes attributes text : List ℕ) where
   broken-nodes d = sym (and-right _ _ (and-left _ _ (is-no _ _ d)))
 
   module _ (m : ℕ) (em : m ≡ attributeRows attributes) where
-    -- too many attributes
+    -- a page with too many attribute rows is not within the limits
     pub many-attributes : attributeLimit < m → false ≡ All
     unfolding withinLimits
     many-attributes h =
@@ -37,7 +37,7 @@ module _ (nodes attributes text : List ℕ) where
         and-gives-false _ _ (and-right _ _ (and-left _ _ (lt-leb (attributeRows attributes) attributeLimit l)))
 
   module _ (n : ℕ) (en : n ≡ nodeCount nodes) where
-    -- too many nodes
+    -- a page with too many node rows is not within the limits
     pub many-nodes : nodeLimit < n → false ≡ All
     unfolding withinLimits
     many-nodes h = let l : nodeLimit < nodeCount nodes = rw (← en) h in and-gives-false _ _ (and-left _ _ (lt-leb (nodeCount nodes) nodeLimit l))
@@ -91,7 +91,7 @@ module _ (nodes attributes text : List ℕ) (t : Bool) (et : t ≡ withinLimits 
             pick-true _ _ _ _ (sym et ∙ y)
             (pick-false _ _ _ _ none (pick-false _ _ _ _ no-bad (pick-true _ _ _ _ (lt-ltb (firstBadText nodes attributes text) (nodeCount nodes) h) (ap (refusedAt badText) eu))))
 
-        -- it is accepted
+        -- a page of which no row and no text is at fault is accepted
         pub page-accepted : rows ≤ unread → refusalOf Page ≡ pageRefusal nodes attributes text
         unfolding pageRefusal rowsRefusal refusalOf
         page-accepted m =

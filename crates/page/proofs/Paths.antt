@@ -83,7 +83,7 @@ module _ (nodes attributes text : List ℕ) where
     Long : ℕ → Type 0
     Long row = length (pathAt row) ≡ depthOf nodes row
 
-    -- of the document
+    -- the path of the document is as long as the document is deep: empty
     long-document : Long 0
     unfolding Long
     long-document = ap length path-document ∙ omega (arith, depth-most nodes 0)
@@ -126,7 +126,7 @@ module _ (nodes : List ℕ) (p k : ℕ) where
   unfolding elementChildren
   one-more e = let n : elementChildren nodes p k + 1 ≡ suc (elementChildren nodes p k) = omega arith in sym (ap (λ (one : ℕ). elementChildren nodes p k + one) (pick-true _ _ _ _ e refl)) ∙ n
 
-  -- another does not
+  -- a row that is no element child of the parent does not count
   pub no-more : isElementChild nodes p k ≡ false → elementChildren nodes p (suc k) ≡ elementChildren nodes p k
   unfolding elementChildren
   no-more e = let n : elementChildren nodes p k + 0 ≡ elementChildren nodes p k = omega arith in sym (ap (λ (one : ℕ). elementChildren nodes p k + one) (pick-false _ _ _ _ e refl)) ∙ n

@@ -48,20 +48,21 @@ module _ (nodes attributes text : List ℕ) (ok : Accepted nodes attributes text
       let b = and-true _ _ (a .0) in
       (is-true _ _ (b .0), is-true _ _ (b .1), a .1)
 
-  -- its kind
+  -- row 0 is the document
   pub document-kind : nodeAt nodes 0 .kind ≡ documentKind
   document-kind = document .0
 
-  -- its parent
+  -- row 0 has row 0 for its parent
   pub document-parent : nodeAt nodes 0 .parent ≡ 0
   document-parent = document .1
 
-  -- the rest
+  -- row 0 ends in zeros
   pub document-zeros : endsInZeros (nodeAt nodes 0) ≡ true
   document-zeros = document .2
 
   module _ (row : ℕ) (there : row < nodeCount nodes) where
     -- ---- texts
+    -- the texts of a row lie within the byte text and are UTF-8
     pub texts-of : (textRight text (nodeAt nodes row .nameStart) (nodeAt nodes row .nameLength) ≡ true)
         × (attributeTextsRight attributes text (nodeAt nodes row .attributeCount) (nodeAt nodes row .firstAttribute) ≡ true)
     unfolding textsRight
@@ -71,7 +72,7 @@ module _ (nodes attributes text : List ℕ) (ok : Accepted nodes attributes text
     pub name-inside : nodeAt nodes row .nameStart + nodeAt nodes row .nameLength ≤ length text
     name-inside = text-facts text _ _ (texts-of .0) .0
 
-    -- and is UTF-8
+    -- the name of a row is UTF-8
     pub name-valid : valid (nameOf nodes text row) ≡ true
     unfolding nameOf
     name-valid = text-facts text _ _ (texts-of .0) .1
@@ -92,17 +93,17 @@ module _ (nodes attributes text : List ℕ) (ok : Accepted nodes attributes text
       unfolding at
       attribute-name-inside = text-facts text _ _ (attribute-texts .0) .0
 
-      -- and is UTF-8
+      -- the name of an attribute is UTF-8
       pub attribute-name-valid : valid (attributeName attributes text (nodeAt nodes row .firstAttribute + j)) ≡ true
       unfolding attributeName at
       attribute-name-valid = text-facts text _ _ (attribute-texts .0) .1
 
-      -- and the value
+      -- the value of an attribute ends within the byte text
       pub attribute-value-inside : attributeAt attributes (nodeAt nodes row .firstAttribute + j) .valueStart + attributeAt attributes (nodeAt nodes row .firstAttribute + j) .valueLength ≤ length text
       unfolding at
       attribute-value-inside = text-facts text _ _ (attribute-texts .1) .0
 
-      -- and is UTF-8
+      -- the value of an attribute is UTF-8
       pub attribute-value-valid : valid (attributeValue attributes text (nodeAt nodes row .firstAttribute + j)) ≡ true
       unfolding attributeValue at
       attribute-value-valid = text-facts text _ _ (attribute-texts .1) .1

@@ -62,7 +62,7 @@ module _ (attributes : List ℕ) (first count start at left end : ℕ) (i : Foll
           (and-right _ _ (and-left _ _ (is-no _ _ (λ (e : attributeAt attributes at .valueStart ≡ end + attributeAt attributes at .nameLength). d (ev ∙ e ∙ ap (λ (k : ℕ). end + k) (sym en)))))) refl
           ∙ here
 
-      -- both do
+      -- a name and a value that follow on from the total: the next attribute begins behind them
       pub following-on : v ≡ end + n → (w : ℕ) → w ≡ attributeAt attributes at .valueLength → Following attributes first count start (at + 1) (left - 1) (end + n + w)
       unfolding attributesAnswer attributesFollow attributesEnd
       following-on e w ew =
@@ -147,7 +147,7 @@ module _ (attributes : List ℕ) (n : NodeRow) (first start : ℕ) (z : endsInZe
   unfolding textsEnd attributesEnd
   no-texts = let e : start + 0 ≡ start = omega arith in rw (no-attributes, no-name, e)
 
-  -- nor more attributes
+  -- a row that ends in zeros has no attributes, so their total stays
   pub no-more : first + n .attributeCount ≡ first
   no-more = omega (arith, no-attributes)
 
@@ -170,7 +170,7 @@ module _ (attributes : List ℕ) (n : NodeRow) (first start kind : ℕ) (ek : ki
     unfolding kindRight
     no-other v e = sym (pick-false _ _ _ _ (is-no _ _ (λ (e : n .kind ≡ otherKind). d (ek ∙ e))) e)
 
-    -- an element
+    -- an element is asked for its name and attributes
     pub element-decides : kind ≡ elementKind → (r : Totals) → r ≡ elementAnswer attributes n first start → r ≡ kindAnswer attributes n first start
     unfolding kindAnswer elementAnswer
     element-decides y r e =
@@ -249,7 +249,7 @@ module _ (nodes : List ℕ) (row depth : ℕ) (h : BehindRow nodes row depth) (p
           let s : depthOf nodes row ≤ depthLimit = omega (arith, own-depth) in
           pick-true _ _ _ _ (and-both _ _ (and-both _ _ (rw (← ep) (sym et ∙ y)) (rw (← ep) open-parent)) (le-leb (depthOf nodes row) depthLimit s)) (ap Reached (sym own-depth))
 
-      -- it is
+      -- a parent at the greatest depth has no children
       pub too-deep : depthLimit ≤ above → NotThere ≡ depthAnswer nodes row
       unfolding depthAnswer
       too-deep l =
@@ -281,7 +281,7 @@ module _ (nodes attributes : List ℕ) where
         first-row _
         (pick-true _ _ _ _ (sym e ∙ t) (rw (l, no-more attributes (nodeAt nodes 0) 0 0 z, no-texts attributes (nodeAt nodes 0) 0 0 z)))
 
-    -- it is not
+    -- a row 0 that is not all zeros is wrong
     pub document-wrong : d ≡ false → Wrong ≡ rowAnswer nodes attributes row
     unfolding rowAnswer rowRight
     document-wrong t = first-row _ (pick-false _ _ _ _ (sym e ∙ t) refl)
@@ -304,7 +304,7 @@ first-two true b c e = and-left b c e
 first-two false b c e = refl
 
 module _ (nodes attributes : List ℕ) (row depth first start : ℕ) (here : Carried nodes attributes row depth first start) (l : 0 < row) where
-  -- what `check_parent` asks
+  -- what `check_parent` asks of the row before
   pub behind-row : BehindRow nodes row depth
   behind-row = record { later = l; deep = here .deep }
 
@@ -324,7 +324,7 @@ module _ (nodes attributes : List ℕ) (row depth first start : ℕ) (here : Car
       unfolding rowAnswer kindAnswer behind
       row-against f = pick-false _ _ _ _ (later-right nodes attributes row l ∙ and-right _ _ (and-right _ _ (against-wrong _ _ _ (sym f ∙ asked)))) refl
 
-      -- all holds
+      -- where parent and texts are right the row is, and the totals go on
       pub row-right : (next end : ℕ) → k ≡ Behind next end → Right own next end ≡ rowAnswer nodes attributes row
       unfolding rowAnswer depthAnswer kindAnswer behind attributesBefore bytesBefore
       row-right next end f =
@@ -354,7 +354,7 @@ wronged true d a b e = absurd (let z : _≡_ {A = ℕ} 0 1 = cc in omega arith)
 wronged false d a b e = refl
 
 module _ (nodes attributes : List ℕ) (rows : ℕ) where
-  -- before row 0
+  -- before row 0 nothing is counted
   pub checking-begin : Checking nodes attributes rows 0 0 0 0
   unfolding attributesBefore bytesBefore
   checking-begin =

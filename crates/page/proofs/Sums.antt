@@ -59,12 +59,12 @@ module _ (nodes attributes text : List ℕ) (ok : Accepted nodes attributes text
   later-within row l w (inl t) = zeros-within (suc row) (t .1) w
   later-within row l w (inr t) = element-within row l (t .0) (t .1)
 
-  -- before row 0
+  -- before row 0 the totals are 0
   nothing-within : Within 0
   unfolding bytesBefore attributesBefore
   nothing-within = (omega arith, omega arith)
 
-  -- before any row
+  -- the totals before any row of the page lie within what is lent
   within : (row : ℕ) → row ≤ nodeCount nodes → Within row
   within zero l = nothing-within
   within (suc zero) l = zeros-within 0 (document-zeros nodes attributes text ok) nothing-within

@@ -21,7 +21,7 @@ module _ (text : List ℕ) (start n : ℕ) where
   unfolding textRight
   text-past h = and-gives-false _ _ (lt-leb (start + n) (length text) h)
 
-  -- it ends within
+  -- a text that ends within the byte text is right exactly if it is UTF-8
   pub text-inside : start ≤ length text → n ≤ length text - start → (p : List ℕ) → p ≡ part text start n → (r : Bool) → r ≡ valid p → r ≡ textRight text start n
   unfolding textRight
   text-inside h l p e r f = and-gives _ _ _ (le-leb (start + n) (length text) (omega arith)) (f ∙ ap valid e)

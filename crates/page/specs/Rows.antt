@@ -6,7 +6,7 @@ use mathlib.Core.Path.{_≡_, refl}
 use lib.ListN.{length, getD}
 use Rattle.combinators.specs.Part.{part}
 
--- ---- a node: kind, parent's row, name start, name length, first attribute, attribute count
+-- "Rows are numbers of 32 bits. A node has 6: kind (0 document, 1 element, 2 other), parent's row, name start, name length, first attribute, attribute count."
 abbrev pub nodeWidth : ℕ
 nodeWidth = 6
 

@@ -1,3 +1,4 @@
+-- The kind and the two texts are emitted one behind the other.
 use Rattle.compiled.proofs.Written as laws
 use borrow.Author.Needs.{needs}
 use Rattle.compiled.proofs.components.emit_attribute_equal.Statement.{statement}

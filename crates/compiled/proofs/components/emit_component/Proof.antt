@@ -1,3 +1,4 @@
+-- Each kind is written by its own writer, as the definition splits kinds.
 use Rattle.combinators.proofs.Rules.{told}
 use Rattle.compiled.proofs.Written as laws
 use borrow.Author.Needs.{needs}

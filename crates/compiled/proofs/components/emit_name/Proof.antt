@@ -1,3 +1,4 @@
+-- The kind and the text are emitted one behind the other.
 use Rattle.combinators.proofs.Emitted.{then}
 use borrow.Author.Needs.{needs}
 use Rattle.compiled.proofs.components.emit_name.Statement.{statement}

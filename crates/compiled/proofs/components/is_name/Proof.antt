@@ -1,3 +1,4 @@
+-- The four kinds of the definition, each by its own test.
 use Rattle.combinators.specs.Choice.{or, is}
 use Rattle.combinators.proofs.Rules.{cases}
 use Rattle.compiled.specs.Component.{isName}

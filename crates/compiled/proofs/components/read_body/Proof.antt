@@ -1,3 +1,4 @@
+-- Each kind is read by its own reader, as the definition splits kinds.
 use Rattle.combinators.proofs.Rules.{told}
 use Rattle.compiled.proofs.ComponentCode as laws
 use borrow.Author.Needs.{needs}

@@ -1,3 +1,4 @@
+-- A kind in its range is read on from behind it; any other is a fault where it starts. What is read ends within the bytes.
 use Rattle.compiled.proofs.ComponentCode as laws
 use borrow.Author.Needs.{needs}
 use Rattle.compiled.proofs.components.read_component.Statement.{statement}

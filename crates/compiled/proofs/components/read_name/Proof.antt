@@ -1,3 +1,4 @@
+-- The text is the component's, or its fault is.
 use Rattle.compiled.proofs.ComponentCode as laws
 use borrow.Author.Needs.{needs}
 use Rattle.compiled.proofs.components.read_name.Statement.{statement}

@@ -1,3 +1,4 @@
+-- The first number is read on with the second, or its fault is the component's.
 use Rattle.compiled.proofs.ComponentCode as laws
 use borrow.Author.Needs.{needs}
 use Rattle.compiled.proofs.components.read_numbers.Statement.{statement}

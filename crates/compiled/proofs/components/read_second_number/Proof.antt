@@ -1,3 +1,4 @@
+-- Both numbers are there, or the fault of the second is the component's.
 use Rattle.compiled.proofs.ComponentCode as laws
 use borrow.Author.Needs.{needs}
 use Rattle.compiled.proofs.components.read_second_number.Statement.{statement}

@@ -1,3 +1,4 @@
+-- What is left to write is a number of fewer groups, until one group is left.
 use Rattle.compiled.proofs.NumberWriting as laws
 use mathlib.Core.Path.{_∙_}
 use borrow.Author.Needs.{needs}

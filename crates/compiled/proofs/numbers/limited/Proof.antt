@@ -1,3 +1,4 @@
+-- A value below 2^32 is the number, any other a fault where it starts.
 use Rattle.compiled.proofs.NumberReading as laws
 use borrow.Author.Needs.{needs}
 use Rattle.compiled.proofs.numbers.limited.Statement.{statement}

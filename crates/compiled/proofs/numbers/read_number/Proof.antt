@@ -1,3 +1,4 @@
+-- A byte without its top bit is the number; otherwise it is read group by group.
 use mathlib.Core.Path.{refl}
 use Rattle.compiled.proofs.NumberReading as laws
 use borrow.Author.Needs.{needs}

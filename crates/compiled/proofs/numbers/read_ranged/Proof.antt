@@ -1,3 +1,4 @@
+-- A number below or above its range is a fault where it starts.
 use Rattle.compiled.proofs.NumberReading as laws
 use borrow.Author.Needs.{needs}
 use Rattle.compiled.proofs.numbers.read_ranged.Statement.{statement}

@@ -1,3 +1,4 @@
+-- The selectors end at the last byte, or before it, which is a fault there, or one of them is at fault.
 use Rattle.compiled.proofs.SheetCode as laws
 use borrow.Author.Needs.{needs}
 use Rattle.compiled.proofs.sheets.check_selectors.Statement.{statement}

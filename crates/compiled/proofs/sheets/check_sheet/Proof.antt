@@ -1,3 +1,4 @@
+-- The count is read, and the selectors behind it are the rest of the bytes.
 use Rattle.compiled.proofs.SheetCode as laws
 use borrow.Author.Needs.{needs}
 use Rattle.compiled.proofs.sheets.check_sheet.Statement.{statement}

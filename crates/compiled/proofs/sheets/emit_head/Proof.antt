@@ -1,3 +1,4 @@
+-- The three numbers are emitted one behind the other.
 use Rattle.compiled.proofs.Written as laws
 use borrow.Author.Needs.{needs}
 use Rattle.compiled.proofs.sheets.emit_head.Statement.{statement}

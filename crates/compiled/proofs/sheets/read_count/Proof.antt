@@ -1,3 +1,4 @@
+-- The count makes the head whole, or its fault is the head's.
 use Rattle.compiled.proofs.SheetCode as laws
 use borrow.Author.Needs.{needs}
 use Rattle.compiled.proofs.sheets.read_count.Statement.{statement}

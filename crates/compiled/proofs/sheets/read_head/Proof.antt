@@ -1,3 +1,4 @@
+-- An origin that does not fall is read on from behind it; any other is a fault where it starts. What is read ends within the bytes.
 use Rattle.compiled.proofs.SheetCode as laws
 use borrow.Author.Needs.{needs}
 use Rattle.compiled.proofs.sheets.read_head.Statement.{statement}

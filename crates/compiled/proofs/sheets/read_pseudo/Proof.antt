@@ -1,3 +1,4 @@
+-- The pseudo element is read on with the count, or its fault is the head's.
 use Rattle.syntax.specs.RuleLayout.{pseudoNumber}
 use Rattle.compiled.proofs.SheetCode as laws
 use borrow.Author.Needs.{needs}

@@ -1,3 +1,4 @@
+-- A sheet is not refused, a fault with 9 at its place.
 use Rattle.compiled.specs.Answer.{refusalOf}
 use mathlib.Core.Path.{sym, ap, _∙_}
 use borrow.Author.Needs.{needs}

@@ -1,3 +1,4 @@
+-- The components are passed and then the styles, or the first fault ends it.
 use Rattle.compiled.proofs.SheetCode as laws
 use borrow.Author.Needs.{needs}
 use Rattle.compiled.proofs.sheets.skip_parts.Statement.{statement}

@@ -1,3 +1,4 @@
+-- The head is read and the rest is passed; a fault in either is the selector's.
 use Rattle.compiled.proofs.SheetCode as laws
 use borrow.Author.Needs.{needs}
 use Rattle.compiled.proofs.sheets.skip_selector.Statement.{statement}

@@ -1,3 +1,4 @@
+-- What is left to pass from the place on, with the origin so far, is the rest of the whole; the first fault ends it.
 use mathlib.Core.Path.{refl}
 use Rattle.compiled.proofs.SheetCode as laws
 use borrow.Author.Needs.{needs}

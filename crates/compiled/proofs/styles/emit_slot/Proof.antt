@@ -1,3 +1,4 @@
+-- Each slot is written by its own writer, as the definition splits slots.
 use Rattle.compiled.proofs.Written as laws
 use borrow.Author.Needs.{needs}
 use Rattle.compiled.proofs.styles.emit_slot.Statement.{statement}

@@ -1,3 +1,4 @@
+-- The slot and the number are emitted one behind the other.
 use Rattle.combinators.proofs.Emitted.{then}
 use borrow.Author.Needs.{needs}
 use Rattle.compiled.proofs.styles.emit_slot_number.Statement.{statement}

@@ -1,3 +1,4 @@
+-- The mark of importance and the slot with its value are emitted one behind the other.
 use Rattle.compiled.proofs.Written as laws
 use borrow.Author.Needs.{needs}
 use Rattle.compiled.proofs.styles.emit_style.Statement.{statement}

@@ -1,3 +1,4 @@
+-- The text's start and length are the value, which fit 32 bits since the bytes are so few; or its fault is.
 use native.Mathlib.Omega.{arith}
 use Rattle.compiled.proofs.StyleCode as laws
 use borrow.Author.Needs.{needs}

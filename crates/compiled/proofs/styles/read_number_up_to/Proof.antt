@@ -1,3 +1,4 @@
+-- A number in its range is the value, any other a fault where it starts.
 use Rattle.compiled.proofs.StyleCode as laws
 use borrow.Author.Needs.{needs}
 use Rattle.compiled.proofs.styles.read_number_up_to.Statement.{statement}

@@ -1,3 +1,4 @@
+-- A slot that there is is read on with its value; any other number is a fault where it starts.
 use Rattle.compiled.proofs.StyleCode as laws
 use borrow.Author.Needs.{needs}
 use Rattle.compiled.proofs.styles.read_slot.Statement.{statement}

@@ -1,3 +1,4 @@
+-- The mark of importance is 0 or 1, and the slot is read on behind it. What is read ends within the bytes.
 use Rattle.compiled.proofs.StyleCode as laws
 use borrow.Author.Needs.{needs}
 use Rattle.compiled.proofs.styles.read_style.Statement.{statement}

@@ -1,3 +1,4 @@
+-- Each slot has a value of its own kind, as the definition splits slots.
 use Rattle.compiled.proofs.StyleCode as laws
 use borrow.Author.Needs.{needs}
 use Rattle.compiled.proofs.styles.read_value.Statement.{statement}

@@ -1,3 +1,4 @@
+-- Slot, importance and value are the style, or the fault of the value is the style's.
 use Rattle.compiled.proofs.StyleCode as laws
 use borrow.Author.Needs.{needs}
 use Rattle.compiled.proofs.styles.read_valued.Statement.{statement}

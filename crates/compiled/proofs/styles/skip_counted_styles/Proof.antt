@@ -1,3 +1,4 @@
+-- What is left to pass from the place on is the rest of the whole; the first fault ends it.
 use mathlib.Core.Path.{refl}
 use Rattle.compiled.specs.Style.{styleAt}
 use Rattle.compiled.proofs.Passing as laws

@@ -1,3 +1,4 @@
+-- Whatever was read ends where the answer says; a fault stays one.
 use Rattle.compiled.proofs.StyleCode as laws
 use borrow.Author.Needs.{needs}
 use Rattle.compiled.proofs.styles.skip_style.Statement.{statement}

@@ -1,3 +1,4 @@
+-- The count is read and so many styles are passed, or its fault ends it.
 use Rattle.compiled.proofs.StyleCode as laws
 use borrow.Author.Needs.{needs}
 use Rattle.compiled.proofs.styles.skip_styles.Statement.{statement}

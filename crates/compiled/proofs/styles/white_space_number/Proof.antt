@@ -1,3 +1,4 @@
+-- The three numbers that a word has; any other counts as the last.
 use Rattle.compiled.proofs.Written as laws
 use Rattle.compiled.proofs.styles.white_space_number.Statement.{statement}
 use Rattle.compiled.proofs.styles.white_space_number.Tie as tie

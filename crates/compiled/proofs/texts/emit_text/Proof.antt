@@ -1,3 +1,4 @@
+-- The length and the bytes are emitted one behind the other.
 use Rattle.compiled.proofs.TextCode as laws
 use borrow.Author.Needs.{needs}
 use Rattle.compiled.proofs.texts.emit_text.Statement.{statement}

@@ -1,3 +1,4 @@
+-- The part that is lent is the text of the definition.
 use Rattle.compiled.proofs.Written as laws
 use borrow.Author.Needs.{needs}
 use Rattle.compiled.proofs.texts.emit_text_part.Statement.{statement}

@@ -1,3 +1,4 @@
+-- A length is read and so many bytes are there, or fewer, which is a fault where the length starts.
 use native.Mathlib.Omega.{arith}
 use Rattle.compiled.proofs.Answers.{number-end}
 use Rattle.compiled.proofs.TextCode as laws

@@ -1,3 +1,4 @@
+-- Each buffer is cleared once, by one of the two calls.
 use borrow.Author.Needs.{needs}
 use Rattle.compiler.proofs.compile.clear_all.Statement.{statement}
 use Rattle.compiler.proofs.compile.clear_all.Tie as tie

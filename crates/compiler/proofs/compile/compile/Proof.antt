@@ -1,3 +1,4 @@
+-- The refusals 1, 2 and 3 in their order, each by its own test; what is left is compiled.
 use Rattle.compiler.proofs.CompileLaws as laws
 use borrow.Author.Needs.{needs}
 use Rattle.compiler.proofs.compile.compile.Statement.{statement}

@@ -1,3 +1,5 @@
+-- All buffers are cleared, so that the sheets are read into zeros; a panic is answered as it is met, and otherwise the bytes that were written fit the room or
+-- do not.
 use mathlib.Core.Path.{_∙_}
 use Rattle.compiler.proofs.CompileTurns as laws
 use borrow.Author.Needs.{needs}

@@ -1,3 +1,4 @@
+-- A fill within the length, one far above it, and the one just above it, which alone says that something did not fit.
 use Rattle.compiler.proofs.EmittingLaws as laws
 use borrow.Author.Needs.{needs}
 use Rattle.compiler.proofs.past.is_past.Statement.{statement}

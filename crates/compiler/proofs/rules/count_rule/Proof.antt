@@ -1,3 +1,4 @@
+-- A rule without styles counts for nothing, any other with all its selectors.
 use Rattle.compiler.proofs.RuleWriting as laws
 use borrow.Author.Needs.{needs}
 use Rattle.compiler.proofs.rules.count_rule.Statement.{statement}

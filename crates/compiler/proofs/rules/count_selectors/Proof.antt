@@ -1,3 +1,4 @@
+-- What is counted, with what is left from the place on, is the whole; there are few enough to be added.
 use Rattle.compiler.proofs.RuleWriting as laws
 use borrow.Author.Needs.{needs}
 use Rattle.compiler.proofs.rules.count_selectors.Statement.{statement}

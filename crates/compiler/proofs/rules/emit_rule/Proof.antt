@@ -1,3 +1,4 @@
+-- The styles are made in the store of tokens, the selectors are written with them, and the rows are wiped again.
 use Rattle.compiler.proofs.RuleWriting as laws
 use mathlib.Core.Path.{_∙_}
 use borrow.Author.Needs.{needs}

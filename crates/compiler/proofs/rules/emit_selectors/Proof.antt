@@ -1,3 +1,4 @@
+-- What is left to write from the place on is the rest of the whole; once the fill is past the store nothing more changes.
 use Rattle.compiler.proofs.EmittingLaws as laws
 use Rattle.compiler.specs.Writing.{styledBytes}
 use Rattle.syntax.specs.RuleLayout.{readSelector}

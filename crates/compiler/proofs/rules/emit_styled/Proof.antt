@@ -1,3 +1,4 @@
+-- Without styles nothing is written; with some, all selectors of the rule.
 use Rattle.compiler.proofs.RuleWriting as laws
 use borrow.Author.Needs.{needs}
 use Rattle.compiler.proofs.rules.emit_styled.Statement.{statement}

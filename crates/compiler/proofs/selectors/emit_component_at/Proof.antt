@@ -1,3 +1,4 @@
+-- The four numbers of the row are those of the component that it reads as.
 use Rattle.compiler.proofs.SelectorWriting as laws
 use borrow.Author.Needs.{needs}
 use Rattle.compiler.proofs.selectors.emit_component_at.Statement.{statement}

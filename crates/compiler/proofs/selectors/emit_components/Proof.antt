@@ -1,3 +1,4 @@
+-- The components that are left are written from the last on, which is the order of the bytes.
 use Rattle.compiler.proofs.SelectorWriting as laws
 use borrow.Author.Needs.{needs}
 use Rattle.compiler.proofs.selectors.emit_components.Statement.{statement}

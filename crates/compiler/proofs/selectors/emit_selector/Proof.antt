@@ -1,3 +1,4 @@
+-- Head, components and styles are emitted one behind the other.
 use Rattle.compiler.proofs.SelectorWriting as laws
 use borrow.Author.Needs.{needs}
 use Rattle.compiler.proofs.selectors.emit_selector.Statement.{statement}

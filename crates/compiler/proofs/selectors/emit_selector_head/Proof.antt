@@ -1,3 +1,4 @@
+-- The numbers of the row are those of the head.
 use Rattle.compiler.proofs.SelectorWriting as laws
 use borrow.Author.Needs.{needs}
 use Rattle.compiler.proofs.selectors.emit_selector_head.Statement.{statement}

@@ -1,3 +1,4 @@
+-- The three numbers that a pseudo element has; any other counts as the last.
 use Rattle.compiler.proofs.SelectorWriting as laws
 use Rattle.compiler.proofs.selectors.pseudo_number.Statement.{statement}
 use Rattle.compiler.proofs.selectors.pseudo_number.Tie as tie

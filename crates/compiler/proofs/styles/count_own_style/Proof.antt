@@ -1,3 +1,4 @@
+-- The declaration has a style of its own, which takes one row, or none.
 use Rattle.compiler.proofs.StyleWriting as laws
 use borrow.Author.Needs.{needs}
 use Rattle.compiler.proofs.styles.count_own_style.Statement.{statement}

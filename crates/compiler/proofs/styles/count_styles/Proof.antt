@@ -1,3 +1,4 @@
+-- What is counted and noted, with what is left from the place on, is the whole; at the end a zero height with a hidden overflow adds one.
 use Rattle.compiler.proofs.StyleWriting as laws
 use borrow.Author.Needs.{needs}
 use Rattle.compiler.proofs.styles.count_styles.Statement.{statement}

@@ -1,3 +1,4 @@
+-- The numbers of the row are those of the style that it reads as.
 use Rattle.compiler.proofs.StyleWriting as laws
 use borrow.Author.Needs.{needs}
 use Rattle.compiler.proofs.styles.emit_style_at.Statement.{statement}

@@ -1,3 +1,4 @@
+-- The count, and the rows behind it.
 use Rattle.compiler.proofs.StyleWriting as laws
 use borrow.Author.Needs.{needs}
 use Rattle.compiler.proofs.styles.emit_styles.Statement.{statement}

@@ -1,3 +1,4 @@
+-- The selectors of the three sheets are counted one sheet after the other; there are few enough to be added.
 use Rattle.compiler.proofs.WritingLaws as laws
 use borrow.Author.Needs.{needs}
 use Rattle.compiler.proofs.writing.count_all.Statement.{statement}

@@ -1,3 +1,4 @@
+-- The smaller of the buffer's length and the limit.
 use Rattle.compiler.proofs.WritingLaws as laws
 use borrow.Author.Needs.{needs}
 use Rattle.compiler.proofs.writing.room_of.Statement.{statement}

@@ -1,3 +1,4 @@
+-- The rules of the sheet lie in the rows, and their texts from its place of the text store on.
 use Rattle.compiler.proofs.WritingLaws as laws
 use borrow.Author.Needs.{needs}
 use Rattle.compiler.proofs.writing.write_sheet.Statement.{statement}

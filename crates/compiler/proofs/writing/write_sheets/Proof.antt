@@ -1,3 +1,4 @@
+-- The count and the three sheets, one behind the other, are the whole sheet.
 use Rattle.compiler.proofs.WritingLaws as laws
 use mathlib.Core.Path.{_∙_}
 use borrow.Author.Needs.{needs}

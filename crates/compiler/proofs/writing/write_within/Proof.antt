@@ -1,3 +1,4 @@
+-- Only the room is lent, so what is written lies within it, and the rest of the buffer stays as it was.
 use Rattle.compiler.proofs.WritingLaws as laws
 use borrow.Author.Needs.{needs}
 use Rattle.compiler.proofs.writing.write_within.Statement.{statement}

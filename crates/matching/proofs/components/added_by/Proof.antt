@@ -1,3 +1,4 @@
+-- Each kind by its own test, as the definition splits components.
 use Rattle.matching.proofs.ComponentLaws.{adds-star, adds-element, adds-hash, adds-child, adds-descendant, adds-class}
 use mathlib.Core.Path.{_∙_}
 use borrow.Author.Needs.{needs}

@@ -1,3 +1,4 @@
+-- The numbers of the row give the part that the definition names.
 use Rattle.matching.proofs.ComponentLaws.{first-part}
 use borrow.Author.Needs.{needs}
 use Rattle.matching.proofs.components.first_text.Statement.{statement}

@@ -1,3 +1,4 @@
+-- The second text lies behind the first: both lengths fit 32 bits, so their sum does not wrap.
 use Rattle.matching.proofs.ComponentLaws.{second-part}
 use borrow.Author.Needs.{needs}
 use Rattle.matching.proofs.components.second_text.Statement.{statement}

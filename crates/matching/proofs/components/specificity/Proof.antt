@@ -1,3 +1,4 @@
+-- What was added, of the components so far, is their specificity; each adds at most one to a count, so the sums fit.
 use Prim.Native.Nat.{_-_}
 use Rattle.matching.proofs.ComponentLaws.{Adding, add-begin, add-fits, add-more, add-end}
 use borrow.Author.Needs.{needs}

@@ -1,3 +1,4 @@
+-- The attributes that are left have the answer of all; the first of the name decides.
 use Prim.Native.Nat.{_-_}
 use Rattle.matching.specs.Matches.{firstIs}
 use Rattle.matching.proofs.AttributeLaws.{Looking, look-begin, first-found, first-more, first-end}

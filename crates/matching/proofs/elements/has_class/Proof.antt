@@ -1,3 +1,4 @@
+-- The attributes that are left have the answer of all; the first that passes decides.
 use Prim.Native.Nat.{_-_}
 use Rattle.matching.specs.Matches.{anyAttribute, isClass}
 use Rattle.matching.proofs.AttributeLaws.{Looking, look-begin, any-found, any-more, any-end}

@@ -1,3 +1,4 @@
+-- An attribute of another name is none; of this one the value's words are asked.
 use Rattle.matching.proofs.AttributeLaws.{class-named, class-other}
 use borrow.Author.Needs.{needs}
 use Rattle.matching.proofs.elements.is_class.Statement.{statement}

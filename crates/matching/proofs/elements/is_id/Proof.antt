@@ -1,3 +1,4 @@
+-- An attribute of another name is none; of this one the value is compared.
 use Rattle.matching.proofs.AttributeLaws.{id-named, id-other}
 use borrow.Author.Needs.{needs}
 use Rattle.matching.proofs.elements.is_id.Statement.{statement}

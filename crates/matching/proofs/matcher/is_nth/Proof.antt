@@ -1,3 +1,4 @@
+-- The two numbers of the row and the place among the siblings are those of the definition.
 use Rattle.matching.proofs.Signed.{both-small, nth-of-both}
 use Rattle.matching.proofs.PathLaws.{place-small}
 use borrow.Author.Needs.{needs}

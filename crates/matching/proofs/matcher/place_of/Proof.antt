@@ -1,3 +1,4 @@
+-- The siblings stand behind their parent, so that counting from there is counting all; where there is no such part, all rows are counted.
 use Rattle.matching.proofs.PlaceLaws.{place-behind}
 use borrow.Author.Needs.{needs}
 use Rattle.matching.proofs.matcher.place_of.Statement.{statement}

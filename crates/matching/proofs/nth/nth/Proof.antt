@@ -1,3 +1,4 @@
+-- The offset fits 64 bits; where a is 0 it has to be 0, else its remainder by a 0 and its quotient not negative.
 use native.Mathlib.Nat.{pos-of-ne-zero}
 use Rattle.matching.proofs.Signed.{offset-computed, quotient-computed, nth-constant, nth-multiple, nth-other}
 use borrow.Author.Needs.{needs}

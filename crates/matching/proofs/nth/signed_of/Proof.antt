@@ -1,3 +1,4 @@
+-- An even number stands for its half, an odd one for the negative number below it.
 use Rattle.matching.proofs.Signed.{signed-even, even-size, odd-computed, signed-odd, odd-size}
 use borrow.Author.Needs.{needs}
 use Rattle.matching.proofs.nth.signed_of.Statement.{statement}

@@ -1,3 +1,4 @@
+-- A number that fits 63 bits keeps its value with a sign.
 use native.Mathlib.Omega.{arith}
 use Rattle.matching.proofs.Signed.{read-back}
 use borrow.Author.Needs.{needs}

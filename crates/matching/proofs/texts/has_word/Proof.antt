@@ -1,3 +1,4 @@
+-- What is left behind the words passed has the answer of the whole; each turn takes a word or ends.
 use Prim.Native.Nat.{_-_}
 use lib.ListN.{length}
 use Rattle.matching.proofs.Words.{Splitting, split-begin, split-end, split-none, split-found, split-more}

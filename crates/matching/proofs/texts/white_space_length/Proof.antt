@@ -1,3 +1,4 @@
+-- Spaces are counted byte by byte, and what follows the first other byte is decoded; both count what the definition repeats.
 use Prim.Native.Nat.{_-_}
 use lib.ListN.{length}
 use Rattle.combinators.proofs.Repeating.{Repeating, repeat-begin, repeat-end}

@@ -1,3 +1,4 @@
+-- Each text is asked in turn, and the first that is not UTF-8 decides.
 use Rattle.origins.proofs.ChecksLaws as laws
 use borrow.Author.Needs.{needs}
 use Rattle.origins.proofs.checks.all_valid.Statement.{statement}

@@ -1,3 +1,4 @@
+-- Each length is tested in turn, and the first that is above the limit decides.
 use Rattle.origins.proofs.ChecksLaws as laws
 use borrow.Author.Needs.{needs}
 use Rattle.origins.proofs.checks.any_too_long.Statement.{statement}

@@ -1,3 +1,4 @@
+-- The reader is lent what lies from the place and from the fill on; what it leaves there is put behind what stood before.
 use Rattle.origins.proofs.ReadingLaws as laws
 use borrow.Author.Needs.{needs}
 use Rattle.origins.proofs.reading.read_behind.Statement.{statement}

@@ -1,3 +1,4 @@
+-- Each sheet is read behind those before it, and the three answers are joined; where one panics, what the sheets before it left is wiped.
 use mathlib.Core.Path.{_∙_}
 use Rattle.origins.proofs.SheetsLaws as laws
 use borrow.Author.Needs.{needs}

@@ -1,3 +1,4 @@
+-- The declarations of the rule lie behind its selectors, and the store has room for a style of each and one more.
 use Rattle.origins.proofs.RuleStyles as laws
 use borrow.Author.Needs.{needs}
 use Rattle.origins.proofs.styles.styles_of_rule.Statement.{statement}

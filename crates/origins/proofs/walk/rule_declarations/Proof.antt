@@ -1,3 +1,4 @@
+-- The declarations lie behind the head and all selectors.
 use Rattle.origins.proofs.WalkLaws as laws
 use borrow.Author.Needs.{needs}
 use Rattle.origins.proofs.walk.rule_declarations.Statement.{statement}

@@ -1,3 +1,4 @@
+-- Behind the declarations the rule ends.
 use Rattle.origins.proofs.WalkLaws as laws
 use borrow.Author.Needs.{needs}
 use Rattle.origins.proofs.walk.skip_rule.Statement.{statement}

@@ -1,3 +1,4 @@
+-- Behind the head and its components the selector ends.
 use Rattle.origins.proofs.WalkLaws as laws
 use borrow.Author.Needs.{needs}
 use Rattle.origins.proofs.walk.skip_selector.Statement.{statement}

@@ -1,3 +1,4 @@
+-- What is left from the place on is what lies behind the selectors that were passed.
 use mathlib.Core.Path.{refl}
 use Rattle.syntax.specs.RuleLayout.{readSelector}
 use Rattle.origins.proofs.WalkLaws as laws

@@ -1,3 +1,4 @@
+-- The steps so far and the depth of the row above are the depth of the row.
 use native.Mathlib.Omega.{arith}
 use mathlib.Core.Path.{_≡_}
 use Prim.Native.Nat.{_+_}

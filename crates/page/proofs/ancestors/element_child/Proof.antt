@@ -1,3 +1,4 @@
+-- A row counts exactly if it is an element and has this parent.
 use Rattle.page.proofs.Children as laws
 use borrow.Author.Needs.{needs}
 use Rattle.page.proofs.ancestors.element_child.Statement.{statement}

@@ -1,3 +1,4 @@
+-- What is counted so far is the count of the first rows, and no more than they are.
 use Prim.Native.Nat.{_-_}
 use Rattle.page.proofs.Children as laws
 use borrow.Author.Needs.{needs}

@@ -1,3 +1,4 @@
+-- The rows up to this one are counted; of a row past the end nothing more is there to count.
 use Rattle.page.proofs.Children as laws
 use borrow.Author.Needs.{needs}
 use Rattle.page.proofs.ancestors.place_among.Statement.{statement}

@@ -1,3 +1,4 @@
+-- The refusals in the order of their numbers, each found by its own search; a page that passes all is accepted.
 use Rattle.page.proofs.PageLaws as laws
 use borrow.Author.Needs.{needs}
 use Rattle.page.proofs.check.check_page.Statement.{statement}

@@ -1,3 +1,4 @@
+-- In each arm the answer is known, and the definition gives the same refusal.
 use Rattle.page.specs.Accepted.{refusalOf}
 use mathlib.Core.Path.{sym, ap, _∙_}
 use borrow.Author.Needs.{needs}

@@ -1,3 +1,4 @@
+-- Each limit by its own test; all hold exactly if none fails.
 use Rattle.page.proofs.PageLaws as laws
 use borrow.Author.Needs.{needs}
 use Rattle.page.proofs.check.within_limits.Statement.{statement}

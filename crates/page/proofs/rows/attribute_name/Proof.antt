@@ -1,3 +1,4 @@
+-- The start and the length of the row give the part.
 use Rattle.page.proofs.Numbers as laws
 use borrow.Author.Needs.{needs}
 use Rattle.page.proofs.rows.attribute_name.Statement.{statement}

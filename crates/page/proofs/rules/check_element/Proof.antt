@@ -1,3 +1,4 @@
+-- Each rule by its own test; where the texts follow on, the totals behind the element are those of the definition.
 use Rattle.page.proofs.RowLaws as laws
 use borrow.Author.Needs.{needs}
 use Rattle.page.proofs.rules.check_element.Statement.{statement}

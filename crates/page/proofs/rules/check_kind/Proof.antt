@@ -1,3 +1,4 @@
+-- Each kind is asked what the rules ask of it; a number that is no kind is against them.
 use Rattle.page.proofs.RowLaws as laws
 use borrow.Author.Needs.{needs}
 use Rattle.page.proofs.rules.check_kind.Statement.{statement}

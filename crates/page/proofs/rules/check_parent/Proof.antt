@@ -1,3 +1,4 @@
+-- The parent has to be one, to lie on the line above the row before, and to leave room for a level more.
 use Rattle.page.proofs.RowLaws as laws
 use borrow.Author.Needs.{needs}
 use Rattle.page.proofs.rules.check_parent.Statement.{statement}

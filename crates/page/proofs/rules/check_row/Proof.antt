@@ -1,3 +1,4 @@
+-- Row 0 has to be the document; any other row has a right parent and follows on in its texts, or does not.
 use native.Mathlib.Omega.{arith}
 use Rattle.page.proofs.RowLaws as laws
 use borrow.Author.Needs.{needs}

@@ -1,3 +1,4 @@
+-- Each of the four numbers by its own test.
 use Rattle.page.proofs.RowLaws.{test-is}
 use Rattle.page.specs.Accepted.{endsInZeros}
 use Rattle.combinators.proofs.Rules.{cases}

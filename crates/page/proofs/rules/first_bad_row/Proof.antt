@@ -1,3 +1,4 @@
+-- The rows so far keep the rules, and depth and totals are those of the row before; the first that does not is the answer.
 use Prim.Native.Nat.{_-_}
 use Rattle.page.proofs.RowLaws as laws
 use borrow.Author.Needs.{needs}

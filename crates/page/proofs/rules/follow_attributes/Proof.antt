@@ -1,3 +1,4 @@
+-- What is left from the attribute on follows exactly if the whole does, and ends where the whole does.
 use mathlib.Core.Path.{refl}
 use Rattle.page.proofs.RowLaws as laws
 use borrow.Author.Needs.{needs}

@@ -1,3 +1,4 @@
+-- Each number by its own test.
 use Rattle.page.specs.Accepted.{isDocument}
 use Rattle.combinators.proofs.Rules.{cases}
 use borrow.Author.Needs.{needs}

@@ -1,3 +1,4 @@
+-- Row 0 is one, any other row exactly if it is an element.
 use Rattle.page.proofs.RowLaws.{test-is}
 use Rattle.page.specs.Accepted.{isParent}
 use Rattle.combinators.proofs.Rules.{cases}

@@ -1,3 +1,4 @@
+-- The name and then the value, each by its own test.
 use Rattle.page.proofs.TextLaws as laws
 use borrow.Author.Needs.{needs}
 use Rattle.page.proofs.texts.attribute_text.Statement.{statement}

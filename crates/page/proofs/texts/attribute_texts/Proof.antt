@@ -1,3 +1,4 @@
+-- The attributes that are left have the answer of all; the first that fails decides.
 use mathlib.Core.Path.{refl}
 use Rattle.page.proofs.TextLaws as laws
 use borrow.Author.Needs.{needs}

@@ -1,3 +1,4 @@
+-- The rows so far pass; the first that does not is the answer.
 use Prim.Native.Nat.{_-_}
 use Rattle.combinators.proofs.Rules.{told}
 use Rattle.page.specs.Accepted.{textsRight}

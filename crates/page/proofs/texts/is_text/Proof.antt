@@ -1,3 +1,4 @@
+-- A text has to start and to end within the byte text, and its bytes are asked.
 use native.Mathlib.Omega.{arith}
 use Rattle.page.proofs.TextLaws as laws
 use borrow.Author.Needs.{needs}
