@@ -118,7 +118,7 @@ found code (suc k) least i m ss l e =
     (hasStyle (w .selector .styles)) refl
 
 -- bytes that are not refused are decoded
-decoded : (code : List ℕ) → bytesRefusal code ≡ noRefusal → (n : ℕ) × (ss : List CompiledSelector) × (decode code ≡ read n ss)
+pub decoded : (code : List ℕ) → bytesRefusal code ≡ noRefusal → (n : ℕ) × (ss : List CompiledSelector) × (decode code ≡ read n ss)
 unfolding bytesRefusal onDecoded
 decoded code e = go (decode code) refl e
   where

@@ -4,7 +4,7 @@ use mathlib.Core.Path.{_≡_, refl, ap, _∙_}
 use mathlib.Core.Bool.{true}
 use mathlib.Core.Logic.{_⊎_, inl, inr}
 use mathlib.Core.List.{List, _∷_}
-use Prim.Native.Nat.{ℕ, zero, suc, _+_, _-_, _*_, _≤_, _<_}
+use Prim.Native.Nat.{ℕ, zero, suc, _+_, _*_, _≤_, _<_}
 use native.Mathlib.Omega.{arith}
 use lib.ListN.{length, take, drop, getD, length-drop}
 use lib.Seq.{getD-take, getD-drop, length-take-le}

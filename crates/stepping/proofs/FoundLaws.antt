@@ -25,10 +25,10 @@ use Rattle.compiled.proofs.Following.{then-read, then-fault, mapped-read, mappe
 use Rattle.segments.specs.Down.{readIn}
 use Rattle.runner.specs.Run.{selectorsDeclare, foundAt}
 use Rattle.runner.specs.Walked.{WalkedSelector, walkedStylesAt, walkedPartsAt, walkedSelectorAt}
+use Rattle.runner.proofs.WalkedReads.{styles-place}
 use Rattle.stepping.specs.Reading.{Reads, listed}
 use Rattle.stepping.specs.Merging.{stylesDeclare, StylesLent}
 use Rattle.stepping.proofs.ReadingLaws.{listed-at}
-use Rattle.stepping.proofs.WalkedReads.{styles-place}
 
 -- ---- one selector
 module _ (code : List ℕ) (p : ℕ) (row : List ℕ) where

@@ -2,29 +2,25 @@
 use Prim.Native.Nat.{ℕ, suc, _+_, _-_, _≤_, _<_}
 use mathlib.Core.Path.{_≡_, refl, sym, ap, _∙_}
 use mathlib.Core.Bool.{Bool, true, false}
-use mathlib.Core.List.{List, [], _∷_, _++_, map, append-nil}
+use mathlib.Core.List.{List, [], _∷_, _++_, append-nil}
 use mathlib.Core.Logic.{inr}
 use native.Mathlib.Omega.{arith}
 use lib.ListN.{length, take}
 use lib.Seq.{sets}
 use Rattle.combinators.specs.Choice.{pick}
 use Rattle.combinators.specs.Part.{part}
-use Rattle.combinators.specs.Refusal.{noRefusal, refusedAt, badBytes}
-use Rattle.combinators.specs.declared.refusals.Refusal.{Refusal}
+use Rattle.combinators.specs.Refusal.{noRefusal}
 use Rattle.syntax.specs.Style.{agentOrigin}
 use Rattle.syntax.specs.declared.styles.Value.{Value}
 use Rattle.cascade.specs.declared.slots.Cascade.the-variants.{Crate}
-use Rattle.cascade.specs.Record.{Declared, fromRule}
+use Rattle.cascade.specs.Record.{Declared}
 use Rattle.cascade.specs.Row.{RowRoom}
 use Rattle.page.specs.Path.{Element, Path}
-use Rattle.matching.specs.Specificity.{specificity}
 use Rattle.styles.specs.Merged.{mergedRow}
-use Rattle.styles.specs.Said.{ruleStyle}
 use Rattle.styles.proofs.Merging.{merged-none}
 use Rattle.compiled.specs.Answer.{numberAnswer, bytesRefusal}
-use Rattle.compiled.specs.Decoded.{Decoded, read, fault, onDecoded}
+use Rattle.compiled.specs.Decoded.{onDecoded}
 use Rattle.compiled.specs.Number.{numberAt}
-use Rattle.compiled.specs.Sheet.{CompiledSelector, decode}
 use Rattle.compiled.specs.declared.numbers.NumberAnswer.{NumberAnswer}
 use Rattle.compiled.specs.declared.numbers.NumberAnswer.the-variants as number
 use Rattle.compiled.proofs.Answers.{number-read, number-fault}
@@ -50,6 +46,7 @@ use Rattle.segments.proofs.PassLaws.{pass-none, pass-more}
 use Rattle.runner.specs.Run.{selectorsDeclare, foundAt}
 use Rattle.runner.specs.State.{partPlace, partOf}
 use Rattle.runner.specs.Walked.{WalkedSelector, walkedSelectorAt}
+use Rattle.runner.proofs.FoundLaws.{declared-append, decoded}
 use Rattle.stepping.specs.Passing.{SheetLent, DocumentLent, documentPassed}
 use Rattle.stepping.proofs.ReadingLaws.{no-fault}
 use Rattle.stepping.proofs.StyleLaws.{Merging, merging-begin, merging-more, merging-done}
@@ -61,15 +58,10 @@ module _ (code : List ℕ) where
 
   -- the first, then the others
   first-declared : (p : ℕ) (ps : List ℕ) → declaredAt (p ∷ ps) ≡ declaredAt (p ∷ []) ++ declaredAt ps
-  unfolding readIn onDecoded selectorsDeclare
-  first-declared p ps = go (walkedSelectorAt code agentOrigin p)
-    where
-      go : (d : Decoded (WalkedSelector Value))
-          → selectorsDeclare (onDecoded d (λ _ s. s ∷ []) (λ _. []) ++ foundAt code ps) ≡ selectorsDeclare (onDecoded d (λ _ s. s ∷ []) (λ _. []) ++ []) ++ declaredAt ps
-      go (read n s) =
-          let ds : List (Declared Value) = map (λ x. fromRule (s .origin) (ruleStyle (s .pseudo) (specificity (s .components)) x)) (s .styles) in
-          ap (λ (x : List (Declared Value)). x ++ declaredAt ps) (sym (append-nil ds))
-      go (fault q) = refl
+  unfolding readIn
+  first-declared p ps =
+      let one : List (WalkedSelector Value) = onDecoded (walkedSelectorAt code agentOrigin p) (λ _ s. s ∷ []) (λ _. []) in
+      declared-append one (foundAt code ps) ∙ ap (λ (x : List (WalkedSelector Value)). selectorsDeclare x ++ declaredAt ps) (sym (append-nil one))
 
   -- one that may match, then the others
   here-declared : (v : Visited) (p : ℕ) (ps : List ℕ) → declaredAt (matchedHere v p ++ ps) ≡ declaredAt (matchedHere v p) ++ declaredAt ps
@@ -178,16 +170,7 @@ module _ (code : List ℕ) (row : Path) (above own width : ℕ) where
           }
 
 -- ---- the selectors of a sheet
--- bytes that are not refused are decoded
-decoded : (code : List ℕ) → bytesRefusal code ≡ noRefusal → (n : ℕ) × (ss : List CompiledSelector) × (decode code ≡ read n ss)
-unfolding bytesRefusal onDecoded
-decoded code e = go (decode code) refl e
-  where
-    go : (d : Decoded (List CompiledSelector)) → decode code ≡ d → onDecoded d (λ _ _. noRefusal) (λ p. refusedAt badBytes p) ≡ noRefusal → (n : ℕ) × (ss : List CompiledSelector) × (decode code ≡ read n ss)
-    go (read n ss) q h = (n, ss, q)
-    go (fault p) q h = absurd (let z : badBytes ≡ 0 = ap (λ (r : Refusal). r .number) h in omega arith)
-
--- there are some
+-- it has a byte
 pub some-bytes : (code : List ℕ) → bytesRefusal code ≡ noRefusal → 0 < length code
 some-bytes code e =
     let d = decoded code e in
