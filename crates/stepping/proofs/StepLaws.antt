@@ -6,7 +6,7 @@ use mathlib.Core.Logic.{inl}
 use Prim.Native.Nat.{ℕ, suc, _+_, _-_, _*_, _≤_, _<_}
 use native.Mathlib.Nat.{suc-mul, add-mul, mul-le-mul-right}
 use native.Mathlib.Omega.{arith}
-use lib.ListN.{length, take, set, replicate, length-set, length-append, length-replicate, drop-of-length-le, length-take}
+use lib.ListN.{length, take, replicate, length-set, length-append, length-replicate, drop-of-length-le, length-take}
 use lib.Seq.{sets, sets-eq, length-sets, length-take-le}
 use Rattle.combinators.specs.Choice.{pick}
 use Rattle.combinators.specs.Part.{part}
@@ -26,13 +26,13 @@ use Rattle.styles.specs.StyleCall.{attributesContents, inlineContents, placedAt
 use Rattle.styles.proofs.Merging.{merged-none, merged-long, late-none}
 use Rattle.segments.specs.Down.{passAt}
 use Rattle.segments.specs.Met.{handedElement}
-use Rattle.segments.specs.Parts.{partSet, partSets, flagsLimit, pairLimit}
+use Rattle.segments.specs.Parts.{partSets, flagsLimit, pairLimit}
 use Rattle.segments.specs.Pass.{Passed}
 use Rattle.segments.specs.Sweep.{pairAt, pairBytes}
 use Rattle.segments.proofs.CodeBlockLaws.{length-sets-own}
-use Rattle.segments.proofs.CodePartLaws.{set-there}
 use Rattle.runner.specs.Run.{Handed, Stepped, noStyle, handedFrom, selectorsDeclare, rowBelow, foundAt, documentStep, elementStep, openStep, stepOn}
 use Rattle.runner.specs.State.{depths, partPlace, partOf, raised, opened}
+use Rattle.runner.proofs.StateParts.{sets-own}
 use Rattle.stepping.specs.Lent.{StepLent}
 use Rattle.stepping.specs.Opened.{OpenLent, Below, childElement, childPassed, ElementOpened}
 use Rattle.stepping.specs.Passing.{SheetLent, DocumentLent, documentPassed}
@@ -53,20 +53,10 @@ unfolding inheritedRow presentRow
 inherited-long xs ys m = ap length (m .numbers) ∙ simp length-set
 
 -- ---- parts
--- bytes that lie in a part are all stored
-stored-within : (bs state : List ℕ) (own width j : ℕ) → j + length bs ≤ width → partSets state own width j bs ≡ sets state (own + j) bs
-unfolding partSets
-stored-within [] state own width j h = refl
-stored-within (b ∷ bs) state own width j h =
-    let e : own + (j + 1) ≡ suc (own + j) = omega arith in
-    stored-within bs (partSet state own width j b) own width (j + 1) (omega arith)
-    ∙ ap (λ (x : List ℕ). sets x (own + (j + 1)) bs) (sym (set-there state own width j b (omega arith)))
-    ∙ ap (λ (k : ℕ). sets (set state (own + j) b) k bs) e
-
--- so are the two bytes of a count
+-- the two bytes of a count lie in a part
 count-stored : (state : List ℕ) (own width n : ℕ) → 1 < width → partSets state own width 0 (pairBytes n) ≡ sets state own (pairBytes n)
 unfolding pairBytes
-count-stored state own width n h = let e : own + 0 ≡ own = omega arith in stored-within _ state own width 0 h ∙ rw e
+count-stored state own width n h = let e : own + 0 ≡ own = omega arith in sets-own _ state own width 0 h ∙ rw e
 
 -- a part and two more, of so many
 parts-fit : (d w n : ℕ) → d + 2 ≤ depths → depths * w ≤ n → d * w + w + w ≤ n
