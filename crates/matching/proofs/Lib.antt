@@ -14,3 +14,5 @@ pub mod Roots
 pub mod ClimbLaws
 pub mod RecursionLaws
 pub mod CallLaws
+pub mod TopmostLaws
+pub mod BelowLaws

@@ -5,4 +5,5 @@ pub mod Specificity
 pub mod Selectors
 pub mod Rows
 pub mod Recursion
+pub mod Topmost
 pub mod Climb
