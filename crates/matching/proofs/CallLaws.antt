@@ -21,8 +21,8 @@ record Bounded (m d : ℕ) (s : SelectorMatch) (n : ℕ) : Type 0 where
   all : n ≤ m * suc d
   local : s ≡ FailsLocally → n ≤ m
 
--- what holds of a result and its calls for each combinator and for a simple selector holds for a component
-by-combinator : (P : SelectorMatch → ℕ → Type 0) (c : Component) {x y z : SelectorMatch} {a b e : ℕ} → P x a → P y b → P z e
+-- what holds of two values for each combinator and for a simple selector holds for a component
+pub by-combinator : {A B : Type 0} (P : A → B → Type 0) (c : Component) {x y z : A} {a b e : B} → P x a → P y b → P z e
     → P (byCombinator c x y z) (byCombinator c a b e)
 unfolding byCombinator
 by-combinator P star p q r = r

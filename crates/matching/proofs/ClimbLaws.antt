@@ -6,12 +6,15 @@ use mathlib.Core.Path.{_≡_, refl, sym, ap, subst, _∙_}
 use native.Mathlib.Omega.{arith}
 use Rattle.combinators.specs.Word.{sameText}
 use Rattle.syntax.specs.RuleLayout.{starKind, elementKind, childKind, descendantKind, componentKindAt}
+use Rattle.page.specs.Path.{Path}
 use Rattle.page.specs.PathOf.{pathOf}
 use Rattle.page.specs.Rows.{nodeAt, nameOf}
 use Rattle.matching.specs.Matches.{matches}
 use Rattle.matching.specs.Rows.{componentNumber, componentAt, componentsAt, firstText, SimpleAt, Rooted}
 use Rattle.matching.specs.Recursion.{orElse, resultOnAncestors, matchRecursively}
-use Rattle.matching.specs.Climb.{Inner, NameAt, AtDescendant, ClimbedTo, NextAncestor}
+use Rattle.matching.specs.Climb.{Inner, NameAt, AtDescendant, LastDescendant, ClimbedTo, NextAncestor}
+use Rattle.matching.specs.Topmost.{Line, aboveDescendant}
+use Rattle.matching.specs.Topmost.Line.{same}
 use Rattle.matching.specs.declared.matcher.SelectorMatch.{SelectorMatch}
 use Rattle.matching.specs.declared.matcher.SelectorMatch.the-variants.{Matches, FailsLocally, FailsCompletely}
 use Rattle.matching.specs.declared.matcher.Climbed.{Climbed}
@@ -19,6 +22,7 @@ use Rattle.matching.specs.declared.matcher.Climbed.the-variants.{Ended, 
 use Rattle.matching.proofs.MatchLaws as one
 use Rattle.matching.proofs.PassLaws.{name-passes}
 use Rattle.matching.proofs.PathLaws.{top-path, other-path, parent-rooted, parent-before}
+use Rattle.matching.proofs.TopmostLaws.{line-up}
 
 module _ (store components nodes attributes text : List ℕ) where
   -- the result of the first l components on the path of a row
@@ -36,10 +40,12 @@ module _ (store components nodes attributes text : List ℕ) where
       pub not-below : at ≤ row
       pub rooted : Rooted nodes at
       pub same : Result left row ≡ Result n at
+      pub line : Line nodes row at
+      pub last : (p : Path) → aboveDescendant (componentsAt store components left) p ≡ aboveDescendant (componentsAt store components n) p
 
     -- all of them, on the row itself
     pub hand-begin : Rooted nodes row → Handed left row
-    hand-begin r = record { fewer = omega arith; not-below = omega arith; rooted = r; same = refl }
+    hand-begin r = record { fewer = omega arith; not-below = omega arith; rooted = r; same = refl; line = same; last = λ p. refl }
 
     module _ (n at : ℕ) (g : Handed n at) where
       -- no component is left
@@ -56,10 +62,15 @@ module _ (store components nodes attributes text : List ℕ) where
         unfolding ClimbedTo
         at-descendant e =
             record {
-              fewer = omega (arith, g .fewer);
-              not-below = g .not-below;
-              rooted = g .rooted;
-              same = g .same ∙ one.descendant-opened store components nodes attributes text n at no-zero (g .rooted) k ek e at;
+              decided =
+                  record {
+                    fewer = omega (arith, g .fewer);
+                    not-below = g .not-below;
+                    rooted = g .rooted;
+                    same = g .same ∙ one.descendant-opened store components nodes attributes text n at no-zero (g .rooted) k ek e at;
+                  };
+              line = g .line;
+              last = λ p. g .last p ∙ one.above-descendant store components nodes attributes text n at no-zero (g .rooted) k ek e p;
             }
 
         module _ (e : k ≡ childKind) where
@@ -77,6 +88,8 @@ module _ (store components nodes attributes text : List ℕ) where
                 not-below = omega (arith, g .not-below);
                 rooted = parent-rooted nodes at (g .rooted) z p ep;
                 same = g .same ∙ sym (one.child-of-parent store components nodes attributes text n at no-zero (g .rooted) k ek e z p ep _ refl);
+                line = line-up nodes (g .line) z p ep;
+                last = λ q. g .last q ∙ one.above-child store components nodes attributes text n at no-zero (g .rooted) k ek e q;
               }
 
         module _ (no-child : ¬ (k ≡ childKind)) (no-descendant : ¬ (k ≡ descendantKind)) where
@@ -93,6 +106,8 @@ module _ (store components nodes attributes text : List ℕ) where
                   not-below = g .not-below;
                   rooted = g .rooted;
                   same = g .same ∙ one.match-passes store components nodes attributes text n at no-zero (g .rooted) k ek no-child no-descendant b eb h;
+                  line = g .line;
+                  last = λ q. g .last q ∙ one.above-simple store components nodes attributes text n at no-zero (g .rooted) k ek no-child no-descendant q;
                 }
 
             -- a test that fails ends the climb: the selector fails here
@@ -151,7 +166,7 @@ module _ (store components nodes attributes text : List ℕ) where
       climb-ends e = subst (ClimbedTo store components nodes attributes text left row) e h
 
       -- or lead to a descendant combinator
-      pub climb-descends : {n at : ℕ} → t ≡ Descendant n at → AtDescendant store components nodes attributes text left row n at
+      pub climb-descends : {n at : ℕ} → t ≡ Descendant n at → LastDescendant store components nodes attributes text left row n at
       unfolding ClimbedTo
       climb-descends e = subst (ClimbedTo store components nodes attributes text left row) e h
 

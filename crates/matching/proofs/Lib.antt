@@ -16,3 +16,5 @@ pub mod RecursionLaws
 pub mod CallLaws
 pub mod WordList
 pub mod Documents
+pub mod TopmostLaws
+pub mod BelowLaws

@@ -8,15 +8,17 @@ use Rattle.combinators.specs.Choice.{pick}
 use Rattle.combinators.proofs.Rules.{pick-true, pick-false}
 use Rattle.syntax.specs.RuleLayout.{starKind, childKind, descendantKind, componentKindAt}
 use Rattle.syntax.specs.Selector.{Component, child, descendant}
+use Rattle.page.specs.Path.{Path}
 use Rattle.page.specs.PathOf.{elementAt, pathOf}
 use Rattle.page.specs.Rows.{nodeAt}
-use Rattle.matching.specs.Matches.{matches}
+use Rattle.matching.specs.Matches.{onAncestors, matches}
 use Rattle.matching.specs.Rows.{componentNumber, componentAt, componentsAt, firstText, secondText, SimpleAt, Rooted, elementPasses}
 use Rattle.matching.specs.Recursion.{resultOnParent, resultOnAncestors, byCombinator, resultStep, matchRecursively}
+use Rattle.matching.specs.Topmost.{aboveDescendant}
 use Rattle.matching.specs.declared.matcher.SelectorMatch.{SelectorMatch}
 use Rattle.matching.specs.declared.matcher.SelectorMatch.the-variants.{Matches, FailsLocally, FailsCompletely}
 use Rattle.matching.proofs.ComponentLaws.{components-none, components-more}
-use Rattle.matching.proofs.PassLaws.{from-child, from-descendant, from-star, document-fails, simple-beside, asked-of-element}
+use Rattle.matching.proofs.PassLaws.{from-child, from-descendant, from-star, document-fails, third-chosen, simple-beside, asked-of-element}
 use Rattle.matching.proofs.PathLaws.{top-path, other-path}
 
 -- ---- `passes`
@@ -46,6 +48,10 @@ module _ (store components nodes attributes text : List ℕ) (left row : ℕ) wh
   abbrev Result : ℕ → ℕ → SelectorMatch
   Result l r = matchRecursively (componentsAt store components l) (pathOf nodes attributes text r)
 
+  -- what the last descendant combinator of the first l components asks of a path
+  abbrev Above : ℕ → Path → Bool
+  Above l p = aboveDescendant (componentsAt store components l) p
+
   -- no component is left
   pub match-end : left ≡ 0 → Matches ≡ Result left row
   unfolding matchRecursively
@@ -59,6 +65,13 @@ module _ (store components nodes attributes text : List ℕ) (left row : ℕ) wh
         let e : left ≡ suc (left - 1) = omega arith in
         ap (λ (l : ℕ). Result l q) e ∙ ap (λ (cs : List Component). matchRecursively cs (pathOf nodes attributes text q)) (components-more store components (left - 1))
 
+    -- what its last descendant combinator asks of a path
+    asked-above : (p : Path) → Above left p ≡ byCombinator (componentAt store components (left - 1)) (Above (left - 1) p) (onAncestors (matches (componentsAt store components (left - 1))) p) (Above (left - 1) p)
+    unfolding aboveDescendant
+    asked-above p =
+        let e : left ≡ suc (left - 1) = omega arith in
+        ap (λ (l : ℕ). Above l p) e ∙ ap (λ (cs : List Component). aboveDescendant cs p) (components-more store components (left - 1))
+
     module _ (k : ℕ) (ek : k ≡ componentNumber components (left - 1) componentKindAt) where
       -- child
       module _ (e : k ≡ childKind) where
@@ -69,6 +82,13 @@ module _ (store components nodes attributes text : List ℕ) (left row : ℕ) wh
         child-opened : Result left row ≡ resultOnParent (matchRecursively (componentsAt store components (left - 1))) (pathOf nodes attributes text row)
         unfolding resultStep byCombinator
         child-opened = opened row ∙ ap (λ (c : Component). resultStep c (matchRecursively (componentsAt store components (left - 1))) (pathOf nodes attributes text row)) is-child
+
+        -- the last descendant combinator stands before it
+        pub above-child : (p : Path) → Above left p ≡ Above (left - 1) p
+        unfolding byCombinator
+        above-child p =
+            asked-above p
+            ∙ ap (λ (c : Component). byCombinator c (Above (left - 1) p) (onAncestors (matches (componentsAt store components (left - 1))) p) (Above (left - 1) p)) is-child
 
         -- the document has no parent
         pub child-of-document : row ≡ 0 → FailsCompletely ≡ Result left row
@@ -93,10 +113,22 @@ module _ (store components nodes attributes text : List ℕ) (left row : ℕ) wh
         unfolding resultStep byCombinator
         descendant-opened q = opened q ∙ ap (λ (c : Component). resultStep c (matchRecursively (componentsAt store components (left - 1))) (pathOf nodes attributes text q)) is-descendant
 
+        -- it is the last of its kind
+        pub above-descendant : (p : Path) → Above left p ≡ onAncestors (matches (componentsAt store components (left - 1))) p
+        unfolding byCombinator
+        above-descendant p =
+            asked-above p
+            ∙ ap (λ (c : Component). byCombinator c (Above (left - 1) p) (onAncestors (matches (componentsAt store components (left - 1))) p) (Above (left - 1) p)) is-descendant
+
       -- any other component, asked of the row itself
       module _ (no-child : ¬ (k ≡ childKind)) (no-descendant : ¬ (k ≡ descendantKind)) where
         pub match-simple : SimpleAt components (left - 1)
         match-simple = record { no-child = λ z. no-child (ek ∙ z); no-descendant = λ z. no-descendant (ek ∙ z) }
+
+        -- the last descendant combinator stands before it
+        pub above-simple : (p : Path) → Above left p ≡ Above (left - 1) p
+        unfolding componentAt
+        above-simple p = asked-above p ∙ third-chosen store _ _ _ _ (match-simple .no-child) (match-simple .no-descendant) _ _ _
 
         module _ (b : Bool) (eb : b ≡ matches (componentAt store components (left - 1) ∷ []) (pathOf nodes attributes text row)) where
           asked : Result left row ≡ pick b (Result (left - 1) row) FailsLocally

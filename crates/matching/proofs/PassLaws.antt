@@ -7,7 +7,7 @@ use native.Mathlib.Omega.{arith}
 use Rattle.combinators.specs.Choice.{pick, and, is}
 use Rattle.combinators.specs.Part.{part}
 use Rattle.combinators.specs.Word.{sameText}
-use Rattle.combinators.proofs.Rules.{pick-holds, pick-true, pick-false, is-true, is-yes, is-no}
+use Rattle.combinators.proofs.Rules.{never, pick-holds, pick-true, pick-false, is-true, is-yes, is-no}
 use Rattle.syntax.specs.RuleLayout.{starKind, classKind, elementKind, hashKind, childKind, descendantKind, nthKind, attributeKind, componentKindAt, componentFirstAt, componentSecondAt, componentFrom}
 use Rattle.syntax.specs.Selector.{Component, star, class, element, hash, child, descendant, nth, attribute, attributeEqual}
 use Rattle.syntax.specs.Signed.{signedOf}
@@ -99,6 +99,19 @@ module _ (store components nodes attributes text : List ℕ) (i row k : ℕ) (ek
         (pick-false _ _ _ (is (componentNumber components i componentKindAt) elementKind) (is-no _ _ (λ z. no-name (ek ∙ z)))
         (rw (← ek) p))
 
+-- a component that is no combinator chooses the third of three
+by-simple : {A : Type 0} (c : Component) → byCombinator c false false true ≡ true → (x y z : A) → byCombinator c x y z ≡ z
+unfolding byCombinator
+by-simple star e x y z = refl
+by-simple (class c) e x y z = refl
+by-simple (element n) e x y z = refl
+by-simple (hash h) e x y z = refl
+by-simple child e x y z = never e
+by-simple descendant e x y z = never e
+by-simple (nth a b) e x y z = refl
+by-simple (attribute n) e x y z = refl
+by-simple (attributeEqual n v) e x y z = refl
+
 -- ---- a component by its numbers
 module _ (store : List ℕ) (k f a b : ℕ) where
   -- the numbers name a combinator or star
@@ -131,21 +144,31 @@ module _ (store : List ℕ) (k f a b : ℕ) where
       (λ e6. pick-holds FailsThere (is k attributeKind) _ _ (λ e. refl) (λ e7. refl))))))))
 
   module _ (no-child : ¬ (k ≡ childKind)) (no-descendant : ¬ (k ≡ descendantKind)) where
-    -- a simple component is asked before what is left
+    -- a simple component is no combinator
     abbrev Simple : Component → Type 0
-    Simple c = (rest : Path → SelectorMatch) (p : Path) → resultStep c rest p ≡ pick (matches (c ∷ []) p) (rest p) FailsLocally
+    Simple c = byCombinator c false false true ≡ true
 
-    pub simple-beside : Simple (componentFrom store k f a b)
-    unfolding componentFrom resultStep byCombinator
-    simple-beside =
-        pick-holds Simple (is k starKind) _ _ (λ e rest p. refl)
-        (λ e0. pick-holds Simple (is k classKind) _ _ (λ e rest p. refl)
-        (λ e1. pick-holds Simple (is k elementKind) _ _ (λ e rest p. refl)
-        (λ e2. pick-holds Simple (is k hashKind) _ _ (λ e rest p. refl)
+    is-simple : Simple (componentFrom store k f a b)
+    unfolding componentFrom byCombinator
+    is-simple =
+        pick-holds Simple (is k starKind) _ _ (λ e. refl)
+        (λ e0. pick-holds Simple (is k classKind) _ _ (λ e. refl)
+        (λ e1. pick-holds Simple (is k elementKind) _ _ (λ e. refl)
+        (λ e2. pick-holds Simple (is k hashKind) _ _ (λ e. refl)
         (λ e3. pick-holds Simple (is k childKind) _ _ (λ e. absurd (no-child (is-true k childKind e)))
         (λ e4. pick-holds Simple (is k descendantKind) _ _ (λ e. absurd (no-descendant (is-true k descendantKind e)))
-        (λ e5. pick-holds Simple (is k nthKind) _ _ (λ e rest p. refl)
-        (λ e6. pick-holds Simple (is k attributeKind) _ _ (λ e rest p. refl) (λ e7 rest p. refl))))))))
+        (λ e5. pick-holds Simple (is k nthKind) _ _ (λ e. refl)
+        (λ e6. pick-holds Simple (is k attributeKind) _ _ (λ e. refl) (λ e7. refl))))))))
+
+    -- so it chooses the third of three
+    pub third-chosen : {A : Type 0} (x y z : A) → byCombinator (componentFrom store k f a b) x y z ≡ z
+    third-chosen x y z = by-simple (componentFrom store k f a b) is-simple x y z
+
+    -- and is asked before what is left
+    pub simple-beside : (rest : Path → SelectorMatch) (p : Path)
+        → resultStep (componentFrom store k f a b) rest p ≡ pick (matches (componentFrom store k f a b ∷ []) p) (rest p) FailsLocally
+    unfolding resultStep
+    simple-beside rest p = third-chosen _ _ _
 
     -- of an element its own tests are asked
     module _ (no-star : ¬ (k ≡ starKind)) (x : Element) (up : Path) where

@@ -5,5 +5,6 @@ pub mod Specificity
 pub mod Selectors
 pub mod Rows
 pub mod Recursion
+pub mod Topmost
 pub mod Climb
 pub mod Documents

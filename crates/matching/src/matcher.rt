@@ -168,7 +168,7 @@ pub enum Climbed {
 
 // Matches the first `left` components, the last of them first, up to a descendant combinator. A child combinator leads to the parent. All this is one
 // loop, so that the matcher calls itself only for a descendant combinator, however many tests a selector has.
-fn match_locally(
+pub fn match_locally(
     components: &[u32],
     store: &[u8],
     left: usize,

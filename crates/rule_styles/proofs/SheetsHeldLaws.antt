@@ -18,7 +18,7 @@ use Rattle.origins.specs.declared.reading.SheetsRules.{SheetsRules}
 use Rattle.origins.proofs.SheetsKnown.{clear-zeros, Came, came, from-first, from-second, from-third, rowsHeld, textsHeld, rows-length, texts-length, rows-fit, texts-fit, agent-keeps, user-keeps, author-keeps, zr, zt, rows-are, texts-are, place₁, place₂, place₃, agent-back, user-back, author-back}
 use Rattle.styles.specs.Said.{Rules}
 use Rattle.styles.specs.StyleCall.{rulesContents, sheetsContents, placedRules, placedSheets}
-use Rattle.rule_styles.specs.Placing.{sheetText, rulesContentsAt, keptRules}
+use Rattle.rule_styles.specs.Placing.{sheetText, rulesContentsAt, rulesSelectors, keptRules}
 use Rattle.rule_styles.specs.PlacingRoom.{ContentsRoom, RulesKeptRoom}
 use Rattle.rule_styles.specs.Held.{sheetsFrom, SheetsHeld, sheetsKept, styledPlaces}
 use Rattle.rule_styles.specs.declared.placing.StyledEnd.{StyledEnd}
@@ -188,9 +188,9 @@ module _ {s : SheetsRules} {rows tokens texts : List ℕ} (h : SheetsHeld s rows
   pu = pa + length (Kept fa u)
 
   pub record Fits : Type 0 where
-    pub kept-a : pa ≤ length (ruleRows 0 a)
-    pub kept-u : length (Kept fa u) ≤ length (ruleRows 0 u)
-    pub kept-w : length (Kept fu w) ≤ length (ruleRows 0 w)
+    pub kept-a : pa + length (rulesSelectors a) ≤ length (ruleRows 0 a)
+    pub kept-u : length (Kept fa u) + length (rulesSelectors u) ≤ length (ruleRows 0 u)
+    pub kept-w : length (Kept fu w) + length (rulesSelectors w) ≤ length (ruleRows 0 w)
     pub contents-a : length (rulesContents a) ≤ length (ruleTexts a)
     pub contents-u : length (rulesContents u) ≤ length (ruleTexts u)
     pub contents-w : length (rulesContents w) ≤ length (ruleTexts w)

@@ -13,11 +13,11 @@ use Rattle.syntax.specs.Declaration.{Decl, color, backgroundColor, height, maxH
 use Rattle.syntax.specs.Layout.{declText, declarationText, declarationTexts, styleTextOf, styleText, styleTexts}
 use Rattle.syntax.specs.RuleLayout.{readRule, selectorTexts, ruleText, ruleRows, ruleTexts}
 use Rattle.syntax.specs.Selector.{RuleSet}
-use Rattle.syntax.specs.Stream.{readMany, textsMany}
+use Rattle.syntax.specs.Stream.{Read, readMany, textsMany}
 use Rattle.syntax.specs.Style as style
 use Rattle.syntax.specs.Style.{StyleDecl}
 use Rattle.syntax.specs.declared.styles.Value.{Value}
-use Rattle.syntax.proofs.RuleRows.{RulesFit}
+use Rattle.syntax.proofs.RuleRows.{rules-read, RulesFit}
 use Rattle.syntax.proofs.Streams.{Held}
 use Rattle.declarations.specs.Styles.{one, styleOf, zeroHeight, hidesOverflow, anyDecl, ownStyles, stylesOf}
 use Rattle.origins.specs.declared.reading.SheetRules.{SheetRules}
@@ -25,7 +25,7 @@ use Rattle.origins.specs.declared.reading.SheetsRules.{SheetsRules}
 use Rattle.styles.specs.Said as said
 use Rattle.styles.specs.Said.{Rules, StyledRule}
 use Rattle.styles.specs.StyleCall.{ruleContents, rulesContents, sheetsContents, placedRules, placedSheets}
-use Rattle.rule_styles.specs.Placing.{keptHead, sheetText, rulesContentsAt, styledRules, keptRules}
+use Rattle.rule_styles.specs.Placing.{keptHead, sheetText, rulesContentsAt, styledRules, rulesSelectors, keptRules}
 use Rattle.rule_styles.specs.PlacingRoom.{keptWidth, ContentsRoom, RulesKeptRoom}
 use Rattle.rule_styles.proofs.PlacingCopies.{sheet-text-kept}
 use Rattle.rule_styles.proofs.PlacingLies.{written-room, written-rest, written-within}
@@ -121,10 +121,14 @@ module _ {rows texts : List ℕ} {end : ℕ} {x : SheetRules} {rs : List RuleSet
       let d : length rows - x .place ≡ length (ruleRows 0 rs) + length (l .behind) = sym (length-drop (x .place) rows) ∙ ap length (l .rows-at) ∙ length-append (ruleRows 0 rs) (l .behind) in
       omega (arith, b, d, h)
 
-  -- no longer than its rows
-  pub sheet-kept-short : (fill : ℕ) → length (keptRules (placedRules fill rs)) ≤ length (ruleRows 0 rs)
+  -- no longer than its rows, with a number for each of its selectors
+  pub sheet-kept-short : (fill : ℕ) → length (keptRules (placedRules fill rs)) + length (rulesSelectors rs) ≤ length (ruleRows 0 rs)
   sheet-kept-short fill =
       rw (← rules-styled its rs 0 fill (l .behind) (l .fit) (l .held)) (written-within its rs 0 (l .behind) (l .fit) (l .held) fill)
+
+  -- the rules that lie there
+  pub sheet-rules : readMany (readRule its) (x .count) (drop (x .place) rows) .value ≡ rs
+  sheet-rules = rw (l .counted, l .rows-at) (ap (λ (y : Read (List RuleSet)). y .value) (rules-read its rs 0 (l .behind) (l .fit) (l .held)))
 
   -- it lies there still once contents are written behind the texts
   pub sheet-still : (to : ℕ) (vs : List ℕ) → end ≤ to → SheetLies rows (sets texts to vs) end x rs

@@ -6,6 +6,7 @@ use Rattle.combinators.specs.Choice.{pick, is}
 use Rattle.combinators.specs.Part.{part}
 use Rattle.syntax.specs.Layout.{contentSlot, styleWidth, numbersAt, rowOfNumbers}
 use Rattle.syntax.specs.RuleLayout.{readRule}
+use Rattle.syntax.specs.Selector.{Selector, RuleSet}
 use Rattle.syntax.specs.Stream.{Read, readMany, textsMany}
 use Rattle.syntax.specs.declared.styles.StyleNumbers.{StyleNumbers}
 use Rattle.syntax.specs.declared.styles.Value.{Value}
@@ -70,6 +71,11 @@ rulesContentsAt text (suc n) t = contentsAt text t ++ rulesContentsAt text n (re
 unfoldable pub styledRules : List ℕ → ℕ → ℕ → List ℕ → List (StyledRule Value)
 styledRules text f zero t = []
 styledRules text f (suc n) t = styledRule text f t ∷ styledRules text (f + length (contentsAt text t)) n (readRule text t .rest)
+
+-- ---- the selectors of rules, in reading order
+unfoldable pub rulesSelectors : List RuleSet → List Selector
+rulesSelectors [] = []
+rulesSelectors (r ∷ rs) = r .selectors ++ rulesSelectors rs
 
 -- ---- the styles of rules as the call keeps them: for each rule how many decide, and their rows
 abbrev pub keptHead : ℕ

@@ -1,3 +1,4 @@
+pub mod TopsLaws
 pub mod PathLaws
 pub mod RulesMerging
 pub mod DecidedCascade

@@ -38,9 +38,11 @@ use Rattle.styles.proofs.Called.{empty-row, cascaded-formed}
 use Rattle.styles.proofs.Room.{path-short}
 use Rattle.styles.proofs.Merging.{merged-append, merged-none, merged-long, early-none, late-none, declared-parts}
 use Rattle.attributes.specs.Merging.{InlineRoom}
-use Rattle.styling.specs.Path.{keptSheet, keptSheets, TextsIn, SameKept, Steady, EarlyRoom, ElementRoom, PathRoom, OneRow}
-use Rattle.rule_styles.specs.declared.styled.StyledSheet.{StyledSheet}
-use Rattle.rule_styles.specs.declared.styled.StyledSheets.{StyledSheets}
+use Rattle.styling.specs.Path.{keptSheet, keptSheets, SameKept, SheetsTops, Steady, EarlyRoom, ElementRoom, PathRoom, OneRow}
+use Rattle.origins.specs.declared.reading.SheetRules.{SheetRules}
+use Rattle.styling.specs.Tops.{RightTops, sheetSelectors, TextsIn}
+use Rattle.styling.specs.declared.tops.ReadySheets.{ReadySheets}
+use Rattle.styling.proofs.TopsLaws.{right-parent}
 
 -- ---- an element begins with what it inherits, and the rules of agent and user
 pub begun : (c : Cascade) (xs a b ys : List ℕ) (ds es : List (Declared Value)) → Inherited c xs a → b ≡ mergedRow c a ds → ys ≡ mergedRow c b es
@@ -107,7 +109,7 @@ module _ (nodes attributes text : List ℕ) (row n at : ℕ) (en : n ≡ nodeAt 
   attributes-are = rw (en, ea)
 
 -- ---- the room that they ask for, in the parts that are lent
-module _ (s : StyledSheets) (e : Element) (fill : ℕ) (xs : List Attribute) (ex : xs ≡ e .attributes) where
+module _ (s : ReadySheets) (e : Element) (fill : ℕ) (xs : List Attribute) (ex : xs ≡ e .attributes) where
   pub early-room : (tokens brackets texts : List ℕ) → EarlyRoom s e fill tokens brackets texts → (h : s .behind ≤ length tokens) (k : s .end ≤ length texts)
       → InlineRoom xs 0 fill (lentPart tokens (s .behind) h) (lentPart tokens (s .behind) h) brackets (lentPart texts (s .end) k)
   early-room tokens brackets texts r h k =
@@ -152,7 +154,7 @@ module _ (c : Cascade) (settings : Settings) (e : Element) (on : settings .«doc
   contents-counted = ap attributesContents counted
 
 -- ---- what a call on attributes leaves: the row, the fill, the texts up to it, and what is kept
-module _ (c : Cascade) (s : StyledSheets) (fill r : ℕ) (texts ys xs more : List ℕ) where
+module _ (c : Cascade) (s : ReadySheets) (fill r : ℕ) (texts ys xs more : List ℕ) where
   pub texts-left : xs ≡ more → r ≡ fill + length xs → (h : s .end ≤ length texts) → take r ys ≡ take fill (lentPart texts (s .end) h) ++ xs
       → (r ≡ fill + length more) × (take (s .end + r) (putMid (s .end) (length texts - s .end) texts ys) ≡ take (s .end + fill) texts ++ more)
   texts-left e k h t = (k ∙ ap (λ (l : List ℕ). fill + length l) e, part-filled texts (s .end) h r fill ys more (t ∙ ap (λ (l : List ℕ). take fill (lentPart texts (s .end) h) ++ l) e))
@@ -162,7 +164,7 @@ pub texts-none : (end fill : ℕ) (texts more : List ℕ) → more ≡ [] → (f
 texts-none end fill texts more e = (rw e (omega arith), rw e (sym (append-nil (take (end + fill) texts))))
 
 -- ---- what is kept stays
-module _ (s : StyledSheets) where
+module _ (s : ReadySheets) where
   -- where the stores are the same up to a fill
   pub same-below : (fill : ℕ) (l m : List ℕ) → take (s .end + fill) m ≡ take (s .end + fill) l → take (s .end) m ≡ take (s .end) l
   same-below fill l m e =
@@ -182,17 +184,46 @@ module _ (s : StyledSheets) where
   same-twice h k = record { same-rows = k .same-rows ∙ h .same-rows; same-tokens = k .same-tokens ∙ h .same-tokens; same-texts = k .same-texts ∙ h .same-texts }
 
   -- it can be kept on
-  steady-on : {texts texts₁ : List ℕ} → length texts₁ ≡ length texts → (x : StyledSheet) → TextsIn texts (s .end) x → TextsIn texts₁ (s .end) x
+  steady-on : {texts texts₁ : List ℕ} → length texts₁ ≡ length texts → (x : SheetRules) → TextsIn texts (s .end) x → TextsIn texts₁ (s .end) x
   steady-on e x t = record { begins = t .begins; ends = omega (arith, e, t .ends) }
 
-  pub steady-still : {rows tokens texts rows₁ tokens₁ texts₁ : List ℕ} → Steady s rows tokens texts → SameKept s rows tokens texts rows₁ tokens₁ texts₁ → length texts₁ ≡ length texts → Steady s rows₁ tokens₁ texts₁
-  steady-still {rows} {tokens} {texts} {rows₁} {tokens₁} {texts₁} h k e =
-      record {
-        kept = λ rows₂ tokens₂ texts₂ m. h .kept rows₂ tokens₂ texts₂ (same-twice k m) ∙ sym (h .kept rows₁ tokens₁ texts₁ k);
-        agent-in = steady-on e (s .agent) (h .agent-in);
-        user-in = steady-on e (s .user) (h .user-in);
-        author-in = steady-on e (s .author) (h .author-in);
-      }
+  module _ {nodes attributes text : List ℕ} {row : ℕ} {rows tokens texts : List ℕ} (h : Steady s nodes attributes text row rows tokens texts) where
+    pub steady-still : {rows₁ tokens₁ texts₁ : List ℕ} → SameKept s rows tokens texts rows₁ tokens₁ texts₁ → length texts₁ ≡ length texts → Steady s nodes attributes text row rows₁ tokens₁ texts₁
+    steady-still {rows₁} {tokens₁} {texts₁} k e =
+        record {
+          kept = λ rows₂ tokens₂ texts₂ m. h .kept rows₂ tokens₂ texts₂ (same-twice k m) ∙ sym (h .kept rows₁ tokens₁ texts₁ k);
+          tops = λ rows₂ tokens₂ texts₂ m. h .tops rows₂ tokens₂ texts₂ (same-twice k m);
+          agent-in = steady-on e (s .agent .rules) (h .agent-in);
+          user-in = steady-on e (s .user .rules) (h .user-in);
+          author-in = steady-on e (s .author .rules) (h .author-in);
+        }
+
+    -- also for the parent of the row
+    pub steady-above : ¬ (row ≡ 0) → (p : ℕ) → p ≡ nodeAt nodes row .parent → Steady s nodes attributes text p rows tokens texts
+    steady-above z p e =
+        record {
+          kept = h .kept;
+          tops =
+              λ rows₁ tokens₁ texts₁ k.
+              let t = h .tops rows₁ tokens₁ texts₁ k in
+              record {
+                agent-tops = right-parent nodes attributes text row z p e _ _ (t .agent-tops);
+                user-tops = right-parent nodes attributes text row z p e _ _ (t .user-tops);
+                author-tops = right-parent nodes attributes text row z p e _ _ (t .author-tops);
+              };
+          agent-in = h .agent-in;
+          user-in = h .user-in;
+          author-in = h .author-in;
+        }
+
+    -- the numbers of selectors as they lie now
+    pub tops-now : SheetsTops s nodes attributes text row rows tokens texts
+    tops-now = h .tops rows tokens texts (record { same-rows = refl; same-tokens = refl; same-texts = refl })
+
+    -- and behind the attributes that come early
+    pub author-tops-still : (fill : ℕ) (tokens₁ texts₁ : List ℕ) → take (s .behind) tokens₁ ≡ take (s .behind) tokens → take (s .end + fill) texts₁ ≡ take (s .end + fill) texts
+        → RightTops nodes attributes text row (sheetSelectors rows texts₁ (s .end) (s .author .rules)) (drop (s .author .tops) tokens₁)
+    author-tops-still fill tokens₁ texts₁ t x = h .tops rows tokens₁ texts₁ (record { same-rows = refl; same-tokens = t; same-texts = same-below fill texts texts₁ x }) .author-tops
 
 -- ---- the row of an element
 module _ (c : Cascade) (rules : Rules (StyledRule Value)) (inline : List (AttributeStyle Value)) (p : Path) where
@@ -218,7 +249,7 @@ module _ (c : Cascade) (rules : Rules (StyledRule Value)) (inline : List (Attrib
       (ez ∙ ap (λ (r : List ℕ). mergedRow c r L) (d′ ∙ ap (λ (r : List ℕ). mergedRow c r W) (eb ∙ ap (λ (r : List ℕ). mergedRow c r E) (ea ∙ merged-append c i A U))))
 
 -- ---- what an element leaves: the texts up to the new fill, and what is kept
-pub element-kept : (s : StyledSheets) (fill r : ℕ) (rows tokens texts tokens₁ texts₁ rows₂ tokens₂ texts₂ more : List ℕ) → s .end + fill ≤ length texts₁ → r ≡ fill + length more
+pub element-kept : (s : ReadySheets) (fill r : ℕ) (rows tokens texts tokens₁ texts₁ rows₂ tokens₂ texts₂ more : List ℕ) → s .end + fill ≤ length texts₁ → r ≡ fill + length more
     → take (s .behind) tokens₁ ≡ take (s .behind) tokens → take (s .end + fill) texts₁ ≡ take (s .end + fill) texts
     → take (s .rows) rows₂ ≡ take (s .rows) rows → take (s .behind) tokens₂ ≡ take (s .behind) tokens₁ → take (s .end + r) texts₂ ≡ take (s .end + fill) texts₁ ++ more
     → (take (s .end + r) texts₂ ≡ take (s .end + fill) texts ++ more) × SameKept s rows tokens texts rows₂ tokens₂ texts₂
@@ -232,7 +263,7 @@ element-kept s fill r rows tokens texts tokens₁ texts₁ rows₂ tokens₂ tex
 )
 
 -- the author's rules are the same behind the attributes that come early
-pub author-still : (s : StyledSheets) (fill : ℕ) (rows tokens texts tokens₁ texts₁ : List ℕ) → Steady s rows tokens texts
+pub author-still : (s : ReadySheets) (fill : ℕ) (rows tokens texts tokens₁ texts₁ : List ℕ) {nodes attributes text : List ℕ} {row : ℕ} → Steady s nodes attributes text row rows tokens texts
     → take (s .behind) tokens₁ ≡ take (s .behind) tokens → take (s .end + fill) texts₁ ≡ take (s .end + fill) texts
     → keptSheet rows tokens₁ texts₁ (s .end) (s .author) ≡ keptSheets rows tokens texts s .author
 unfolding keptSheets
@@ -240,10 +271,10 @@ author-still s fill rows tokens texts tokens₁ texts₁ h t x =
     ap (λ (k : Rules (StyledRule Value)). k .author) (h .kept rows tokens₁ texts₁ (record { same-rows = refl; same-tokens = t; same-texts = same-below s fill texts texts₁ x }))
 
 -- room that is asked for again behind a call
-pub early-of : (s : StyledSheets) (e : Element) (fill : ℕ) (rows tokens brackets texts : List ℕ) → ElementRoom s e fill rows tokens brackets texts → EarlyRoom s e fill tokens brackets texts
+pub early-of : (s : ReadySheets) (e : Element) (fill : ℕ) (rows tokens brackets texts : List ℕ) → ElementRoom s e fill rows tokens brackets texts → EarlyRoom s e fill tokens brackets texts
 early-of s e fill rows tokens brackets texts r = record { for-tokens = r .for-tokens; for-brackets = r .for-brackets; for-texts = r .for-texts; bits = r .bits }
 
-pub room-again : (s : StyledSheets) (e : Element) (fill : ℕ) (rows tokens brackets texts tokens₁ brackets₁ texts₁ : List ℕ) → ElementRoom s e fill rows tokens brackets texts
+pub room-again : (s : ReadySheets) (e : Element) (fill : ℕ) (rows tokens brackets texts tokens₁ brackets₁ texts₁ : List ℕ) → ElementRoom s e fill rows tokens brackets texts
     → length tokens₁ ≡ length tokens → length brackets₁ ≡ length brackets → length texts₁ ≡ length texts → ElementRoom s e fill rows tokens₁ brackets₁ texts₁
 room-again s e fill rows tokens brackets texts tokens₁ brackets₁ texts₁ r t b x =
     record {
@@ -272,7 +303,7 @@ unfolding inheritBy
 inherit-formed-by Crate x h = inherit-formed x h
 inherit-formed-by Book x h = inherit-book-formed x h
 
-module _ (c : Cascade) (s : StyledSheets) (settings : Settings) (kept : Rules (StyledRule Value)) where
+module _ (c : Cascade) (s : ReadySheets) (settings : Settings) (kept : Rules (StyledRule Value)) where
   -- at its top is the empty style
   pub top-row : (p : Path) (xs ys : List ℕ) → OneRow xs → Emptied xs ys → p ≡ [] → ys ≡ rowOf (cascaded c (placedFrom kept (s .fill) settings p))
   unfolding placedFrom cascaded wiped
@@ -297,7 +328,7 @@ module _ (c : Cascade) (s : StyledSheets) (settings : Settings) (kept : Rules (S
       )
 
 -- the contents of a path: those above, then its own
-module _ (s : StyledSheets) (settings : Settings) where
+module _ (s : ReadySheets) (settings : Settings) where
   pub below-fill : (p : Path) (e : Element) (up : Path) (fill r : ℕ) → p ≡ e ∷ up → fill ≡ s .fill + length (pathContents settings up) → r ≡ fill + length (inlineContents settings e)
       → r ≡ s .fill + length (pathContents settings p)
   unfolding pathContents
@@ -319,7 +350,7 @@ module _ (s : StyledSheets) (settings : Settings) where
   top-texts p texts n = rw n (sym (append-nil (take (s .end + s .fill) texts)))
 
 -- the room of a path is room for the path above, and for its element behind the contents of that
-module _ (s : StyledSheets) (p : Path) (e : Element) (up : Path) (n : p ≡ e ∷ up) (rows tokens brackets texts : List ℕ) (r : PathRoom s p rows tokens brackets texts) where
+module _ (s : ReadySheets) (p : Path) (e : Element) (up : Path) (n : p ≡ e ∷ up) (rows tokens brackets texts : List ℕ) (r : PathRoom s p rows tokens brackets texts) where
   whole : PathRoom s (e ∷ up) rows tokens brackets texts
   whole = rw n at r
 
@@ -348,7 +379,7 @@ module _ (s : StyledSheets) (p : Path) (e : Element) (up : Path) (n : p ≡ e �
       }
 
 -- what is kept is the same at the start
-pub same-already : (s : StyledSheets) (rows tokens texts : List ℕ) → SameKept s rows tokens texts rows tokens texts
+pub same-already : (s : ReadySheets) (rows tokens texts : List ℕ) → SameKept s rows tokens texts rows tokens texts
 same-already s rows tokens texts = record { same-rows = refl; same-tokens = refl; same-texts = refl }
 
 pub one-row-room : (out : List ℕ) → OneRow out → RowRoom out

@@ -7,7 +7,6 @@ use native.Mathlib.Omega.{arith}
 use lib.ListN.{length, getD, take, drop}
 use lib.Seq.{getD-drop, drop-drop}
 use Rattle.combinators.specs.Choice.{pick}
-use Rattle.combinators.proofs.Lists.{rest}
 use Rattle.combinators.proofs.Rules.{pick-true, pick-false, is-yes, is-no}
 use Rattle.syntax.specs.Layout.{declarationWidth, styleWidth, numbersAt}
 use Rattle.syntax.specs.RuleLayout.{selectorHead, selectorComponents, selectorPseudo, ruleHead, ruleSelectors, ruleDeclarations, pseudoNumber, pseudoFrom, readSelector, readRule}
@@ -29,6 +28,8 @@ use Rattle.styles.specs.Said.{ruleStyle, selectorSays, selectorsSay, rulesSay}
 use Rattle.styles.specs.StyleCall.{inNumbers}
 use Rattle.styles.proofs.Merging.{merged-none, merged-more, merged-append, merged-long}
 use Rattle.rule_styles.specs.Placing.{keptHead, keptCount, readStyled, readKept, rulesKept}
+use Rattle.styling.specs.Tops.{RightTops}
+use Rattle.styling.proofs.TopsLaws.{lent, lent-components, rule-selectors}
 
 -- ---- a loop that merges declarations into a row
 -- what has the length of a row with room has room
@@ -156,23 +157,14 @@ module _ (styles : List ℕ) (at n : ℕ) (e : n ≡ getD styles (at + keptCount
 -- ---- returns of `merge_selector`: the selector at a place, whose components are lent from behind its head on
 module _ (c : Cascade) (origin : ℕ) (p : Path) (ds : List (Styled Value)) (texts rows : List ℕ) (at n behind : ℕ) (en : n ≡ getD rows (at + selectorComponents) 0)
     (eb : drop behind rows ≡ drop (at + selectorHead) rows) where
-  -- the components that are lent
-  abbrev lent : List ℕ
-  lent = take (length rows - behind) (drop behind rows)
-
   -- what the selector declares
   abbrev selectorDeclared : List (Declared Value)
   selectorDeclared = map (fromRule origin) (selectorSays p ds (readSelector texts (drop at rows) .value))
 
-  -- are its components
-  lent-components : componentsAt texts lent n ≡ readSelector texts (drop at rows) .value .components
-  unfolding componentsAt readSelector
-  lent-components = rw (rest rows behind, eb, en, getD-drop at rows selectorComponents 0, drop-drop selectorHead at rows)
-
-  module _ (m : Bool) (em : m ≡ matches (componentsAt texts lent n) p) where
+  module _ (m : Bool) (em : m ≡ matches (componentsAt texts (lent texts rows at n behind en eb) n) p) where
     -- what is asked is whether it matches
     matched : m ≡ matches (readSelector texts (drop at rows) .value .components) p
-    matched = em ∙ ap (λ cs. matches cs p) lent-components
+    matched = em ∙ ap (λ cs. matches cs p) (lent-components texts rows at n behind en eb)
 
     -- it does not match
     pub selector-fails : m ≡ false → (row : List ℕ) → row ≡ mergedRow c row selectorDeclared
@@ -182,13 +174,13 @@ module _ (c : Cascade) (origin : ℕ) (p : Path) (ds : List (Styled Value)) (tex
 
     -- it matches
     pub selector-holds : m ≡ true → (number pseudo : ℕ) → number ≡ getD rows (at + selectorPseudo) 0 → pseudo ≡ pseudoNumber (pseudoFrom number)
-        → (spec : Specificity) → ((store : List ℕ) → spec ≡ specificity (componentsAt store lent n)) → (row z : List ℕ)
+        → (spec : Specificity) → ((store : List ℕ) → spec ≡ specificity (componentsAt store (lent texts rows at n behind en eb) n)) → (row z : List ℕ)
         → z ≡ mergedRow c row (map (fromRule origin) (map (ruleStyle pseudo spec) ds)) → z ≡ mergedRow c row selectorDeclared
     unfolding selectorSays readSelector
     selector-holds h number pseudo e q spec es row z ez =
         let s = readSelector texts (drop at rows) .value in
         let k : pseudo ≡ pseudoNumber (s .pseudo) = q ∙ ap (λ (x : ℕ). pseudoNumber (pseudoFrom x)) (e ∙ sym (getD-drop at rows selectorPseudo 0)) in
-        let l : spec ≡ specificity (s .components) = es texts ∙ ap specificity lent-components in
+        let l : spec ≡ specificity (s .components) = es texts ∙ ap specificity (lent-components texts rows at n behind en eb) in
         let g : map (ruleStyle pseudo spec) ds ≡ selectorSays p ds s = pick-true _ _ _ _ (sym matched ∙ h) (rw (k, l)) in
         ez ∙ ap (λ (xs : List (RuleStyle Value)). mergedRow c row (map (fromRule origin) xs)) g
 
@@ -267,11 +259,12 @@ module _ (c : Cascade) (origin : ℕ) (p : Path) (texts rows : List ℕ) (at : �
       → drop start rows ≡ drop (at + ruleHead) rows → (row z : List ℕ)
       → z ≡ mergedRow c row (map (fromRule origin) (selectorsSay p (readMany readStyled n (drop kept styles) .value) (readMany (readSelector texts) selectors (drop start rows) .value)))
       → z ≡ mergedRow c row ruleDeclared
-  unfolding readRule
-  rule-merged kept ek selectors start es ep row z ez =
-      let q : readMany (readSelector texts) selectors (drop start rows) .value ≡ readRule texts (drop at rows) .value .selectors =
-      rw (es, ep, getD-drop at rows ruleSelectors 0, drop-drop ruleHead at rows) in
-      ez ∙ rw (kept-rows styles first n en kept ek, q)
+  rule-merged kept ek selectors start es ep row z ez = ez ∙ rw (kept-rows styles first n en kept ek, rule-selectors texts rows at selectors start es ep)
+
+-- the numbers of its selectors
+pub lent-tops : (nodes attributes text : List ℕ) (row : ℕ) (texts rows : List ℕ) (at selectors start : ℕ) → selectors ≡ getD rows (at + ruleSelectors) 0 → drop start rows ≡ drop (at + ruleHead) rows
+    → (t : List ℕ) → RightTops nodes attributes text row (readRule texts (drop at rows) .value .selectors) t → RightTops nodes attributes text row (readMany (readSelector texts) selectors (drop start rows) .value) t
+lent-tops nodes attributes text row texts rows at selectors start es ep t r = rw (rule-selectors texts rows at selectors start es ep) r
 
 -- the place behind the rule, from that behind its selectors
 pub behind-merged : (texts rows : List ℕ) (at selectors start : ℕ) → selectors ≡ getD rows (at + ruleSelectors) 0 → drop start rows ≡ drop (at + ruleHead) rows

@@ -4,26 +4,30 @@ use mathlib.Core.List.{List, [], _∷_, _++_, map, append-assoc}
 use Prim.Native.Nat.{ℕ, _+_, _-_, _*_, _^_, _≤_, _<_}
 use native.Mathlib.Omega.{arith}
 use lib.ListN.{length, take, drop, length-append, take-append-drop}
-use lib.Seq.{sets, sets-eq, length-sets, take-at, length-take-le}
+use lib.Seq.{sets, sets-eq, length-sets, take-at, drop-at, drop-drop, length-take-le}
 use Rattle.combinators.proofs.Wiped.{sets-append}
 use Rattle.syntax.specs.RuleLayout.{ruleRows, ruleTexts}
-use Rattle.syntax.specs.Selector.{RuleSet}
+use Rattle.syntax.specs.Selector.{Selector, RuleSet}
 use Rattle.syntax.specs.declared.styles.Value.{Value}
 use Rattle.origins.specs.declared.reading.SheetRules.{SheetRules}
 use Rattle.origins.specs.declared.reading.SheetsRules.{SheetsRules}
 use Rattle.origins.proofs.SheetsKnown.{from-first, from-second, from-third, rowsHeld, textsHeld, rows-length, zr, zt, rows-are, texts-are}
 use Rattle.page.specs.Path.{Path}
+use Rattle.matching.specs.Rows.{Rooted}
 use Rattle.styles.specs.Room.{valuesAlong, attributesAlong}
 use Rattle.styles.specs.Said.{Rules, StyledRule}
 use Rattle.styles.specs.StyleCall.{rulesContents, sheetsContents, placedRules, placedSheets}
 use Rattle.rule_styles.specs.Deciding.{decidingRule}
-use Rattle.rule_styles.specs.Placing.{sheetText, keptRules, rulesKept}
-use Rattle.styling.specs.Path.{keptSheet, keptSheets, TextsIn, SameKept, Steady, PathRoom}
+use Rattle.rule_styles.specs.Placing.{sheetText, rulesSelectors, keptRules, rulesKept}
+use Rattle.styling.specs.Path.{keptSheet, keptSheets, SameKept, SheetsTops, Steady, PathRoom}
+use Rattle.styling.specs.Tops.{selectorsTops, sheetSelectors, sheetsSelectors, TextsIn, SheetsTopsRoom, readyPlaces, readySheets}
+use Rattle.styling.specs.declared.tops.ReadySheets.{ReadySheets}
 use Rattle.rule_styles.specs.Held.{SheetsHeld, PathHeld, sheetsKept, styledPlaces}
 use Rattle.rule_styles.specs.declared.styled.StyledSheets.{StyledSheets}
 use Rattle.styling.proofs.DecidedCascade.{decided}
+use Rattle.styling.proofs.TopsLaws.{right-stored, tops-long, tops-append}
 use Rattle.rule_styles.proofs.KeptBack.{rules-kept}
-use Rattle.rule_styles.proofs.SheetsStyled.{SheetLies}
+use Rattle.rule_styles.proofs.SheetsStyled.{SheetLies, sheet-rules}
 use Rattle.rule_styles.proofs.SheetsHeldLaws as held
 use Rattle.rule_styles.proofs.SheetsHeldLaws.{agent-lies-in, user-lies-in, author-lies-in}
 
@@ -42,10 +46,15 @@ take-stored : (l vs : List ℕ) → length vs ≤ length l → take (length vs) 
 take-stored l vs h = ap (take (length vs)) (sets-eq vs l 0 (omega arith)) ∙ take-at vs (drop (0 + length vs) l) (length vs) refl
 
 -- one sheet, read back
-sheet-back : {rows texts : List ℕ} (tokens : List ℕ) {end : ℕ} (x : SheetRules) (rs : List RuleSet) (p f : ℕ) (others : List ℕ) → SheetLies rows texts end x rs → drop p tokens ≡ keptRules (placedRules f rs) ++ others
-    → keptSheet rows tokens texts end (record { rules = x; styles = p }) ≡ map decidingRule (placedRules f rs)
+sheet-back : {rows texts : List ℕ} (tokens : List ℕ) {end : ℕ} (x : SheetRules) (rs : List RuleSet) (p q f : ℕ) (others : List ℕ) → SheetLies rows texts end x rs → drop p tokens ≡ keptRules (placedRules f rs) ++ others
+    → keptSheet rows tokens texts end (record { rules = x; styles = p; tops = q }) ≡ map decidingRule (placedRules f rs)
 unfolding keptSheet
-sheet-back {rows} {texts} tokens {end} x rs p f others l e = rw (l .counted, l .rows-at, e) (rules-kept (sheetText texts (x .from) end) rs 0 f (l .behind) others (l .fit) (l .held))
+sheet-back {rows} {texts} tokens {end} x rs p q f others l e = rw (l .counted, l .rows-at, e) (rules-kept (sheetText texts (x .from) end) rs 0 f (l .behind) others (l .fit) (l .held))
+
+-- its selectors
+selectors-back : {rows texts : List ℕ} {end : ℕ} {x : SheetRules} {rs : List RuleSet} → SheetLies rows texts end x rs → sheetSelectors rows texts end x ≡ rulesSelectors rs
+unfolding sheetSelectors
+selectors-back l = ap rulesSelectors (sheet-rules l)
 
 module _ {s : SheetsRules} {rows tokens texts : List ℕ} (h : SheetsHeld s rows tokens texts) where
   abbrev read : Rules RuleSet
@@ -53,6 +62,20 @@ module _ {s : SheetsRules} {rows tokens texts : List ℕ} (h : SheetsHeld s rows
 
   abbrev v : StyledSheets
   v = styledPlaces s read
+
+  -- the selectors of each sheet
+  abbrev SA : List Selector
+  SA = rulesSelectors (held.a h)
+
+  abbrev SU : List Selector
+  SU = rulesSelectors (held.u h)
+
+  abbrev SW : List Selector
+  SW = rulesSelectors (held.w h)
+
+  -- where all lies, with a number for each of them
+  abbrev pub ready : ReadySheets
+  ready = readyPlaces v (length SA) (length SU) (length SW)
 
   kept-length : length (sheetsKept read) ≡ held.pu h + length (held.Kept h (held.fu h) (held.w h))
   unfolding sheetsKept placedSheets
@@ -67,13 +90,15 @@ module _ {s : SheetsRules} {rows tokens texts : List ℕ} (h : SheetsHeld s rows
 
   -- places, and how far they go
   pub record Places : Type 0 where
-    pub end-short : v .end ≤ held.bytes h
-    pub rows-short : v .rows ≤ 8 * held.bytes h
-    pub behind-short : v .behind ≤ 8 * held.bytes h
-    pub fill-short : v .fill ≤ held.bytes h
+    pub end-short : ready .end ≤ held.bytes h
+    pub rows-short : ready .rows ≤ 8 * held.bytes h
+    pub behind-short : ready .behind ≤ 8 * held.bytes h
+    pub fill-short : ready .fill ≤ held.bytes h
+    pub kept-behind : v .behind ≡ length (sheetsKept read)
+    pub all-behind : ready .behind ≡ length (sheetsKept read) + (length SA + (length SU + length SW))
 
   pub places : Places
-  unfolding styledPlaces placedSheets
+  unfolding styledPlaces readyPlaces placedSheets
   places =
       let z = held.sizes h in
       let f = held.fits h in
@@ -82,91 +107,189 @@ module _ {s : SheetsRules} {rows tokens texts : List ℕ} (h : SheetsHeld s rows
         rows-short = z .rows-short;
         behind-short = omega (arith, z .rows-short, f .kept-a, f .kept-u, f .kept-w);
         fill-short = omega (arith, contents-length, z .texts-short, f .contents-a, f .contents-u, f .contents-w);
+        kept-behind = sym kept-length;
+        all-behind = omega (arith, kept-length);
       }
 
   module _ {tokens₃ texts₃ : List ℕ} (et : tokens₃ ≡ sets tokens 0 (sheetsKept read)) (ex : texts₃ ≡ sets texts (s .end) (sheetsContents read)) where
-    module _ (rows′ tokens′ texts′ : List ℕ) (k : SameKept v rows tokens₃ texts₃ rows′ tokens′ texts′) where
-      rows-front : take (v .rows) rows′ ≡ rowsHeld (h .lent) (held.m h)
-      unfolding styledPlaces
-      rows-front =
-          k .same-rows ∙ ap (take (v .rows)) (rows-are (h .lent) (held.m h) (held.er h) (held.et h)) ∙ take-at (rowsHeld (h .lent) (held.m h)) (zr (h .lent) (held.m h) (held.er h) (held.et h)) (v .rows) (rows-length (h .lent) (held.m h))
-
-      texts-front : take (s .end) texts′ ≡ textsHeld (h .lent) (held.m h)
-      unfolding styledPlaces
-      texts-front =
-          k .same-texts ∙ ap (take (s .end)) ex
-          ∙ take-sets (s .end) texts (sheetsContents read) (omega (arith, places .fill-short, places .end-short, held.fits h .texts-room))
-          ∙ ap (take (s .end)) (texts-are (h .lent) (held.m h) (held.er h) (held.et h)) ∙ take-at (textsHeld (h .lent) (held.m h)) (zt (h .lent) (held.m h) (held.er h) (held.et h)) (s .end) (sym (held.end-held h))
-
-      tokens-front : take (length (sheetsKept read)) tokens′ ≡ sheetsKept read
-      unfolding styledPlaces placedSheets
-      tokens-front =
-          ap (λ (n : ℕ). take n tokens′) kept-length ∙ k .same-tokens ∙ ap (take (v .behind)) et ∙ ap (λ (n : ℕ). take n (sets tokens 0 (sheetsKept read))) (sym kept-length)
-          ∙ take-stored tokens (sheetsKept read) (omega (arith, kept-length, places .behind-short, held.fits h .tokens-room))
-
-      rx : rows′ ≡ rowsHeld (h .lent) (held.m h) ++ drop (v .rows) rows′
-      rx = front-known (v .rows) rows′ (rowsHeld (h .lent) (held.m h)) rows-front
-
-      tx : texts′ ≡ textsHeld (h .lent) (held.m h) ++ drop (s .end) texts′
-      tx = front-known (s .end) texts′ (textsHeld (h .lent) (held.m h)) texts-front
-
-      abbrev Z : List ℕ
-      Z = drop (length (sheetsKept read)) tokens′
-
-      kx : tokens′ ≡ (held.Kept h 0 (held.a h) ++ (held.Kept h (held.fa h) (held.u h) ++ held.Kept h (held.fu h) (held.w h))) ++ Z
-      unfolding sheetsKept placedSheets
-      kx = front-known (length (sheetsKept read)) tokens′ (sheetsKept read) tokens-front
-
-      -- the three sheets, read back
-      pub kept-as : keptSheets rows′ tokens′ texts′ v ≡ decided (placedSheets read)
-      unfolding keptSheets styledPlaces placedSheets
-      kept-as =
-          let K = held.Kept h in
-          let A = held.a h in
-          let U = held.u h in
-          let W = held.w h in
-          let X = drop (v .rows) rows′ in
-          let Y = drop (s .end) texts′ in
-          let fa = held.fa h in
-          let fu = held.fu h in
-          rw (
-            sheet-back tokens′ (s .agent) A 0 0 ((K fa U ++ K fu W) ++ Z) (agent-lies-in h X Y rx tx) (ap (drop 0) kx ∙ from-first (K 0 A) (K fa U) (K fu W) Z),
-            sheet-back tokens′ (s .user) U (held.pa h) fa (K fu W ++ Z) (user-lies-in h X Y rx tx) (ap (drop (held.pa h)) kx ∙ from-second (K 0 A) (K fa U) (K fu W) Z (held.pa h) refl),
-            sheet-back tokens′ (s .author) W (held.pu h) fu Z (author-lies-in h X Y rx tx) (ap (drop (held.pu h)) kx ∙ from-third (K 0 A) (K fa U) (K fu W) Z (held.pu h) refl),
-          )
-          refl
-
-    here : SameKept v rows tokens₃ texts₃ rows tokens₃ texts₃
-    here = record { same-rows = refl; same-tokens = refl; same-texts = refl }
-
-    -- now
-    pub kept-now : keptSheets rows tokens₃ texts₃ v ≡ decided (placedSheets read)
-    kept-now = kept-as rows tokens₃ texts₃ here
-
     long-x : length texts₃ ≡ length texts
     long-x = ap length ex ∙ length-sets texts (s .end) (sheetsContents read)
 
     long-t : length tokens₃ ≡ length tokens
     long-t = ap length et ∙ length-sets tokens 0 (sheetsKept read)
 
-    pub steady : Steady v rows tokens₃ texts₃
+    texts-end : s .end ≤ length texts₃
+    unfolding styledPlaces readyPlaces
+    texts-end = omega (arith, long-x, places .end-short, held.fits h .texts-room)
+
+    -- what lies in the texts behind the contents is what was read
+    texts-read : take (s .end) texts₃ ≡ textsHeld (h .lent) (held.m h)
+    unfolding styledPlaces readyPlaces
+    texts-read =
+        ap (take (s .end)) ex
+        ∙ take-sets (s .end) texts (sheetsContents read) (omega (arith, places .fill-short, places .end-short, held.fits h .texts-room))
+        ∙ ap (take (s .end)) (texts-are (h .lent) (held.m h) (held.er h) (held.et h)) ∙ take-at (textsHeld (h .lent) (held.m h)) (zt (h .lent) (held.m h) (held.er h) (held.et h)) (s .end) (sym (held.end-held h))
+
+    -- ---- the selectors of the sheets as they lie, for which numbers are found
+    module _ {rows′ texts′ : List ℕ} (X Y : List ℕ) (rx : rows′ ≡ rowsHeld (h .lent) (held.m h) ++ X) (tx : texts′ ≡ textsHeld (h .lent) (held.m h) ++ Y) where
+      agent-selectors : sheetSelectors rows′ texts′ (s .end) (s .agent) ≡ SA
+      agent-selectors = selectors-back (agent-lies-in h X Y rx tx)
+
+      user-selectors : sheetSelectors rows′ texts′ (s .end) (s .user) ≡ SU
+      user-selectors = selectors-back (user-lies-in h X Y rx tx)
+
+      author-selectors : sheetSelectors rows′ texts′ (s .end) (s .author) ≡ SW
+      author-selectors = selectors-back (author-lies-in h X Y rx tx)
+
+    rows-now : rows ≡ rowsHeld (h .lent) (held.m h) ++ zr (h .lent) (held.m h) (held.er h) (held.et h)
+    rows-now = rows-are (h .lent) (held.m h) (held.er h) (held.et h)
+
+    texts-now : texts₃ ≡ textsHeld (h .lent) (held.m h) ++ drop (s .end) texts₃
+    texts-now = front-known (s .end) texts₃ (textsHeld (h .lent) (held.m h)) texts-read
+
+    pub selectors-are : sheetsSelectors rows texts₃ v ≡ SA ++ (SU ++ SW)
+    unfolding sheetsSelectors styledPlaces
+    selectors-are = rw (agent-selectors _ _ rows-now texts-now, user-selectors _ _ rows-now texts-now, author-selectors _ _ rows-now texts-now) refl
+
+    pub ready-is : readySheets rows texts₃ v ≡ ready
+    unfolding readySheets styledPlaces
+    ready-is = rw (agent-selectors _ _ rows-now texts-now, user-selectors _ _ rows-now texts-now, author-selectors _ _ rows-now texts-now) refl
+
+    -- room for them
+    pub tops-room : SheetsTopsRoom rows tokens₃ texts₃ v
     unfolding styledPlaces
-    steady =
-        let e : s .end ≤ length texts₃ = omega (arith, long-x, places .end-short, held.fits h .texts-room) in
+    tops-room =
         record {
-          kept = λ rows′ tokens′ texts′ k. kept-as rows′ tokens′ texts′ k ∙ sym kept-now;
-          agent-in = record { begins = held.agent-lies h .ordered; ends = e };
-          user-in = record { begins = held.user-lies h .ordered; ends = e };
-          author-in = record { begins = held.author-lies h .ordered; ends = e };
+          agent-in = record { begins = held.agent-lies h .ordered; ends = texts-end };
+          user-in = record { begins = held.user-lies h .ordered; ends = texts-end };
+          author-in = record { begins = held.author-lies h .ordered; ends = texts-end };
+          room = omega (arith, ap length selectors-are, length-append SA (SU ++ SW), length-append SU SW, places .kept-behind, places .all-behind, places .behind-short, long-t, held.fits h .tokens-room);
         }
 
-    -- and there is room for a path
-    pub path-room : (brackets : List ℕ) (p : Path) → PathHeld h brackets p → PathRoom v p rows tokens₃ brackets texts₃
-    path-room brackets p r =
-        record {
-          for-rules = omega (arith, places .rows-short, r .for-rules);
-          for-tokens = omega (arith, long-t, places .behind-short, r .for-tokens);
-          for-brackets = omega (arith, r .for-brackets);
-          for-texts = omega (arith, long-x, places .end-short, places .fill-short, r .for-texts);
-          bits = omega (arith, places .fill-short, held.sizes h .few, r .bits);
-        }
+    -- ---- with the numbers stored
+    module _ (nodes attributes text : List ℕ) (row : ℕ) (rooted : Rooted nodes row) {tokens₄ : List ℕ} (ep : tokens₄ ≡ sets tokens₃ (v .behind) (selectorsTops nodes attributes text row (SA ++ (SU ++ SW)))) where
+      abbrev T : List Selector → List ℕ
+      T ss = selectorsTops nodes attributes text row ss
+
+      -- all numbers that are kept
+      abbrev all : List ℕ
+      all = sheetsKept read ++ T (SA ++ (SU ++ SW))
+
+      all-long : length all ≡ ready .behind
+      all-long =
+          length-append (sheetsKept read) (T (SA ++ (SU ++ SW)))
+          ∙ ap (λ (n : ℕ). length (sheetsKept read) + n) (tops-long nodes attributes text row (SA ++ (SU ++ SW)) ∙ length-append SA (SU ++ SW) ∙ ap (λ (n : ℕ). length SA + n) (length-append SU SW))
+          ∙ sym (places .all-behind)
+
+      stored : tokens₄ ≡ sets tokens 0 all
+      stored =
+          let z : v .behind ≡ 0 + length (sheetsKept read) = omega (arith, places .kept-behind) in
+          ep ∙ ap (λ (n : ℕ). sets tokens₃ n (T (SA ++ (SU ++ SW)))) z ∙ ap (λ (l : List ℕ). sets l (0 + length (sheetsKept read)) (T (SA ++ (SU ++ SW)))) et ∙ sym (sets-append tokens 0 (sheetsKept read) (T (SA ++ (SU ++ SW))))
+
+      long-p : length tokens₄ ≡ length tokens
+      long-p = ap length stored ∙ length-sets tokens 0 all
+
+      module _ (rows′ tokens′ texts′ : List ℕ) (k : SameKept ready rows tokens₄ texts₃ rows′ tokens′ texts′) where
+        rows-front : take (v .rows) rows′ ≡ rowsHeld (h .lent) (held.m h)
+        unfolding styledPlaces readyPlaces
+        rows-front =
+            k .same-rows ∙ ap (take (v .rows)) rows-now ∙ take-at (rowsHeld (h .lent) (held.m h)) (zr (h .lent) (held.m h) (held.er h) (held.et h)) (v .rows) (rows-length (h .lent) (held.m h))
+
+        texts-front : take (s .end) texts′ ≡ textsHeld (h .lent) (held.m h)
+        unfolding styledPlaces readyPlaces
+        texts-front = k .same-texts ∙ texts-read
+
+        tokens-front : take (length all) tokens′ ≡ all
+        tokens-front =
+            ap (λ (n : ℕ). take n tokens′) all-long ∙ k .same-tokens ∙ ap (take (ready .behind)) stored ∙ ap (λ (n : ℕ). take n (sets tokens 0 all)) (sym all-long)
+            ∙ take-stored tokens all (omega (arith, all-long, places .behind-short, held.fits h .tokens-room))
+
+        rx : rows′ ≡ rowsHeld (h .lent) (held.m h) ++ drop (v .rows) rows′
+        rx = front-known (v .rows) rows′ (rowsHeld (h .lent) (held.m h)) rows-front
+
+        tx : texts′ ≡ textsHeld (h .lent) (held.m h) ++ drop (s .end) texts′
+        tx = front-known (s .end) texts′ (textsHeld (h .lent) (held.m h)) texts-front
+
+        -- what lies behind the styles: the numbers, and anything
+        abbrev Y : List ℕ
+        Y = drop (length all) tokens′
+
+        abbrev Z : List ℕ
+        Z = T (SA ++ (SU ++ SW)) ++ Y
+
+        whole : tokens′ ≡ sheetsKept read ++ Z
+        whole = front-known (length all) tokens′ all tokens-front ∙ append-assoc (sheetsKept read) (T (SA ++ (SU ++ SW))) Y
+
+        kx : tokens′ ≡ (held.Kept h 0 (held.a h) ++ (held.Kept h (held.fa h) (held.u h) ++ held.Kept h (held.fu h) (held.w h))) ++ Z
+        unfolding sheetsKept placedSheets
+        kx = whole
+
+        -- the three sheets, read back
+        pub kept-as : keptSheets rows′ tokens′ texts′ ready ≡ decided (placedSheets read)
+        unfolding keptSheets styledPlaces readyPlaces placedSheets
+        kept-as =
+            let K = held.Kept h in
+            let A = held.a h in
+            let U = held.u h in
+            let W = held.w h in
+            let X = drop (v .rows) rows′ in
+            let Q = drop (s .end) texts′ in
+            let fa = held.fa h in
+            let fu = held.fu h in
+            rw (
+              sheet-back tokens′ (s .agent) A 0 (ready .agent .tops) 0 ((K fa U ++ K fu W) ++ Z) (agent-lies-in h X Q rx tx) (ap (drop 0) kx ∙ from-first (K 0 A) (K fa U) (K fu W) Z),
+              sheet-back tokens′ (s .user) U (held.pa h) (ready .user .tops) fa (K fu W ++ Z) (user-lies-in h X Q rx tx) (ap (drop (held.pa h)) kx ∙ from-second (K 0 A) (K fa U) (K fu W) Z (held.pa h) refl),
+              sheet-back tokens′ (s .author) W (held.pu h) (ready .author .tops) fu Z (author-lies-in h X Q rx tx) (ap (drop (held.pu h)) kx ∙ from-third (K 0 A) (K fa U) (K fu W) Z (held.pu h) refl),
+            )
+            refl
+
+        -- the numbers of the three, read back
+        tops-behind : drop (v .behind) tokens′ ≡ (T SA ++ (T SU ++ T SW)) ++ Y
+        tops-behind =
+            ap (drop (v .behind)) whole ∙ drop-at (sheetsKept read) Z (v .behind) (sym (places .kept-behind))
+            ∙ ap (λ (l : List ℕ). l ++ Y) (tops-append nodes attributes text row SA (SU ++ SW) ∙ ap (λ (l : List ℕ). T SA ++ l) (tops-append nodes attributes text row SU SW))
+
+        further : (n : ℕ) → drop (v .behind + n) tokens′ ≡ drop n ((T SA ++ (T SU ++ T SW)) ++ Y)
+        further n = sym (drop-drop n (v .behind) tokens′) ∙ ap (drop n) tops-behind
+
+        pub tops-as : SheetsTops ready nodes attributes text row rows′ tokens′ texts′
+        unfolding styledPlaces readyPlaces
+        tops-as =
+            let X = drop (v .rows) rows′ in
+            let Q = drop (s .end) texts′ in
+            let n : v .behind + length SA + length SU ≡ v .behind + (length SA + length SU) = omega arith in
+            let a = tops-long nodes attributes text row SA in
+            let u = tops-long nodes attributes text row SU in
+            record {
+              agent-tops = rw (agent-selectors X Q rx tx, tops-behind ∙ append-assoc (T SA) (T SU ++ T SW) Y) (right-stored nodes attributes text row rooted SA ((T SU ++ T SW) ++ Y));
+              user-tops = rw (user-selectors X Q rx tx, further (length SA) ∙ from-second (T SA) (T SU) (T SW) Y (length SA) (sym a)) (right-stored nodes attributes text row rooted SU (T SW ++ Y));
+              author-tops =
+                  rw (author-selectors X Q rx tx, ap (λ (i : ℕ). drop i tokens′) n ∙ further (length SA + length SU) ∙ from-third (T SA) (T SU) (T SW) Y (length SA + length SU) (let q : length SA + length SU ≡ length (T SA) + length (T SU) = omega (arith, a, u) in q))
+                  (right-stored nodes attributes text row rooted SW Y);
+            }
+
+      -- now
+      pub kept-now : keptSheets rows tokens₄ texts₃ ready ≡ decided (placedSheets read)
+      kept-now = kept-as rows tokens₄ texts₃ (record { same-rows = refl; same-tokens = refl; same-texts = refl })
+
+      pub steady : Steady ready nodes attributes text row rows tokens₄ texts₃
+      unfolding styledPlaces readyPlaces
+      steady =
+          record {
+            kept = λ rows′ tokens′ texts′ k. kept-as rows′ tokens′ texts′ k ∙ sym kept-now;
+            tops = λ rows′ tokens′ texts′ k. tops-as rows′ tokens′ texts′ k;
+            agent-in = record { begins = held.agent-lies h .ordered; ends = texts-end };
+            user-in = record { begins = held.user-lies h .ordered; ends = texts-end };
+            author-in = record { begins = held.author-lies h .ordered; ends = texts-end };
+          }
+
+      -- and there is room for a path
+      pub path-room : (brackets : List ℕ) (p : Path) → PathHeld h brackets p → PathRoom ready p rows tokens₄ brackets texts₃
+      path-room brackets p r =
+          record {
+            for-rules = omega (arith, places .rows-short, r .for-rules);
+            for-tokens = omega (arith, long-p, places .behind-short, r .for-tokens);
+            for-brackets = omega (arith, r .for-brackets);
+            for-texts = omega (arith, long-x, places .end-short, places .fill-short, r .for-texts);
+            bits = omega (arith, places .fill-short, held.sizes h .few, r .bits);
+          }

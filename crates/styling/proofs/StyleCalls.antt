@@ -30,7 +30,7 @@ use Rattle.cascade.specs.Row.{styleRowWidth}
 use Rattle.page.specs.Accepted.{textLimit, attributesBefore, bytesBefore, rowsRefusal, pageRefusal}
 use Rattle.page.specs.Path.{Path}
 use Rattle.page.specs.PathOf.{pathOf}
-use Rattle.page.specs.Rows.{attributeWidth, attributeRows, nodeCount, nodeAt, elementKind}
+use Rattle.page.specs.Rows.{attributeWidth, attributeRows, numberBound, nodeCount, nodeAt, elementKind}
 use Rattle.page.proofs.AcceptedPages.{Accepted, accepted}
 use Rattle.page.proofs.Sums.{bytes-within, attributes-before-within}
 use Rattle.matching.specs.Rows.{Rooted}
@@ -208,6 +208,13 @@ module _ (c : Cascade) (settings : Settings) (s : SheetTexts) (g : Page) (row : 
         pub rooted : Rooted (g .nodes) row
         rooted = accepted-element (g .nodes) (g .attributes) (g .text) none row before (is-true _ _ (there .1))
 
+        ok : Accepted (g .nodes) (g .attributes) (g .text)
+        ok = accepted (g .nodes) (g .attributes) (g .text) none
+
+        -- its number is one of 32 bits
+        pub few-rows : row < numberBound
+        few-rows = omega (arith, before, ok .few)
+
         pub lent : Lent (s .agent) (s .user) (s .author) rules₀ tokens brackets texts
         unfolding callBytes
         lent =
@@ -223,9 +230,6 @@ module _ (c : Cascade) (settings : Settings) (s : SheetTexts) (g : Page) (row : 
 
         abbrev path : Path
         path = pathOf (g .nodes) (g .attributes) (g .text) row
-
-        ok : Accepted (g .nodes) (g .attributes) (g .text)
-        ok = accepted (g .nodes) (g .attributes) (g .text) none
 
         values : valuesAlong path ≤ length (g .text)
         values = omega (arith, path-values (g .nodes) (g .attributes) (g .text) row rooted, bytes-within (g .nodes) (g .attributes) (g .text) ok (suc row) (omega (arith, before)))

@@ -13,7 +13,7 @@ use Rattle.combinators.specs.LeastLengths.{bracketLeast, storesSuffice}
 use Rattle.combinators.specs.Part.{part}
 use Rattle.combinators.specs.Store.{cleared}
 use Rattle.combinators.proofs.Cleared.{cleared-is}
-use Rattle.syntax.specs.Selector.{RuleSet}
+use Rattle.syntax.specs.Selector.{Selector, RuleSet}
 use Rattle.syntax.specs.declared.styles.Value.{Value}
 use Rattle.sheets.specs.SheetAnswer.{padded}
 use Rattle.origins.specs.declared.reading.SheetsRules.{SheetsRules}
@@ -22,6 +22,7 @@ use Rattle.cascade.specs.declared.slots.Cascade.{Cascade}
 use Rattle.cascade.specs.Row.{styleRowWidth, rowOf}
 use Rattle.page.specs.Path.{Path}
 use Rattle.page.specs.Rows.{nodeCount, nodeAt, elementKind}
+use Rattle.matching.specs.Rows.{Rooted}
 use Rattle.styles.specs.declared.settings.Settings.{Settings}
 use Rattle.styles.specs.Computed.{cascaded}
 use Rattle.styles.specs.Room.{valuesAlong, attributesAlong}
@@ -29,9 +30,12 @@ use Rattle.styles.specs.Said.{Rules, StyledRule}
 use Rattle.styles.specs.StyleCall.{sheetsContents, pathContents, placedSheets, placedFrom, placedAlong, callStore, callRow}
 use Rattle.styles.proofs.Room.{path-short}
 use Rattle.rule_styles.specs.Held.{sheetsFrom, SheetsHeld, PathHeld, sheetsKept, styledPlaces}
+use Rattle.rule_styles.specs.Placing.{rulesSelectors}
+use Rattle.styling.specs.Tops.{selectorsTops, sheetsSelectors, SheetsTopsRoom, readyPlaces, readySheets}
 use Rattle.styling.specs.Path.{keptSheets, Steady, PathRoom}
 use Rattle.styling.specs.StyleAnswer.{isElement}
 use Rattle.rule_styles.specs.declared.styled.StyledSheets.{StyledSheets}
+use Rattle.styling.specs.declared.tops.ReadySheets.{ReadySheets}
 use Rattle.styling.proofs.DecidedCascade.{decided, path-decided}
 use Rattle.rule_styles.proofs.SheetsHeldLaws as held
 use Rattle.styling.proofs.Steadying as still
@@ -98,63 +102,78 @@ module _ {s : SheetsRules} {rows tokens texts : List ℕ} (h : SheetsHeld s rows
   x-is : x ≡ sets texts (s .end) (sheetsContents read)
   x-is = ex ∙ ap (λ (r : Rules RuleSet). sets texts (s .end) (sheetsContents r)) (held.sheets-are h)
 
-  -- what going down a path asks for
-  pub now-steady : Steady v rows t x
-  now-steady = rw v-is (still.steady h t-is x-is)
+  -- what finding the numbers of selectors asks for
+  pub find-room : SheetsTopsRoom rows t x v
+  find-room = rw v-is (still.tops-room h t-is x-is)
 
-  pub now-room : (brackets : List ℕ) (p : Path) → PathHeld h brackets p → PathRoom v p rows t brackets x
-  now-room brackets p r = rw v-is (still.path-room h t-is x-is brackets p r)
+  -- ---- with the numbers of their selectors
+  module _ (nodes attributes text : List ℕ) (row : ℕ) (rooted : Rooted nodes row) (w : ReadySheets) (y : List ℕ) (ew : w ≡ readySheets rows x v)
+      (es : y ≡ sets t (v .behind) (selectorsTops nodes attributes text row (sheetsSelectors rows x v))) where
+    w-is : w ≡ still.ready h
+    w-is = ew ∙ ap (readySheets rows x) v-is ∙ still.ready-is h t-is x-is
 
-  -- the row
-  pub row-called : (c : Cascade) (settings : Settings) (p : Path) (ys : List ℕ) → ys ≡ rowOf (cascaded c (placedFrom (keptSheets rows t x v) (v .fill) settings p))
-      → ys ≡ callRow c (sheetsFrom rows texts s) settings p
-  unfolding callRow placedAlong
-  row-called c settings p ys e =
-      let k : keptSheets rows t x v ≡ decided (placedSheets read) = ap (keptSheets rows t x) v-is ∙ still.kept-now h t-is x-is in
-      let f : v .fill ≡ length (sheetsContents read) = ap (λ (w : StyledSheets). w .fill) v-is ∙ (unfold styledPlaces in refl) in
-      e
-      ∙ ap (λ (r : Rules (StyledRule Value)). rowOf (cascaded c (placedFrom r (v .fill) settings p))) k
-      ∙ ap rowOf (path-decided c (placedSheets read) (v .fill) settings p)
-      ∙ ap (λ (n : ℕ). rowOf (cascaded c (placedFrom (placedSheets read) n settings p))) f
-      ∙ ap (λ (r : Rules RuleSet). rowOf (cascaded c (placedFrom (placedSheets r) (length (sheetsContents r)) settings p))) (sym (held.sheets-are h))
+    y-is : y ≡ sets t (styledPlaces s read .behind) (selectorsTops nodes attributes text row (rulesSelectors (held.a h) ++ (rulesSelectors (held.u h) ++ rulesSelectors (held.w h))))
+    y-is =
+        es ∙ ap (λ (z : StyledSheets). sets t (z .behind) (selectorsTops nodes attributes text row (sheetsSelectors rows x z))) v-is
+        ∙ ap (λ (ss : List Selector). sets t (styledPlaces s read .behind) (selectorsTops nodes attributes text row ss)) (still.selectors-are h t-is x-is)
 
-  -- the fill, and the contents
-  module _ (settings : Settings) (p : Path) (r : ℕ) (er : r ≡ v .fill + length (pathContents settings p)) where
-    abbrev store : List ℕ
-    store = callStore (sheetsFrom rows texts s) settings p
+    -- what going down a path asks for
+    pub now-steady : Steady w nodes attributes text row rows y x
+    now-steady = rw w-is (still.steady h t-is x-is nodes attributes text row rooted y-is)
 
-    store-is : store ≡ sheetsContents read ++ pathContents settings p
-    unfolding callStore
-    store-is = ap (λ (q : Rules RuleSet). sheetsContents q ++ pathContents settings p) (held.sheets-are h)
+    pub now-room : (brackets : List ℕ) (p : Path) → PathHeld h brackets p → PathRoom w p rows y brackets x
+    now-room brackets p r = rw w-is (still.path-room h t-is x-is nodes attributes text row rooted y-is brackets p r)
 
-    end-is : v .end ≡ s .end
-    end-is = ap (λ (w : StyledSheets). w .end) v-is ∙ (unfold styledPlaces in refl)
+    -- the row
+    pub row-called : (c : Cascade) (settings : Settings) (p : Path) (ys : List ℕ) → ys ≡ rowOf (cascaded c (placedFrom (keptSheets rows y x w) (w .fill) settings p))
+        → ys ≡ callRow c (sheetsFrom rows texts s) settings p
+    unfolding callRow placedAlong
+    row-called c settings p ys e =
+        let k : keptSheets rows y x w ≡ decided (placedSheets read) = ap (keptSheets rows y x) w-is ∙ still.kept-now h t-is x-is nodes attributes text row rooted y-is in
+        let f : w .fill ≡ length (sheetsContents read) = ap (λ (z : ReadySheets). z .fill) w-is ∙ (unfold styledPlaces readyPlaces in refl) in
+        e
+        ∙ ap (λ (r : Rules (StyledRule Value)). rowOf (cascaded c (placedFrom r (w .fill) settings p))) k
+        ∙ ap rowOf (path-decided c (placedSheets read) (w .fill) settings p)
+        ∙ ap (λ (n : ℕ). rowOf (cascaded c (placedFrom (placedSheets read) n settings p))) f
+        ∙ ap (λ (r : Rules RuleSet). rowOf (cascaded c (placedFrom (placedSheets r) (length (sheetsContents r)) settings p))) (sym (held.sheets-are h))
 
-    fill-is : v .fill ≡ length (sheetsContents read)
-    fill-is = ap (λ (w : StyledSheets). w .fill) v-is ∙ (unfold styledPlaces in refl)
+    -- the fill, and the contents
+    module _ (settings : Settings) (p : Path) (r : ℕ) (er : r ≡ w .fill + length (pathContents settings p)) where
+      abbrev store : List ℕ
+      store = callStore (sheetsFrom rows texts s) settings p
 
-    pub filled : r ≡ length store
-    filled = omega (arith, er, fill-is, ap length store-is, length-append (sheetsContents read) (pathContents settings p))
+      store-is : store ≡ sheetsContents read ++ pathContents settings p
+      unfolding callStore
+      store-is = ap (λ (q : Rules RuleSet). sheetsContents q ++ pathContents settings p) (held.sheets-are h)
 
-    -- they lie within the store
-    pub contents-in : (brackets : List ℕ) → PathHeld h brackets p → (l : List ℕ) → length l ≡ length x → v .end + r ≤ length l
-    contents-in brackets q l e = omega (arith, e, er, path-short settings p, now-room brackets p q .for-texts)
+      end-is : w .end ≡ s .end
+      end-is = ap (λ (z : ReadySheets). z .end) w-is ∙ (unfold styledPlaces readyPlaces in refl)
 
-    pub texts-called : (brackets : List ℕ) → PathHeld h brackets p → (l : List ℕ) → length l ≡ length x → take (v .end + r) l ≡ take (v .end + v .fill) x ++ pathContents settings p → part l (v .end) r ≡ store
-    unfolding part
-    texts-called brackets q l n e =
-        let C = sheetsContents read in
-        let P = pathContents settings p in
-        let room = now-room brackets p q .for-texts in
-        let long : length x ≡ length texts = ap length x-is ∙ length-sets texts (s .end) C in
-        let fits : s .end + length C ≤ length texts = omega (arith, room, long, end-is, fill-is) in
-        let a : length (take (s .end) texts) ≡ v .end = length-take-le (s .end) texts (omega arith) ∙ sym end-is in
-        let b : length (take (v .end) l) ≡ v .end = length-take-le (v .end) l (omega (arith, contents-in brackets q l n)) in
-        let front : take (v .end + v .fill) x ≡ take (s .end) texts ++ C =
-        ap (take (v .end + v .fill)) (x-is ∙ sets-eq C texts (s .end) fits)
-        ∙ take-at (take (s .end) texts ++ C) (drop (s .end + length C) texts) (v .end + v .fill) (omega (arith, length-append (take (s .end) texts) C, a, fill-is)) in
-        let whole : take (v .end + r) l ≡ take (s .end) texts ++ (C ++ P) = e ∙ ap (λ (f : List ℕ). f ++ P) front ∙ append-assoc (take (s .end) texts) C P in
-        behind (take (v .end) l) (take r (drop (v .end) l)) (take (s .end) texts) (C ++ P) (b ∙ sym a) (sym (take-add (v .end) r l) ∙ whole) ∙ sym store-is
+      fill-is : w .fill ≡ length (sheetsContents read)
+      fill-is = ap (λ (z : ReadySheets). z .fill) w-is ∙ (unfold styledPlaces readyPlaces in refl)
+
+      pub filled : r ≡ length store
+      filled = omega (arith, er, fill-is, ap length store-is, length-append (sheetsContents read) (pathContents settings p))
+
+      -- they lie within the store
+      pub contents-in : (brackets : List ℕ) → PathHeld h brackets p → (l : List ℕ) → length l ≡ length x → w .end + r ≤ length l
+      contents-in brackets q l e = omega (arith, e, er, path-short settings p, now-room brackets p q .for-texts)
+
+      pub texts-called : (brackets : List ℕ) → PathHeld h brackets p → (l : List ℕ) → length l ≡ length x → take (w .end + r) l ≡ take (w .end + w .fill) x ++ pathContents settings p → part l (w .end) r ≡ store
+      unfolding part
+      texts-called brackets q l n e =
+          let C = sheetsContents read in
+          let P = pathContents settings p in
+          let room = now-room brackets p q .for-texts in
+          let long : length x ≡ length texts = ap length x-is ∙ length-sets texts (s .end) C in
+          let fits : s .end + length C ≤ length texts = omega (arith, room, long, end-is, fill-is) in
+          let a : length (take (s .end) texts) ≡ w .end = length-take-le (s .end) texts (omega arith) ∙ sym end-is in
+          let b : length (take (w .end) l) ≡ w .end = length-take-le (w .end) l (omega (arith, contents-in brackets q l n)) in
+          let front : take (w .end + w .fill) x ≡ take (s .end) texts ++ C =
+          ap (take (w .end + w .fill)) (x-is ∙ sets-eq C texts (s .end) fits)
+          ∙ take-at (take (s .end) texts ++ C) (drop (s .end + length C) texts) (w .end + w .fill) (omega (arith, length-append (take (s .end) texts) C, a, fill-is)) in
+          let whole : take (w .end + r) l ≡ take (s .end) texts ++ (C ++ P) = e ∙ ap (λ (f : List ℕ). f ++ P) front ∙ append-assoc (take (s .end) texts) C P in
+          behind (take (w .end) l) (take r (drop (w .end) l)) (take (s .end) texts) (C ++ P) (b ∙ sym a) (sym (take-add (w .end) r l) ∙ whole) ∙ sym store-is
 
 -- ---- the row that is lent
 pub row-lent : (l : List ℕ) → styleRowWidth ≤ length l → styleRowWidth ≡ length (take styleRowWidth l)
@@ -170,23 +189,25 @@ cleared-throughout l m z e h = h ∙ zeros-of l m e
 -- ---- all that is left of sheets that were read
 module _ {s : SheetsRules} {rows tokens texts : List ℕ} (h : SheetsHeld s rows tokens texts) (v : StyledSheets) (t x : List ℕ)
     (ev : v ≡ styledPlaces s (sheetsFrom rows texts s)) (et : t ≡ sets tokens 0 (sheetsKept (sheetsFrom rows texts s))) (ex : x ≡ sets texts (s .end) (sheetsContents (sheetsFrom rows texts s))) where
-  pub read-left : (c : Cascade) (settings : Settings) (p : Path) (brackets : List ℕ) → PathHeld h brackets p
-      → (out ys : List ℕ) → ys ≡ rowOf (cascaded c (placedFrom (keptSheets rows t x v) (v .fill) settings p))
-      → (r : ℕ) → r ≡ v .fill + length (pathContents settings p)
-      → (l : List ℕ) → length l ≡ length x → length x ≡ length texts → take (v .end + r) l ≡ take (v .end + v .fill) x ++ pathContents settings p
-      → (z : List ℕ) → z ≡ padded (part l (v .end) r) (length l)
-      → (rows₁ tokens₁ brackets₁ rows₂ tokens₂ brackets₂ : List ℕ) → length rows₁ ≡ length rows → rows₂ ≡ cleared 0 rows₁ → length tokens₁ ≡ length tokens → tokens₂ ≡ cleared 0 tokens₁ → length brackets₁ ≡ length brackets → brackets₂ ≡ cleared 0 brackets₁
-      → (ys ++ drop styleRowWidth out ≡ callRow c (sheetsFrom rows texts s) settings p ++ drop styleRowWidth out)
-      × ((r ≡ length (callStore (sheetsFrom rows texts s) settings p))
-      × ((z ≡ padded (callStore (sheetsFrom rows texts s) settings p) (length texts))
-      × ((rows₂ ≡ replicate (length rows) 0) × ((tokens₂ ≡ replicate (length tokens) 0) × (brackets₂ ≡ replicate (length brackets) 0)))))
-  read-left c settings p brackets q out ys ey r er l n₁ n₂ el z ez rows₁ tokens₁ brackets₁ rows₂ tokens₂ brackets₂ nr cr nt ct nb cb = (
-    ap (λ (y : List ℕ). y ++ drop styleRowWidth out) (row-called h v t x ev et ex c settings p ys ey),
-    (
-      filled h v t x ev et ex settings p r er,
+  module _ (nodes attributes text : List ℕ) (row : ℕ) (rooted : Rooted nodes row) (w : ReadySheets) (y : List ℕ) (ew : w ≡ readySheets rows x v)
+      (es : y ≡ sets t (v .behind) (selectorsTops nodes attributes text row (sheetsSelectors rows x v))) where
+    pub read-left : (c : Cascade) (settings : Settings) (p : Path) (brackets : List ℕ) → PathHeld h brackets p
+        → (out ys : List ℕ) → ys ≡ rowOf (cascaded c (placedFrom (keptSheets rows y x w) (w .fill) settings p))
+        → (r : ℕ) → r ≡ w .fill + length (pathContents settings p)
+        → (l : List ℕ) → length l ≡ length x → length x ≡ length texts → take (w .end + r) l ≡ take (w .end + w .fill) x ++ pathContents settings p
+        → (z : List ℕ) → z ≡ padded (part l (w .end) r) (length l)
+        → (rows₁ tokens₁ brackets₁ rows₂ tokens₂ brackets₂ : List ℕ) → length rows₁ ≡ length rows → rows₂ ≡ cleared 0 rows₁ → length tokens₁ ≡ length tokens → tokens₂ ≡ cleared 0 tokens₁ → length brackets₁ ≡ length brackets → brackets₂ ≡ cleared 0 brackets₁
+        → (ys ++ drop styleRowWidth out ≡ callRow c (sheetsFrom rows texts s) settings p ++ drop styleRowWidth out)
+        × ((r ≡ length (callStore (sheetsFrom rows texts s) settings p))
+        × ((z ≡ padded (callStore (sheetsFrom rows texts s) settings p) (length texts))
+        × ((rows₂ ≡ replicate (length rows) 0) × ((tokens₂ ≡ replicate (length tokens) 0) × (brackets₂ ≡ replicate (length brackets) 0)))))
+    read-left c settings p brackets q out ys ey r er l n₁ n₂ el z ez rows₁ tokens₁ brackets₁ rows₂ tokens₂ brackets₂ nr cr nt ct nb cb = (
+      ap (λ (y : List ℕ). y ++ drop styleRowWidth out) (row-called h v t x ev et ex nodes attributes text row rooted w y ew es c settings p ys ey),
       (
-        ez ∙ ap (λ (y : List ℕ). padded y (length l)) (texts-called h v t x ev et ex settings p r er brackets q l n₁ el) ∙ ap (padded (callStore (sheetsFrom rows texts s) settings p)) (n₁ ∙ n₂),
-        (cleared-throughout rows₁ rows rows₂ nr cr, (cleared-throughout tokens₁ tokens tokens₂ nt ct, cleared-throughout brackets₁ brackets brackets₂ nb cb)),
+        filled h v t x ev et ex nodes attributes text row rooted w y ew es settings p r er,
+        (
+          ez ∙ ap (λ (y : List ℕ). padded y (length l)) (texts-called h v t x ev et ex nodes attributes text row rooted w y ew es settings p r er brackets q l n₁ el) ∙ ap (padded (callStore (sheetsFrom rows texts s) settings p)) (n₁ ∙ n₂),
+          (cleared-throughout rows₁ rows rows₂ nr cr, (cleared-throughout tokens₁ tokens tokens₂ nt ct, cleared-throughout brackets₁ brackets brackets₂ nb cb)),
+        ),
       ),
-    ),
-  )
+    )

@@ -1,3 +1,4 @@
+pub mod Tops
 pub mod Path
 pub mod StyleAnswer
 pub mod Styling

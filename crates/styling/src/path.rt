@@ -1,5 +1,7 @@
 // The style of an element and of those above it, from the top down.
 use crate::rules::merge_rules;
+use crate::tops::ReadySheet;
+use crate::tops::ReadySheets;
 use attributes::merging::merge_attributes;
 use attributes::merging::merge_early_attributes;
 use cascade::rows::clear_row;
@@ -8,8 +10,6 @@ use cascade::slots::Cascade;
 use page::rows::attribute_count;
 use page::rows::first_attribute;
 use page::rows::parent_of;
-use rule_styles::styled::StyledSheet;
-use rule_styles::styled::StyledSheets;
 use styles::settings::Settings;
 use syntax::rows::AGENT_ORIGIN;
 use syntax::rows::AUTHOR_ORIGIN;
@@ -17,7 +17,7 @@ use syntax::rows::USER_ORIGIN;
 ghost use mathlib.Core.Path.{_≡_};
 ghost use mathlib.Core.List.{_++_, map};
 ghost use Prim.Native.Nat.{ℕ, _+_};
-ghost use lib.ListN.{length, take};
+ghost use lib.ListN.{length, take, drop};
 ghost use Rattle.syntax.specs.Style.{agentOrigin, userOrigin};
 ghost use Rattle.cascade.specs.Row.{RowRoom, inheritedRow, rowOf};
 ghost use Rattle.cascade.specs.Record.{fromRule, declaredBy};
@@ -27,13 +27,14 @@ ghost use Rattle.styles.specs.Said.{rulesSay, countedAttributes, sourcesFrom};
 ghost use Rattle.styles.specs.Computed.{cascaded};
 ghost use Rattle.styles.specs.Merged.{mergedRow, earlyDeclared, lateDeclared};
 ghost use Rattle.styles.specs.StyleCall.{placedAttributes, inlineContents, pathContents, placedFrom};
-ghost use Rattle.styling.specs.Path.{keptSheet, keptSheets, TextsIn, SameKept, Steady, ElementRoom, EarlyRoom, PathRoom, OneRow};
+ghost use Rattle.styling.specs.Tops.{RightTops, sheetSelectors, TextsIn};
+ghost use Rattle.styling.specs.Path.{keptSheet, keptSheets, SameKept, Steady, ElementRoom, EarlyRoom, PathRoom, OneRow};
 
 // What the rules of a sheet say of an element.
 fn merge_sheet(
     cascade: Cascade,
     origin: u32,
-    sheet: StyledSheet,
+    sheet: ReadySheet,
     end: usize,
     rules: &[u32],
     tokens: &[u32],
@@ -46,7 +47,8 @@ fn merge_sheet(
 )
     requires { ⌜ RowRoom (now out) ⌝ }
     requires { ⌜ Rooted (now nodes) row ⌝ }
-    requires { ⌜ TextsIn (now texts) end sheet ⌝ }
+    requires { ⌜ TextsIn (now texts) end (sheet .rules) ⌝ }
+    requires { ⌜ RightTops (now nodes) (now attributes) (now text) row (sheetSelectors (now rules) (now texts) end (sheet .rules)) (drop (sheet .tops) (now tokens)) ⌝ }
     ensures { λ _. ⌜ now (out .exit) ≡ mergedRow cascade (now (out .entry)) (map (fromRule origin) (rulesSay (pathOf (now (nodes .entry)) (now (attributes .entry)) (now (text .entry)) row) (keptSheet (now (rules .entry)) (now (tokens .entry)) (now (texts .entry)) end sheet))) ⌝ }
 {
     let from = sheet.rules.from;
@@ -60,6 +62,7 @@ fn merge_sheet(
         &texts[from..end],
         tokens,
         sheet.styles,
+        sheet.tops,
         nodes,
         attributes,
         text,
@@ -70,7 +73,7 @@ fn merge_sheet(
 // What an element has of its parent's row, and what the agent's and the user's rules say of it.
 fn begin_element(
     cascade: Cascade,
-    sheets: StyledSheets,
+    sheets: ReadySheets,
     rules: &[u32],
     tokens: &[u32],
     texts: &[u8],
@@ -82,7 +85,7 @@ fn begin_element(
 )
     requires { ⌜ RowRoom (now out) ⌝ }
     requires { ⌜ Rooted (now nodes) row ⌝ }
-    requires { ⌜ Steady sheets (now rules) (now tokens) (now texts) ⌝ }
+    requires { ⌜ Steady sheets (now nodes) (now attributes) (now text) row (now rules) (now tokens) (now texts) ⌝ }
     ensures { λ _. ⌜ now (out .exit) ≡ mergedRow cascade (inheritedRow cascade (now (out .entry)))
         (map (fromRule agentOrigin) (rulesSay (pathOf (now (nodes .entry)) (now (attributes .entry)) (now (text .entry)) row) (keptSheets (now (rules .entry)) (now (tokens .entry)) (now (texts .entry)) sheets .agent))
         ++ map (fromRule userOrigin) (rulesSay (pathOf (now (nodes .entry)) (now (attributes .entry)) (now (text .entry)) row) (keptSheets (now (rules .entry)) (now (tokens .entry)) (now (texts .entry)) sheets .user))) ⌝ }
@@ -122,7 +125,7 @@ fn begin_element(
 fn merge_early(
     cascade: Cascade,
     settings: Settings,
-    sheets: StyledSheets,
+    sheets: ReadySheets,
     nodes: &[u32],
     attributes: &[u32],
     text: &[u8],
@@ -161,7 +164,7 @@ fn merge_early(
 fn merge_late(
     cascade: Cascade,
     settings: Settings,
-    sheets: StyledSheets,
+    sheets: ReadySheets,
     nodes: &[u32],
     attributes: &[u32],
     text: &[u8],
@@ -207,7 +210,7 @@ fn merge_late(
 fn style_element(
     cascade: Cascade,
     settings: Settings,
-    sheets: StyledSheets,
+    sheets: ReadySheets,
     nodes: &[u32],
     attributes: &[u32],
     text: &[u8],
@@ -221,7 +224,7 @@ fn style_element(
 ) -> usize
     requires { ⌜ RowRoom (now out) ⌝ }
     requires { ⌜ Rooted (now nodes) row ⌝ }
-    requires { ⌜ Steady sheets (now rules) (now tokens) (now texts) ⌝ }
+    requires { ⌜ Steady sheets (now nodes) (now attributes) (now text) row (now rules) (now tokens) (now texts) ⌝ }
     requires { ⌜ ElementRoom sheets (elementAt (now nodes) (now attributes) (now text) row) fill (now rules) (now tokens) (now brackets) (now texts) ⌝ }
     ensures { λ _. ⌜ now (out .exit) ≡ mergedRow cascade (inheritedRow cascade (now (out .entry)))
         (declaredBy cascade (sourcesFrom (keptSheets (now (rules .entry)) (now (tokens .entry)) (now (texts .entry)) sheets) (placedAttributes fill (countedAttributes settings (elementAt (now (nodes .entry)) (now (attributes .entry)) (now (text .entry)) row))) (pathOf (now (nodes .entry)) (now (attributes .entry)) (now (text .entry)) row))) ⌝ }
@@ -291,7 +294,7 @@ fn style_element(
 pub fn style_path(
     cascade: Cascade,
     settings: Settings,
-    sheets: StyledSheets,
+    sheets: ReadySheets,
     nodes: &[u32],
     attributes: &[u32],
     text: &[u8],
@@ -304,7 +307,7 @@ pub fn style_path(
 ) -> usize
     requires { ⌜ OneRow (now out) ⌝ }
     requires { ⌜ Rooted (now nodes) row ⌝ }
-    requires { ⌜ Steady sheets (now rules) (now tokens) (now texts) ⌝ }
+    requires { ⌜ Steady sheets (now nodes) (now attributes) (now text) row (now rules) (now tokens) (now texts) ⌝ }
     requires { ⌜ PathRoom sheets (pathOf (now nodes) (now attributes) (now text) row) (now rules) (now tokens) (now brackets) (now texts) ⌝ }
     ensures { λ _. ⌜ now (out .exit) ≡ rowOf (cascaded cascade (placedFrom (keptSheets (now (rules .entry)) (now (tokens .entry)) (now (texts .entry)) sheets) (sheets .fill) settings (pathOf (now (nodes .entry)) (now (attributes .entry)) (now (text .entry)) row))) ⌝ }
     ensures { λ r. ⌜ r ≡ sheets .fill + length (pathContents settings (pathOf (now (nodes .entry)) (now (attributes .entry)) (now (text .entry)) row)) ⌝ }

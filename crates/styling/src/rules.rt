@@ -1,4 +1,6 @@
-// What the rules of a sheet say of an element, merged into its row. The styles of each rule are those that the call keeps for it.
+// What the rules of a sheet say of an element, merged into its row. The styles of each rule are those that the call keeps for it, and so are the numbers of its selectors.
+use crate::tops::TOP_WIDTH;
+use crate::tops::top_at;
 use cascade::rows::AFTER;
 use cascade::rows::BEFORE;
 use cascade::rows::MAIN;
@@ -7,7 +9,7 @@ use cascade::slots::Cascade;
 use cascade::specificity::Specificity;
 use combinators::stores::number_at;
 use matching::components::specificity;
-use matching::matcher::do_matches;
+use matching::topmost::matches_below;
 use origins::walk::skip_rule;
 use origins::walk::skip_selector;
 use rule_styles::rows::KEPT_COUNT;
@@ -33,9 +35,11 @@ ghost use Rattle.cascade.specs.Record.{fromRule};
 ghost use Rattle.cascade.specs.Row.{RowRoom};
 ghost use Rattle.page.specs.PathOf.{pathOf};
 ghost use Rattle.matching.specs.Rows.{Rooted};
+ghost use Rattle.matching.specs.Topmost.{RightTop};
 ghost use Rattle.styles.specs.Merged.{mergedRow};
 ghost use Rattle.styles.specs.Said.{ruleStyle, selectorSays, selectorsSay, rulesSay};
-ghost use Rattle.rule_styles.specs.Placing.{readStyled, readKept, rulesKept};
+ghost use Rattle.rule_styles.specs.Placing.{readStyled, readKept, rulesSelectors, rulesKept};
+ghost use Rattle.styling.specs.Tops.{RightTops};
 
 // The record of a style row that a selector's pseudo element names.
 fn pseudo_of(number: u32) -> usize
@@ -76,7 +80,7 @@ fn merge_styles(
     }
 }
 
-// Merges what the selector at `at` says of a row of a page, with `count` styles, whose rows start at `first`.
+// Merges what the selector at `at`, whose number is `top`, says of a row of a page, with `count` styles, whose rows start at `first`.
 fn merge_selector(
     out: &mut [u32],
     cascade: Cascade,
@@ -84,6 +88,7 @@ fn merge_selector(
     rows: &[u32],
     at: usize,
     texts: &[u8],
+    top: usize,
     styles: &[u32],
     first: usize,
     count: u32,
@@ -94,6 +99,7 @@ fn merge_selector(
 )
     requires { ⌜ RowRoom (now out) ⌝ }
     requires { ⌜ Rooted (now nodes) row ⌝ }
+    requires { ⌜ RightTop (now nodes) (now attributes) (now text) (readSelector (now texts) (drop at (now rows)) .value .components) row top ⌝ }
     ensures { λ _. ⌜ now (out .exit)
         ≡ mergedRow cascade (now (out .entry))
         (map (fromRule origin)
@@ -104,10 +110,11 @@ fn merge_selector(
     let length = number_at(rows, at, SELECTOR_COMPONENTS);
     let behind_head = forward(rows, at, SELECTOR_HEAD);
     let components = &rows[behind_head..];
-    let matched = do_matches(
+    let matched = matches_below(
         components,
         texts,
         length as usize,
+        top,
         nodes,
         attributes,
         text,
@@ -121,7 +128,7 @@ fn merge_selector(
     }
 }
 
-// Merges what `selectors` selectors from `at` on say of a row of a page, each with `count` styles, whose rows start at `first`; the place behind them.
+// Merges what `selectors` selectors from `at` on, whose numbers start at `tops`, say of a row of a page, each with `count` styles, whose rows start at `first`; the place behind them.
 fn merge_selectors(
     out: &mut [u32],
     cascade: Cascade,
@@ -133,6 +140,7 @@ fn merge_selectors(
     styles: &[u32],
     first: usize,
     count: u32,
+    tops: usize,
     nodes: &[u32],
     attributes: &[u32],
     text: &[u8],
@@ -140,6 +148,7 @@ fn merge_selectors(
 ) -> usize
     requires { ⌜ RowRoom (now out) ⌝ }
     requires { ⌜ Rooted (now nodes) row ⌝ }
+    requires { ⌜ RightTops (now nodes) (now attributes) (now text) row (readMany (readSelector (now texts)) selectors (drop at (now rows)) .value) (drop tops (now styles)) ⌝ }
     ensures { λ _. ⌜ now (out .exit)
         ≡ mergedRow cascade (now (out .entry))
         (map (fromRule origin)
@@ -149,6 +158,7 @@ fn merge_selectors(
     ensures { λ r. ⌜ drop r (now (rows .entry)) ≡ readMany (readSelector (now (texts .entry))) selectors (drop at (now (rows .entry))) .rest ⌝ }
 {
     let mut place = at;
+    let mut top_place = tops;
     let mut left = selectors;
     while left > 0 {
         merge_selector(
@@ -158,6 +168,7 @@ fn merge_selectors(
             rows,
             place,
             texts,
+            top_at(styles, top_place),
             styles,
             first,
             count,
@@ -167,13 +178,14 @@ fn merge_selectors(
             row,
         );
         place = skip_selector(rows, place);
+        top_place = forward(styles, top_place, TOP_WIDTH);
         left -= 1;
     }
     place
 }
 
-// Merges what the rule at `at` says of a row of a page, with the styles that are kept for it at `first`; the place behind it. Where none is kept its
-// selectors are only passed over.
+// Merges what the rule at `at` says of a row of a page, with the styles that are kept for it at `first` and the numbers of its selectors at `tops`; the place behind it. Where no style is
+// kept its selectors are only passed over.
 fn merge_rule(
     out: &mut [u32],
     cascade: Cascade,
@@ -183,6 +195,7 @@ fn merge_rule(
     texts: &[u8],
     styles: &[u32],
     first: usize,
+    tops: usize,
     nodes: &[u32],
     attributes: &[u32],
     text: &[u8],
@@ -190,6 +203,7 @@ fn merge_rule(
 ) -> usize
     requires { ⌜ RowRoom (now out) ⌝ }
     requires { ⌜ Rooted (now nodes) row ⌝ }
+    requires { ⌜ RightTops (now nodes) (now attributes) (now text) row (readRule (now texts) (drop at (now rows)) .value .selectors) (drop tops (now styles)) ⌝ }
     ensures { λ _. ⌜ now (out .exit)
         ≡ mergedRow cascade (now (out .entry))
         (map (fromRule origin)
@@ -213,6 +227,7 @@ fn merge_rule(
         styles,
         forward(styles, first, KEPT_HEAD),
         count,
+        tops,
         nodes,
         attributes,
         text,
@@ -230,7 +245,7 @@ fn skip_kept(styles: &[u32], at: usize) -> usize
     forward(styles, at, KEPT_HEAD + STYLE_WIDTH * count)
 }
 
-// Merges what `count` rules from `at` on say of a row of a page, with the styles that are kept for them from `first` on.
+// Merges what `count` rules from `at` on say of a row of a page, with the styles that are kept for them from `first` on and the numbers of their selectors from `tops` on.
 pub fn merge_rules(
     out: &mut [u32],
     cascade: Cascade,
@@ -241,6 +256,7 @@ pub fn merge_rules(
     texts: &[u8],
     styles: &[u32],
     first: usize,
+    tops: usize,
     nodes: &[u32],
     attributes: &[u32],
     text: &[u8],
@@ -248,6 +264,7 @@ pub fn merge_rules(
 )
     requires { ⌜ RowRoom (now out) ⌝ }
     requires { ⌜ Rooted (now nodes) row ⌝ }
+    requires { ⌜ RightTops (now nodes) (now attributes) (now text) row (rulesSelectors (readMany (readRule (now texts)) count (drop at (now rows)) .value)) (drop tops (now styles)) ⌝ }
     ensures { λ _. ⌜ now (out .exit)
         ≡ mergedRow cascade (now (out .entry))
         (map (fromRule origin)
@@ -256,8 +273,10 @@ pub fn merge_rules(
 {
     let mut place = at;
     let mut kept = first;
+    let mut top_place = tops;
     let mut left = count;
     while left > 0 {
+        let selectors = number_at(rows, place, RULE_SELECTORS) as usize;
         place = merge_rule(
             out,
             cascade,
@@ -267,12 +286,14 @@ pub fn merge_rules(
             texts,
             styles,
             kept,
+            top_place,
             nodes,
             attributes,
             text,
             row,
         );
         kept = skip_kept(styles, kept);
+        top_place = forward(styles, top_place, TOP_WIDTH * selectors);
         left -= 1;
     }
 }

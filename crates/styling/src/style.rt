@@ -1,6 +1,7 @@
 // `style` and `style_book`: the computed style of one element. Refusals are looked for in the order of document 01; nothing is written before all of them but
 // 4 are ruled out.
 use crate::path::style_path;
+use crate::tops::find_tops;
 use cascade::rows::STYLE_ROW_WIDTH;
 use cascade::slots::Cascade;
 use combinators::least::stores_suffice;
@@ -33,7 +34,7 @@ use sheets::sheet::clear_stores;
 use styles::settings::Settings;
 ghost use mathlib.Core.Path.{_≡_};
 ghost use mathlib.Core.List.{_++_};
-ghost use Prim.Native.Nat.{_+_, _*_, _/_, _≤_};
+ghost use Prim.Native.Nat.{_+_, _*_, _/_, _≤_, _<_};
 ghost use lib.Dec.{leb};
 ghost use lib.ListN.{length, drop, replicate};
 ghost use Rattle.combinators.specs.Choice.{and};
@@ -47,7 +48,7 @@ ghost use Rattle.origins.specs.Reading.{sheetsOf};
 ghost use Rattle.cascade.specs.declared.slots.Cascade.the-variants.{Crate, Book};
 ghost use Rattle.cascade.specs.Row.{styleRowWidth};
 ghost use Rattle.page.specs.PathOf.{pathOf};
-ghost use Rattle.page.specs.Rows.{attributeWidth};
+ghost use Rattle.page.specs.Rows.{attributeWidth, numberBound};
 ghost use Rattle.matching.specs.Rows.{Rooted};
 ghost use Rattle.styles.specs.StyleCall.{callRow, callStore};
 ghost use Rattle.rule_styles.specs.Held.{sheetsFrom, SheetsHeld};
@@ -166,6 +167,7 @@ fn style_read(
     brackets: &mut [u8],
 ) -> usize
     requires { ⌜ Rooted (now nodes) row ⌝ }
+    requires { ⌜ row < numberBound ⌝ }
     requires { ⌜ ReadRoom sheets (pathOf (now nodes) (now attributes) (now text) row) (now out) (now rules) (now tokens) (now brackets) (now texts) ⌝ }
     ensures { λ _. ⌜ now (out .exit) ≡ callRow cascade (sheetsFrom (now (rules .entry)) (now (texts .entry)) sheets) settings (pathOf (now (nodes .entry)) (now (attributes .entry)) (now (text .entry)) row) ++ drop styleRowWidth (now (out .entry)) ⌝ }
     ensures { λ r. ⌜ r ≡ length (callStore (sheetsFrom (now (rules .entry)) (now (texts .entry)) sheets) settings (pathOf (now (nodes .entry)) (now (attributes .entry)) (now (text .entry)) row)) ⌝ }
@@ -175,10 +177,11 @@ fn style_read(
     ensures { λ _. ⌜ now (brackets .exit) ≡ replicate (length (now (brackets .entry))) 0 ⌝ }
 {
     let styled = style_sheets(rules, sheets, tokens, texts);
+    let ready = find_tops(styled, rules, texts, nodes, attributes, text, row, tokens);
     let fill = style_path(
         cascade,
         settings,
-        styled,
+        ready,
         nodes,
         attributes,
         text,
@@ -189,7 +192,7 @@ fn style_read(
         brackets,
         texts,
     );
-    keep_contents(texts, styled.end, fill);
+    keep_contents(texts, ready.end, fill);
     clear_work(rules, tokens, brackets);
     fill
 }
@@ -212,6 +215,7 @@ fn style_texts(
     brackets: &mut [u8],
 ) -> StyleAnswer
     requires { ⌜ Rooted (now nodes) row ⌝ }
+    requires { ⌜ row < numberBound ⌝ }
     requires { ⌜ Lent (now agent) (now user) (now author) (now rules) (now tokens) (now brackets) (now texts) ⌝ }
     requires { ⌜ CallLent (length (now agent) + length (now user) + length (now author)) (pathOf (now nodes) (now attributes) (now text) row) (now out) (now rules) (now tokens) (now brackets) (now texts) ⌝ }
     ensures { λ r. ⌜ record { answer = r; row = now (out .exit); texts = now (texts .exit); rules = now (rules .exit); tokens = now (tokens .exit); brackets = now (brackets .exit) }

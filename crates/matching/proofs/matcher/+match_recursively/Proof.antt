@@ -53,7 +53,7 @@ pub +match-recursively-spec : {M : Type 1} → statement M
     -- enum-known-climbed-2
     (λ c. search needs)
     -- loop-holds
-    (λ c. laws.climb-descends _ _ _ _ _ _ _ _ (c .before .before .before .match-locally .ensures) (c .before .climbed2 .given .1))
+    (λ c. laws.climb-descends _ _ _ _ _ _ _ _ (c .before .before .before .match-locally .ensures) (c .before .climbed2 .given .1) .decided)
     -- next-ancestor-requires
     (λ c κs. record { rooted = c .before .loop .inv .rooted; no-document = c .loop-test .taken })
     -- match-recursively-requires

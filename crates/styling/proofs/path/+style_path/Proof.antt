@@ -92,7 +92,7 @@ style-path-style-path-requires t c κs = let S = c .before .before .before .befo
     let q = S .pre .1 in
     let e = c .before .before .before .before .before .parent-of .ensures .0 in
     let z = c .before .before .before .before .before .before .if1 .left in
-    (omega (arith, parent-before _ _ (q .1 .0) z _ e, S .pre .0), (q .0, (parent-rooted _ _ (q .1 .0) z _ e, (q .1 .1 .0, laws.room-above (S .args .sheets) _ _ _ (laws.path-by _ _ _ _ (q .1 .0) z _ e) _ _ _ _ (q .1 .1 .1)))))
+    (omega (arith, parent-before _ _ (q .1 .0) z _ e, S .pre .0), (q .0, (parent-rooted _ _ (q .1 .0) z _ e, (laws.steady-above (S .args .sheets) (q .1 .1 .0) z _ e, laws.room-above (S .args .sheets) _ _ _ (laws.path-by _ _ _ _ (q .1 .0) z _ e) _ _ _ _ (q .1 .1 .1)))))
 
 style-path-style-element-requires : (t : ℕ) → style-path-lts.Need-style-element-requires (
   clear-row-reads.Asked,

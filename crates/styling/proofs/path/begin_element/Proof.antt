@@ -9,10 +9,14 @@ inherit-requires : tie.Need-inherit-requires
 inherit-requires c κs = search needs
 
 merge-sheet-requires : tie.Need-merge-sheet-requires
-merge-sheet-requires c κs = search needs
+merge-sheet-requires c κs = let S = c .before .before .before .before .before .before .before .before .before .before .before .before in
+    let h = S .pre .1 .1 in
+    (search needs, (S .pre .1 .0, (h .agent-in, laws.tops-now (S .args .sheets) h .agent-tops)))
 
 merge-sheet-requires-2 : tie.Need-merge-sheet-requires-2
-merge-sheet-requires-2 c κs = search needs
+merge-sheet-requires-2 c κs = let S = c .before .before .before .before .before .before .before .before .before .before .before .before .before .before .before .before in
+    let h = S .pre .1 .1 in
+    (search needs, (S .pre .1 .0, (h .user-in, laws.tops-now (S .args .sheets) h .user-tops)))
 
 same-length : tie.Need-same-length
 same-length c = search needs

@@ -1,6 +1,7 @@
 -- The text that is lent is the sheet's, so its rules are those that are kept.
 use Rattle.rule_styles.specs.Placing.{sheetText}
 use Rattle.styling.specs.Path.{keptSheet}
+use Rattle.styling.specs.Tops.{sheetSelectors}
 use borrow.Author.Needs.{needs}
 use Rattle.styling.proofs.path.merge_sheet.Statement.{statement}
 use Rattle.styling.proofs.path.merge_sheet.Tie as tie
@@ -15,7 +16,8 @@ part-merge-rules-end : tie.Need-part-merge-rules-end
 part-merge-rules-end c = search needs
 
 merge-rules-requires : tie.Need-merge-rules-requires
-merge-rules-requires c κs = search needs
+unfolding sheetSelectors sheetText
+merge-rules-requires c κs = let p = c .before .before .before .before .before .before .before .before .before .pre in (p .0, (p .1 .0, p .1 .1 .1))
 
 same-length : tie.Need-same-length
 same-length c = search needs

@@ -17,8 +17,9 @@ merge-early-requires c κs = let S = c .before .before .before .before .before .
 merge-sheet-requires : tie.Need-merge-sheet-requires
 merge-sheet-requires c κs = let S = c .before .before .before .before .before .before .before .before .before .before .before .before .before .before .before .before .before .before .before .before .before .before .before .before .before .before .before .before .before .before .before .before in
     let e = c .before .before .before .before .before .before .before .before .before .before .before .before .merge-early .kept in
+    let m = c .before .before .before .before .before .before .before .before .before .before .before .before .merge-early .ensures in
     let t = S .pre .1 .1 .0 .author-in in
-    (room-kept _ _ (e .1 .1 .1 .1 .1 .1 .1 .0 ∙ c .before .before .before .before .before .before .before .before .before .before .before .before .before .before .before .before .before .before .before .begin-element .kept .1 .1 .1 .1 .1 .1 .1 .1 .1 .0) (S .pre .0), (S .pre .1 .0, record { begins = t .begins; ends = omega (arith, t .ends, e .1 .1 .1 .1 .1 .1 .1 .1 .1 .1 .0) }))
+    (room-kept _ _ (e .1 .1 .1 .1 .1 .1 .1 .0 ∙ c .before .before .before .before .before .before .before .before .before .before .before .before .before .before .before .before .before .before .before .begin-element .kept .1 .1 .1 .1 .1 .1 .1 .1 .1 .0) (S .pre .0), (S .pre .1 .0, (record { begins = t .begins; ends = omega (arith, t .ends, e .1 .1 .1 .1 .1 .1 .1 .1 .1 .1 .0) }, laws.author-tops-still (S .args .sheets) (S .pre .1 .1 .0) (S .args .fill) _ _ (m .1 .0) (m .1 .1))))
 
 merge-late-requires : tie.Need-merge-late-requires
 merge-late-requires c κs = let S = c .before .before .before .before .before .before .before .before .before .before .before .before .before .before .before .before .before .before .before .before .before .before .before .before .before .before .before .before .before .before .before .before .before .before .before .before .before .before .before .before in

@@ -27,7 +27,12 @@ forward-requires-2 : tie.Need-forward-requires-2
 forward-requires-2 c κs = search needs
 
 merge-selectors-requires : tie.Need-merge-selectors-requires
-merge-selectors-requires c κs = search needs
+merge-selectors-requires c κs = let s = c .before in
+    let f = s .before in
+    let n = f .before .before .before in
+    let p = n .before .before .before .before .before .before .before .before in
+    let a = p .args in
+    (p .pre .0, (p .pre .1 .0, laws.lent-tops (a .nodes .now) (a .attributes .now) (a .text .now) (a .row) (a .texts .now) (a .rows .now) (a .at) _ (f .forward .result) (s .number-at2 .ensures) (f .forward .ensures .1 .0) _ (p .pre .1 .1)))
 
 number-at-requires-3 : tie.Need-number-at-requires-3
 number-at-requires-3 c κs = search needs

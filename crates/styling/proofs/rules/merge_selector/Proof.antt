@@ -1,5 +1,6 @@
 -- The components that are lent are those of the selector, so where they match its styles are merged, and elsewhere it says nothing.
 use Rattle.styling.proofs.RulesMerging as laws
+use Rattle.styling.proofs.TopsLaws.{lent-top}
 use Rattle.page.specs.PathOf.{pathOf}
 use borrow.Author.Needs.{needs}
 use Rattle.styling.proofs.rules.merge_selector.Statement.{statement}
@@ -23,11 +24,15 @@ part-components-start c = search needs
 part-components-end : tie.Need-part-components-end
 part-components-end c = search needs
 
-cast-do-matches : tie.Need-cast-do-matches
-cast-do-matches c = search needs
+cast-matches-below : tie.Need-cast-matches-below
+cast-matches-below c = search needs
 
-do-matches-requires : tie.Need-do-matches-requires
-do-matches-requires c κs = search needs
+matches-below-requires : tie.Need-matches-below-requires
+matches-below-requires c κs = let f = c .before in
+    let n = f .before in
+    let s = n .before .before .before .before .before .before .before .before in
+    let a = s .args in
+    (s .pre .1 .0, lent-top (a .texts .now) (a .rows .now) (a .at) _ (f .forward .result) (n .number-at .ensures) (f .forward .ensures .1 .0) (a .nodes .now) (a .attributes .now) (a .text .now) (a .row) (a .top) (s .pre .1 .1))
 
 number-at-requires-2 : tie.Need-number-at-requires-2
 number-at-requires-2 c κs = search needs
@@ -55,7 +60,7 @@ returns c = let m = c .before .before in
     let n = f .before in
     let a = n .before .before .before .before .before .before .before .before .args in
     laws.selector-holds _ (a .origin) (pathOf (a .nodes .now) (a .attributes .now) (a .text .now) (a .row)) _ (a .texts .now) (a .rows .now) (a .at) _ (f .forward .result) (n .number-at .ensures) (f .forward .ensures .1 .0) _
-    (d .do-matches .ensures) (t .if1 .taken) _ _ (q .number-at2 .ensures) (k .pseudo-of .ensures) _ (s .specificity .ensures) _ _ (m .merge-styles .ensures)
+    (d .matches-below .ensures) (t .if1 .taken) _ _ (q .number-at2 .ensures) (k .pseudo-of .ensures) _ (s .specificity .ensures) _ _ (m .merge-styles .ensures)
 
 returns-2 : tie.Need-returns-2
 returns-2 c = let d = c .before in
@@ -63,7 +68,7 @@ returns-2 c = let d = c .before in
     let n = f .before in
     let a = n .before .before .before .before .before .before .before .before .args in
     laws.selector-fails _ (a .origin) (pathOf (a .nodes .now) (a .attributes .now) (a .text .now) (a .row)) _ (a .texts .now) (a .rows .now) (a .at) _ (f .forward .result) (n .number-at .ensures) (f .forward .ensures .1 .0) _
-    (d .do-matches .ensures) (c .if1 .left) _
+    (d .matches-below .ensures) (c .if1 .left) _
 
 pub merge-selector-spec : {M : Type 1} → statement M
 merge-selector-spec =
@@ -75,8 +80,8 @@ merge-selector-spec =
     sub-components
     part-components-start
     part-components-end
-    cast-do-matches
-    do-matches-requires
+    cast-matches-below
+    matches-below-requires
     number-at-requires-2
     pseudo-of-requires
     specificity-requires

@@ -21,7 +21,7 @@ style-texts-requires c κs = let S = c .before .before .before .before .before .
     let x = c .before .before .before .before .before .before .before .if1 .taken in
     let y = c .before .before .before .before .before .before .is-element .ensures in
     let z = c .before .before .before .before .before .if2 .taken in
-    (laws.rooted (a .cascade) (a .settings) (record { agent = a .agent .now; user = a .user .now; author = a .author .now }) (record { nodes = a .nodes .now; attributes = a .attributes .now; text = a .text .now }) (a .row) (a .out .now) (a .texts .now) (a .rules .now) (a .tokens .now) (a .brackets .now) (S .pre) e x y z, (laws.lent (a .cascade) (a .settings) (record { agent = a .agent .now; user = a .user .now; author = a .author .now }) (record { nodes = a .nodes .now; attributes = a .attributes .now; text = a .text .now }) (a .row) (a .out .now) (a .texts .now) (a .rules .now) (a .tokens .now) (a .brackets .now) (S .pre) e x y z, laws.call-lent (a .cascade) (a .settings) (record { agent = a .agent .now; user = a .user .now; author = a .author .now }) (record { nodes = a .nodes .now; attributes = a .attributes .now; text = a .text .now }) (a .row) (a .out .now) (a .texts .now) (a .rules .now) (a .tokens .now) (a .brackets .now) (S .pre) e x y z))
+    (laws.rooted (a .cascade) (a .settings) (record { agent = a .agent .now; user = a .user .now; author = a .author .now }) (record { nodes = a .nodes .now; attributes = a .attributes .now; text = a .text .now }) (a .row) (a .out .now) (a .texts .now) (a .rules .now) (a .tokens .now) (a .brackets .now) (S .pre) e x y z, (laws.few-rows (a .cascade) (a .settings) (record { agent = a .agent .now; user = a .user .now; author = a .author .now }) (record { nodes = a .nodes .now; attributes = a .attributes .now; text = a .text .now }) (a .row) (a .out .now) (a .texts .now) (a .rules .now) (a .tokens .now) (a .brackets .now) (S .pre) e x y z, (laws.lent (a .cascade) (a .settings) (record { agent = a .agent .now; user = a .user .now; author = a .author .now }) (record { nodes = a .nodes .now; attributes = a .attributes .now; text = a .text .now }) (a .row) (a .out .now) (a .texts .now) (a .rules .now) (a .tokens .now) (a .brackets .now) (S .pre) e x y z, laws.call-lent (a .cascade) (a .settings) (record { agent = a .agent .now; user = a .user .now; author = a .author .now }) (record { nodes = a .nodes .now; attributes = a .attributes .now; text = a .text .now }) (a .row) (a .out .now) (a .texts .now) (a .rules .now) (a .tokens .now) (a .brackets .now) (S .pre) e x y z)))
 
 same-length : tie.Need-same-length
 same-length c = c .before .before .before .before .before .before .before .before .before .before .style-texts .kept .1 .1 .1 .1 .1 .1 .1 .1 .1 .0

@@ -11,7 +11,7 @@ clear-all-requires c κs = search needs
 read-sheets-requires : tie.Need-read-sheets-requires
 read-sheets-requires c κs = let S = c .before .before .before .before .before .before .before .before .before .before .before .before .before .before .before .before .before .before .before .before .before .before .before .before .before .before .before .before .before .before .before in
     let v = c .before .before .before .before .before .before .before .before .before .before .before .before .before .before .clear-all .ensures in
-    laws.sheets-room (S .args .cascade) (S .args .settings) _ (S .pre .1 .0) (S .args .out .now) (S .pre .1 .1) (v .0) (v .1 .0) (v .1 .1 .0) (v .1 .1 .1 .0) (v .1 .1 .1 .1) (S .good .1 .1 .1 .1 .1 .1 .1 .1 .1 .1 .1 .0 .0)
+    laws.sheets-room (S .args .cascade) (S .args .settings) _ (S .pre .1 .1 .0) (S .args .out .now) (S .pre .1 .1 .1) (v .0) (v .1 .0) (v .1 .1 .0) (v .1 .1 .1 .0) (v .1 .1 .1 .1) (S .good .1 .1 .1 .1 .1 .1 .1 .1 .1 .1 .1 .0 .0)
 
 enum-known-which : tie.Need-enum-known-which
 enum-known-which c = search needs
@@ -41,7 +41,7 @@ returns : tie.Need-returns
 returns c = let S = c .before .before .before .before .before .before .before .before .before .before .before .before .before .before .before .before .before .before .before .before .before .before .before .before .before .before .before .before .before .before .before .before .before .before .before .before .before .before .before .before .before .before .before .before .before in
     let v = c .before .before .before .before .before .before .before .before .before .before .before .before .before .before .before .before .before .before .before .before .before .before .before .before .before .before .before .before .clear-all .ensures in
     let u = c .before .before .before .before .before .before .before .before .before .before .before .before .before .read-sheets .ensures in
-    laws.panics (S .args .cascade) (S .args .settings) _ (S .pre .1 .0) (S .args .out .now) (S .pre .1 .1) (v .0) (v .1 .0) (v .1 .1 .0) (v .1 .1 .1 .0) (v .1 .1 .1 .1) (u .0) (u .1 .0) (u .1 .1 .0) (u .1 .1 .1 .0) (u .1 .1 .1 .1) (c .before .before .before .which .given .1) (c .before .refused-in .ensures) (c .refused-style .ensures)
+    laws.panics (S .args .cascade) (S .args .settings) _ (S .pre .1 .1 .0) (S .args .out .now) (S .pre .1 .1 .1) (v .0) (v .1 .0) (v .1 .1 .0) (v .1 .1 .1 .0) (v .1 .1 .1 .1) (u .0) (u .1 .0) (u .1 .1 .0) (u .1 .1 .1 .0) (u .1 .1 .1 .1) (c .before .before .before .which .given .1) (c .before .refused-in .ensures) (c .refused-style .ensures)
 
 enum-known-sheets : tie.Need-enum-known-sheets
 enum-known-sheets c = search needs
@@ -50,7 +50,7 @@ style-read-requires : tie.Need-style-read-requires
 style-read-requires c κs = let S = c .before .before .before .before .before .before .before .before .before .before .before .before .before .before .before .before .before .before .before .before .before .before .before .before .before .before .before .before .before .before .before .before .before .before .before .before .before .before .before .before .before .before .before .before .before .before .before .before in
     let v = c .before .before .before .before .before .before .before .before .before .before .before .before .before .before .before .before .before .before .before .before .before .before .before .before .before .before .before .before .before .before .before .clear-all .ensures in
     let u = c .before .before .before .before .before .before .before .before .before .before .before .before .before .before .before .before .read-sheets .ensures in
-    (S .pre .0, laws.read-room (S .args .cascade) (S .args .settings) _ (S .pre .1 .0) (S .args .out .now) (S .pre .1 .1) (v .0) (v .1 .0) (v .1 .1 .0) (v .1 .1 .1 .0) (v .1 .1 .1 .1) (u .0) (u .1 .0) (u .1 .1 .0) (u .1 .1 .1 .0) (u .1 .1 .1 .1) (c .before .before .before .before .before .before .sheets .given .1))
+    (S .pre .0, (S .pre .1 .0, laws.read-room (S .args .cascade) (S .args .settings) _ (S .pre .1 .1 .0) (S .args .out .now) (S .pre .1 .1 .1) (v .0) (v .1 .0) (v .1 .1 .0) (v .1 .1 .1 .0) (v .1 .1 .1 .1) (u .0) (u .1 .0) (u .1 .1 .0) (u .1 .1 .1 .0) (u .1 .1 .1 .1) (c .before .before .before .before .before .before .sheets .given .1)))
 
 styled-answer-requires : tie.Need-styled-answer-requires
 styled-answer-requires c κs = search needs
@@ -75,7 +75,7 @@ returns-2 c = let S = c .before .before .before .before .before .before .before 
     let v = c .before .before .before .before .before .before .before .before .before .before .before .before .before .before .before .before .before .before .before .before .before .before .before .before .before .before .before .before .before .before .before .before .before .before .before .before .before .before .before .before .before .before .before .clear-all .ensures in
     let u = c .before .before .before .before .before .before .before .before .before .before .before .before .before .before .before .before .before .before .before .before .before .before .before .before .before .before .before .before .read-sheets .ensures in
     let w = c .before .before .before .before .before .before .before .before .before .before .before .style-read .ensures in
-    laws.styled (S .args .cascade) (S .args .settings) _ (S .pre .1 .0) (S .args .out .now) (S .pre .1 .1) (v .0) (v .1 .0) (v .1 .1 .0) (v .1 .1 .1 .0) (v .1 .1 .1 .1) (u .0) (u .1 .0) (u .1 .1 .0) (u .1 .1 .1 .0) (u .1 .1 .1 .1) (c .before .before .before .before .before .before .before .before .before .before .before .before .before .before .before .before .before .before .sheets .given .1) (w .0) (w .1 .0) (w .1 .1 .0) (w .1 .1 .1 .0) (w .1 .1 .1 .1 .0) (w .1 .1 .1 .1 .1) (c .styled-answer .ensures)
+    laws.styled (S .args .cascade) (S .args .settings) _ (S .pre .1 .1 .0) (S .args .out .now) (S .pre .1 .1 .1) (v .0) (v .1 .0) (v .1 .1 .0) (v .1 .1 .1 .0) (v .1 .1 .1 .1) (u .0) (u .1 .0) (u .1 .1 .0) (u .1 .1 .1 .0) (u .1 .1 .1 .1) (c .before .before .before .before .before .before .before .before .before .before .before .before .before .before .before .before .before .before .sheets .given .1) (w .0) (w .1 .0) (w .1 .1 .0) (w .1 .1 .1 .0) (w .1 .1 .1 .1 .0) (w .1 .1 .1 .1 .1) (c .styled-answer .ensures)
 
 pub style-texts-spec : {M : Type 1} → statement M
 style-texts-spec =

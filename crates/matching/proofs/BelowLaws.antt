@@ -1,0 +1,134 @@
+-- Returns and turns of the functions that match on all rows of a path.
+use Prim.Native.Nat.{ℕ, suc, _+_, _≤_, _<_}
+use mathlib.Core.Bool.{Bool, true, false}
+use mathlib.Core.List.{List, [], _∷_}
+use mathlib.Core.Path.{_≡_, refl, sym, ap, _∙_}
+use native.Mathlib.Numerals.{add-one}
+use native.Mathlib.Omega.{arith}
+use lib.Dec.{ltb}
+use Rattle.combinators.specs.Choice.{pick, is}
+use Rattle.combinators.proofs.Rules.{pick-true, pick-false, is-true, is-false}
+use Rattle.syntax.specs.RuleLayout.{childKind, descendantKind, componentKindAt}
+use Rattle.syntax.specs.Selector.{Component, descendant}
+use Rattle.page.specs.Ancestors.{ancestorsOf}
+use Rattle.page.specs.Path.{Path}
+use Rattle.page.specs.PathOf.{pathOf}
+use Rattle.page.specs.Rows.{nodeAt}
+use Rattle.matching.specs.Matches.{onAncestors, step, matches}
+use Rattle.matching.specs.Rows.{componentNumber, componentAt, componentsAt, Rooted}
+use Rattle.matching.specs.Recursion.{byCombinator, resultStep, matchRecursively}
+use Rattle.matching.specs.Climb.{LastDescendant}
+use Rattle.matching.specs.Topmost.{lastMatched, topmost, selectorTop, RightTop}
+use Rattle.matching.specs.Topmost.Line.{same}
+use Rattle.matching.specs.declared.matcher.SelectorMatch.{SelectorMatch}
+use Rattle.matching.specs.declared.matcher.SelectorMatch.the-variants.{Matches, FailsLocally, FailsCompletely}
+use Rattle.matching.proofs.ComponentLaws.{components-none, components-more}
+use Rattle.matching.proofs.PassLaws.{from-child, from-descendant, third-chosen}
+use Rattle.matching.proofs.PathLaws.{parent-rooted, parent-before}
+use Rattle.matching.proofs.RecursionLaws.{selector-matches, fails-locally, fails-here}
+use Rattle.matching.proofs.TopmostLaws.{line-up, last-document, last-above, right-top, top-within, right-above}
+
+-- ---- the return of `matches_below` at a descendant combinator
+module _ (cs ds : List Component) (p q : Path) where
+  by-result : (r : SelectorMatch) → r ≡ matchRecursively cs p → r ≡ matchRecursively ds q → matches cs p ≡ matches ds q
+  by-result Matches e f = sym (selector-matches cs p Matches e refl) ∙ selector-matches ds q Matches f refl
+  by-result FailsLocally e f = sym (fails-locally cs p FailsLocally e refl) ∙ fails-locally ds q FailsLocally f refl
+  by-result FailsCompletely e f = sym (fails-here cs p FailsCompletely e refl) ∙ fails-here ds q FailsCompletely f refl
+
+  -- selectors that have one result both match, or neither does
+  same-result : matchRecursively cs p ≡ matchRecursively ds q → matches cs p ≡ matches ds q
+  same-result e = by-result (matchRecursively cs p) refl e
+
+module _ (store components nodes attributes text : List ℕ) where
+  -- the number stands before the row that was reached, or not
+  pub below-top : (left row top n at : ℕ) → RightTop nodes attributes text (componentsAt store components left) row top
+      → LastDescendant store components nodes attributes text left row n at
+      → ltb top at ≡ matches (componentsAt store components left) (pathOf nodes attributes text row)
+  unfolding matches step matchRecursively resultStep byCombinator
+  below-top left row top n at g d =
+      sym (g .decides at (d .line)) ∙ d .last (pathOf nodes attributes text at)
+      ∙ sym (same-result (componentsAt store components left) (descendant ∷ componentsAt store components n) (pathOf nodes attributes text row) (pathOf nodes attributes text at) (d .decided .same))
+
+  -- ---- turns of `topmost_ancestor`: what is found from a row on is what is found from the first on
+  module _ (n top row : ℕ) where
+    abbrev before : List Component
+    before = componentsAt store components n
+
+    pub record Seeking (found at : ℕ) : Type 0 where
+      pub rooted : Rooted nodes at
+      pub right : RightTop nodes attributes text before at top
+      pub finds : lastMatched nodes attributes text before (ancestorsOf nodes at) found ≡ topmost nodes attributes text before row
+
+    -- nothing is found yet
+    pub seek-begin : Rooted nodes row → RightTop nodes attributes text before row top → Seeking row row
+    unfolding topmost
+    seek-begin r g = record { rooted = r; right = g; finds = refl }
+
+    module _ (found at : ℕ) (s : Seeking found at) where
+      -- no ancestor is left
+      pub seek-end : at ≡ 0 → found ≡ topmost nodes attributes text before row
+      seek-end e =
+          sym (last-document nodes attributes text before found) ∙ ap (λ (r : ℕ). lastMatched nodes attributes text before (ancestorsOf nodes r) found) (sym e) ∙ s .finds
+
+      module _ (z : ¬ (at ≡ 0)) (p : ℕ) (ep : p ≡ nodeAt nodes at .parent) where
+        -- the parent, for which the number is right too
+        pub up-rooted : Rooted nodes p
+        up-rooted = parent-rooted nodes at (s .rooted) z p ep
+
+        pub up-right : RightTop nodes attributes text before p top
+        up-right = right-above nodes attributes text before at top p (s .right) (line-up nodes same z p ep)
+
+        module _ (b : Bool) (eb : b ≡ matches before (pathOf nodes attributes text p)) where
+          asked : lastMatched nodes attributes text before (ancestorsOf nodes p) (pick b p found) ≡ topmost nodes attributes text before row
+          asked =
+              rw (eb, ep) (sym (last-above nodes attributes text before at (parent-before nodes at (s .rooted) z _ refl) found)) ∙ s .finds
+
+          -- it is matched
+          pub seek-found : b ≡ true → Seeking p p
+          seek-found h = record { rooted = up-rooted; right = up-right; finds = ap (λ (f : ℕ). lastMatched nodes attributes text before (ancestorsOf nodes p) f) (pick-true _ _ _ b h refl) ∙ asked }
+
+          -- or not
+          pub seek-on : b ≡ false → Seeking found p
+          seek-on h = record { rooted = up-rooted; right = up-right; finds = ap (λ (f : ℕ). lastMatched nodes attributes text before (ancestorsOf nodes p) f) (pick-false _ _ _ b h refl) ∙ asked }
+
+  -- ---- turns of `selector_top`: the number is that of the components so far
+  module _ (left row : ℕ) where
+    pub record Topping (top i : ℕ) : Type 0 where
+      pub within : i ≤ left
+      pub is-top : top ≡ selectorTop nodes attributes text row (componentsAt store components i)
+
+    -- no component yet
+    pub top-begin : Topping row 0
+    unfolding selectorTop
+    top-begin = record { within = omega arith; is-top = rw (components-none store components) refl }
+
+    module _ (top i : ℕ) (g : Topping top i) where
+      -- all of them
+      pub top-end : Rooted nodes row → left ≤ i → (top ≡ selectorTop nodes attributes text row (componentsAt store components left)) × (top ≤ row)
+      top-end r h =
+          let e : i ≡ left = omega (arith, g .within) in
+          (g .is-top ∙ ap (λ (k : ℕ). selectorTop nodes attributes text row (componentsAt store components k)) e, rw (g .is-top) (top-within nodes attributes text row r (componentsAt store components i)))
+
+      -- what is known for a descendant combinator
+      pub so-far : Rooted nodes row → RightTop nodes attributes text (componentsAt store components i) row top
+      so-far r = rw (g .is-top) (right-top nodes attributes text row r (componentsAt store components i))
+
+      module _ (h : i < left) (k : ℕ) (ek : k ≡ componentNumber components i componentKindAt) where
+        one-more : selectorTop nodes attributes text row (componentsAt store components (i + 1))
+            ≡ byCombinator (componentAt store components i) (selectorTop nodes attributes text row (componentsAt store components i)) (topmost nodes attributes text (componentsAt store components i) row) (selectorTop nodes attributes text row (componentsAt store components i))
+        unfolding selectorTop
+        one-more = rw (add-one i, components-more store components i) refl
+
+        -- a descendant combinator
+        pub top-descendant : k ≡ descendantKind → (t : ℕ) → t ≡ topmost nodes attributes text (componentsAt store components i) row → Topping t (i + 1)
+        unfolding componentAt byCombinator
+        top-descendant e t et = record { within = omega arith; is-top = et ∙ sym (one-more ∙ rw (from-descendant store _ _ _ _ (sym ek ∙ e)) refl) }
+
+        -- any other component
+        stays : ¬ (k ≡ descendantKind) → (b : Bool) → is k childKind ≡ b → selectorTop nodes attributes text row (componentsAt store components (i + 1)) ≡ selectorTop nodes attributes text row (componentsAt store components i)
+        unfolding componentAt byCombinator
+        stays d true c = one-more ∙ rw (from-child store _ _ _ _ (sym ek ∙ is-true k childKind c)) refl
+        stays d false c = one-more ∙ third-chosen store _ _ _ _ (λ y. is-false k childKind c (ek ∙ y)) (λ y. d (ek ∙ y)) _ _ _
+
+        pub top-other : ¬ (k ≡ descendantKind) → Topping top (i + 1)
+        top-other d = record { within = omega arith; is-top = g .is-top ∙ sym (stays d (is k childKind) refl) }

@@ -1,0 +1,129 @@
+-- The topmost ancestor that components match decides for every row of the path whether they match an ancestor of it.
+use Prim.Native.Nat.{ℕ, _≤_, _<_}
+use mathlib.Core.Bool.{Bool, true, false}
+use mathlib.Core.List.{List, [], _∷_}
+use mathlib.Core.Logic.{_⊎_, inl, inr, ⊎-elim}
+use mathlib.Core.Path.{_≡_, refl, sym, ap, _∙_}
+use native.Mathlib.Omega.{arith}
+use borrow.Author.Tests.{lt-ltb, le-ltb}
+use lib.Dec.{ltb}
+use Rattle.combinators.specs.Choice.{pick, or}
+use Rattle.syntax.specs.Selector.{Component}
+use Rattle.page.specs.Ancestors.{ancestorsFrom, ancestorsOf}
+use Rattle.page.specs.Path.{Path}
+use Rattle.page.specs.PathOf.{pathOf}
+use Rattle.page.specs.Rows.{nodeAt}
+use Rattle.page.proofs.Ancestry.{below-ancestors}
+use Rattle.matching.specs.Matches.{onAncestors, matches}
+use Rattle.matching.specs.Recursion.{byCombinator}
+use Rattle.matching.specs.Rows.{Rooted}
+use Rattle.matching.specs.Rows.Rooted.{document, below}
+use Rattle.matching.specs.Topmost.{Line, aboveDescendant, lastMatched, topmost, selectorTop, RightTop}
+use Rattle.matching.specs.Topmost.Line.{same, above}
+use Rattle.matching.proofs.CallLaws.{by-combinator}
+use Rattle.matching.proofs.PathLaws.{top-path, other-path}
+
+-- ---- a row and its ancestors
+module _ (nodes : List ℕ) where
+  -- the ancestors of an ancestor
+  pub line-on : {row at top : ℕ} → Line nodes row at → Line nodes at top → Line nodes row top
+  line-on same w = w
+  line-on (above z v) w = above z (line-on v w)
+
+  -- the parent of one of them
+  pub line-up : {row at : ℕ} → Line nodes row at → ¬ (at ≡ 0) → (p : ℕ) → p ≡ nodeAt nodes at .parent → Line nodes row p
+  line-up w z p e = rw e (line-on w (above z same))
+
+  -- none stands behind the row
+  line-before : (row at : ℕ) → Rooted nodes row → Line nodes row at → at ≤ row
+  line-before row at r same = omega arith
+  line-before row at (document d) (above z w) = absurd (z refl)
+  line-before row at (below k l n r) (above z w) = omega (arith, line-before _ at r w)
+
+-- ---- the topmost
+-- a row found last is the one to begin with or stands before p
+found-before : (b : Bool) (p top row t : ℕ) → p < row → (t ≡ pick b p top) ⊎ (t < p) → (t ≡ top) ⊎ (t < row)
+unfolding pick
+found-before true p top row t h o = inr (⊎-elim (λ (e : t ≡ p). omega arith) (λ (l : t < p). omega arith) o)
+found-before false p top row t h o = ⊎-elim (λ (e : t ≡ top). inl e) (λ (l : t < p). inr (omega arith)) o
+
+-- so a row before which something is found has it at its parent or above that
+found-here : (b : Bool) (p top row t : ℕ) → p < row → row ≤ top → (t ≡ pick b p top) ⊎ (t < p) → or b (ltb t p) ≡ ltb t row
+unfolding pick or
+found-here true p top row t h k o = sym (lt-ltb t row (⊎-elim (λ (e : t ≡ p). omega arith) (λ (l : t < p). omega arith) o))
+found-here false p top row t h k o =
+    ⊎-elim (λ (e : t ≡ top). le-ltb t p (omega arith) ∙ sym (le-ltb t row (omega arith))) (λ (l : t < p). lt-ltb t p l ∙ sym (lt-ltb t row (omega arith))) o
+
+pick-most : (b : Bool) (p top row : ℕ) → p < row → row ≤ top → p ≤ pick b p top
+unfolding pick
+pick-most true p top row h k = omega arith
+pick-most false p top row h k = omega arith
+
+module _ (nodes attributes text : List ℕ) (cs : List Component) where
+  abbrev Here : ℕ → Bool
+  Here row = matches cs (pathOf nodes attributes text row)
+
+  abbrev Last : ℕ → ℕ → ℕ
+  Last row top = lastMatched nodes attributes text cs (ancestorsOf nodes row) top
+
+  -- the document has no ancestor
+  pub last-document : (top : ℕ) → Last 0 top ≡ top
+  unfolding ancestorsOf ancestorsFrom lastMatched
+  last-document top = refl
+
+  -- those of an element are its parent and the parent's
+  pub last-above : (row : ℕ) → nodeAt nodes row .parent < row → (top : ℕ) → Last row top ≡ Last (nodeAt nodes row .parent) (pick (Here (nodeAt nodes row .parent)) (nodeAt nodes row .parent) top)
+  unfolding lastMatched
+  last-above row l top = ap (λ (rows : List ℕ). lastMatched nodes attributes text cs rows top) (below-ancestors nodes row l)
+
+  -- none is found, or one before the row
+  last-before : (row : ℕ) → Rooted nodes row → (top : ℕ) → (Last row top ≡ top) ⊎ (Last row top < row)
+  last-before row (document d) top = inl (last-document top)
+  last-before row (below k l n r) top =
+      let p = nodeAt nodes row .parent in
+      rw (last-above row l top) (found-before (Here p) p top row _ l (last-before p r (pick (Here p) p top)))
+
+  -- what is found decides on the row and on its ancestors
+  last-decides : (row : ℕ) → Rooted nodes row → (top : ℕ) → row ≤ top → (at : ℕ) → Line nodes row at → onAncestors (matches cs) (pathOf nodes attributes text at) ≡ ltb (Last row top) at
+  unfolding onAncestors
+  last-decides row (document d) top h at (above z w) = absurd (z refl)
+  last-decides row (document d) top h at same =
+      ap (onAncestors (matches cs)) (top-path nodes attributes text 0 (document d) refl) ∙ sym (le-ltb (Last 0 top) 0 (omega arith))
+  last-decides row (below k l n r) top h at (above z w) =
+      let p = nodeAt nodes row .parent in
+      rw (last-above row l top) (last-decides p r (pick (Here p) p top) (pick-most (Here p) p top row l h) at w)
+  last-decides row (below k l n r) top h at same =
+      let p = nodeAt nodes row .parent in
+      let t = pick (Here p) p top in
+      let z : ¬ (row ≡ 0) = λ e. absurd (omega arith) in
+      rw (last-above row l top)
+      (ap (onAncestors (matches cs)) (other-path nodes attributes text row (below k l n r) z)
+      ∙ ap (or (Here p)) (last-decides p r t (pick-most (Here p) p top row l h) p same)
+      ∙ found-here (Here p) p top row (Last p t) l h (last-before p r t))
+
+  -- it stands at the row or before it
+  pub topmost-within : (row : ℕ) → Rooted nodes row → topmost nodes attributes text cs row ≤ row
+  unfolding topmost
+  topmost-within row r = ⊎-elim (λ (e : Last row row ≡ row). omega arith) (λ (l : Last row row < row). omega arith) (last-before row r row)
+
+-- ---- the number of a selector
+module _ (nodes attributes text : List ℕ) (row : ℕ) (r : Rooted nodes row) where
+  -- decides its last descendant combinator on the row and on its ancestors
+  top-decides : (cs : List Component) (at : ℕ) → Line nodes row at → aboveDescendant cs (pathOf nodes attributes text at) ≡ ltb (selectorTop nodes attributes text row cs) at
+  unfolding aboveDescendant selectorTop topmost
+  top-decides [] at w = sym (le-ltb row at (line-before nodes row at r w))
+  top-decides (c ∷ cs) at w =
+      by-combinator (λ (b : Bool) (t : ℕ). b ≡ ltb t at) c (top-decides cs at w) (last-decides nodes attributes text cs row r row (omega arith) at w) (top-decides cs at w)
+
+  pub right-top : (cs : List Component) → RightTop nodes attributes text cs row (selectorTop nodes attributes text row cs)
+  right-top cs = record { decides = top-decides cs }
+
+  -- and is no number behind the row
+  pub top-within : (cs : List Component) → selectorTop nodes attributes text row cs ≤ row
+  unfolding selectorTop
+  top-within [] = omega arith
+  top-within (c ∷ cs) = by-combinator (λ (b : Bool) (t : ℕ). t ≤ row) c {x = true} {y = true} {z = true} (top-within cs) (topmost-within nodes attributes text cs row r) (top-within cs)
+
+-- what is right for a row is right for its ancestors
+pub right-above : (nodes attributes text : List ℕ) (cs : List Component) (row top at : ℕ) → RightTop nodes attributes text cs row top → Line nodes row at → RightTop nodes attributes text cs at top
+right-above nodes attributes text cs row top at g w = record { decides = λ q v. g .decides q (line-on nodes w v) }
