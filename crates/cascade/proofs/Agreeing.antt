@@ -2,33 +2,28 @@
 -- for a slot, both cascades leave the same in it. Assumes nothing.
 use mathlib.Core.Path.{_≡_, refl, sym, ap, subst, _∙_}
 use mathlib.Core.Bool.{Bool, true, false}
-use mathlib.Core.List.{List, [], _∷_, _++_, map, foldl}
+use mathlib.Core.List.{List, [], _∷_, foldl}
 use mathlib.Core.Logic.{_⊎_, inl, inr, ⊎-elim}
 use Prim.Native.Nat.{ℕ, _+_, _≤_, _<_}
 use native.Mathlib.Omega.{arith}
-use borrow.Author.Tests.{lt-ltb, le-ltb, ltb-true, ltb-false}
+use borrow.Author.Tests.{lt-ltb, ltb-true}
 use lib.Dec.{ltb}
 use Rattle.combinators.specs.All.{All}
-use Rattle.combinators.specs.Choice.{pick, or, and, is}
-use Rattle.combinators.proofs.Rules.{never, pick-true, pick-false, pick-holds, either, or-left, or-none, is-yes, is-no, is-true, is-false, same-test, lt-or-ge}
+use Rattle.combinators.specs.Choice.{pick, is}
+use Rattle.combinators.proofs.Rules.{never, pick-true, pick-false, pick-holds, either, or-left, is-true, is-false, same-test, lt-or-ge}
 use Rattle.combinators.proofs.AllLaws.{all-weaker, all-both}
-use Rattle.syntax.specs.Layout.{flag}
 use Rattle.syntax.specs.Style.{agentOrigin, userOrigin, authorOrigin}
 use Rattle.cascade.specs.declared.specificity.Specificity.{Specificity}
 use Rattle.cascade.specs.declared.slots.Weight.{Weight}
-use Rattle.cascade.specs.Specificity.{specificityOf, noSpecificity, inlineSpecificity, lessBySelector, less, LessSpecific, by-inline, by-id, by-class, by-type}
+use Rattle.cascade.specs.Specificity.{specificityOf, noSpecificity, less, LessSpecific, by-inline, by-id, by-class, by-type}
 use Rattle.cascade.specs.Slot.{Candidate, Slot, empty, held, heldByImportance, heldByOrigin, heldAgainst, maybeUpdate, normalAuthor, importantAgent, rank, rankOf, weaker, heldInBook, bookUpdate, inheritedWeight, inheritedCandidate, inheritedSlot}
 use Rattle.cascade.specs.Agreeing.{KnownOrigin, DecidedAlike, EachPair, AllDecidedAlike, InheritedAlike, by-author, by-important, no-replacement, SameOrInherited, same, inherited, SameValue, nothing, one-value}
+use Rattle.cascade.proofs.Cascading.{or-second}
 use Rattle.cascade.proofs.Orders.{then-lower, then-higher, then-equal, then-true, less-says, less-said}
 
 -- each of the two follows from the other
 abbrev pub Exactly : Type 0 → Type 0 → Type 0
 Exactly P Q = (P → Q) × (Q → P)
-
-or-yes : (a b : Bool) → b ≡ true → or a b ≡ true
-unfolding or
-or-yes true b e = refl
-or-yes false b e = e
 
 -- ---- ranks by numbers
 
@@ -65,15 +60,15 @@ module _ (x y : Weight) where
 
   by-later-origin : y .important ≡ true → x .origin < y .origin → heldAgainst x y ≡ true
   unfolding heldAgainst heldByOrigin
-  by-later-origin e h = or-yes _ _ (or-left _ _ (sym (pick-true _ _ _ _ e (sym (lt-ltb (x .origin) (y .origin) h)))))
+  by-later-origin e h = or-second _ _ (or-left _ _ (sym (pick-true _ _ _ _ e (sym (lt-ltb (x .origin) (y .origin) h)))))
 
   by-earlier-origin : y .important ≡ false → y .origin < x .origin → heldAgainst x y ≡ true
   unfolding heldAgainst heldByOrigin
-  by-earlier-origin e h = or-yes _ _ (or-left _ _ (sym (pick-false _ _ _ _ e (sym (lt-ltb (y .origin) (x .origin) h)))))
+  by-earlier-origin e h = or-second _ _ (or-left _ _ (sym (pick-false _ _ _ _ e (sym (lt-ltb (y .origin) (x .origin) h)))))
 
   by-less : LessSpecific (y .spec) (x .spec) → heldAgainst x y ≡ true
   unfolding heldAgainst
-  by-less l = or-yes _ _ (or-yes _ _ (less-said (y .spec) (x .spec) l))
+  by-less l = or-second _ _ (or-second _ _ (less-said (y .spec) (x .spec) l))
 
   not-less : ¬ (LessSpecific (y .spec) (x .spec)) → less (y .spec) (x .spec) ≡ false
   not-less n = go (less (y .spec) (x .spec)) refl

@@ -16,3 +16,4 @@ pub mod RecursionLaws
 pub mod CallLaws
 pub mod WordList
 pub mod Documents
+pub mod Pieces

@@ -2,7 +2,7 @@
 -- 6.3.1), an attribute of an element (section 6.3), a simple selector (section 4). They speak of characters, as numbers of Unicode; a page has its texts
 -- in UTF-8. The document's text is not at hand: a section is named, not quoted.
 use Prim.Native.Nat.{ℕ}
-use mathlib.Core.Bool.{Bool}
+use mathlib.Core.Bool.{Bool, true, false}
 use mathlib.Core.List.{List, [], _∷_, _++_}
 use mathlib.Core.Logic.{_⊎_}
 use mathlib.Core.Path.{_≡_, refl}
@@ -55,6 +55,23 @@ test-other-words : (words isWhiteSpace (0x61 ∷ 0x85 ∷ 0x62 ∷ []) ≡ (0x61
     × (words isWhiteSpace (0xa0 ∷ []) ≡ []) × (words isSelectorsWhiteSpace (0xa0 ∷ []) ≡ (0xa0 ∷ []) ∷ [])
 unfolding words withoutEmpty pieces longer isSelectorsWhiteSpace isWhiteSpace member pick or is
 test-other-words = (refl, refl, refl, refl)
+
+-- the same by where it stands: a word has a character and no white space, and white space or an end of the text on both sides
+pub data EndsInWhite (white : ℕ → Bool) : List ℕ → Type 0 where
+  nothing-before : EndsInWhite white []
+  white-before : (t : List ℕ) (v : ℕ) → white v ≡ true → EndsInWhite white (t ++ (v ∷ []))
+
+pub data BeginsWithWhite (white : ℕ → Bool) : List ℕ → Type 0 where
+  nothing-behind : BeginsWithWhite white []
+  white-behind : (v : ℕ) (t : List ℕ) → white v ≡ true → BeginsWithWhite white (v ∷ t)
+
+pub record Parted (white : ℕ → Bool) (w t : List ℕ) : Type 0 where
+  pub earlier : List ℕ
+  pub later : List ℕ
+  pub split : t ≡ earlier ++ (w ++ later)
+  pub unbroken : All (λ v. white v ≡ false) w
+  pub before : EndsInWhite white earlier
+  pub behind : BeginsWithWhite white later
 
 -- a text in UTF-8 that is a list of words, one of which is exactly w
 pub record WordOf (white : ℕ → Bool) (w t : List ℕ) : Type 0 where
