@@ -366,6 +366,29 @@ module _ {A : Type 0} where
   slot-agrees (held c) empty xs r ks h p = absurd (other-empty c r)
   slot-agrees (held c) (held d) xs r ks h p = from-inherited c (record { weight = inheritedWeight; value = d .value }) (h .0) refl (one-value-of c d r) xs ks (h .1) p
 
+  -- where both show the same of two values, both choose the same
+  shown-alike : (c d y : Candidate A) → d .value ≡ c .value → ¬ (c .value ≡ y .value) → (a b : Bool) → SameValue (pick a (held c) (held y)) (pick b (held d) (held y)) → a ≡ b
+  unfolding pick
+  shown-alike c d y e n true true v = refl
+  shown-alike c d y e n true false (one-value g) = absurd (n g)
+  shown-alike c d y e n false true (one-value g) = absurd (n (sym (g ∙ e)))
+  shown-alike c d y e n false false v = refl
+
+  -- of one declaration above the element and one of the element, with two values, that is exactly where both show the same
+  pub one-above-exactly : (c y : Candidate A) → Known c → Known y → ¬ (c .value ≡ y .value)
+      → Exactly (SameValue (foldl maybeUpdate (held c) (y ∷ [])) (foldl bookUpdate (inheritedSlot (held c)) (y ∷ []))) (InheritedAlike (c .weight) (y .weight))
+  unfolding inheritedSlot inheritedCandidate
+  one-above-exactly c y kc ky n = (there, back)
+    where
+      d : Candidate A
+      d = record { weight = inheritedWeight; value = c .value }
+
+      there : SameValue (foldl maybeUpdate (held c) (y ∷ [])) (foldl bookUpdate (held d) (y ∷ [])) → InheritedAlike (c .weight) (y .weight)
+      there v = inherited-exactly (c .weight) (y .weight) ky kc .0 (shown-alike c d y refl n _ _ (unfold maybeUpdate bookUpdate in v))
+
+      back : InheritedAlike (c .weight) (y .weight) → SameValue (foldl maybeUpdate (held c) (y ∷ [])) (foldl bookUpdate (held d) (y ∷ []))
+      back a = same-value _ _ (from-inherited c d kc refl refl (y ∷ []) (ky, tt) (a, tt) (tt, tt))
+
 -- ---- lists of declarations that meet the condition
 
 -- what every two values have that have something each, every two values of a list have
