@@ -2,33 +2,28 @@
 -- for a slot, both cascades leave the same in it. Assumes nothing.
 use mathlib.Core.Path.{_≡_, refl, sym, ap, subst, _∙_}
 use mathlib.Core.Bool.{Bool, true, false}
-use mathlib.Core.List.{List, [], _∷_, _++_, map, foldl}
+use mathlib.Core.List.{List, [], _∷_, foldl}
 use mathlib.Core.Logic.{_⊎_, inl, inr, ⊎-elim}
 use Prim.Native.Nat.{ℕ, _+_, _≤_, _<_}
 use native.Mathlib.Omega.{arith}
-use borrow.Author.Tests.{lt-ltb, le-ltb, ltb-true, ltb-false}
+use borrow.Author.Tests.{lt-ltb, ltb-true}
 use lib.Dec.{ltb}
 use Rattle.combinators.specs.All.{All}
-use Rattle.combinators.specs.Choice.{pick, or, and, is}
-use Rattle.combinators.proofs.Rules.{never, pick-true, pick-false, pick-holds, either, or-left, or-none, is-yes, is-no, is-true, is-false, same-test, lt-or-ge}
+use Rattle.combinators.specs.Choice.{pick, is}
+use Rattle.combinators.proofs.Rules.{never, pick-true, pick-false, pick-holds, either, or-left, is-true, is-false, same-test, lt-or-ge}
 use Rattle.combinators.proofs.AllLaws.{all-weaker, all-both}
-use Rattle.syntax.specs.Layout.{flag}
 use Rattle.syntax.specs.Style.{agentOrigin, userOrigin, authorOrigin}
 use Rattle.cascade.specs.declared.specificity.Specificity.{Specificity}
 use Rattle.cascade.specs.declared.slots.Weight.{Weight}
-use Rattle.cascade.specs.Specificity.{specificityOf, noSpecificity, inlineSpecificity, lessBySelector, less, LessSpecific, by-inline, by-id, by-class, by-type}
+use Rattle.cascade.specs.Specificity.{specificityOf, noSpecificity, less, LessSpecific, by-inline, by-id, by-class, by-type}
 use Rattle.cascade.specs.Slot.{Candidate, Slot, empty, held, heldByImportance, heldByOrigin, heldAgainst, maybeUpdate, normalAuthor, importantAgent, rank, rankOf, weaker, heldInBook, bookUpdate, inheritedWeight, inheritedCandidate, inheritedSlot}
 use Rattle.cascade.specs.Agreeing.{KnownOrigin, DecidedAlike, EachPair, AllDecidedAlike, InheritedAlike, by-author, by-important, no-replacement, SameOrInherited, same, inherited, SameValue, nothing, one-value}
+use Rattle.cascade.proofs.Cascading.{or-second}
 use Rattle.cascade.proofs.Orders.{then-lower, then-higher, then-equal, then-true, less-says, less-said}
 
 -- each of the two follows from the other
 abbrev pub Exactly : Type 0 → Type 0 → Type 0
 Exactly P Q = (P → Q) × (Q → P)
-
-or-yes : (a b : Bool) → b ≡ true → or a b ≡ true
-unfolding or
-or-yes true b e = refl
-or-yes false b e = e
 
 -- ---- ranks by numbers
 
@@ -65,15 +60,15 @@ module _ (x y : Weight) where
 
   by-later-origin : y .important ≡ true → x .origin < y .origin → heldAgainst x y ≡ true
   unfolding heldAgainst heldByOrigin
-  by-later-origin e h = or-yes _ _ (or-left _ _ (sym (pick-true _ _ _ _ e (sym (lt-ltb (x .origin) (y .origin) h)))))
+  by-later-origin e h = or-second _ _ (or-left _ _ (sym (pick-true _ _ _ _ e (sym (lt-ltb (x .origin) (y .origin) h)))))
 
   by-earlier-origin : y .important ≡ false → y .origin < x .origin → heldAgainst x y ≡ true
   unfolding heldAgainst heldByOrigin
-  by-earlier-origin e h = or-yes _ _ (or-left _ _ (sym (pick-false _ _ _ _ e (sym (lt-ltb (y .origin) (x .origin) h)))))
+  by-earlier-origin e h = or-second _ _ (or-left _ _ (sym (pick-false _ _ _ _ e (sym (lt-ltb (y .origin) (x .origin) h)))))
 
   by-less : LessSpecific (y .spec) (x .spec) → heldAgainst x y ≡ true
   unfolding heldAgainst
-  by-less l = or-yes _ _ (or-yes _ _ (less-said (y .spec) (x .spec) l))
+  by-less l = or-second _ _ (or-second _ _ (less-said (y .spec) (x .spec) l))
 
   not-less : ¬ (LessSpecific (y .spec) (x .spec)) → less (y .spec) (x .spec) ≡ false
   not-less n = go (less (y .spec) (x .spec)) refl
@@ -370,6 +365,29 @@ module _ {A : Type 0} where
   slot-agrees empty (held d) xs r ks h p = absurd (one-empty d r)
   slot-agrees (held c) empty xs r ks h p = absurd (other-empty c r)
   slot-agrees (held c) (held d) xs r ks h p = from-inherited c (record { weight = inheritedWeight; value = d .value }) (h .0) refl (one-value-of c d r) xs ks (h .1) p
+
+  -- where both show the same of two values, both choose the same
+  shown-alike : (c d y : Candidate A) → d .value ≡ c .value → ¬ (c .value ≡ y .value) → (a b : Bool) → SameValue (pick a (held c) (held y)) (pick b (held d) (held y)) → a ≡ b
+  unfolding pick
+  shown-alike c d y e n true true v = refl
+  shown-alike c d y e n true false (one-value g) = absurd (n g)
+  shown-alike c d y e n false true (one-value g) = absurd (n (sym (g ∙ e)))
+  shown-alike c d y e n false false v = refl
+
+  -- of one declaration above the element and one of the element, with two values, that is exactly where both show the same
+  pub one-above-exactly : (c y : Candidate A) → Known c → Known y → ¬ (c .value ≡ y .value)
+      → Exactly (SameValue (foldl maybeUpdate (held c) (y ∷ [])) (foldl bookUpdate (inheritedSlot (held c)) (y ∷ []))) (InheritedAlike (c .weight) (y .weight))
+  unfolding inheritedSlot inheritedCandidate
+  one-above-exactly c y kc ky n = (there, back)
+    where
+      d : Candidate A
+      d = record { weight = inheritedWeight; value = c .value }
+
+      there : SameValue (foldl maybeUpdate (held c) (y ∷ [])) (foldl bookUpdate (held d) (y ∷ [])) → InheritedAlike (c .weight) (y .weight)
+      there v = inherited-exactly (c .weight) (y .weight) ky kc .0 (shown-alike c d y refl n _ _ (unfold maybeUpdate bookUpdate in v))
+
+      back : InheritedAlike (c .weight) (y .weight) → SameValue (foldl maybeUpdate (held c) (y ∷ [])) (foldl bookUpdate (held d) (y ∷ []))
+      back a = same-value _ _ (from-inherited c d kc refl refl (y ∷ []) (ky, tt) (a, tt) (tt, tt))
 
 -- ---- lists of declarations that meet the condition
 

@@ -1,9 +1,8 @@
 -- Where both cascades leave the same in a slot of an element's style: the declarations that they count are the same, and the laws of proofs/Agreeing.antt
 -- hold of them. Assumes nothing.
-use mathlib.Core.Path.{_≡_, refl, sym, ap, ap₂, subst, _∙_}
+use mathlib.Core.Path.{_≡_, refl, sym, ap, ap₂, _∙_}
 use mathlib.Core.Bool.{Bool, true, false}
 use mathlib.Core.List.{List, [], _∷_, _++_, map, foldl, append-assoc}
-use mathlib.Core.Logic.{_⊎_, inl, inr, ⊎-elim}
 use Prim.Native.Nat.{ℕ, _≤_, _<_}
 use native.Mathlib.Omega.{arith}
 use Rattle.combinators.specs.All.{All}
@@ -16,7 +15,7 @@ use Rattle.cascade.specs.Specificity.{noSpecificity, inlineSpecificity, 
 use Rattle.cascade.specs.declared.slots.Cascade.{Cascade}
 use Rattle.cascade.specs.declared.slots.Cascade.the-variants.{Crate, Book}
 use Rattle.cascade.specs.Slot.{Candidate, Slot, empty, maybeUpdate, bookUpdate, updateBy, inheritedSlot}
-use Rattle.cascade.specs.Record.{slotCount, recordCount, mainRecord, beforeRecord, afterRecord, Record, ComputedStyle, Formed, recordIn, slotIn, isNamed, mergeBy, inherit, inheritRecord, inheritInBookOrder, inheritBy, declaredBy, cascadeBy, Declared, AttributeStyle, Sources, fromRule, fromAttribute, crateDeclared, colourAttributes, styleAttributes, bookDeclared, candidatesFor}
+use Rattle.cascade.specs.Record.{slotCount, recordCount, mainRecord, beforeRecord, Record, ComputedStyle, Formed, recordIn, slotIn, isNamed, mergeBy, inherit, inheritRecord, inheritInBookOrder, inheritBy, declaredBy, cascadeBy, Declared, AttributeStyle, Sources, fromRule, fromAttribute, crateDeclared, colourAttributes, styleAttributes, bookDeclared, candidatesFor}
 use Rattle.cascade.specs.Agreeing.{KnownOrigin, AllDecidedAlike, InheritedAlike, by-author, SameOrInherited, CountedAlike, declaredFor, ReplacedAlike, AgreesDown, NormalAuthor, NotLessSpecific, AuthorDown}
 use Rattle.cascade.proofs.Agreeing.{Holds, same-slot, slot-agrees, one-origin}
 use Rattle.cascade.proofs.Cascading.{book-folds, crate-folds, merge-present, cascade-main-present}

@@ -22,7 +22,8 @@ either-way : (t : Bool) → (t ≡ true) ⊎ (t ≡ false)
 either-way true = inl refl
 either-way false = inr refl
 
-or-second : (a b : Bool) → b ≡ true → or a b ≡ true
+-- the second of two tests holds
+pub or-second : (a b : Bool) → b ≡ true → or a b ≡ true
 unfolding or
 or-second true b e = refl
 or-second false b e = e

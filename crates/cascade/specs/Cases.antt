@@ -132,3 +132,20 @@ test-inherited-pseudo :
     × (numbersIn (cascadeBy Book (cascadeBy Book emptyStyle (byAuthor (rule beforeRecord byId true red ∷ []) [])) (byAuthor [] [])) beforeRecord ≡ 1 ∷ 3 ∷ 0 ∷ 0 ∷ 0 ∷ 0 ∷ 0 ∷ red ∷ 0 ∷ [])
 unfolding pick or and is flag valueNumbers specificityOf noSpecificity inlineSpecificity lessThen lessBySelector less heldByImportance heldByOrigin heldAgainst maybeUpdate rank rankOf weaker heldInBook bookUpdate updateBy inheritedWeight inheritedCandidate inheritedSlot recordIn slotOf slotIn emptyRecord emptyStyle updateRecord updateStyle isNamed mergeBy inherit inheritRecord inheritInBookOrder inheritBy fromRule fromAttribute crateDeclared colourAttributes styleAttributes bookDeclared declaredBy cascadeBy slotNumbers
 test-inherited-pseudo = (refl, refl, refl, refl)
+
+-- ---- where both leave the same (proofs/Agreeing.antt)
+-- an author rule that is more specific than an agent's wins, and an important agent rule before an important author rule stays
+test-agreeing :
+    (numbersIn (cascadeBy Crate emptyStyle (record { agent = rule mainRecord byType false red ∷ []; user = []; author = rule mainRecord byClass false blue ∷ []; attributes = [] })) mainRecord ≡ 1 ∷ 3 ∷ 0 ∷ 0 ∷ 1 ∷ 0 ∷ 0 ∷ blue ∷ 0 ∷ [])
+    × (numbersIn (cascadeBy Book emptyStyle (record { agent = rule mainRecord byType false red ∷ []; user = []; author = rule mainRecord byClass false blue ∷ []; attributes = [] })) mainRecord ≡ 1 ∷ 3 ∷ 0 ∷ 0 ∷ 1 ∷ 0 ∷ 0 ∷ blue ∷ 0 ∷ [])
+    × (numbersIn (cascadeBy Crate emptyStyle (record { agent = rule mainRecord byType true red ∷ []; user = []; author = rule mainRecord byClass true blue ∷ []; attributes = [] })) mainRecord ≡ 1 ∷ 1 ∷ 0 ∷ 0 ∷ 0 ∷ 1 ∷ 1 ∷ red ∷ 0 ∷ [])
+    × (numbersIn (cascadeBy Book emptyStyle (record { agent = rule mainRecord byType true red ∷ []; user = []; author = rule mainRecord byClass true blue ∷ []; attributes = [] })) mainRecord ≡ 1 ∷ 1 ∷ 0 ∷ 0 ∷ 0 ∷ 1 ∷ 1 ∷ red ∷ 0 ∷ [])
+unfolding pick or and is flag valueNumbers specificityOf noSpecificity inlineSpecificity lessThen lessBySelector less heldByImportance heldByOrigin heldAgainst maybeUpdate rank rankOf weaker heldInBook bookUpdate updateBy inheritedWeight inheritedCandidate inheritedSlot recordIn slotOf slotIn emptyRecord emptyStyle updateRecord updateStyle isNamed mergeBy inherit inheritRecord inheritInBookOrder inheritBy fromRule fromAttribute crateDeclared colourAttributes styleAttributes bookDeclared declaredBy cascadeBy slotNumbers
+test-agreeing = (refl, refl, refl, refl)
+
+-- a child's own rule replaces what it inherits, where it is not less specific
+test-agreeing-child :
+    (numbersIn (cascadeBy Crate (cascadeBy Crate emptyStyle (byAuthor (rule mainRecord byType false red ∷ []) [])) (byAuthor (rule mainRecord byType false blue ∷ []) [])) mainRecord ≡ 1 ∷ 3 ∷ 0 ∷ 0 ∷ 0 ∷ 1 ∷ 0 ∷ blue ∷ 0 ∷ [])
+    × (numbersIn (cascadeBy Book (cascadeBy Book emptyStyle (byAuthor (rule mainRecord byType false red ∷ []) [])) (byAuthor (rule mainRecord byType false blue ∷ []) [])) mainRecord ≡ 1 ∷ 3 ∷ 0 ∷ 0 ∷ 0 ∷ 1 ∷ 0 ∷ blue ∷ 0 ∷ [])
+unfolding pick or and is flag valueNumbers specificityOf noSpecificity inlineSpecificity lessThen lessBySelector less heldByImportance heldByOrigin heldAgainst maybeUpdate rank rankOf weaker heldInBook bookUpdate updateBy inheritedWeight inheritedCandidate inheritedSlot recordIn slotOf slotIn emptyRecord emptyStyle updateRecord updateStyle isNamed mergeBy inherit inheritRecord inheritInBookOrder inheritBy fromRule fromAttribute crateDeclared colourAttributes styleAttributes bookDeclared declaredBy cascadeBy slotNumbers
+test-agreeing-child = (refl, refl)

@@ -11,7 +11,7 @@ use Rattle.combinators.specs.All.{All}
 use Rattle.combinators.specs.Choice.{pick, or, and}
 use Rattle.combinators.specs.Word.{sameText}
 use Rattle.combinators.proofs.AllLaws.{all-weaker}
-use Rattle.combinators.proofs.Rules.{never, pick-true, pick-false, either, or-left, and-both, and-true}
+use Rattle.combinators.proofs.Rules.{never, either, or-left, and-both, and-true}
 use Rattle.combinators.proofs.Words.{same-is, same-self}
 use Rattle.unicode.specs.Literal.{text}
 use Rattle.unicode.specs.Utf8.{valid}

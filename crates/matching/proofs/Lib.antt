@@ -18,3 +18,4 @@ pub mod WordList
 pub mod Documents
 pub mod TopmostLaws
 pub mod BelowLaws
+pub mod Pieces

@@ -38,11 +38,11 @@ pub exactly-either : (P Q R S : Type 0) → Exactly P Q → Exactly R S → Exac
 exactly-either P Q R S f g = (⊎-elim (λ p. inl (f .0 p)) (λ r. inr (g .0 r)), ⊎-elim (λ q. inl (f .1 q)) (λ s. inr (g .1 s)))
 
 -- ---- a text up to the first character that passes a test, and what is left from there on
-unfoldable front : (ℕ → Bool) → List ℕ → List ℕ
+unfoldable pub front : (ℕ → Bool) → List ℕ → List ℕ
 front f [] = []
 front f (v ∷ vs) = pick (f v) [] (v ∷ front f vs)
 
-unfoldable behind : (ℕ → Bool) → List ℕ → List ℕ
+unfoldable pub behind : (ℕ → Bool) → List ℕ → List ℕ
 behind f [] = []
 behind f (v ∷ vs) = pick (f v) (v ∷ vs) (behind f vs)
 
@@ -58,7 +58,7 @@ module _ (f : ℕ → Bool) where
   joined-by false v vs e = ap (λ l. v ∷ l) e
 
   -- the two are the text
-  joined : (vs : List ℕ) → front f vs ++ behind f vs ≡ vs
+  pub joined : (vs : List ℕ) → front f vs ++ behind f vs ≡ vs
   unfolding front behind
   joined [] = refl
   joined (v ∷ vs) = joined-by (f v) v vs (joined vs)
@@ -133,7 +133,7 @@ white-takes v t s = ap whiteOf (read-back v t s) ∙ turned (isWhiteSpace v) (le
 -- ---- the words of a text begin with what stands before its first white space
 module _ (white : ℕ → Bool) where
   -- the pieces but the first
-  unfoldable others : List ℕ → List (List ℕ)
+  unfoldable pub others : List ℕ → List (List ℕ)
   others [] = []
   others (v ∷ vs) = pick (white v) (pieces white vs) (others vs)
 
@@ -143,7 +143,8 @@ module _ (white : ℕ → Bool) where
   split-by true v vs e = refl
   split-by false v vs e = ap (longer v) e
 
-  first-piece : (vs : List ℕ) → pieces white vs ≡ front white vs ∷ others vs
+  -- the first piece, and the others
+  pub first-piece : (vs : List ℕ) → pieces white vs ≡ front white vs ∷ others vs
   unfolding pieces front others
   first-piece [] = refl
   first-piece (v ∷ vs) = split-by (white v) v vs (first-piece vs)

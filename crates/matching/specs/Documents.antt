@@ -2,17 +2,20 @@
 -- 6.3.1), an attribute of an element (section 6.3), a simple selector (section 4). They speak of characters, as numbers of Unicode; a page has its texts
 -- in UTF-8. The document's text is not at hand: a section is named, not quoted.
 use Prim.Native.Nat.{ℕ}
-use mathlib.Core.Bool.{Bool}
+use mathlib.Core.Bool.{Bool, true, false}
 use mathlib.Core.List.{List, [], _∷_, _++_}
 use mathlib.Core.Logic.{_⊎_}
 use mathlib.Core.Path.{_≡_, refl}
 use Rattle.combinators.specs.All.{All}
-use Rattle.combinators.specs.Ascii.{tabulation, lineFeed, formFeed, carriageReturn, space}
-use Rattle.combinators.specs.Choice.{pick, or, is}
-use Rattle.unicode.specs.Utf8.{encode, Scalars}
+use Rattle.combinators.specs.Ascii.{tabulation, lineFeed, formFeed, carriageReturn, space, smallA, smallF, smallN}
+use Rattle.combinators.specs.Choice.{pick, or, and, is}
+use Rattle.combinators.specs.Word.{sameText}
+use Rattle.unicode.specs.Literal.{text}
+use Rattle.unicode.specs.Utf8.{utf8, encode, Scalars}
 use Rattle.unicode.specs.WhiteSpace.{member, isWhiteSpace}
-use Rattle.syntax.specs.Selector.{Component, child, descendant}
+use Rattle.syntax.specs.Selector.{Component, star, element, child, descendant}
 use Rattle.page.specs.Path.{Attribute}
+use Rattle.matching.specs.Matches.{nameIs, here, onParent, step, matches}
 
 -- P holds of some value of a list
 abbrev pub Some : {A : Type 0} → (A → Type 0) → List A → Type 0
@@ -46,15 +49,38 @@ unfoldable pub words : (ℕ → Bool) → List ℕ → List (List ℕ)
 words white t = withoutEmpty (pieces white t)
 
 -- two words between white space of all five kinds
-test-words : words isSelectorsWhiteSpace (space ∷ 0x61 ∷ 0x62 ∷ tabulation ∷ lineFeed ∷ 0x63 ∷ formFeed ∷ carriageReturn ∷ []) ≡ (0x61 ∷ 0x62 ∷ []) ∷ (0x63 ∷ []) ∷ []
-unfolding words withoutEmpty pieces longer isSelectorsWhiteSpace member pick or is
+test-words : words isSelectorsWhiteSpace (space ∷ smallA ∷ smallF ∷ tabulation ∷ lineFeed ∷ smallN ∷ formFeed ∷ carriageReturn ∷ []) ≡ text "af" ∷ text "n" ∷ []
+unfolding words withoutEmpty pieces longer isSelectorsWhiteSpace member text utf8 pick or is
 test-words = refl
 
 -- U+0085 and U+00A0 are white space of Unicode, and not of the document
-test-other-words : (words isWhiteSpace (0x61 ∷ 0x85 ∷ 0x62 ∷ []) ≡ (0x61 ∷ []) ∷ (0x62 ∷ []) ∷ []) × (words isSelectorsWhiteSpace (0x61 ∷ 0x85 ∷ 0x62 ∷ []) ≡ (0x61 ∷ 0x85 ∷ 0x62 ∷ []) ∷ [])
-    × (words isWhiteSpace (0xa0 ∷ []) ≡ []) × (words isSelectorsWhiteSpace (0xa0 ∷ []) ≡ (0xa0 ∷ []) ∷ [])
+abbrev nextLine : ℕ
+nextLine = 0x85
+
+abbrev noBreakSpace : ℕ
+noBreakSpace = 0xa0
+
+test-other-words : (words isWhiteSpace (smallA ∷ nextLine ∷ smallN ∷ []) ≡ (smallA ∷ []) ∷ (smallN ∷ []) ∷ []) × (words isSelectorsWhiteSpace (smallA ∷ nextLine ∷ smallN ∷ []) ≡ (smallA ∷ nextLine ∷ smallN ∷ []) ∷ [])
+    × (words isWhiteSpace (noBreakSpace ∷ []) ≡ []) × (words isSelectorsWhiteSpace (noBreakSpace ∷ []) ≡ (noBreakSpace ∷ []) ∷ [])
 unfolding words withoutEmpty pieces longer isSelectorsWhiteSpace isWhiteSpace member pick or is
 test-other-words = (refl, refl, refl, refl)
+
+-- the same by where it stands: a word has a character and no white space, and white space or an end of the text on both sides
+pub data EndsInWhite (white : ℕ → Bool) : List ℕ → Type 0 where
+  nothing-before : EndsInWhite white []
+  white-before : (t : List ℕ) (v : ℕ) → white v ≡ true → EndsInWhite white (t ++ (v ∷ []))
+
+pub data BeginsWithWhite (white : ℕ → Bool) : List ℕ → Type 0 where
+  nothing-behind : BeginsWithWhite white []
+  white-behind : (v : ℕ) (t : List ℕ) → white v ≡ true → BeginsWithWhite white (v ∷ t)
+
+pub record Parted (white : ℕ → Bool) (w t : List ℕ) : Type 0 where
+  pub earlier : List ℕ
+  pub later : List ℕ
+  pub split : t ≡ earlier ++ (w ++ later)
+  pub unbroken : All (λ v. white v ≡ false) w
+  pub before : EndsInWhite white earlier
+  pub behind : BeginsWithWhite white later
 
 -- a text in UTF-8 that is a list of words, one of which is exactly w
 pub record WordOf (white : ℕ → Bool) (w t : List ℕ) : Type 0 where
@@ -95,3 +121,10 @@ Distinct (a ∷ l) = All (λ b. ¬ (b .name ≡ a .name)) l × Distinct l
 pub record Simple (c : Component) : Type 0 where
   pub no-child : ¬ (c ≡ child)
   pub no-descendant : ¬ (c ≡ descendant)
+
+-- ---- where this parts from the document
+
+-- `*>p` matches a p at the top of its page: the document is a parent, and star matches it
+test-document-parent : matches (element (text "p") ∷ child ∷ star ∷ []) (record { name = text "p"; attributes = []; place = 1 } ∷ []) ≡ true
+unfolding matches step here onParent nameIs sameText text utf8 pick and is
+test-document-parent = refl

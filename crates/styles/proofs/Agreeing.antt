@@ -9,7 +9,6 @@ use Rattle.combinators.specs.Choice.{is}
 use Rattle.combinators.proofs.Rules.{pick-holds}
 use Rattle.combinators.proofs.AllLaws.{all-weaker, all-both}
 use Rattle.syntax.specs.Selector.{RuleSet}
-use Rattle.syntax.specs.Style.{Style}
 use Rattle.cascade.specs.declared.slots.Cascade.the-variants.{Crate, Book}
 use Rattle.cascade.specs.Slot.{Candidate, Slot, empty, held}
 use Rattle.cascade.specs.Record.{slotCount, recordCount, mainRecord, beforeRecord, Record, recordIn, slotOf, slotIn, emptyRecord, emptyStyle, Sources}
