@@ -1,3 +1,4 @@
+-- The closing bracket is there, or the text is wiped.
 use Rattle.sheets.proofs.AttrLaws as laws
 use borrow.Author.Needs.{needs}
 use Rattle.sheets.proofs.attr.closed.Statement.{statement}

@@ -1,3 +1,4 @@
+-- A quoted string, or else a name, each with its bracket.
 use Rattle.sheets.proofs.ZeroLaws.{clean-same}
 use Rattle.sheets.proofs.AttrLaws as laws
 use borrow.Author.Needs.{needs}

@@ -1,3 +1,4 @@
+-- A name, or nothing.
 use Rattle.sheets.proofs.ComponentLaws as laws
 use borrow.Author.Needs.{needs}
 use Rattle.sheets.proofs.components.parse_element.Statement.{statement}

@@ -1,3 +1,4 @@
+-- The lexer's sign.
 use mathlib.Core.Path.{_∙_}
 use Rattle.sheets.proofs.NthNumbers as laws
 use borrow.Author.Needs.{needs}

@@ -1,3 +1,4 @@
+-- The sign, the digits behind it and their number are those of the definition.
 use Rattle.sheets.proofs.NthNumbers as laws
 use borrow.Author.Needs.{needs}
 use Rattle.sheets.proofs.nth.signed_integer.Statement.{statement}

@@ -1,3 +1,4 @@
+-- A blank is not kept, any other component is.
 use Rattle.sheets.proofs.SelectorLaws as laws
 use borrow.Author.Needs.{needs}
 use Rattle.sheets.proofs.selectors.kept_first.Statement.{statement}

@@ -1,3 +1,4 @@
+-- A component that is not kept leaves the rows as they were.
 use Rattle.sheets.proofs.SelectorLaws as laws
 use borrow.Author.Needs.{needs}
 use Rattle.sheets.proofs.selectors.put_first.Statement.{statement}
