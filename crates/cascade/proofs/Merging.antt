@@ -25,12 +25,12 @@ module _ (r k : ℕ) where
   unfolding isNamed
   named h l = and-both _ _ (lt-ltb r recordCount h) (lt-ltb k slotCount l)
 
-  -- no such record
+  -- a record that there is not is not named
   pub no-record : recordCount ≤ r → isNamed r k ≡ false
   unfolding isNamed
   no-record h = and-left _ _ (le-ltb r recordCount h)
 
-  -- no such slot
+  -- a slot that there is not is not named
   pub no-slot : slotCount ≤ k → isNamed r k ≡ false
   unfolding isNamed
   no-slot h = and-right _ _ (le-ltb k slotCount h)
@@ -71,7 +71,7 @@ module _ (u : Slot Value → Candidate Value → Slot Value) (xs : List ℕ) (d 
           ap styleAt (sym (pick-true _ _ _ _ e refl)) ∙ update-view (d .pseudo) (d .slot) (λ s. u s (d .candidate)) xs h (p .0) (p .1) ∙ pick-true _ _ _ _ e refl
       go false e = ap styleAt (sym (pick-false _ _ _ _ e refl)) ∙ pick-false _ _ _ _ e refl
 
-  -- by its steps
+  -- the slot read, updated and written, and its record marked, are the merge
   pub merge-steps : (old new : Slot Value) (ys : List ℕ) → d .pseudo < recordCount → d .slot < slotCount → old ≡ slotAt xs (slotPlace (d .pseudo) (d .slot)) → new ≡ u old (d .candidate)
       → ys ≡ set (sets xs (slotPlace (d .pseudo) (d .slot)) (slotNumbers new)) (recordPlace (d .pseudo)) 1 → ys ≡ mergeRowBy u xs d
   unfolding mergeRowBy updateRow

@@ -42,7 +42,7 @@ module _ {A B : Type 0} (P : A → B → Type 0) where
   each-set zero a b p (next q qs) = next p qs
   each-set (suc k) a b p (next q qs) = next q (each-set k a b p qs)
 
-  -- one of them
+  -- values that are related one by one are related at each place
   pub each-get : {l : List A} {m : List B} (k : ℕ) (a : A) (b : B) → P a b → Each P l m → P (getD l k a) (getD m k b)
   each-get k a b p none = p
   each-get zero a b p (next q qs) = q
@@ -81,6 +81,7 @@ module _ {A B : Type 0} (R : A → B → Type 0) where
     pub candidates : SameCandidate R (x .candidate) (y .candidate)
 
   -- ---- one update
+  -- a test of two weights has one answer on candidates that are the same
   tests-same : (f : Weight → Weight → Bool) (c x : Candidate A) (d y : Candidate B) → SameCandidate R c d → SameCandidate R x y → f (c .weight) (x .weight) ≡ f (d .weight) (y .weight)
   tests-same f c x d y p q = rw (p .weights, q .weights)
 
@@ -88,7 +89,7 @@ module _ {A B : Type 0} (R : A → B → Type 0) where
       → SameSlot R (pick (f (c .weight) (x .weight)) (held c) (held x)) (pick (f (d .weight) (y .weight)) (held d) (held y))
   chosen-same f c x d y p q = pick-same (SameSlot R) _ _ (held c) (held x) (held d) (held y) (tests-same f c x d y p q) (both-held p) (both-held q)
 
-  -- by either cascade
+  -- slots that are the same stay so when both are updated, by either cascade
   pub update-same : (k : Cascade) (s : Slot A) (t : Slot B) (x : Candidate A) (y : Candidate B) → SameSlot R s t → SameCandidate R x y → SameSlot R (updateBy k s x) (updateBy k t y)
   unfolding updateBy maybeUpdate bookUpdate
   update-same Crate empty empty x y both-empty q = both-held q
@@ -109,7 +110,7 @@ module _ {A B : Type 0} (R : A → B → Type 0) where
         (pick-same (SameStyle R) (is r beforeRecord) (is r beforeRecord) _ _ _ _ refl (record { main = h .main; before = record-updated i (s .before) (t .before) (h .before); after = h .after })
         (record { main = h .main; before = h .before; after = record-updated i (s .after) (t .after) (h .after) }))
 
-  -- one declaration
+  -- styles that are the same stay so when one declaration is merged into both
   pub merge-same : (k : Cascade) (s : ComputedStyle A) (t : ComputedStyle B) (x : Declared A) (y : Declared B) → SameStyle R s t → SameDeclared x y
       → SameStyle R (mergeBy (updateBy k) s x) (mergeBy (updateBy k) t y)
   unfolding mergeBy
@@ -121,7 +122,7 @@ module _ {A B : Type 0} (R : A → B → Type 0) where
       moved : (a b i j : ℕ) → a ≡ b → i ≡ j → (f : Slot A → Slot A) (g : Slot B → Slot B) → SameStyle R (updateStyle a i f s) (updateStyle a i g t) → SameStyle R (updateStyle a i f s) (updateStyle b j g t)
       moved a b i j e l f g u = rw (← e, ← l) u
 
-  -- many of them
+  -- styles that are the same stay so when many declarations are merged into both
   pub merges-same : (k : Cascade) {xs : List (Declared A)} {ys : List (Declared B)} → Each SameDeclared xs ys → (s : ComputedStyle A) (t : ComputedStyle B) → SameStyle R s t
       → SameStyle R (foldl (mergeBy (updateBy k)) s xs) (foldl (mergeBy (updateBy k)) t ys)
   merges-same k none s t h = h
@@ -137,7 +138,7 @@ module _ {A B : Type 0} (R : A → B → Type 0) where
   unfolding inheritRecord
   record-inherited p q h = record { presence = h .presence; all = each-map (SameSlot R) (SameSlot R) inheritedSlot inheritedSlot slot-inherited (h .all) }
 
-  -- in either cascade
+  -- styles that are the same are inherited as the same, in either cascade
   pub inherit-same : (k : Cascade) (s : ComputedStyle A) (t : ComputedStyle B) → SameStyle R s t → SameStyle R (inheritBy k s) (inheritBy k t)
   unfolding inheritBy inherit inheritInBookOrder
   inherit-same Crate s t h = record { main = record { presence = refl; all = h .main .all }; before = h .before; after = h .after }
@@ -147,7 +148,7 @@ module _ {A B : Type 0} (R : A → B → Type 0) where
     after = record-inherited (s .after) (t .after) (h .after);
   }
 
-  -- nothing is declared
+  -- records in which nothing is declared are the same
   empty-record-same : SameRecord R emptyRecord emptyRecord
   unfolding emptyRecord
   empty-record-same = record { presence = refl; all = each-replicate (SameSlot R) slotCount empty empty both-empty }
@@ -193,7 +194,7 @@ module _ {A B : Type 0} (R : A → B → Type 0) where
       (pick-same (Each SameDeclared) (x .isStyle) (y .isStyle) _ [] _ [] (h .kinds) (next (attribute-declared (x .style .important) (y .style .important) inlineSpecificity x y (h .styles .importances) h) none) none)
       (styles-declared hs)
 
-  -- in either cascade
+  -- sources that are the same declare the same, in either cascade
   pub declared-same : (k : Cascade) (x : Sources A) (y : Sources B) → SameSources x y → Each SameDeclared (declaredBy k x) (declaredBy k y)
   unfolding declaredBy crateDeclared bookDeclared
   declared-same Crate x y h =

@@ -119,7 +119,7 @@ rewrites-windows u (suc n) i xs h =
     here : (xs : List ℕ) (i : ℕ) → slotNumbers (u (slotAt xs i)) ≡ slotNumbers (u (readSlot (reads xs i 0 slotWidth)))
     here xs i = unfold slotAt in refl
 
--- and as slots
+-- rewriting the numbers of n slots rewrites the slots one by one
 pub rewrites-slots : (u : Slot Value → Slot Value) (n i : ℕ) (xs : List ℕ) → i + n * slotWidth ≤ length xs → map readSlot (windows (rewrites u i n xs) i n) ≡ map u (map readSlot (windows xs i n))
 rewrites-slots u n i xs h = ap (map readSlot) (rewrites-windows u n i xs h) ∙ slots-back (map u (map readSlot (windows xs i n)))
 
@@ -171,7 +171,7 @@ module _ (xs : List ℕ) (h : styleRowWidth ≤ length xs) where
   pub present-number : (p : ℕ) → 0 < p → getD (set xs 0 1) p 0 ≡ getD xs p 0
   present-number p a = getD-set-other xs 0 p 1 0 (λ e. omega arith)
 
-  -- its slots stay
+  -- marking the main record as present leaves its slots as they were
   pub present-main : recordAt (set xs 0 1) 0 ≡ record { present = true; slots = recordAt xs 0 .slots }
   unfolding recordAt
   present-main =

@@ -20,11 +20,11 @@ use Rattle.cascade.proofs.Windows.{reads-same, reads-sets, sets-low, se
 pub cons-same : {A : Type 0} (a b : A) (l m : List A) → a ≡ b → l ≡ m → a ∷ l ≡ b ∷ m
 cons-same a b l m e f = rw (e, f)
 
--- records
+-- records with equal parts are equal
 pub record-same : {A : Type 0} (b c : Bool) (l m : List (Slot A)) → b ≡ c → l ≡ m → _≡_ {A = Record A} (record { present = b; slots = l }) (record { present = c; slots = m })
 record-same b c l m e f = rw (e, f)
 
--- styles
+-- styles with equal records are equal
 pub style-same : {A : Type 0} (a b c d e f : Record A) → a ≡ d → b ≡ e → c ≡ f
     → _≡_ {A = ComputedStyle A} (record { main = a; before = b; after = c }) (record { main = d; before = e; after = f })
 style-same a b c d e f p q r = rw (p, q, r)
@@ -54,7 +54,7 @@ unfolding flag
 flag-small true = omega arith
 flag-small false = omega arith
 
--- 1 is set
+-- the number 1 is read as a flag that is set
 pub flag-one : flagOf 1 ≡ true
 unfolding flagOf is
 flag-one = refl
@@ -65,7 +65,7 @@ unfolding slotNumbers valueNumbers
 slot-width empty = refl
 slot-width (held c) = refl
 
--- read back
+-- a candidate is read back from the numbers of its slot
 candidate-back : (c : Candidate Value) → readCandidate (slotNumbers (held c)) ≡ c
 unfolding readCandidate slotNumbers valueNumbers
 candidate-back c = rw (flag-back (c .weight .spec .inline), flag-back (c .weight .important))
@@ -218,12 +218,12 @@ module _ {A : Type 0} (r k : ℕ) (u : Slot A → Slot A) (s : ComputedStyle A) 
   unfolding updateStyle
   update-main e = sym (pick-true _ _ _ _ (is-yes r mainRecord e) refl)
 
-  -- that of `::before`
+  -- a slot of `::before` is updated in that record alone
   pub update-before : r ≡ beforeRecord → updateStyle r k u s ≡ record { main = s .main; before = updateRecord k u (s .before); after = s .after }
   unfolding updateStyle
   update-before e = sym (pick-false _ _ _ _ (is-no r mainRecord (λ z. omega arith)) (pick-true _ _ _ _ (is-yes r beforeRecord e) refl))
 
-  -- that of `::after`
+  -- a slot of `::after` is updated in that record alone
   pub update-after : r ≡ afterRecord → updateStyle r k u s ≡ record { main = s .main; before = s .before; after = updateRecord k u (s .after) }
   unfolding updateStyle
   update-after e = sym (pick-false _ _ _ _ (is-no r mainRecord (λ z. omega arith)) (pick-false _ _ _ _ (is-no r beforeRecord (λ z. omega arith)) refl))

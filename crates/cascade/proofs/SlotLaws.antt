@@ -93,10 +93,10 @@ module _ (s : code.Slot) where
 
 -- ---- either cascade
 module _ (k : Cascade) (s n : Slot Value) (x : Candidate Value) where
-  -- the crate's
+  -- in the crate's cascade a slot is updated as the crate does
   pub by-crate : k ≡ Crate → n ≡ maybeUpdate s x → n ≡ updateBy k s x
   by-crate e h = rw e (unfold updateBy in h)
 
-  -- the book's
+  -- in the book order a slot is updated as the document orders
   pub by-book : k ≡ Book → n ≡ bookUpdate s x → n ≡ updateBy k s x
   by-book e h = rw e (unfold updateBy in h)

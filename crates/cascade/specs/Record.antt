@@ -150,7 +150,8 @@ fromAttribute i p x =
       candidate = record { weight = record { important = i; origin = authorOrigin; spec = p }; value = x .style .value };
     }
 
--- ---- the crate's cascade (`computed_style`): agent, user, author, then the attributes, all inline and none important
+-- ---- the crate's cascade (`computed_style`): agent, user, author, then the attributes, all inline and none important; the slip would be
+-- "Taking inline `!important` as important in the crate's cascade"
 unfoldable pub crateDeclared : {A : Type 0} → Sources A → List (Declared A)
 crateDeclared x =
     map (fromRule agentOrigin) (x .agent)

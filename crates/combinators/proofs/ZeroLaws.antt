@@ -24,7 +24,7 @@ module _ (l : List ℕ) (f : ℕ) (z : Zeros l f) where
   pub zeros-back : (xs : List ℕ) (n : ℕ) → length xs ≤ n → wiped f n (sets l f xs) ≡ l
   zeros-back xs n h = wiped-over l f n xs h ∙ z .wiping n
 
-  -- of m bytes
+  -- behind bytes that were stored from the fill on, the store is zero still
   pub zeros-after : (xs : List ℕ) (m : ℕ) → m ≡ length xs → (z′ : List ℕ) → z′ ≡ sets l f xs → Zeros z′ (f + m)
   zeros-after xs m em z′ ez = rw (em, ez) (zeros-behind xs)
 

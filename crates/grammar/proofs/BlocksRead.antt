@@ -102,7 +102,7 @@ next-onto m ms t =
     ap (λ (l : List ℕ). ascii.semicolon ∷ l)
     (append-assoc (b ++ d) (writtenNexts ms) t ∙ append-assoc b d (writtenNexts ms ++ t))
 
--- its length
+-- how many bytes a further declaration takes: a semicolon, white space and itself
 next-length : (m : Next) → length (writtenNext m) ≡ 1 + length (m .lead .bytes) + length (writtenDeclared (m .declared))
 unfolding writtenNext
 next-length m = omega (arith, length-append (m .lead .bytes) (writtenDeclared (m .declared)))
@@ -242,12 +242,12 @@ end-at t i false c z h =
 
 -- a block and the white space behind it are read whole
 module _ (c : Blanks) (r : List ℕ) (hr : whitespaceItem r ≡ 0) (t : List ℕ) (n : ℕ) where
-  -- the opening brace
+  -- at an opening brace the block begins, and its contents follow
   opens : (x : List ℕ) → drop n t ≡ ascii.leftCurlyBracket ∷ x → (spaced t n ≡ n) × (getD t n 0 ≡ ascii.leftCurlyBracket) × (drop (n + 1) t ≡ x)
   opens x h =
       (spaced-none t n (ascii.leftCurlyBracket ∷ x) (block-items x .3) h, byte-on t n ascii.leftCurlyBracket x h, rest-one t n ascii.leftCurlyBracket x h)
 
-  -- no declaration
+  -- a block without declarations is read whole
   empty-read : (b : Blanks) → drop n t ≡ ascii.leftCurlyBracket ∷ (b .bytes ++ (ascii.rightCurlyBracket ∷ (c .bytes ++ r)))
       → blockOf t n ≡ reads (n + 1 + length (b .bytes) + 1 + length (c .bytes)) []
   empty-read b h =
@@ -261,7 +261,7 @@ module _ (c : Blanks) (r : List ℕ) (hr : whitespaceItem r ≡ 0) (t : List ℕ
       (unmarked-brace t (d + 0) d z (ap (spaced t) (add-zero d) ∙ spaced-none t d (ascii.rightCurlyBracket ∷ z) (block-items z .0) k) k) (byte-on t d ascii.rightCurlyBracket z k)
       (spaced-on t (d + 1) (c .bytes) r (c .blank) hr (rest-one t d ascii.rightCurlyBracket z k))
 
-  -- some
+  -- a block with one declaration or more is read whole
   filled-read : (b : Blanks) (x : Declared) (ms : List Next) (s : Bool) (a : Blanks)
       → drop n t ≡ ascii.leftCurlyBracket ∷ (b .bytes ++ (writtenDeclared x ++ (writtenNexts ms ++ (writtenEnd s a ++ (c .bytes ++ r)))))
       → blockOf t n

@@ -48,12 +48,12 @@ module _ (n : Name) (t : List ℕ) (h : Ended t) where
   pub string-read : identstringOf (n .bytes ++ t) ≡ ok (length (n .bytes)) (n .bytes)
   string-read = ident-string (n .bytes) t (n .sequence) (h .no-character) (h .no-escape) ∙ rw (n .small)
 
-  -- a class
+  -- a full stop and a name are read as a class
   pub class-read : componentOf (ascii.fullStop ∷ (n .bytes ++ t)) ≡ reads (1 + length (n .bytes)) (class (n .bytes))
   unfolding componentOf marked blankOf classOf orElse parsed skipWhitespace many took whitespaceItem isWhitespace commentOf pick or is
   class-read = rw name-read
 
-  -- an id
+  -- a number sign and a name are read as an id
   pub id-read : componentOf (ascii.numberSign ∷ (n .bytes ++ t)) ≡ reads (1 + length (n .bytes)) (hash (n .bytes))
   unfolding componentOf marked blankOf classOf attrOf hashOf orElse parsed skipWhitespace many took whitespaceItem isWhitespace commentOf pick or is
   id-read = rw string-read
@@ -87,7 +87,7 @@ module _ (n : Name) (t : List ℕ) (h : Ended t) where
   by-start _ (started {x} {r} e s) p = name-component x (r ++ t) _ _ (start-code-point x e) (sequence-unskipped (started e s) t) p
   by-start _ (dashed {x} {r} e s) p = name-component ascii.hyphenMinus (x ∷ (r ++ t)) _ _ hyphen-code-point (sequence-unskipped (dashed e s) t) p
 
-  -- the name alone
+  -- a name alone is read as an element
   pub element-read : componentOf (n .bytes ++ t) ≡ reads (length (n .bytes)) (element (n .bytes))
   element-read = by-start (n .bytes) (n .sequence) (name-read n t h)
 
@@ -145,7 +145,7 @@ behind-name x b y t =
     let e : 1 + length b ≡ suc (length b) = omega arith in
     ap (λ (i : ℕ). getD (x ∷ (b ++ (y ∷ t))) i 0) e ∙ getD-append-seam (x ∷ b) y t 0
 
--- the closing bracket
+-- at the closing bracket the component ends
 closed-read : (t : List ℕ) (j : ℕ) (c : Component) → getD t j 0 ≡ ascii.rightSquareBracket → closed t j c ≡ reads (j + 1) c
 unfolding closed pick is
 closed-read t j c e = rw e
@@ -156,7 +156,7 @@ unfolding closed pick is
 closed-fails t j c e = rw e
 
 module _ (n : Name) (t : List ℕ) where
-  -- the attribute alone
+  -- a name in brackets is read as an attribute
   attr-alone : attrOf (ascii.leftSquareBracket ∷ (n .bytes ++ (ascii.rightSquareBracket ∷ t))) ≡ reads (1 + length (n .bytes) + 1) (attribute (n .bytes))
   unfolding attrOf onParsed orElse pick is
   attr-alone =
@@ -194,13 +194,13 @@ module _ (s : List ℕ) (j : ℕ) (v t : List ℕ) (name w : List ℕ) (e : drop
   at-close : getD s (j + length v) 0 ≡ ascii.rightSquareBracket
   at-close = sym (getD-drop j s (length v) 0) ∙ ap (λ (l : List ℕ). getD l (length v) 0) e ∙ getD-append-seam v ascii.rightSquareBracket t 0
 
-  -- a name
+  -- a name behind the equals sign is the attribute's value
   value-name : quotedOf (v ++ (ascii.rightSquareBracket ∷ t)) ≡ err → identOf (v ++ (ascii.rightSquareBracket ∷ t)) ≡ ok (length v) w
       → valueOf s j name ≡ reads (j + length v + 1) (attributeEqual name w)
   unfolding valueOf pick orElse onParsed
   value-name q p = rw (there, e, q, p, closed-read s (j + length v) (attributeEqual name w) at-close)
 
-  -- a string
+  -- a string behind the equals sign is the attribute's value
   value-string : quotedOf (v ++ (ascii.rightSquareBracket ∷ t)) ≡ ok (length v) w → valueOf s j name ≡ reads (j + length v + 1) (attributeEqual name w)
   unfolding valueOf pick orElse onParsed
   value-string q = rw (there, e, q, closed-read s (j + length v) (attributeEqual name w) at-close)

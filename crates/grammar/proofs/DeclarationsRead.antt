@@ -212,7 +212,7 @@ word-item w t = by-start (w .name .bytes) (w .name .sequence) (w .starts)
     by-start _ (dashed e s) d = absurd (dash-start d)
 
 module _ (d : Declared) (t : List ℕ) where
-  -- its parts
+  -- the parts of a declaration: its name, the white space before the colon and behind it, its value
   abbrev a : List ℕ
   a = d .property .bytes
 

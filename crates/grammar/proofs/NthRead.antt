@@ -44,7 +44,7 @@ digits-read : {ds : List ℕ} → Each isDigit ds → (t : List ℕ) → isDigit
 unfolding digits
 digits-read h t e = digits-from h t 0 e ∙ zero-add _
 
--- a digit's worth
+-- the worth of a decimal digit is its distance from `0`
 digit-worth : (x : ℕ) → isDigit x ≡ true → hexDigit x ≡ x - ascii.digitZero
 unfolding isDigit hexDigit pick
 digit-worth x e = rw e
@@ -133,12 +133,12 @@ module _ (t : List ℕ) (i n w m : ℕ) (minus₁ : Bool) (hi : signTaken t ≡ 
   unfolding bothOf pick and is
   both-unsigned b e s = rw (hi, hn, e, b, s)
 
-  -- no `n`
+  -- without `n` there is no an+b
   both-none : is (getD t (i + n) 0) ascii.smallN ≡ false → bothOf t ≡ fails
   unfolding bothOf pick and
   both-none b = rw (hi, hn, b)
 
-  -- `n` alone
+  -- with `n` behind the digits it is an
   a-by : getD t (i + n) 0 ≡ ascii.smallN → justA t ≡ converted t i n minus₁ (λ a. reads (i + n + 1) (record { a = a; b = pos 0 }))
   unfolding justA pick is
   a-by b = rw (hi, hn, b, hm)
@@ -148,14 +148,14 @@ module _ (t : List ℕ) (i n w m : ℕ) (minus₁ : Bool) (hi : signTaken t ≡ 
   unfolding justA pick
   a-none b = rw (hi, hn, b)
 
-  -- digits alone
+  -- digits alone are b
   b-by : 1 ≤ n → justB t ≡ converted t i n minus₁ (λ b. reads (i + n) (record { a = pos 0; b = b }))
   unfolding justB pick
   b-by l = rw (hi, hn, le-leb 1 n l, hm)
 
 -- ---- what follows the argument: white space or none, and `)`
 module _ (c : Blanks) (r : List ℕ) where
-  -- the text
+  -- the text behind the argument: white space or none, and the closing bracket
   abbrev behind : List ℕ
   behind = c .bytes ++ (ascii.rightParenthesis ∷ r)
 
@@ -179,7 +179,7 @@ module _ (c : Blanks) (r : List ℕ) where
   unfolding is
   round-n = refl
 
-  -- or white space
+  -- at the closing bracket no white space begins
   round-item : whitespaceItem (ascii.rightParenthesis ∷ r) ≡ 0
   unfolding whitespaceItem isWhitespace commentOf pick or is
   round-item = refl
@@ -211,7 +211,7 @@ n-unsigned : (u : List ℕ) → unsignedByte (getD (ascii.smallN ∷ u) 0 0) ≡
 unfolding unsignedByte isDigit or and within is
 n-unsigned u = refl
 
--- and no digit
+-- `n` is no digit
 n-digit : isDigit ascii.smallN ≡ false
 unfolding isDigit and within
 n-digit = refl
@@ -234,11 +234,12 @@ sign-item true l = refl
 sign-item false l = refl
 
 -- ---- the argument
+-- where the first alternative fails the second decides
 orElse-second : (a b c : Outcome Nth) → a ≡ fails → b ≡ c → orElse a b ≡ c
 unfolding orElse
 orElse-second a b c e d = rw (e, d)
 
--- the first reads
+-- where the first alternative reads it decides
 orElse-first : (a b : Outcome Nth) (n : ℕ) (x : Nth) → a ≡ reads n x → orElse a b ≡ reads n x
 unfolding orElse
 orElse-first a b n x e = rw e
@@ -247,7 +248,7 @@ module _ (c : Blanks) (r : List ℕ) where
   abbrev u : List ℕ
   u = behind c r
 
-  -- an
+  -- an is read whole
   multiple-read : (s : Sign) (a : Count)
       → nthOf (writtenSign s ++ (a .bytes ++ (ascii.smallN ∷ u)))
       ≡ reads (length (writtenSign s) + length (a .bytes) + 1) (record { a = signed (negative s) (worth (a .bytes)); b = pos 0 })
@@ -269,7 +270,7 @@ module _ (c : Blanks) (r : List ℕ) where
       (orElse-first (justA t) (justB t) _ _
       (a-by t i n k 0 (negative s) (g .taken) hn (g .negates) b ∙ converted-on t i a (ascii.smallN ∷ u) (negative s) (λ a. reads (i + n + 1) (record { a = a; b = pos 0 })) x))
 
-  -- b
+  -- b is read whole
   number-read : (s : Sign) (b : Integer)
       → nthOf (writtenSign s ++ (b .count .bytes ++ u)) ≡ reads (length (writtenSign s) + length (b .count .bytes)) (record { a = pos 0; b = signed (negative s) (worth (b .count .bytes)) })
   number-read s b =
@@ -287,7 +288,7 @@ module _ (c : Blanks) (r : List ℕ) where
       (orElse-second (justA t) (justB t) _ (a-none t i n 0 0 (negative s) (g .taken) hn (g .negates) e)
       (b-by t i n 0 0 (negative s) (g .taken) hn (g .negates) (b .some) ∙ converted-on t i (b .count) u (negative s) (λ b. reads (i + n) (record { a = pos 0; b = b })) x))
 
-  -- an+b
+  -- an+b is read whole
   sum-read : (s : Sign) (a : Count) (w : Blanks) (m : Bool) (b : Integer)
       → nthOf (writtenSign s ++ (a .bytes ++ (ascii.smallN ∷ (w .bytes ++ (signByte m ∷ (b .count .bytes ++ u))))))
       ≡ reads (length (writtenSign s) + length (a .bytes) + 1 + length (w .bytes) + 1 + length (b .count .bytes))
@@ -331,7 +332,7 @@ word-items : (l : List ℕ) → (whitespaceItem (text "even" ++ l) ≡ 0) × (wh
 unfolding whitespaceItem isWhitespace commentOf text utf8 continuation pick or is
 word-items l = (refl, refl)
 
--- the two words
+-- `even` is 2n, and `odd` is 2n+1
 words-read : (l : List ℕ) → (nthOf (text "even" ++ l) ≡ reads (length (text "even")) (record { a = pos 2; b = pos 0 }))
     × (nthOf (text "odd" ++ l) ≡ reads (length (text "odd")) (record { a = pos 2; b = pos 1 }))
 unfolding nthOf worded orElse startsWith text utf8 continuation pick and is

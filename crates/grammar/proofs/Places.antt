@@ -19,15 +19,15 @@ pub differs : (p : ℕ → Bool) (x k : ℕ) → p x ≡ true → p k ≡ false 
 differs p x k e d = is-no x k (λ q. never (sym d ∙ ap p (sym q) ∙ e))
 
 module _ (t : List ℕ) (i : ℕ) where
-  -- behind p
+  -- behind bytes p that stand at a place is what follows them
   pub rest-on : (p x : List ℕ) → drop i t ≡ p ++ x → drop (i + length p) t ≡ x
   rest-on p x e = sym (drop-drop (length p) i t) ∙ ap (drop (length p)) e ∙ drop-append-seam p x
 
-  -- behind one byte
+  -- behind one byte that stands at a place is what follows it
   pub rest-one : (y : ℕ) (x : List ℕ) → drop i t ≡ y ∷ x → drop (i + 1) t ≡ x
   rest-one y x e = rest-on (y ∷ []) x e
 
-  -- the byte there
+  -- the byte at a place is the first that stands from there on
   pub byte-on : (y : ℕ) (x : List ℕ) → drop i t ≡ y ∷ x → getD t i 0 ≡ y
   byte-on y x e = sym (first t i) ∙ ap (λ (l : List ℕ). getD l 0 0) e
 
@@ -50,19 +50,19 @@ pub record Unblank (p : ℕ → Bool) : Type 0 where
   pub of-solidus : p ascii.solidus ≡ false
 
 module _ (p : ℕ → Bool) (u : Unblank p) where
-  -- a newline
+  -- a newline does not pass the test
   newline-first : {x : ℕ} → Newline x → p x ≡ false
   newline-first line-feed = u .of-line-feed
   newline-first carriage-return = u .of-carriage-return
   newline-first form-feed = u .of-form-feed
 
-  -- all white space
+  -- no white space passes the test
   white-first : {x : ℕ} → White x → p x ≡ false
   white-first (newline n) = newline-first n
   white-first tab = u .of-tab
   white-first blank-space = u .of-space
 
-  -- a comment
+  -- the first byte of a comment does not pass the test
   comment-first : {c : List ℕ} (l : List ℕ) → Comment c → p (getD (c ++ l) 0 0) ≡ false
   comment-first l (closed body h) = u .of-solidus
 

@@ -26,6 +26,7 @@ use Rattle.grammar.proofs.Places.{rest-on}
 use Rattle.sheets.proofs.StatementTurns.{no-sheet}
 
 -- ---- selectors
+-- a selector of a list is written as the selector and the white space behind it
 chosen-onto : (c : Chosen) (t : List ℕ) → writtenChosen c ++ t ≡ written (c .selector) ++ (c .gap .bytes ++ t)
 unfolding writtenChosen
 chosen-onto c t = append-assoc (written (c .selector)) (c .gap .bytes) t
@@ -172,6 +173,7 @@ rule-read b r x h =
     (block-read (r .behind) x h t (w + length s) (r .block) (rest-on t w s y d) ∙ ap (λ (i : ℕ). reads i (meansBlock (w + length s) (r .block))) m)
 
 -- ---- rules
+-- a rule that is read is a statement of that one rule
 statement-by : (t : List ℕ) (n : ℕ) (k : RuleSet) → rulesetOf t ≡ reads n k → statementsOf t ≡ reads n (k ∷ [])
 unfolding statementsOf behind onOutcome orElse
 statement-by t n k e = rw (e, zero-add n)
@@ -216,7 +218,7 @@ rules-length : (r : Rule) (rs : List Rule) → length (writtenRules (r ∷ rs)) 
 unfolding writtenRules
 rules-length r rs = length-append (writtenRule r) (writtenRules rs)
 
--- no white space
+-- no white space at all
 abbrev unspaced : Blanks
 unspaced = record { bytes = []; blank = none }
 

@@ -38,7 +38,7 @@ pub record Comes (s : List ℕ) (n : ℕ) (cs : List Component) : Type 0 where
 comes-as : {s s′ : List ℕ} {n n′ : ℕ} {cs : List Component} → s ≡ s′ → n ≡ n′ → Comes s n cs → Comes s′ n′ cs
 comes-as {s} {s′} {n} {n′} {cs} e d h = subst (λ (r : List ℕ). Comes r n′ cs) e (subst (λ (m : ℕ). Comes s m cs) d h)
 
--- no component reads
+-- where no component reads, reading of components stops
 stops : (s : List ℕ) (l : ℕ) → componentOf s ≡ fails → componentsOf l s ≡ reads 0 []
 unfolding componentsOf onOutcome
 stops s zero e = refl
@@ -118,7 +118,7 @@ white-ended l (newline n) = newline-ended l n
 white-ended l tab = record { no-character = refl; no-escape = λ q. omega arith; no-round = refl }
 white-ended l blank-space = record { no-character = refl; no-escape = λ q. omega arith; no-round = refl }
 
--- of a comment
+-- a name ends at a comment
 comment-ended : {c : List ℕ} (b l : List ℕ) → Comment c → Ended (c ++ b ++ l)
 unfolding identCodePoint identStart letter or and within is
 comment-ended b l (closed body h) = record { no-character = refl; no-escape = λ q. omega arith; no-round = refl }
@@ -129,7 +129,7 @@ blank-ended t none h = h
 blank-ended t (white x b w r) h = white-ended (b ++ t) w
 blank-ended t (comment c b w r) h = comment-ended b t w
 
--- of `>`
+-- a name ends at `>`
 greater-ended : (l : List ℕ) → Ended (ascii.greaterThanSign ∷ l)
 unfolding identCodePoint identStart letter or and within is
 greater-ended l = record { no-character = refl; no-escape = λ q. omega arith; no-round = refl }
@@ -235,7 +235,7 @@ simples-begin : (p : Simple) (ps : List Simple) (s : List ℕ) → Begins (writt
 unfolding writtenSimples
 simples-begin p ps s = subst Begins (sym (append-assoc (writtenSimple p) (writtenSimples ps) s)) (simple-begins p (writtenSimples ps ++ s))
 
--- all are read
+-- simple selectors one behind the other are read as their components
 comes-simples : (ps : List Simple) (s : List ℕ) (n : ℕ) (cs : List Component) → Ended s → Comes s n cs
     → Comes (writtenSimples ps ++ s) (length (writtenSimples ps) + n) (map meansSimple ps ++ cs)
 unfolding writtenSimples
@@ -246,6 +246,7 @@ comes-simples (p ∷ ps) s n cs h q =
     (simple-read p (writtenSimples ps ++ s) (simples-ended ps s h)) (comes-simples ps s n cs h q))
 
 -- ---- compound selectors
+-- a name has at least one byte
 name-some : (n : Name) → 1 ≤ length (n .bytes)
 name-some n = by-some (n .bytes) (n .sequence)
   where
@@ -334,6 +335,7 @@ end-comes {b} {t} h e = by-length b h
         }
 
 -- ---- combinators
+-- a child combinator with what follows it is read
 comes-child : (b c : Blanks) (s : List ℕ) (n : ℕ) (cs : List Component) → whitespaceItem s ≡ 0 → Comes s n cs
     → Comes (writtenCombinator (child b c) ++ s) (length (writtenCombinator (child b c)) + n) (syntax.child ∷ cs)
 unfolding writtenCombinator
@@ -351,7 +353,7 @@ comes-greater c s n cs e q =
     comes-step (ascii.greaterThanSign ∷ c .bytes) s syntax.child n cs (omega arith)
     (child-read [] (c .bytes) s none (c .blank) e ∙ ap (λ (m : ℕ). reads m syntax.child) (omega arith)) q
 
--- white space
+-- white space with what follows it is read as a descendant combinator
 comes-descendant : (w : Spaces) (s : List ℕ) (n : ℕ) (cs : List Component) → Begins s → Comes s n cs
     → Comes (writtenCombinator (descendant w) ++ s) (length (writtenCombinator (descendant w)) + n) (syntax.descendant ∷ cs)
 unfolding writtenCombinator
@@ -452,7 +454,7 @@ module _ (x y : Blanks) (g : Complex) where
   unfolding writtenCompound writtenSimples writtenCombinator
   star-length m = omega (arith, joined-length (universal []) (child x y) g, length-append (x .bytes) (ascii.greaterThanSign ∷ y .bytes))
 
-  -- what they mean
+  -- what a star, a child combinator and a selector mean, in reading order
   star-order : (cs : List Component) → syntax.star ∷ syntax.child ∷ (inOrder g ++ cs) ≡ inOrder (joined (universal []) (child x y) g) ++ cs
   unfolding meansCompound meansCombinator
   star-order cs = sym (joined-order (universal []) (child x y) g cs)
@@ -581,7 +583,7 @@ record Body (s : List ℕ) (n : ℕ) (cs : List Component) : Type 0 where
   all : bodyOf s ≡ reads n (cs ++ trail)
 
 module _ {b t : List ℕ} (hb : Blank b) (ht : Ends t) where
-  -- alone
+  -- a compound selector alone is read whole
   one-body : (k : Compound) → NoStarAtEnd k → Body (written (one k) ++ (b ++ t)) (length (written (one k)) + length b) (inOrder (one k))
   unfolding written inOrder
   one-body k a =
@@ -693,7 +695,7 @@ solid-onto : (cs ds : List Component) → Solid ds → Solid (cs ++ ds)
 solid-onto cs [] h = absurd (unfold Solid in h)
 solid-onto cs (d ∷ ds) h = solid-behind cs d ds h
 
--- of any
+-- no selector of the grammar ends in a blank
 complex-solid : (g : Complex) → Solid (inOrder g)
 unfolding inOrder
 complex-solid (one k) = compound-solid k
@@ -713,7 +715,7 @@ compound-headed (typed n ps) cs = record { head = syntax.element (n .bytes); res
 compound-headed (universal ps) cs = record { head = syntax.star; rest = map meansSimple ps ++ cs; heads = refl; solid = refl }
 compound-headed (untyped p ps) cs = record { head = meansSimple p; rest = map meansSimple ps ++ cs; heads = refl; solid = simple-solid p }
 
--- of any
+-- no selector of the grammar begins with a blank
 complex-headed : (g : Complex) → Headed (inOrder g)
 unfolding inOrder
 complex-headed (one k) = subst Headed (append-nil (meansCompound k)) (compound-headed k [])
@@ -731,6 +733,7 @@ reverse-solid cs h =
     (subst Solid (sym (reverse-cons (h .head) (h .rest))) (solid-onto (reverse (h .rest)) (h .head ∷ []) (last-solid (h .head) (h .solid))))
 
 -- ---- `selectorOf`
+-- the components without blanks at both ends, and no pseudo element, are the selector
 selected : (s : List ℕ) (n : ℕ) (cs ds : List Component) → bodyOf s ≡ reads n cs → pseudoOf (drop n s) ≡ syntax.none → withoutBlank (reverse (withoutBlank cs)) ≡ ds
     → selectorOf s ≡ reads n (record { components = ds; pseudo = syntax.none })
 unfolding selectorOf onOutcome pseudoTaken

@@ -53,7 +53,7 @@ Where P (panics p) = Unit
 pub where-read : {A : Type 0} (P : ℕ → A → Type 0) (o : Outcome A) (n : ℕ) (a : A) → o ≡ reads n a → Where P o → P n a
 where-read P o n a e w = subst (Where P) e w
 
--- behind some bytes
+-- what holds of all that may be read, moved behind some bytes, holds there
 pub where-behind : {A B : Type 0} (P : ℕ → A → Type 0) (Q : ℕ → B → Type 0) (k : ℕ) (o : Outcome A) (f : A → B)
     → ((n : ℕ) (a : A) → P n a → Q (k + n) (f a)) → Where P o → Where Q (behind k o f)
 unfolding behind onOutcome
@@ -61,7 +61,7 @@ where-behind P Q k (reads n a) f h p = h n a p
 where-behind P Q k fails f h p = tt
 where-behind P Q k (panics q) f h p = tt
 
--- by cases
+-- what holds of each way that a reading may go on holds of it
 pub where-then : {A B : Type 0} (P : ℕ → A → Type 0) (Q : ℕ → B → Type 0) (o : Outcome A) (f : ℕ → A → Outcome B) (b : Outcome B) (g : ℕ → ℕ)
     → ((n : ℕ) (a : A) → P n a → Where Q (f n a)) → Where Q b → Where P o → Where Q (onOutcome o f b (λ p. panics (g p)))
 unfolding onOutcome
@@ -69,7 +69,7 @@ where-then P Q (reads n a) f b g h k p = h n a p
 where-then P Q fails f b g h k p = k
 where-then P Q (panics q) f b g h k p = tt
 
--- of two alternatives
+-- what holds of two alternatives holds of the first that reads
 pub where-else : {A : Type 0} (P : ℕ → A → Type 0) (o q : Outcome A) → Where P o → Where P q → Where P (orElse o q)
 unfolding orElse
 where-else P (reads n a) q h k = h

@@ -57,7 +57,7 @@ module _ (s st : List ℕ) (n m fill : ℕ) (t : Bool) (et : t ≡ is (getD s n 
   unfolding closedAnswer closedStore
   bracket-closes e = (pick-true _ _ _ _ (told _ _ _ et e) refl, pick-true _ _ _ _ (told _ _ _ et e) refl)
 
-  -- it is not
+  -- without the closing bracket nothing is read, and the text is wiped
   pub bracket-missing : t ≡ false → (z : List ℕ) → z ≡ wiped fill m st → (NoName ≡ closedAnswer s n m) × (z ≡ closedStore s n m fill st)
   unfolding closedAnswer closedStore
   bracket-missing e z w = (pick-false _ _ _ _ (told _ _ _ et e) refl, pick-false _ _ _ _ (told _ _ _ et e) w)
@@ -80,7 +80,7 @@ string-like : (s : List ℕ) → StringLike (stringOf s)
 unfolding stringOf
 string-like s = pick-holds StringLike _ _ _ (λ _. string-from (getD s 0 0) (drop 1 s)) (λ _. tt)
 
--- by its kind
+-- a string is of the kind of strings, a bad string is not
 string-kind : (b : List ℕ) → (isKind stringKind (string b) ≡ true) × (isKind stringKind (badString b) ≡ false)
 unfolding isKind kindOf coded columnsOf is
 string-kind b = (refl, refl)
@@ -107,13 +107,13 @@ record Token-read (p : Parsed Token) (n : ℕ) (k : declared.Token) : Type 0 whe
   reading : p ≡ ok n token
   code-is : k ≡ coded token
 
--- a token
+-- an answer with a token says that one was read
 token-read : (p : Parsed Token) (n : ℕ) (k : declared.Token) → Took n k ≡ tokenAnswer p → Token-read p n k
 unfolding tokenAnswer
 token-read (ok i κ) n k e = let q : n ≡ i = cc in record { token = κ; reading = rw q; code-is = cc }
 token-read err n k e = absurd (let z : _≡_ {A = ℕ} 0 1 = cc in omega arith)
 
--- none
+-- an answer without one says that none was
 no-token : (p : Parsed Token) → NoToken ≡ tokenAnswer p → p ≡ err
 unfolding tokenAnswer
 no-token (ok i κ) e = absurd (let z : _≡_ {A = ℕ} 0 1 = cc in omega arith)
@@ -121,12 +121,12 @@ no-token err e = refl
 
 -- ---- answers of names
 module _ (p : Parsed (List ℕ)) (st z : List ℕ) (fill : ℕ) where
-  -- a text
+  -- a text that was read lies in the store
   name-left : (n : ℕ) (b : List ℕ) → p ≡ ok n b → (m : ℕ) → m ≡ length b → z ≡ sets st fill b → idents.Named p st fill (Text n m) z
   unfolding nameAnswer nameText
   name-left n b e m em ez = rw (e, em) (refl, ez)
 
-  -- none
+  -- where none was read the store is as it was
   none-left : p ≡ err → z ≡ st → idents.Named p st fill NoName z
   unfolding nameAnswer nameText
   none-left e ez = rw e (refl, ez)
@@ -141,7 +141,7 @@ string-other : {A : Type 0} (m : ℕ) → OneOf others (tagOf the-type (code.Str
 string-other m h = absurd (miss others _ tt h)
 
 module _ (s st z : List ℕ) (fill : ℕ) (x : TokenAnswer) (w : (x ≡ tokenAnswer (stringOf s)) × (z ≡ sets st fill (tokenText (stringOf s)))) where
-  -- no token
+  -- where no token begins there is no string
   pub string-none : x ≡ NoToken → idents.Named (quotedOf s) st fill NoName z
   unfolding tokenText
   string-none h =
@@ -149,7 +149,7 @@ module _ (s st z : List ℕ) (fill : ℕ) (x : TokenAnswer) (w : (x ≡ tokenAns
       none-left (quotedOf s) st z fill (quoted-none s e) (w .1 ∙ ap (λ (p : Parsed Token). sets st fill (tokenText p)) e)
 
   module _ (n : ℕ) (k : declared.Token) (h : x ≡ Took n k) where
-    -- the token
+    -- the token that was read
     got : Token-read (stringOf s) n k
     got = token-read (stringOf s) n k (sym h ∙ w .0)
 
@@ -172,7 +172,7 @@ module _ (s st z : List ℕ) (fill : ℕ) (x : TokenAnswer) (w : (x ≡ tokenAns
     unfolding coded
     code-bad b = refl
 
-    -- a string
+    -- a string is the value
     pub string-read : (m : ℕ) → k ≡ code.String m → idents.Named (quotedOf s) st fill (Text n m) z
     string-read m e =
         ⊎-elim
@@ -182,7 +182,7 @@ module _ (s st z : List ℕ) (fill : ℕ) (x : TokenAnswer) (w : (x ≡ tokenAns
         (λ q. absurd (let l : _≡_ {A = declared.Token} (code.String m) (code.BadString (length (textOf (got .token)))) = sym e ∙ got .code-is ∙ ap coded q ∙ code-bad _ in let y : _≡_ {A = ℕ} 0 1 = cc in omega arith))
         (like .0)
 
-    -- another token
+    -- any other token is no value, and its text is wiped
     pub string-wiped : OneOf others (tagOf the-type k) → Zeros st fill → (y : List ℕ) → y ≡ wiped fill n z → idents.Named (quotedOf s) st fill NoName y
     string-wiped e c y ey =
         ⊎-elim
@@ -192,7 +192,7 @@ module _ (s st z : List ℕ) (fill : ℕ) (x : TokenAnswer) (w : (x ≡ tokenAns
 
 -- ---- a text with its bracket
 module _ (s : List ℕ) (p : Parsed (List ℕ)) where
-  -- no text
+  -- without a text there is nothing to close
   closed-err : p ≡ err → closedBy s p ≡ err
   unfolding closedBy onParsed
   closed-err e = rw e
@@ -203,7 +203,7 @@ module _ (s : List ℕ) (p : Parsed (List ℕ)) where
     unfolding closedBy onParsed pick
     closed-yes t = rw (e, t)
 
-    -- it is not
+    -- a text without the closing bracket behind it is no value
     closed-no : is (getD s n 0) ascii.rightSquareBracket ≡ false → closedBy s p ≡ err
     unfolding closedBy onParsed pick
     closed-no t = rw (e, t)
@@ -222,7 +222,7 @@ quoted-keeps s = go (stringOf s) refl
     go err e = rw (quoted-none s e) tt
 
 module _ (s st z : List ℕ) (fill : ℕ) (c : Zeros st fill) (p : Parsed (List ℕ)) (x : Name) (w : idents.Named p st fill x z) where
-  -- nothing was read
+  -- where nothing was read there is no value
   pub value-none : x ≡ NoName → idents.Named (closedBy s p) st fill NoName z
   unfolding nameText
   value-none h =
@@ -251,7 +251,7 @@ module _ (s st z : List ℕ) (fill : ℕ) (c : Zeros st fill) (p : Parsed (List 
 
 -- ---- the returns of `parse_attr_value`
 module _ (s st z : List ℕ) (fill : ℕ) (x : Name) (w : idents.Named (closedBy s (quotedOf s)) st fill x z) where
-  -- a quoted string
+  -- a quoted string with its bracket is the value
   pub value-quoted : (n m : ℕ) → x ≡ Text n m → idents.Named (attrValueOf s) st fill (Text n m) z
   unfolding nameText
   value-quoted n m h =
@@ -292,13 +292,13 @@ closed-keeps s (ok n b) f =
     (λ _. tt)
 closed-keeps s err f = tt
 
--- of two alternatives
+-- what both alternatives keep to the choice keeps to
 or-keeps : (s : List ℕ) (p q : Parsed (List ℕ)) → NameKeeps s p → NameKeeps s q → NameKeeps s (parsing.orElse p q)
 unfolding parsing.orElse
 or-keeps s (ok n b) q f g = f
 or-keeps s err q f g = g
 
--- of every text
+-- the value of any text keeps to its bounds
 pub attr-value-keeps : (s : List ℕ) → NameKeeps s (attrValueOf s)
 unfolding attrValueOf
 attr-value-keeps s = or-keeps s _ _ (closed-keeps s _ (quoted-keeps s)) (closed-keeps s _ (ident-keeps s))
@@ -309,22 +309,22 @@ module _ (s st : List ℕ) (at name fill : ℕ) where
   abbrev EqualLeft : ComponentAnswer → List ℕ → Type 0
   EqualLeft r z = (r ≡ equalAnswer (equalOf s at) name) × (z ≡ equalStore (equalOf s at) name fill st)
 
-  -- a value
+  -- a value that was read is left behind the name
   equal-reads : (n : ℕ) (v : List ℕ) → equalOf s at ≡ reads n v → (m : ℕ) → m ≡ length v → (z : List ℕ) → z ≡ sets st (fill + name) v → EqualLeft (Component n attributeEqualKind name m) z
   unfolding equalAnswer equalStore onOutcome
   equal-reads n v e m em z ez = rw (e, em) (refl, ez)
 
-  -- none
+  -- without a value the name is wiped
   equal-fails : equalOf s at ≡ fails → (z : List ℕ) → z ≡ wiped fill name st → EqualLeft NoComponent z
   unfolding equalAnswer equalStore onOutcome
   equal-fails e z ez = rw e (refl, ez)
 
-  -- a panic
+  -- where the crate panics the name is wiped
   equal-panics : equalOf s at ≡ panics at → (z : List ℕ) → z ≡ wiped fill name st → EqualLeft (Panic at) z
   unfolding equalAnswer equalStore onOutcome
   equal-panics e z ez = rw e (refl, ez)
 
-  -- the text ends
+  -- a text that ends behind `=` is where the crate panics
   pub equal-ends : length s ≡ at + 1 → (z : List ℕ) → z ≡ wiped fill name st → EqualLeft (Panic at) z
   unfolding equalOf
   equal-ends e z ez = equal-panics (sym (pick-true _ _ _ _ (le-leb (length s) (at + 1) (omega arith)) refl)) z ez
@@ -340,7 +340,7 @@ module _ (s st : List ℕ) (at name fill : ℕ) where
         differ : (a b : ℕ) → b ≤ a → ¬ (a ≡ b) → b < a
         differ a b h f = ⊎-elim (λ l. l) (λ l. absurd (f (omega arith))) (lt-or-ge b a)
 
-    -- a value
+    -- the return where a value was read
     pub equal-value : (n m : ℕ) → x ≡ Text n m → EqualLeft (Component (at + 1 + n) attributeEqualKind name m) z
     unfolding parsed nameText
     equal-value n m h =
@@ -348,7 +348,7 @@ module _ (s st : List ℕ) (at name fill : ℕ) where
         equal-reads (at + 1 + n) (q .name) (behind ∙ ap (λ (p : Parsed (List ℕ)). parsed (at + 1) p (λ v. v)) (q .reads)) m (q .long) z
         (w .1 ∙ ap (λ (p : Parsed (List ℕ)). sets st (fill + name) (nameText p)) (q .reads))
 
-    -- none
+    -- the return where none was
     pub equal-none : x ≡ NoName → (y : List ℕ) → y ≡ wiped fill name z → EqualLeft NoComponent y
     unfolding parsed nameText
     equal-none h y ey =
@@ -374,20 +374,20 @@ module _ (t : List ℕ) (j : ℕ) (name : List ℕ) where
   by-bracket n v true = let e : j + n + 1 ≡ j + (n + 1) = omega arith in ap (λ (k : ℕ). reads k (attributeEqual name v)) e
   by-bracket n v false = refl
 
-  -- one alternative
+  -- one alternative of a value, with its closing bracket
   one-value : (p : Parsed (List ℕ)) → onParsed p (λ n v. closed t (j + n) (attributeEqual name v)) fails ≡ valued (parsed j (closedBy (drop j t) p) (λ v. v)) name
   unfolding onParsed closed closedBy parsed onOutcome
   one-value (ok n v) = rw (getD-drop j t n 0) (by-bracket n v (is (getD t (j + n) 0) ascii.rightSquareBracket))
   one-value err = refl
 
-  -- two
+  -- two alternatives of a value are one choice of texts
   or-values : (p q : Parsed (List ℕ))
       → orElse (valued (parsed j p (λ v. v)) name) (valued (parsed j q (λ v. v)) name) ≡ valued (parsed j (parsing.orElse p q) (λ v. v)) name
   unfolding orElse parsing.orElse parsed onOutcome
   or-values (ok n v) q = refl
   or-values err q = refl
 
-  -- both
+  -- a quoted string or else a name is the choice of the two
   value-both : orElse (onParsed (quotedOf (drop j t)) (λ n v. closed t (j + n) (attributeEqual name v)) fails)
       (onParsed (identOf (drop j t)) (λ n v. closed t (j + n) (attributeEqual name v)) fails)
       ≡ valued (parsed j (attrValueOf (drop j t)) (λ v. v)) name
@@ -400,7 +400,7 @@ unfolding pick onOutcome
 by-end true at o name = let e : at + 1 - 1 ≡ at = omega arith in ap panics e
 by-end false at o name = refl
 
--- all of it
+-- the value of an attribute is what stands behind its `=`
 value-by-equal : (t : List ℕ) (at : ℕ) (name : List ℕ) → valueOf t (at + 1) name ≡ valued (equalOf t at) name
 unfolding valueOf equalOf
 value-by-equal t at name = rw (value-both t (at + 1) name) (by-end (leb (length t) (at + 1)) at _ name)
@@ -425,7 +425,7 @@ equal-left fails b m em st z fill c ez r y w = (w .0, w .1 ∙ rw ez (zeros-back
 equal-left (panics p) b m em st z fill c ez r y w = (w .0, w .1 ∙ rw ez (zeros-back st fill c b m (omega arith)))
 
 module _ (s st : List ℕ) (fill : ℕ) (t : Bool) (et : t ≡ is (getD s 0 0) ascii.leftSquareBracket) where
-  -- no bracket
+  -- without an opening bracket there is no attribute
   pub attr-missing : t ≡ false → Left (attrOf s) st fill NoComponent st
   unfolding attrOf
   attr-missing e = left-none _ (pick-false _ _ _ _ (told _ _ _ et e) refl) st fill
@@ -435,12 +435,12 @@ module _ (s st : List ℕ) (fill : ℕ) (t : Bool) (et : t ≡ is (getD s 0 0) a
     lent : idents.Named (identOf (drop 1 s)) st fill x z
     lent = rw (rest s 1) at w
 
-    -- no name
+    -- without a name there is none
     attr-nothing : identOf (drop 1 s) ≡ err → fails ≡ attrOf s
     unfolding attrOf onParsed pick
     attr-nothing h = rw (told _ _ _ et e, h)
 
-    -- its return
+    -- the return where there is no name
     pub attr-unnamed : x ≡ NoName → Left (attrOf s) st fill NoComponent z
     unfolding nameText
     attr-unnamed h =
@@ -449,7 +449,7 @@ module _ (s st : List ℕ) (fill : ℕ) (t : Bool) (et : t ≡ is (getD s 0 0) a
         rw ez (left-none _ (attr-nothing q) st fill)
 
     module _ (n m : ℕ) (h : x ≡ Text n m) where
-      -- the name
+      -- the name that was read
       name : NameRead (identOf (drop 1 s)) n m
       name = named-from _ n m (sym h ∙ lent .0)
 
@@ -472,7 +472,7 @@ module _ (s st : List ℕ) (fill : ℕ) (t : Bool) (et : t ≡ is (getD s 0 0) a
       attr-by = let q : 1 + n + 1 ≡ 2 + n = omega arith in rw (told _ _ _ et e, name .reads, q)
 
       module _ (u : Bool) (eu : u ≡ is (getD s (1 + n) 0) ascii.rightSquareBracket) where
-        -- a closing bracket
+        -- behind the name a closing bracket ends the attribute
         closed-there : u ≡ true → reads (1 + n + 1) (attribute (name .name)) ≡ closed s (1 + n) (attribute (name .name))
         unfolding closed
         closed-there f = pick-true _ _ _ _ (told _ _ _ eu f) refl
@@ -481,7 +481,7 @@ module _ (s st : List ℕ) (fill : ℕ) (t : Bool) (et : t ≡ is (getD s 0 0) a
         pub attr-closed-le : u ≡ true → 1 + n + 1 ≤ length s
         attr-closed-le f = let l = byte-there s (1 + n) ascii.rightSquareBracket (omega arith) (told _ _ _ eu f) in omega arith
 
-        -- its return
+        -- the return where it ends there
         pub attr-closed : u ≡ true → Left (attrOf s) st fill (Component (1 + n + 1) attributeKind m 0) z
         attr-closed f =
             attribute-left _ (1 + n + 1) (name .name) (sym (or-reads _ _ _ _ (sym (closed-there f))) ∙ attr-by) m (name .long) st z fill stored-name
@@ -492,7 +492,7 @@ module _ (s st : List ℕ) (fill : ℕ) (t : Bool) (et : t ≡ is (getD s 0 0) a
           unfolding closed
           closed-fails = sym (pick-false _ _ _ _ (told _ _ _ eu f) refl)
 
-          -- neither
+          -- the return where neither a bracket nor `=` follows the name
           pub attr-open : v ≡ false → Zeros st fill → (y : List ℕ) → y ≡ wiped fill m z → Left (attrOf s) st fill NoComponent y
           attr-open g c y ey =
               let q : y ≡ st = ey ∙ ap (wiped fill m) stored-name ∙ zeros-back st fill c (name .name) m (omega (arith, name .long)) in

@@ -81,7 +81,7 @@ module _ (c : Component) (fill : ℕ) (cs : List Component) where
   pub kept-texts : componentTexts kept ≡ componentText c ++ componentTexts cs
   kept-texts = by-blank (isDescendant c) refl .1
 
-  -- their rows
+  -- the rows of the components without a blank at their start
   pub kept-rows : componentRows fill kept ≡ pick (isDescendant c) [] (componentRow fill c) ++ componentRows (fill + length (componentText c)) cs
   kept-rows = by-blank (isDescendant c) refl .2
 
@@ -222,7 +222,7 @@ module _ {s rules₀ : List ℕ} {place : ℕ} {store₀ : List ℕ} {fill : ℕ
     pub fill-bits : fill + t < 2 ^ 64
     fill-bits = omega (arith, et, size .text, size .within, q .bits)
 
-    -- room behind it
+    -- the stores have room for the components behind the first
     pub rows-behind : RowRoom 0 (take (length s - n) (drop n s)) rules₀ (place + componentWidth * kept)
     rows-behind =
         rw (rest s n)
@@ -272,7 +272,7 @@ module _ {s rules₀ : List ℕ} {place : ℕ} {store₀ : List ℕ} {fill : ℕ
       pub rules-long : length rules₁ ≡ length rules₀
       rules-long = rw rows-are (length-sets rules₀ (place + componentWidth * kept) (written (componentRows (fill + t)) more))
 
-      -- and the store
+      -- the text store is as long as it was
       pub store-long : length store₂ ≡ length store₀
       store-long =
           let e : length store₂ ≡ length store₁ = rw texts-are (length-sets store₁ (fill + t) (written componentTexts more)) in
@@ -376,7 +376,7 @@ module _ {s rules₀ : List ℕ} {place : ℕ} {store₀ : List ℕ} {fill : ℕ
         unfolding cs
         count-all = kept-length c fill cs ∙ omega-two _ kept _ x kept-is (more-reads .counts)
 
-        -- the answer
+        -- the counts of the first component and of those behind it add up to the answer
         pub reads-answer : Reads (n + m) (kept + x) (componentWidth * kept + y) (t + z) ≡ reading length (componentRows fill) componentTexts (startedOf s)
         unfolding reading onOutcome
         reads-answer = rw (started-reads, count-all, numbers-all, text-all)
@@ -385,7 +385,7 @@ module _ {s rules₀ : List ℕ} {place : ℕ} {store₀ : List ℕ} {fill : ℕ
         unfolding written onOutcome
         texts-kept = rw started-reads (ap (sets store₀ fill) (sym (kept-texts c fill cs)))
 
-        -- the store
+        -- the text store holds the texts of all components
         pub reads-store : store₂ ≡ sets store₀ fill (written componentTexts (startedOf s))
         unfolding written onOutcome
         reads-store =
@@ -428,7 +428,7 @@ module _ {s rules₀ : List ℕ} {place : ℕ} {store₀ : List ℕ} {fill : ℕ
         unfolding written onOutcome
         reads-rules w = w ∙ first-placed
 
-        -- the bounds
+        -- the answer is within its bounds
         pub reads-bounds : Bounds componentWidth 0 s (Reads (n + m) (kept + x) (componentWidth * kept + y) (t + z))
         unfolding takenBy countBy numbersBy textBy placeBy
         reads-bounds =

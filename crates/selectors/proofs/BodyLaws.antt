@@ -109,7 +109,7 @@ behind-first n (panics p) c =
     let e : 0 + (n + p) ≡ n + p = omega arith in
     rw e
 
--- a type selector
+-- an alternative that never fails is the choice
 or-never : {A : Type 0} (o p : Outcome A) → (o ≡ fails → ⊥) → orElse o p ≡ o
 unfolding orElse
 or-never (reads n a) p h = refl
@@ -137,7 +137,7 @@ without-read (x ∷ t) n c e =
     let q = enough-turns (length t) (length (drop n (x ∷ t))) (drop n (x ∷ t)) (omega (arith, length-drop n (x ∷ t))) (omega arith) in
     rw (e, q) (some-more n (componentsOf (length (drop n (x ∷ t))) (drop n (x ∷ t))) c)
 
--- none reads
+-- where no component reads there is no selector without a type selector
 without-none : (t : List ℕ) → componentOf t ≡ fails → withoutElementOf t ≡ fails
 unfolding withoutElementOf componentsFrom componentsOf someOf onOutcome pick is
 without-none [] e = refl
@@ -193,7 +193,7 @@ with-name : (t : List ℕ) (n : ℕ) (name : List ℕ) → identOf t ≡ ok n na
 unfolding withElementOf onParsed
 with-name t n name e = rw e
 
--- no type selector
+-- without a name there is no selector with a type selector
 with-none : (t : List ℕ) → identOf t ≡ err → withElementOf t ≡ fails
 unfolding withElementOf onParsed
 with-none t e = rw e

@@ -78,7 +78,7 @@ marked-keeps s mark c h e m =
     (rw e (short-fits s (w + 1 + skipWhitespace (drop (w + 1) s)) [] (omega arith) (skip-from-le s (w + 1) (omega arith)) (omega arith)), m))
     (λ _. tt)
 
--- white space
+-- white space as a component keeps to the bounds
 blank-keeps : (s : List ℕ) → ComponentKeeps s (blankOf s)
 unfolding blankOf componentText
 blank-keeps s =
@@ -96,21 +96,21 @@ texts : ((b : List ℕ) → componentText (class b) ≡ b) × ((b : List ℕ) �
 unfolding componentText
 texts = (λ b. refl, λ b. refl, λ b. refl)
 
--- a class
+-- a class keeps to the bounds
 class-keeps : (s : List ℕ) → ComponentKeeps s (classOf s)
 unfolding classOf
 class-keeps s =
     pick-holds (ComponentKeeps s) _ _ _
     (λ t. let l = byte-there s 0 ascii.fullStop (omega arith) t in parsed-keeps s 1 _ class (texts .0) (λ b. tt) (omega arith) (ident-keeps (drop 1 s))) (λ _. tt)
 
--- a hash
+-- a hash keeps to the bounds
 hash-keeps : (s : List ℕ) → ComponentKeeps s (hashOf s)
 unfolding hashOf
 hash-keeps s =
     pick-holds (ComponentKeeps s) _ _ _
     (λ t. let l = byte-there s 0 ascii.numberSign (omega arith) t in parsed-keeps s 1 _ hash (texts .1) (λ b. tt) (omega arith) (identstring-keeps (drop 1 s))) (λ _. tt)
 
--- an element
+-- an element keeps to the bounds
 element-keeps : (s : List ℕ) → ComponentKeeps s (parsed 0 (identOf s) element)
 element-keeps s = parsed-keeps s 0 _ element (texts .2) (λ b. tt) (omega arith) (ident-keeps s)
 
@@ -133,7 +133,7 @@ unfolding onParsed
 form-keeps s j name h l (ok n v) f = one-value-keeps s j name h l n v f
 form-keeps s j name h l err f = tt
 
--- both
+-- an attribute with a value keeps to the bounds
 value-keeps : (s : List ℕ) (j : ℕ) (name : List ℕ) → j ≤ length s → length name ≤ j → ComponentKeeps s (valueOf s j name)
 unfolding valueOf
 value-keeps s j name h l =
@@ -156,7 +156,7 @@ named-keeps s n name f =
     let m = bound-short (f .bound) (omega arith) in
     value-keeps s (2 + n) name (omega arith) (omega arith)) (λ _. tt))
 
--- all of it
+-- an attribute keeps to the bounds
 attr-keeps : (s : List ℕ) → ComponentKeeps s (attrOf s)
 unfolding attrOf
 attr-keeps s =
@@ -164,6 +164,7 @@ attr-keeps s =
     (λ _. on-holds (ComponentKeeps s) (identOf (drop 1 s)) _ _ (λ n b e. named-keeps s n b (ident-fits (drop 1 s) n b e)) (λ _. tt)) (λ _. tt)
 
 -- ---- pseudo-classes
+-- the arguments of `nth-child` keep to the bounds as a component
 args-component : (s : List ℕ) (k : ℕ) → 1 ≤ k → k ≤ length s → (o : Outcome selector.Nth) → nthArgsOf (drop k s) ≡ o → NthKeeps (drop k s) o → ComponentKeeps s (args (drop k s) k)
 unfolding componentText
 args-component s k h l (reads n x) e m =
@@ -171,7 +172,7 @@ args-component s k h l (reads n x) e m =
 args-component s k h l fails e m = rw (args-fail (drop k s) k e) tt
 args-component s k h l (panics p) e m = rw (args-panic (drop k s) k p e) (omega (arith, length-drop k s))
 
--- all of it
+-- a pseudo-class keeps to the bounds
 pseudo-keeps : (s : List ℕ) → ComponentKeeps s (pseudoClassOf s)
 unfolding pseudoClassOf
 pseudo-keeps s =
@@ -184,11 +185,12 @@ pseudo-keeps s =
     (λ _. tt)
 
 -- ---- all
+-- `>` and `*` have no text
 bare : (componentText child ≡ []) × (componentText star ≡ [])
 unfolding componentText
 bare = (refl, refl)
 
--- every alternative
+-- every component keeps to the bounds
 pub component-keeps : (s : List ℕ) → ComponentKeeps s (componentOf s)
 unfolding componentOf
 component-keeps s =
@@ -222,7 +224,7 @@ bounds-text s n k a b t f e i =
       second = omega (arith, f .within-text);
     }
 
--- of an+b
+-- the answer of an+b is within its bounds
 bounds-nth : (s : List ℕ) (n a b : ℕ) → Fits s n [] → a ≤ greatestSigned → b ≤ greatestSigned → ComponentBounds s (answer.Component n nthKind a b)
 unfolding leastTaken componentPlace textLengthBy textLength firstNumber secondNumber pick is
 bounds-nth s n a b f h i =
@@ -234,12 +236,12 @@ bounds-none : (s : List ℕ) → ComponentBounds s answer.NoComponent
 unfolding leastTaken componentPlace textLengthBy textLength firstNumber secondNumber
 bounds-none s = record { some = omega arith; place = omega arith; text = omega arith; first = omega arith; second = omega arith }
 
--- of a panic
+-- the answer of a panic is within its bounds
 bounds-panic : (s : List ℕ) (p : ℕ) → p ≤ length s → ComponentBounds s (answer.Panic p)
 unfolding leastTaken componentPlace textLengthBy textLength firstNumber secondNumber
 bounds-panic s p h = record { some = omega arith; place = h; text = omega arith; first = omega arith; second = omega arith }
 
--- of every outcome
+-- the answer of any outcome that keeps to the bounds is within them
 bounds-by : (s : List ℕ) (o : Outcome Component) → ComponentKeeps s o → ComponentBounds s (componentAnswer o)
 unfolding componentAnswer onOutcome componentKind componentFirst componentSecond componentText is
 bounds-by s (reads n star) f = bounds-text s n _ 0 0 [] (f .0) (omega arith) refl
@@ -254,7 +256,7 @@ bounds-by s (reads n (attributeEqual t v)) f = bounds-text s n _ (length t) (len
 bounds-by s fails f = bounds-none s
 bounds-by s (panics p) f = bounds-panic s p f
 
--- of the answer
+-- the answer of a component is within its bounds
 pub component-bounds : (s : List ℕ) (r : ComponentAnswer) → r ≡ componentAnswer (componentOf s) → ComponentBounds s r
 component-bounds s r e = rw e (bounds-by s (componentOf s) (component-keeps s))
 

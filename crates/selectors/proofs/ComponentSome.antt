@@ -50,7 +50,7 @@ Some (reads n a) = 1 ≤ n
 Some fails = Unit
 Some (panics p) = Unit
 
--- one of two
+-- a choice of two that take a byte takes one
 some-or : {A : Type 0} (o p : Outcome A) → Some o → Some p → Some (orElse o p)
 unfolding orElse Some
 some-or (reads n a) p h k = h
@@ -81,7 +81,7 @@ some-behind k (reads n a) f h = omega arith
 some-behind k fails f h = tt
 some-behind k (panics p) f h = tt
 
--- a name
+-- a name takes a byte
 some-name : {B : Type 0} (t : List ℕ) (f : List ℕ → B) (p : Parsed (List ℕ)) → identOf t ≡ p → Some (outcome.parsed 0 p f)
 unfolding outcome.parsed Some
 some-name t f (ok n b) e = omega (arith, ident-fits t n b e .some)
@@ -124,7 +124,7 @@ some-pseudo t =
     (λ _. some-on _ _ (λ n name. some-pick _ _ _ (λ _. some-behind (1 + n) (nthChildArgs (drop (1 + n) t)) (λ c. c) (omega arith)) (some-fails Component)))
     (some-fails Component)
 
--- any component
+-- any component takes a byte
 pub some-component : (t : List ℕ) → Some (componentOf t)
 unfolding componentOf classOf hashOf
 some-component t =

@@ -57,14 +57,14 @@ read-by (reads m c) n k a b e = let q : n ≡ m = cc in record { component = c; 
 read-by fails n k a b e = absurd (let z : _≡_ {A = ℕ} 0 1 = cc in omega arith)
 read-by (panics p) n k a b e = absurd (let z : _≡_ {A = ℕ} 0 1 = cc in omega arith)
 
--- none
+-- an answer without a component says that none reads
 pub fails-by : (o : Outcome Component) → answer.NoComponent ≡ componentAnswer o → o ≡ fails
 unfolding componentAnswer onOutcome
 fails-by (reads m c) e = absurd (let z : _≡_ {A = ℕ} 0 1 = cc in omega arith)
 fails-by fails e = refl
 fails-by (panics p) e = absurd (let z : _≡_ {A = ℕ} 0 1 = cc in omega arith)
 
--- a panic
+-- an answer with a panic says where the crate panics
 pub panics-by : (o : Outcome Component) (p : ℕ) → answer.Panic p ≡ componentAnswer o → o ≡ panics p
 unfolding componentAnswer onOutcome
 panics-by (reads m c) p e = absurd (let z : _≡_ {A = ℕ} 0 1 = cc in omega arith)
@@ -116,7 +116,7 @@ pub record Reading-on (s rules₀ : List ℕ) (place : ℕ) (store₀ : List ℕ
   pub long : text ≤ taken + 2
   pub sharp : taken < length s → text ≤ taken
 
--- before the first
+-- before the first component nothing is gathered
 pub begin : (s rules : List ℕ) (place : ℕ) (store : List ℕ) (fill : ℕ) → Reading-on s rules place store fill rules store 0 0 0 0
 unfolding componentsFrom
 begin s rules place store fill =
@@ -159,24 +159,24 @@ module _ {s rules₀ : List ℕ} {place : ℕ} {store₀ : List ℕ} {fill : ℕ
   stopped e (suc t) = rw e
 
   module _ (e : componentOf (drop taken s) ≡ fails) where
-    -- the answer
+    -- where no more reads, the counts are the answer
     pub stop-answer : Reads taken count numbers text ≡ reading length (componentRows fill) componentTexts (componentsFrom s)
     unfolding componentRows componentTexts
     stop-answer =
         let z : taken + 0 ≡ taken = omega arith in
         ap (λ (n : ℕ). Reads n count numbers text) (sym z) ∙ end-answer _ _ _ _ _ _ _ _ _ _ _ _ _ _ (i .gathered) 0 (stopped e (i .turns))
 
-    -- the rows
+    -- and the rows of all components are written
     pub stop-rules : rules ≡ sets rules₀ place (written (componentRows fill) (componentsFrom s))
     unfolding componentRows
     stop-rules = end-rules _ _ _ _ _ _ _ _ _ _ _ _ _ _ (i .gathered) 0 (stopped e (i .turns))
 
-    -- the store
+    -- and their texts are
     pub stop-store : store ≡ sets store₀ fill (written componentTexts (componentsFrom s))
     unfolding componentTexts
     stop-store = end-store _ _ _ _ _ _ _ _ _ _ _ _ _ _ (i .gathered) 0 (stopped e (i .turns))
 
-    -- the bounds
+    -- and the answer is within its bounds
     pub stop-bounds : Bounds componentWidth 0 s (Reads taken count numbers text)
     unfolding takenBy countBy numbersBy textBy placeBy
     stop-bounds = record { taken = i .within; place = omega arith; count = i .counted; numbers = omega (arith, i .wide, i .counted); text = i .long; sharp = i .sharp }
@@ -188,7 +188,7 @@ module _ {s rules₀ : List ℕ} {place : ℕ} {store₀ : List ℕ} {fill : ℕ
   panicked p e (suc t) l = rw e
 
   module _ (p : ℕ) (e : componentOf (drop taken s) ≡ panics p) (h : p ≤ length (drop taken s)) where
-    -- the answer
+    -- where the crate panics, the place counts from the first component
     pub panic-answered : Panics (taken + p) ≡ reading length (componentRows fill) componentTexts (componentsFrom s)
     unfolding componentRows componentTexts
     panic-answered = panic-answer _ _ _ _ _ _ _ _ _ _ _ _ _ _ (i .gathered) p (panicked p e (i .turns) (i .enough))
@@ -203,7 +203,7 @@ module _ {s rules₀ : List ℕ} {place : ℕ} {store₀ : List ℕ} {fill : ℕ
     unfolding componentTexts
     panic-texts z = panic-store _ _ _ _ _ _ _ _ _ _ _ _ _ _ (i .gathered) p (panicked p e (i .turns) (i .enough)) z
 
-    -- the bounds
+    -- and it is within the bounds
     pub panic-bounds : Bounds componentWidth 0 s (Panics (taken + p))
     unfolding takenBy countBy numbersBy textBy placeBy
     panic-bounds =
@@ -293,7 +293,7 @@ module _ {s rules₀ : List ℕ} {place : ℕ} {store₀ : List ℕ} {fill : ℕ
       unfolding written onOutcome
       same-store = stored ∙ rw none
 
-      -- what is left
+      -- all that is left where no more reads
       pub stop-left : (Reads taken count numbers text ≡ reading length (componentRows fill) componentTexts (componentsFrom s))
           × ((rules ≡ sets rules₀ place (written (componentRows fill) (componentsFrom s)))
           × ((store₁ ≡ sets store₀ fill (written componentTexts (componentsFrom s))) × Bounds componentWidth 0 s (Reads taken count numbers text)))
@@ -315,7 +315,7 @@ module _ {s rules₀ : List ℕ} {place : ℕ} {store₀ : List ℕ} {fill : ℕ
       pub panic-fits : taken + p < 2 ^ 64
       panic-fits = omega (arith, panic-inside, length-drop taken s, i .within, q .bits)
 
-      -- what is left
+      -- all that is left where the crate panics: rows and texts are wiped
       pub panic-left : {rules₂ store₂ : List ℕ} → rules₂ ≡ wiped place numbers rules → store₂ ≡ wiped fill text store₁
           → (Panics (taken + p) ≡ reading length (componentRows fill) componentTexts (componentsFrom s))
           × ((rules₂ ≡ sets rules₀ place (written (componentRows fill) (componentsFrom s)))
@@ -364,7 +364,7 @@ module _ {s rules₀ : List ℕ} {place : ℕ} {store₀ : List ℕ} {fill : ℕ
       pub numbers-fit : numbers + componentWidth < 2 ^ 64
       numbers-fit = omega (arith, r .bits, i .wide, i .counted, some-left n k f g read sized)
 
-      -- the next turn
+      -- a turn: one component more is gathered
       pub goes : {rules₁ : List ℕ} {t : ℕ} → rules₁ ≡ sets rules (place + numbers) (k ∷ (fill + text) ∷ f ∷ g ∷ []) → t ≡ textLength k f g
           → Reading-on s rules₀ place store₀ fill rules₁ store₁ (taken + n) (count + 1) (numbers + componentWidth) (text + t)
       goes {rules₁} {t} w e = rw e (next n k f g read sized rules₁ store₁ w stored)

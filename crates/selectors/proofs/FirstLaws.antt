@@ -46,7 +46,7 @@ module _ (s st : List ℕ) (fill : ℕ) where
 
   module _ {a : ComponentAnswer} {z : List ℕ} (e₁ : a ≡ componentAnswer (parsed 0 (identOf s) element))
       (e₂ : z ≡ sets st fill (written componentText (parsed 0 (identOf s) element))) where
-    -- a type selector
+    -- the return where a type selector was read
     pub first-read : (n k f g : ℕ) → a ≡ answer.Component n k f g → Left (answer.Component n k f g) z
     unfolding firstOf
     first-read n k f g told =
@@ -71,7 +71,7 @@ module _ (s st : List ℕ) (fill : ℕ) where
       pub still-clean : Clean (length s) fill st → Clean (length s) fill z
       still-clean c = clean-same (length s) fill st z same c
 
-      -- any component
+      -- the return where it was not: any component
       pub other-read : {r : ComponentAnswer} {z′ : List ℕ} → r ≡ componentAnswer (componentOf s) → z′ ≡ sets z fill (written componentText (componentOf s)) → Left r z′
       unfolding firstOf
       other-read {r} {z′} e g =

@@ -17,12 +17,12 @@ use Rattle.selectors.specs.declared.readings.Reading.the-variants.{Reads
 use Rattle.combinators.proofs.ZeroLaws.{zeros-behind, zeros-back}
 
 module _ {A : Type 0} (w : ℕ → A → List ℕ) (x : A → List ℕ) where
-  -- of one thing
+  -- the rows of one thing are its row
   pub one-row : (f : ℕ) (a : A) → rowsMany w x f (a ∷ []) ≡ w f a
   unfolding rowsMany
   one-row f a = append-nil (w f a)
 
-  -- its text
+  -- the texts of one thing are its text
   pub one-text : (a : A) → textsMany x (a ∷ []) ≡ x a
   unfolding textsMany
   one-text a = append-nil (x a)
@@ -38,7 +38,7 @@ module _ {A : Type 0} (w : ℕ → A → List ℕ) (x : A → List ℕ) where
     pub text-is : text ≡ length (textsMany x done)
 
   module _ (whole : Outcome (List A)) (rules₀ : List ℕ) (place : ℕ) (store₀ : List ℕ) (fill : ℕ) where
-    -- nothing yet
+    -- before anything is gathered what is left is the whole
     behind-none : (o : Outcome (List A)) → o ≡ behind 0 o (λ more. [] ++ more)
     unfolding behind onOutcome
     behind-none (reads n a) =
@@ -49,7 +49,7 @@ module _ {A : Type 0} (w : ℕ → A → List ℕ) (x : A → List ℕ) where
         let e : 0 + p ≡ p = omega arith in
         rw e
 
-    -- before the first
+    -- the invariant before the first thing
     pub gathered-none : Gathered whole whole rules₀ place store₀ fill 0 rules₀ store₀ 0 0 0
     unfolding rowsMany textsMany
     gathered-none = record { done = []; whole-is = behind-none whole; rules-are = refl; store-is = refl; count-is = refl; numbers-are = refl; text-is = refl }
@@ -68,7 +68,7 @@ module _ {A : Type 0} (w : ℕ → A → List ℕ) (x : A → List ℕ) where
 
     module _ (rest : Outcome (List A)) (k : ℕ) (rules store : List ℕ) (count numbers text : ℕ)
         (g : Gathered whole rest rules₀ place store₀ fill k rules store count numbers text) where
-      -- some more
+      -- some things more, with their rows and texts
       pub gathered-more : (n : ℕ) (xs : List A) (rest′ : Outcome (List A)) (rules′ store′ : List ℕ) → rest ≡ behind n rest′ (λ more. xs ++ more)
           → rules′ ≡ sets rules (place + numbers) (rowsMany w x (fill + text) xs) → store′ ≡ sets store (fill + text) (textsMany x xs)
           → Gathered whole rest′ rules₀ place store₀ fill (k + n) rules′ store′ (count + length xs) (numbers + length (rowsMany w x (fill + text) xs)) (text + length (textsMany x xs))
@@ -89,7 +89,7 @@ module _ {A : Type 0} (w : ℕ → A → List ℕ) (x : A → List ℕ) where
             text-is = rw (texts-append w x d xs) (omega (arith, g .text-is, length-append ts (textsMany x xs)));
           }
 
-      -- one more
+      -- one thing more, with its row and its text
       pub gathered-next : (n : ℕ) (a : A) (rest′ : Outcome (List A)) (rules′ store′ : List ℕ) → rest ≡ behind n rest′ (λ more. a ∷ more)
           → rules′ ≡ sets rules (place + numbers) (w (fill + text) a) → store′ ≡ sets store (fill + text) (x a)
           → Gathered whole rest′ rules₀ place store₀ fill (k + n) rules′ store′ (count + 1) (numbers + length (w (fill + text) a)) (text + length (x a))
@@ -102,7 +102,7 @@ module _ {A : Type 0} (w : ℕ → A → List ℕ) (x : A → List ℕ) where
       pub rules-zeros : Zeros rules₀ place → Zeros rules (place + numbers)
       rules-zeros z = rw (g .rules-are, g .numbers-are) (zeros-behind rules₀ place z (rowsMany w x fill (g .done)))
 
-      -- of texts
+      -- behind what is gathered the text store is zero
       pub store-zeros : Zeros store₀ fill → Zeros store (fill + text)
       store-zeros z = rw (g .store-is, g .text-is) (zeros-behind store₀ fill z (textsMany x (g .done)))
 
@@ -110,7 +110,7 @@ module _ {A : Type 0} (w : ℕ → A → List ℕ) (x : A → List ℕ) where
       pub rules-long : length rules ≡ length rules₀
       rules-long = rw (g .rules-are) (length-sets rules₀ place (rowsMany w x fill (g .done)))
 
-      -- of texts
+      -- the text store is as long as it was
       pub store-long : length store ≡ length store₀
       store-long = rw (g .store-is) (length-sets store₀ fill (textsMany x (g .done)))
 
@@ -120,17 +120,17 @@ module _ {A : Type 0} (w : ℕ → A → List ℕ) (x : A → List ℕ) where
         unfolding behind onOutcome
         end-is = g .whole-is ∙ rw (e, append-nil (g .done))
 
-        -- the answer
+        -- where nothing is left the counts are the answer
         pub end-answer : Reads (k + n) count numbers text ≡ reading length (rowsMany w x fill) (textsMany x) whole
         unfolding reading onOutcome
         end-answer = rw (end-is, g .count-is, g .numbers-are, g .text-is)
 
-        -- the rows
+        -- and all rows are written
         pub end-rules : rules ≡ sets rules₀ place (written (rowsMany w x fill) whole)
         unfolding written onOutcome
         end-rules = g .rules-are ∙ rw end-is
 
-        -- the texts
+        -- and all texts are
         pub end-store : store ≡ sets store₀ fill (written (textsMany x) whole)
         unfolding written onOutcome
         end-store = g .store-is ∙ rw end-is
@@ -141,7 +141,7 @@ module _ {A : Type 0} (w : ℕ → A → List ℕ) (x : A → List ℕ) where
         unfolding behind onOutcome
         panic-is = g .whole-is ∙ rw e
 
-        -- the answer
+        -- where the crate panics the place counts from the start
         pub panic-answer : Panics (k + p) ≡ reading length (rowsMany w x fill) (textsMany x) whole
         unfolding reading onOutcome
         panic-answer = rw panic-is

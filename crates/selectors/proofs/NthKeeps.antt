@@ -52,7 +52,7 @@ unfolding converted
 converted-keeps s t i n minus f h l =
     pick-holds (NthKeeps s) _ _ _ (λ e. h _ (signed-le minus (digitsWorth t i n) (leb-true (digitsWorth t i n) greatest e))) (λ _. l)
 
--- 0 does
+-- 0 is a number that fits
 zero-fits : signedNumber (pos 0) ≤ greatestSigned
 unfolding signedNumber
 zero-fits = omega arith
@@ -65,7 +65,7 @@ sign-within s = omega (arith, sign-le s, sign-same s)
 digits-within : (s : List ℕ) (p : ℕ) → 1 ≤ digits (drop p s) → p + digits (drop p s) ≤ length s
 digits-within s p h = omega (arith, digits-le (drop p s), length-drop p s)
 
--- both numbers
+-- an+b keeps to the bounds
 both-keeps : (s : List ℕ) → NthKeeps s (bothOf s)
 unfolding bothOf
 both-keeps s =
@@ -82,7 +82,7 @@ both-keeps s =
     (sign-within s))
     (λ _. tt)
 
--- the first alone
+-- an keeps to the bounds
 a-keeps : (s : List ℕ) → NthKeeps s (justA s)
 unfolding justA
 a-keeps s =
@@ -91,7 +91,7 @@ a-keeps s =
     converted-keeps s s (signTaken s) _ _ _ (λ a la. (omega arith, la, zero-fits)) (sign-within s))
     (λ _. tt)
 
--- the second alone
+-- b keeps to the bounds
 b-keeps : (s : List ℕ) → NthKeeps s (justB s)
 unfolding justB
 b-keeps s =
@@ -99,7 +99,7 @@ b-keeps s =
     (λ e. converted-keeps s s (signTaken s) _ _ _ (λ b lb. (digits-within s (signTaken s) (leb-true 1 _ e), zero-fits, lb)) (sign-within s))
     (λ _. tt)
 
--- a word
+-- `even` and `odd` keep to the bounds
 worded-keeps : (s word : List ℕ) (a b : ℤ) → signedNumber a ≤ greatestSigned → signedNumber b ≤ greatestSigned → NthKeeps s (worded s word a b)
 unfolding worded
 worded-keeps s word a b h i = pick-holds (NthKeeps s) _ _ _ (λ e. (starts-le word s e, h, i)) (λ _. tt)
@@ -109,7 +109,7 @@ words-fit : (signedNumber (pos 0) ≤ greatestSigned) × (signedNumber (pos 1) �
 unfolding signedNumber
 words-fit = (omega arith, omega arith, omega arith)
 
--- every alternative
+-- every alternative keeps to the bounds
 pub nth-keeps : (s : List ℕ) → NthKeeps s (nthOf s)
 unfolding nthOf
 nth-keeps s =
@@ -117,11 +117,11 @@ nth-keeps s =
     (or-keeps s _ _ (worded-keeps s _ (pos 2) (pos 1) (words-fit .2) (words-fit .1))
     (or-keeps s _ _ (both-keeps s) (or-keeps s _ _ (a-keeps s) (b-keeps s))))
 
--- behind w bytes
+-- an argument that stands behind w bytes keeps to the bounds
 nth-from : (s : List ℕ) (w : ℕ) → w ≤ length s → (o : Outcome selector.Nth) → nthOf (drop w s) ≡ o → NthKeeps (drop w s) o
 nth-from s w h o e = rw e at (nth-keeps (drop w s))
 
--- in brackets
+-- the arguments in brackets keep to the bounds
 pub args-keeps : (s : List ℕ) → NthKeeps s (nthArgsOf s)
 unfolding nthArgsOf
 args-keeps s =

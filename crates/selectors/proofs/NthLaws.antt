@@ -37,17 +37,17 @@ use Rattle.selectors.proofs.NthKeeps.{nth-keeps, args-keeps, nth-bounde
 
 -- ---- answers
 module _ (o : Outcome selector.Nth) where
-  -- a reading
+  -- an argument that reads is answered with its bytes and its two numbers
   answer-nth : (n : ℕ) (x y : ℤ) → reads n (record { a = x; b = y }) ≡ o → (a b : ℕ) → a ≡ signedNumber x → b ≡ signedNumber y → Nth n a b ≡ nthAnswer o
   unfolding nthAnswer onOutcome
   answer-nth n x y e a b ea eb = rw (← e, ea, eb)
 
-  -- none
+  -- one that does not is answered as none
   answer-none : fails ≡ o → NoNth ≡ nthAnswer o
   unfolding nthAnswer onOutcome
   answer-none e = rw (← e)
 
-  -- a panic
+  -- one where the crate panics is answered with the place
   answer-panic : (p : ℕ) → panics p ≡ o → Panic p ≡ nthAnswer o
   unfolding nthAnswer onOutcome
   answer-panic p e = rw (← e)
@@ -59,21 +59,21 @@ pub record Read (o : Outcome selector.Nth) (n a b : ℕ) : Type 0 where
   pub first-is : a ≡ signedNumber (value .a)
   pub second-is : b ≡ signedNumber (value .b)
 
--- a reading
+-- an answer with numbers says that the argument was read
 pub nth-read : (o : Outcome selector.Nth) (n a b : ℕ) → Nth n a b ≡ nthAnswer o → Read o n a b
 unfolding nthAnswer onOutcome
 nth-read (reads i x) n a b e = let q : n ≡ i = cc in record { value = x; reading = rw q; first-is = cc; second-is = cc }
 nth-read fails n a b e = absurd (let z : _≡_ {A = ℕ} 0 1 = cc in omega arith)
 nth-read (panics p) n a b e = absurd (let z : _≡_ {A = ℕ} 0 1 = cc in omega arith)
 
--- none
+-- an answer without says that it was not
 pub not-read : (o : Outcome selector.Nth) → NoNth ≡ nthAnswer o → o ≡ fails
 unfolding nthAnswer onOutcome
 not-read (reads i x) e = absurd (let z : _≡_ {A = ℕ} 0 1 = cc in omega arith)
 not-read fails e = refl
 not-read (panics p) e = absurd (let z : _≡_ {A = ℕ} 0 1 = cc in omega arith)
 
--- a panic
+-- an answer with a panic says where the crate panics
 pub panic-read : (o : Outcome selector.Nth) (p : ℕ) → Panic p ≡ nthAnswer o → o ≡ panics p
 unfolding nthAnswer onOutcome
 panic-read (reads i x) p e = absurd (let z : _≡_ {A = ℕ} 0 1 = cc in omega arith)
@@ -132,7 +132,7 @@ module _ (s : List ℕ) (x : SignedInteger) (ex : x ≡ integerOf s) where
     pub letter-there : t ≡ true → x .taken + 1 ≤ length s
     letter-there e = let h = byte-there s (x .taken) ascii.smallN (omega arith) (told _ _ _ et e) in omega arith
 
-    -- no letter
+    -- without the letter `n` there is no an
     pub a-none : t ≡ false → NoNth ≡ nthAnswer (justA s)
     unfolding justA
     a-none e = answer-none _ (pick-false _ _ _ _ (letter false e) refl)
@@ -156,7 +156,7 @@ module _ (s : List ℕ) (x : SignedInteger) (ex : x ≡ integerOf s) where
   b-none e = answer-none _ (pick-false _ _ _ _ (lt-leb 1 n (omega (arith, sign-is, taken-is))) refl)
 
   module _ (d : ¬ (x .taken ≡ x .sign)) where
-    -- there are digits
+    -- there is one digit at least
     some-digits : leb 1 n ≡ true
     some-digits = le-leb 1 n (positive n (λ e. d (omega (arith, e, sign-is, taken-is))))
 
@@ -165,7 +165,7 @@ module _ (s : List ℕ) (x : SignedInteger) (ex : x ≡ integerOf s) where
     unfolding justB
     b-over h = (rw sign-is (answer-panic _ _ (pick-true _ _ _ _ some-digits (stops s i n _ _ (number-over s i n _ _ value-is h)))))
 
-    -- it fits
+    -- digits that fit are b
     pub b-number : (w : ℕ) → x .value ≡ Number w → Nth (x .taken) 0 w ≡ nthAnswer (justB s)
     unfolding justB signedNumber
     b-number w h =
@@ -214,7 +214,7 @@ module _ (s : List ℕ) (p : ℕ) (x : SignedInteger) (ex : x ≡ integerOf (tak
       go true e = absurd (let q = sign-by true e ∙ one in omega arith)
       go false e = e
 
-  -- it has one
+  -- a part that begins with a sign has it there
   a-sign : ¬ (x .sign ≡ 0) → (isSign s p ≡ true) × (x .sign ≡ 1)
   a-sign d = go (isSign u 0) refl
     where
@@ -226,7 +226,7 @@ module _ (s : List ℕ) (p : ℕ) (x : SignedInteger) (ex : x ≡ integerOf (tak
     abbrev m : ℕ
     m = digits (drop (p + 1) s)
 
-    -- one byte
+    -- the sign takes one byte
     one-sign : signTaken u ≡ 1
     one-sign = sym rest-sign ∙ h
 
@@ -235,17 +235,17 @@ module _ (s : List ℕ) (p : ℕ) (x : SignedInteger) (ex : x ≡ integerOf (tak
     unfolding integerOf
     rest-taken = ap (λ (r : SignedInteger). r .taken) at-rest ∙ rw (one-sign, drop-drop 1 p s)
 
-    -- what they write
+    -- the digits behind it write the same number, counted from either place
     worth-at : (n : ℕ) → digitsWorth u 1 n ≡ digitsWorth s (p + 1) n
     unfolding digitsWorth
     worth-at n = rw (drop-drop 1 p s)
 
-    -- the number
+    -- the number with its sign is that of the definition
     rest-value : x .value ≡ integerBy s (p + 1) m (isMinus s p)
     unfolding integerOf integerBy
     rest-value = ap (λ (r : SignedInteger). r .value) at-rest ∙ rw (one-sign, drop-drop 1 p s, worth-at m, minus-of-rest)
 
-    -- one or more
+    -- there is one digit at least behind the sign
     rest-digits : ¬ (x .taken ≡ x .sign) → 1 ≤ m
     rest-digits d = positive m (λ e. d (rest-taken ∙ omega (arith, e, h)))
 
@@ -276,7 +276,7 @@ module _ (s : List ℕ) (x : SignedInteger) (ex : x ≡ integerOf s) (t : Bool) 
   -- it is there
   module _ (e : t ≡ true) (p : ℕ) (ep : p ≡ x .taken + 1 + skipWhitespace (drop (x .taken + 1) s)) (y : SignedInteger)
       (ey : y ≡ integerOf (take (length s - p) (drop p s))) where
-    -- at these places
+    -- the places of the definition are those of the code
     both : bothOf s ≡ bothAt s (x .taken) p
     both = both-is s (x .taken) (taken-is s x ex) p ep
 
@@ -309,12 +309,12 @@ module _ (s : List ℕ) (x : SignedInteger) (ex : x ≡ integerOf s) (t : Bool) 
           fa : (leb (digitsWorth s (i-of s) (n-of s)) greatest ≡ true) × (a ≡ signedNumber (signed (isMinus s 0) (digitsWorth s (i-of s) (n-of s))))
           fa = number-fits s (i-of s) (n-of s) _ _ (value-is s x ex) a ha
 
-          -- the second is
+          -- where the second number does not fit the crate panics there
           pub both-over-b : y .value ≡ NoNumber → Panic (p + y .sign) ≡ nthAnswer (bothOf s)
           both-over-b h =
               rw (q .1) (answer-panic _ _ (pick-true _ _ _ _ all (stops s (p + 1) _ _ _ (number-over s (p + 1) _ _ _ (rest-value s p y ey (q .1)) h) ∙ goes-on s (i-of s) (n-of s) _ _ (fa .0)) ∙ sym both))
 
-          -- both fit
+          -- where both fit it is an+b
           pub both-numbers : (b : ℕ) → y .value ≡ Number b → Nth (p + y .taken) a b ≡ nthAnswer (bothOf s)
           both-numbers b hb =
               let fb = number-fits s (p + 1) _ _ _ (rest-value s p y ey (q .1)) b hb in
@@ -337,7 +337,7 @@ or-first (reads n x) o′ r e h = e
 or-first fails o′ r e h = not-some (rw e at h)
 or-first (panics p) o′ r e h = e
 
--- the first fails
+-- where the first alternative is not read, the answer is that of the second
 or-second : (o o′ : Outcome selector.Nth) → NoNth ≡ nthAnswer o → (r : NthAnswer) → r ≡ nthAnswer o′ → r ≡ nthAnswer (orElse o o′)
 unfolding orElse
 or-second o o′ e r h = go o (not-read o e)
@@ -347,12 +347,12 @@ or-second o o′ e r h = go o (not-read o e)
 
 -- a word
 module _ (s word : List ℕ) (x y : ℤ) (t : Bool) (et : t ≡ startsWith word s) where
-  -- it is there
+  -- a word that is there is read with its numbers
   word-there : t ≡ true → (a b : ℕ) → a ≡ signedNumber x → b ≡ signedNumber y → Nth (length word) a b ≡ nthAnswer (worded s word x y)
   unfolding worded
   word-there e a b ea eb = answer-nth _ _ x y (pick-true _ _ _ _ (told _ _ _ et e) refl) a b ea eb
 
-  -- it is not
+  -- a word that is not there is not read
   word-missing : t ≡ false → NoNth ≡ nthAnswer (worded s word x y)
   unfolding worded
   word-missing e = answer-none _ (pick-false _ _ _ _ (told _ _ _ et e) refl)
@@ -362,7 +362,7 @@ even-bytes : text "even" ≡ 0x65 ∷ 0x76 ∷ 0x65 ∷ 0x6e ∷ []
 unfolding text utf8 pick
 even-bytes = refl
 
--- and `odd`
+-- the bytes of `odd`
 odd-bytes : text "odd" ≡ 0x6f ∷ 0x64 ∷ 0x64 ∷ []
 unfolding text utf8 pick
 odd-bytes = refl
@@ -377,7 +377,7 @@ module _ (s : List ℕ) (t : Bool) (et : t ≡ startsWith (0x65 ∷ 0x76 ∷ 0x6
   even-test : t ≡ startsWith (text "even") s
   even-test = et ∙ ap (λ (w : List ℕ). startsWith w s) (sym even-bytes)
 
-  -- `even`
+  -- `even` is read as 2n+0
   pub nth-even : t ≡ true → Nth 4 4 0 ≡ nthAnswer (nthOf s)
   unfolding nthOf
   nth-even e =
@@ -394,7 +394,7 @@ module _ (s : List ℕ) (t : Bool) (et : t ≡ startsWith (0x65 ∷ 0x76 ∷ 0x6
     unfolding nthOf
     no-even r h = or-second _ _ (word-missing s (text "even") (pos 2) (pos 0) t even-test e) r h
 
-    -- `odd`
+    -- `odd` is read as 2n+1
     pub nth-odd : q ≡ true → Nth 3 4 2 ≡ nthAnswer (nthOf s)
     nth-odd f =
         no-even _
@@ -406,7 +406,7 @@ module _ (s : List ℕ) (t : Bool) (et : t ≡ startsWith (0x65 ∷ 0x76 ∷ 0x6
       no-word : (x : NthAnswer) → x ≡ nthAnswer (orElse (bothOf s) (orElse (justA s) (justB s))) → x ≡ nthAnswer (nthOf s)
       no-word x h = no-even x (or-second _ _ (word-missing s (text "odd") (pos 2) (pos 1) q odd-test f) x h)
 
-      -- both numbers
+      -- an+b, where both numbers are there
       pub nth-both : OneOf some (tagOf the-type r) → r ≡ nthAnswer (nthOf s)
       nth-both h = no-word r (or-first _ _ r er h)
 
@@ -415,11 +415,11 @@ module _ (s : List ℕ) (t : Bool) (et : t ≡ startsWith (0x65 ∷ 0x76 ∷ 0x6
         no-both : (x : NthAnswer) → x ≡ nthAnswer (orElse (justA s) (justB s)) → x ≡ nthAnswer (nthOf s)
         no-both x h = no-word x (or-second _ _ (sym n ∙ er) x h)
 
-        -- the first alone
+        -- an, where the second is not
         pub nth-a : OneOf some (tagOf the-type r′) → r′ ≡ nthAnswer (nthOf s)
         nth-a h = no-both r′ (or-first _ _ r′ er′ h)
 
-        -- the second alone
+        -- b, where the first is not
         pub nth-b : r′ ≡ NoNth → (x : NthAnswer) → x ≡ nthAnswer (justB s) → x ≡ nthAnswer (nthOf s)
         nth-b h x ex = no-both x (or-second _ _ (sym h ∙ er′) x ex)
 
@@ -445,7 +445,7 @@ bounded : (s : List ℕ) (r : NthAnswer) → r ≡ nthAnswer (nthArgsOf s) → B
 bounded s r e = (e, nth-bounded s _ (args-keeps s) r e)
 
 module _ (s : List ℕ) (t : Bool) (et : t ≡ is (getD s 0 0) ascii.leftParenthesis) where
-  -- no bracket
+  -- without an opening bracket there are no arguments
   pub args-none : t ≡ false → Bounded s NoNth
   unfolding nthArgsOf
   args-none e = bounded s _ (answer-none _ (pick-false _ _ _ _ (told _ _ _ et e) refl))
@@ -461,7 +461,7 @@ module _ (s : List ℕ) (t : Bool) (et : t ≡ is (getD s 0 0) ascii.leftParenth
     lent : r ≡ nthAnswer (nthOf (drop w s))
     lent = er ∙ ap (λ (u : List ℕ). nthAnswer (nthOf u)) (rest s w)
 
-    -- its bounds
+    -- the answer is within its bounds
     kept : NthBounds (drop w s) r
     kept = nth-bounded (drop w s) _ (nth-keeps (drop w s)) r lent
 
@@ -481,7 +481,7 @@ module _ (s : List ℕ) (t : Bool) (et : t ≡ is (getD s 0 0) ascii.leftParenth
     unfolding nthArgsOf onOutcome pick
     args-by n x h end q = rw (told _ _ _ et e, ← ew, h, q)
 
-    -- nothing was read
+    -- where no argument was read there are none
     pub args-not-read : r ≡ NoNth → Bounded s NoNth
     args-not-read h = bounded s _ (answer-none _ (args-fail (not-read _ (sym h ∙ lent))))
 
@@ -490,7 +490,7 @@ module _ (s : List ℕ) (t : Bool) (et : t ≡ is (getD s 0 0) ascii.leftParenth
       pub args-panic-le : w + p ≤ length s
       args-panic-le = omega (arith, panic-place (drop w s) p (rw h at kept), length-drop w s)
 
-      -- the crate panics
+      -- where the crate panics the place counts from the bracket
       pub args-panic : Bounded s (Panic (w + p))
       args-panic = bounded s _ (answer-panic _ _ (args-panics p (panic-read _ p (sym h ∙ lent))))
 
@@ -499,17 +499,17 @@ module _ (s : List ℕ) (t : Bool) (et : t ≡ is (getD s 0 0) ascii.leftParenth
       pub args-le : w + n ≤ length s
       args-le = omega (arith, nth-place (drop w s) n a b (rw h at kept), length-drop w s)
 
-      -- what was read
+      -- the argument that was read
       got : Read (nthOf (drop w s)) n a b
       got = nth-read _ n a b (sym h ∙ lent)
 
       -- then white space up to the end, and a test for the closing bracket
       module _ (end : ℕ) (ee : end ≡ w + n + skipWhitespace (drop (w + n) s)) (u : Bool) (eu : u ≡ is (getD s end 0) ascii.rightParenthesis) where
-        -- no closing bracket
+        -- without a closing bracket there are none
         pub args-open : u ≡ false → Bounded s NoNth
         args-open f = bounded s _ (answer-none _ (pick-false _ _ _ _ (told _ _ _ eu f) refl ∙ args-by n _ (got .reading) end ee))
 
-        -- a closing bracket
+        -- with it the numbers are the arguments
         pub args-read : u ≡ true → Bounded s (Nth (end + 1) a b)
         args-read f =
             bounded s _ (answer-nth _ _ _ _ (pick-true _ _ _ _ (told _ _ _ eu f) refl ∙ args-by n _ (got .reading) end ee) a b (got .first-is) (got .second-is))

@@ -38,18 +38,18 @@ unfolding number.sign signTaken isSign isMinus
 sign-same s = refl
 
 module _ (minus : Bool) where
-  -- 0 has none
+  -- 0 stands for 0, with either sign
   pub signed-zero : (v : ℕ) → v ≡ 0 → 0 ≡ signedNumber (signed minus v)
   unfolding signedNumber signed
   signed-zero v e = rw e
 
-  -- one below 0
+  -- a number below 0 is written as an odd one
   pub signed-minus : (v : ℕ) → ¬ (v ≡ 0) → minus ≡ true → v * 2 - 1 ≡ signedNumber (signed minus v)
   unfolding signedNumber signed pick
   signed-minus zero d e = absurd (d refl)
   signed-minus (suc n) d e = rw e (omega arith)
 
-  -- one above 0
+  -- a number above 0 is written as an even one
   pub signed-plus : (v : ℕ) → ¬ (v ≡ 0) → minus ≡ false → v * 2 ≡ signedNumber (signed minus v)
   unfolding signedNumber signed pick
   signed-plus zero d e = absurd (d refl)
@@ -83,7 +83,7 @@ module _ (d : List ℕ) (x : NumberAnswer) (ex : x ≡ numberAnswer (digitsIn (i
     unfolding convertedAnswer onFound
     converted-over h = pick-false _ _ _ _ (is-no _ _ n) (rw (number-missing x _ decimal h))
 
-    -- it fits
+    -- digits that fit `i32` are converted, with their sign
     pub converted-number : (v : ℕ) → x ≡ Number v → (w : ℕ) → w ≡ signedNumber (signed minus v) → Number w ≡ convertedAnswer d minus
     unfolding convertedAnswer onFound
     converted-number v h w ew = pick-false _ _ _ _ (is-no _ _ n) (rw (number-found x _ decimal v h, ew))
@@ -99,7 +99,7 @@ run-by x r i h true e =
     rw (e, q) (and-both _ _ e h)
 run-by x r i h false e = let q : i - i ≡ 0 = omega arith in rw (e, q)
 
--- from i on
+-- the digits that are counted from i on are all digits
 run-all : (s : List ℕ) (i : ℕ) → allOf isDigit (take (many oneDigit i 0 s - i) s) ≡ true
 unfolding allOf
 run-all [] i = rw (take-nil {A = ℕ} (many oneDigit i 0 [] - i))
@@ -139,7 +139,7 @@ module _ (t : List ℕ) (i : ℕ) (minus : Bool) where
   unfolding digitsWorth
   some-worth n = pick-false _ _ _ _ (is-no _ _ (λ e. absurd (omega arith))) refl
 
-  -- n digits
+  -- n digits are converted as the definition converts them
   count-converted : (n : ℕ) → n ≤ length (drop i t) → allOf isDigit (take n (drop i t)) ≡ true → convertedAnswer (take n (drop i t)) minus ≡ integerBy t i n minus
   unfolding integerBy
   count-converted zero h e = none-converted
@@ -163,7 +163,7 @@ module _ (s : List ℕ) (sign : ℕ) (es : sign ≡ signTaken s) (n : ℕ) (en :
   taken-le = omega (arith, count, digits-le (drop sign s), length-drop sign s, sign-le s, sign-same s)
 
   module _ (minus : Bool) (em : minus ≡ is (getD s 0 0) ascii.hyphenMinus) (x : NumberAnswer) (ex : x ≡ convertedAnswer (take (sign + n - sign) (drop sign s)) minus) where
-    -- the number
+    -- the number is that of the definition
     value : x ≡ integerBy s sign n (isMinus s 0)
     unfolding isMinus
     value =
@@ -172,7 +172,7 @@ module _ (s : List ℕ) (sign : ℕ) (es : sign ≡ signTaken s) (n : ℕ) (en :
         (ex ∙ ap (λ (k : ℕ). convertedAnswer (take k (drop sign s)) minus) (q ∙ count)
         ∙ integer-lent s sign minus ∙ ap (λ (k : ℕ). integerBy s sign k minus) (sym count))
 
-    -- all three
+    -- sign, bytes and number together are those of the definition
     pub integer-read : record { sign = sign; taken = sign + n; value = x } ≡ integerOf s
     unfolding integerOf
     integer-read = rw (← es, ← count, ← value)
@@ -189,17 +189,17 @@ module _ (t : List ℕ) (i n : ℕ) (minus : Bool) where
     fits-by w h true l = (l, let e : _≡_ {A = NumberAnswer} (Number w) (Number (signedNumber (signed minus worth))) = sym h ∙ ex ∙ rw l in cc)
     fits-by w h false l = absurd (let e : _≡_ {A = NumberAnswer} (Number w) NoNumber = sym h ∙ ex ∙ rw l in let z : _≡_ {A = ℕ} 0 1 = cc in omega arith)
 
-    -- it fits
+    -- an answer with a number says that it fits, and is the one with its sign
     pub number-fits : (w : ℕ) → x ≡ Number w → (leb worth greatest ≡ true) × (w ≡ signedNumber (signed minus worth))
     number-fits w h = fits-by w h _ refl
 
-    -- by the same
+    -- an answer without one says that it does not fit, whatever test is asked
     over-by : x ≡ NoNumber → (b : Bool) → leb worth greatest ≡ b → leb worth greatest ≡ false
     unfolding integerBy pick
     over-by h true l = absurd (let e : _≡_ {A = NumberAnswer} NoNumber (Number (signedNumber (signed minus worth))) = sym h ∙ ex ∙ rw l in let z : _≡_ {A = ℕ} 0 1 = cc in omega arith)
     over-by h false l = l
 
-    -- it does not
+    -- an answer without one says that it does not fit
     pub number-over : x ≡ NoNumber → leb worth greatest ≡ false
     number-over h = over-by h _ refl
 

@@ -60,23 +60,23 @@ read-back st z b fill m ez em h = rw (ez, em) (held-part (sets st fill b) fill b
 
 -- by the name that was read
 module _ (s : List ℕ) where
-  -- none
+  -- without a name there is no `nth-child`
   name-none : identOf s ≡ err → 0 ≡ nthChildName s
   unfolding nthChildName onParsed
   name-none e = rw e
 
-  -- `nth-child`
+  -- the name `nth-child` takes its bytes
   name-known : (n : ℕ) (b : List ℕ) → identOf s ≡ ok n b → sameText b (text "nth-child") ≡ true → n ≡ nthChildName s
   unfolding nthChildName onParsed pick
   name-known n b e t = rw (e, t)
 
-  -- another
+  -- any other name takes none
   name-other : (n : ℕ) (b : List ℕ) → identOf s ≡ ok n b → sameText b (text "nth-child") ≡ false → 0 ≡ nthChildName s
   unfolding nthChildName onParsed pick
   name-other n b e t = rw (e, t)
 
 module _ (s st z : List ℕ) (fill : ℕ) (x : Name) (w : idents.Named (identOf s) st fill x z) where
-  -- no name
+  -- the return where there is no name
   pub child-unnamed : x ≡ NoName → (0 ≡ nthChildName s) × (z ≡ st)
   unfolding nameText
   child-unnamed h =
@@ -84,7 +84,7 @@ module _ (s st z : List ℕ) (fill : ℕ) (x : Name) (w : idents.Named (identOf 
       (name-none s e, w .1 ∙ ap (λ (p : Parsed (List ℕ)). sets st fill (nameText p)) e)
 
   module _ (c : Clean (length s) fill st) (n m : ℕ) (h : x ≡ Text n m) where
-    -- the name
+    -- the name that was read
     name : NameRead (identOf s) n m
     name = named-from _ n m (sym h ∙ w .0)
 
@@ -112,11 +112,11 @@ module _ (s st z : List ℕ) (fill : ℕ) (x : Name) (w : idents.Named (identOf 
       wiped-back : y ≡ st
       wiped-back = ey ∙ ap (wiped fill m) stored ∙ zeros-back st fill (c .zeros) (name .name) m (omega (arith, name .long))
 
-      -- it is `nth-child`
+      -- the return where it is `nth-child`; the store is as it was
       pub child-known : k ≡ true → (n ≡ nthChildName s) × (y ≡ st)
       child-known e = (name-known s n (name .name) (name .reads) (told _ _ _ test e), wiped-back)
 
-      -- it is another
+      -- the return where it is another; the store is as it was
       pub child-other : k ≡ false → (0 ≡ nthChildName s) × (y ≡ st)
       child-other e = (name-other s n (name .name) (name .reads) (told _ _ _ test e), wiped-back)
 
@@ -137,7 +137,7 @@ module _ (s : List ℕ) (k : ℕ) (ek : k ≡ nthChildName s) where
   known-by n b e true q d = let l : k ≡ n = ek ∙ sym (name-known s n b e q) in record { name = b; reading = rw l e; same-name = q }
   known-by n b e false q d = absurd (d (ek ∙ sym (name-other s n b e q)))
 
-  -- it was read
+  -- bytes taken say that `nth-child` was read
   known : ¬ (k ≡ 0) → Known s k
   known d = go (identOf s) refl
     where
@@ -151,7 +151,7 @@ module _ (s : List ℕ) (k : ℕ) (ek : k ≡ nthChildName s) where
   other-by f n b e z true q = absurd (let g = ident-fits s n b e in let l : k ≡ n = ek ∙ sym (name-known s n b e q) in omega (arith, g .some))
   other-by f n b e z false q = sym (pick-false _ _ _ _ q refl)
 
-  -- all of it
+  -- no bytes taken say that nothing can be read behind the name
   other : (f : ℕ → List ℕ → Outcome syntax.Component) → k ≡ 0 → onParsed (identOf s) (λ n b. pick (sameText b (text "nth-child")) (f n b) fails) fails ≡ fails
   other f z = go (identOf s) refl
     where
@@ -161,21 +161,21 @@ module _ (s : List ℕ) (k : ℕ) (ek : k ≡ nthChildName s) where
 
 -- the arguments as a component
 module _ (u : List ℕ) (k : ℕ) where
-  -- behind k bytes
+  -- the arguments that stand behind k bytes, as a component
   abbrev pub args : Outcome syntax.Component
   args = behind k (nthChildArgs u) (λ c. c)
 
-  -- numbers
+  -- arguments that read are nth with their numbers
   pub args-read : (n : ℕ) (x : selector.Nth) → nthArgsOf u ≡ reads n x → args ≡ reads (k + n) (syntax.nth (x .a) (x .b))
   unfolding nthChildArgs behind onOutcome
   args-read n x e = rw (e, zero-add n)
 
-  -- none
+  -- arguments that do not read are no component
   pub args-fail : nthArgsOf u ≡ fails → args ≡ fails
   unfolding nthChildArgs behind onOutcome
   args-fail e = rw e
 
-  -- a panic
+  -- where the crate panics the place counts from the colon
   pub args-panic : (p : ℕ) → nthArgsOf u ≡ panics p → args ≡ panics (k + p)
   unfolding nthChildArgs behind onOutcome
   args-panic p e = rw (e, zero-add p)
@@ -186,13 +186,13 @@ answer-nth : (o : Outcome syntax.Component) (n : ℕ) (x : selector.Nth) → o �
 unfolding componentAnswer onOutcome componentKind componentFirst componentSecond
 answer-nth o n x e a b ea eb = rw (e, ea, eb)
 
--- of a panic
+-- a panic is answered with its place
 answer-panic : (o : Outcome syntax.Component) (p : ℕ) → o ≡ panics p → answer.Panic p ≡ componentAnswer o
 unfolding componentAnswer onOutcome
 answer-panic o p e = rw e
 
 module _ (s st : List ℕ) (t : Bool) (et : t ≡ is (getD s 0 0) ascii.colon) where
-  -- no ':'
+  -- without a colon there is no pseudo-class
   pub pseudo-missing : t ≡ false → (answer.NoComponent ≡ componentAnswer (pseudoClassOf s)) × (st ≡ st)
   unfolding pseudoClassOf
   pseudo-missing e = (answer-none _ (pick-false _ _ _ _ (told _ _ _ et e) refl), refl)
@@ -202,14 +202,14 @@ module _ (s st : List ℕ) (t : Bool) (et : t ≡ is (getD s 0 0) ascii.colon) w
     lent : k ≡ nthChildName (drop 1 s)
     lent = w .0 ∙ ap nthChildName (rest s 1)
 
-    -- another name
+    -- another name than `nth-child` is none
     pub pseudo-other : k ≡ 0 → (answer.NoComponent ≡ componentAnswer (pseudoClassOf s)) × (z ≡ st)
     unfolding pseudoClassOf
     pseudo-other h =
         (answer-none _ (pick-true _ _ _ _ (told _ _ _ et e) (sym (other (drop 1 s) k lent (λ n b. behind (1 + n) (nthChildArgs (drop (1 + n) s)) (λ c. c)) h))), w .1)
 
     module _ (d : ¬ (k ≡ 0)) where
-      -- the name
+      -- the name that was read
       q : Known (drop 1 s) k
       q = known (drop 1 s) k lent d
 
@@ -228,7 +228,7 @@ module _ (s st : List ℕ) (t : Bool) (et : t ≡ is (getD s 0 0) ascii.colon) w
         read : r ≡ nthAnswer (nthArgsOf (drop (1 + k) s))
         read = er .0 ∙ ap (λ (u : List ℕ). nthAnswer (nthArgsOf u)) (rest s (1 + k))
 
-        -- none
+        -- the return where the arguments do not read
         pub pseudo-none : r ≡ NoNth → (answer.NoComponent ≡ componentAnswer (pseudoClassOf s)) × (z ≡ st)
         pseudo-none h = (answer-none _ (sym (args-fail _ (1 + k) (not-read _ (sym h ∙ read))) ∙ pseudo-is), w .1)
 
@@ -237,7 +237,7 @@ module _ (s st : List ℕ) (t : Bool) (et : t ≡ is (getD s 0 0) ascii.colon) w
           pub pseudo-le : 1 ≤ length s → 1 + k + n ≤ length s
           pseudo-le l = within s (1 + k) n (child-le l) (nth-place _ n a b (rw h at (er .1)))
 
-          -- numbers
+          -- the return where they do
           pub pseudo-nth : (answer.Component (1 + k + n) nthKind a b ≡ componentAnswer (pseudoClassOf s)) × (z ≡ st)
           pseudo-nth =
               let g = nth-read _ n a b (sym h ∙ read) in
@@ -248,7 +248,7 @@ module _ (s st : List ℕ) (t : Bool) (et : t ≡ is (getD s 0 0) ascii.colon) w
           pub pseudo-panic-le : 1 ≤ length s → 1 + k + p ≤ length s
           pseudo-panic-le l = within s (1 + k) p (child-le l) (panic-place _ p (rw h at (er .1)))
 
-          -- a panic
+          -- the return where the crate panics
           pub pseudo-panic : (answer.Panic (1 + k + p) ≡ componentAnswer (pseudoClassOf s)) × (z ≡ st)
           pseudo-panic = (answer-panic _ _ (sym pseudo-is ∙ args-panic _ (1 + k) p (panic-read _ p (sym h ∙ read))), w .1)
 

@@ -34,7 +34,7 @@ module _ {A : Type 0} (c : A → ℕ) (w : A → List ℕ) (x : A → List ℕ) 
   fails-by fails e = refl
   fails-by (panics p) e = absurd (let z : _≡_ {A = ℕ} 0 1 = cc in omega arith)
 
-  -- the crate panics
+  -- an answer with a panic says where the crate panics
   pub panics-by : (o : Outcome A) (p : ℕ) → Panics p ≡ reading c w x o → o ≡ panics p
   unfolding reading onOutcome
   panics-by (reads m a) p e = absurd (let z : _≡_ {A = ℕ} 0 1 = cc in omega arith)
@@ -86,7 +86,7 @@ module _ {w e : ℕ} {s : List ℕ} where
   unfolding takenBy countBy numbersBy textBy placeBy
   fails-bounds = record { taken = omega arith; place = omega arith; count = omega arith; numbers = omega arith; text = omega arith; sharp = λ _. omega arith }
 
-  -- of a panic
+  -- the place of a panic lies within the text
   pub panics-within : {r : Reading} {p : ℕ} → Bounds w e s r → r ≡ Panics p → p ≤ length s
   unfolding placeBy
   panics-within k g = subst (λ (v : Reading). placeBy v ≤ length s) g (k .place)

@@ -144,6 +144,7 @@ module _ (rules₀ : List ℕ) (p fill : ℕ) (z : Zeros rules₀ p) where
   dropped-as ds rules₁ count d e h = rw (e, h) d
 
 -- ---- pseudo elements
+-- a pseudo element takes no more bytes than there are
 pseudo-le : (t : List ℕ) (b : Bool) → startsWith (text "::before") t ≡ b → (a : Bool) → startsWith (text "::after") t ≡ a → pseudoTaken (pseudoOf t) ≤ length t
 unfolding pseudoOf pseudoTaken pick
 pseudo-le t true e a h = rw e (starts-le (text "::before") t e)
@@ -234,7 +235,7 @@ module _ {s rules₀ : List ℕ} {place : ℕ} {store₀ : List ℕ} {fill : ℕ
     pub rules-long : length rules₁ ≡ length rules₀
     rules-long = rw e₂ (length-sets rules₀ (place + selectorHead) (written (componentRows fill) (startedOf s)))
 
-    -- and the store
+    -- the text store is as long as it was
     pub store-long : length store₁ ≡ length store₀
     store-long = rw e₃ (length-sets store₀ fill (written componentTexts (startedOf s)))
 
@@ -382,7 +383,7 @@ module _ {s rules₀ : List ℕ} {place : ℕ} {store₀ : List ℕ} {fill : ℕ
           unfolding reading onOutcome
           answered = rw reads-it
 
-          -- the answer
+          -- the counts of the components and of the pseudo element are the answer
           pub reads-answer : Reads (n + taken) 1 (selectorHead + componentWidth * kept) text′ ≡ reading (λ x. 1) (selectorRow fill) selectorText (selectorOf s)
           reads-answer =
               ap (λ (x : ℕ). Reads (n + taken) 1 (selectorHead + componentWidth * kept) x) (list .texts ∙ ap length (sym text-is))
@@ -404,12 +405,12 @@ module _ {s rules₀ : List ℕ} {place : ℕ} {store₀ : List ℕ} {fill : ℕ
               ∙ sets-apart rules₀ place (place + selectorHead) (kept ∷ pseudo ∷ []) (componentRows fill (withoutBlank ds)) (omega arith)
               ∙ sym (sets-append rules₀ place (kept ∷ pseudo ∷ []) (componentRows fill (withoutBlank ds))) ∙ row-written
 
-          -- the store
+          -- the text store holds the texts of the selector
           pub reads-store : store₁ ≡ sets store₀ fill (written selectorText (selectorOf s))
           unfolding written onOutcome
           reads-store = e₃ ∙ text-written
 
-          -- the bounds
+          -- the answer is within its bounds
           pub reads-bounds : Progress b → Bounds componentWidth selectorHead s (Reads (n + taken) 1 (selectorHead + componentWidth * kept) text′)
           unfolding takenBy countBy numbersBy textBy placeBy Progress
           reads-bounds go =

@@ -45,7 +45,7 @@ pub record ComponentsKeep (s : List ℕ) (n : ℕ) (cs : List Component) : Type 
   pub empty : n ≤ 0 → length (componentTexts cs) ≤ 0
   pub small : All Small cs
 
--- none
+-- no component takes nothing
 no-components : (s : List ℕ) → ComponentsKeep s 0 []
 unfolding componentTexts textsMany
 no-components s =
@@ -120,7 +120,7 @@ without-element s =
     some-taken n zero h i = absurd (h refl)
     some-taken n (suc c) h i = omega arith
 
--- either
+-- the components of a selector, with a type selector or without, keep to the bounds
 body-keeps : (s : List ℕ) → Where (BodyKeeps s) (bodyOf s)
 unfolding bodyOf
 body-keeps s = where-else (BodyKeeps s) _ _ (with-element s) (without-element s)
@@ -156,6 +156,7 @@ first-texts [] = no-first
 first-texts (c ∷ cs) = ap componentTexts (without-first c cs) ∙ kept-texts c 0 cs ∙ sym (texts-cons c cs)
 
 -- ---- a selector
+-- what a selector keeps to: a byte or more, no more components than bytes, texts no longer than what it takes but for two bytes
 pub record SelectorKeeps (s : List ℕ) (n : ℕ) (x : Selector) : Type 0 where
   pub some : 1 ≤ n
   pub within : n ≤ length s
@@ -220,7 +221,7 @@ pub record SelectorsKeep (e : ℕ) (s : List ℕ) (n : ℕ) (xs : List Selector)
   pub empty : n ≤ 0 → length (selectorTexts xs) ≤ 0
   pub small : All (λ x. All Small (x .components)) xs
 
--- none
+-- no selector takes nothing
 no-selectors : (e : ℕ) (s : List ℕ) → SelectorsKeep e s 0 []
 unfolding selectorTexts textsMany sizes
 no-selectors e s =
@@ -266,7 +267,7 @@ more-keep (suc l) s =
     (no-selectors 0 s) (selector-keeps (drop w s)))
     (λ _. no-selectors 0 s)
 
--- all of them
+-- a list of selectors keeps to the bounds
 pub selectors-keep : (s : List ℕ) → Where (SelectorsKeep selectorHead s) (selectorsOf s)
 unfolding selectorsOf moreFrom
 selectors-keep s =

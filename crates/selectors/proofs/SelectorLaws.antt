@@ -27,19 +27,21 @@ pub text-both : (k a b : ℕ) → (k ≡ nthKind → ⊥) → a + b ≡ textLeng
 unfolding textLength
 text-both k a b n = pick-false _ _ _ _ (is-no k nthKind n) refl
 
--- their sum fits
+-- where the length of both texts fits, their sum does
 pub text-fits : (k a b m : ℕ) → (k ≡ nthKind → ⊥) → textLength k a b < m → a + b < m
 text-fits k a b m n h = subst (λ (t : ℕ). t < m) (sym (text-both k a b n)) h
 
 -- ---- `kept_first`
+-- a blank at the start is not kept
 pub kept-none : (k : ℕ) → k ≡ descendantKind → _≡_ {A = ℕ} 0 (pick (is k descendantKind) 0 1)
 kept-none k e = pick-true _ _ _ _ (is-yes k descendantKind e) refl
 
--- others are kept
+-- any other component is
 pub kept-one : (k : ℕ) → (k ≡ descendantKind → ⊥) → _≡_ {A = ℕ} 1 (pick (is k descendantKind) 0 1)
 kept-one k n = pick-false _ _ _ _ (is-no k descendantKind n) refl
 
 -- ---- `put_first`
+-- what is not kept is not written
 pub put-none : (kept : ℕ) (row rules : List ℕ) (place : ℕ) → kept ≡ 0 → rules ≡ sets rules place (pick (is kept 0) [] row)
 put-none kept row rules place e = ap (sets rules place) (pick-true _ _ _ _ (is-yes kept 0 e) refl)
 
@@ -64,7 +66,7 @@ module _ (rules : List ℕ) (place count : ℕ) where
     unfolding blankLast
     last-is = sym (pick-false _ _ _ _ (is-no count 0 n) refl)
 
-    -- a blank
+    -- a blank at the end is wiped
     pub dropped-blank : (k : ℕ) (rules′ : List ℕ) → k ≡ getD rules (place + componentWidth * (count - 1) + componentKindAt) 0 → k ≡ descendantKind
         → rules′ ≡ wiped (place + componentWidth * (count - 1)) componentWidth rules
         → (count - 1 ≡ pick (blankLast rules place count) (count - 1) count) × (rules′ ≡ pick (blankLast rules place count) (wiped (place + componentWidth * (count - 1)) componentWidth rules) rules)
@@ -72,7 +74,7 @@ module _ (rules : List ℕ) (place count : ℕ) where
         let t = last-is ∙ is-yes-of k _ descendantKind e d in
         (pick-true _ _ _ _ t refl, pick-true _ _ _ _ t w)
 
-    -- another
+    -- any other component at the end stays
     pub dropped-not : (k : ℕ) → k ≡ getD rules (place + componentWidth * (count - 1) + componentKindAt) 0 → (k ≡ descendantKind → ⊥)
         → (count ≡ pick (blankLast rules place count) (count - 1) count) × (rules ≡ pick (blankLast rules place count) (wiped (place + componentWidth * (count - 1)) componentWidth rules) rules)
     dropped-not k e d =
@@ -134,20 +136,20 @@ module _ (p : PseudoElement) where
   number-none e = rw e
 
 module _ (s : List ℕ) (b : Bool) (e : b ≡ startsWith beforeBytes s) where
-  -- `::before`
+  -- `::before` takes eight bytes and is number 1
   pub pseudo-before : b ≡ true → (_≡_ {A = ℕ} 8 (pseudoTaken (pseudoOf s))) × (_≡_ {A = ℕ} 1 (pseudoNumber (pseudoOf s)))
   pseudo-before t =
       let q : pseudoOf s ≡ before = before-is s (sym e ∙ t) in
       (taken-before _ q, number-before _ q)
 
   module _ (h : b ≡ false) (a : Bool) (i : a ≡ startsWith afterBytes s) where
-    -- `::after`
+    -- `::after` takes seven bytes and is number 2
     pub pseudo-after : a ≡ true → (_≡_ {A = ℕ} 7 (pseudoTaken (pseudoOf s))) × (_≡_ {A = ℕ} 2 (pseudoNumber (pseudoOf s)))
     pseudo-after t =
         let q : pseudoOf s ≡ after = after-is s (sym e ∙ h) (sym i ∙ t) in
         (taken-after _ q, number-after _ q)
 
-    -- neither
+    -- anything else takes none and is number 0
     pub pseudo-none : a ≡ false → (_≡_ {A = ℕ} 0 (pseudoTaken (pseudoOf s))) × (_≡_ {A = ℕ} 0 (pseudoNumber (pseudoOf s)))
     pseudo-none t =
         let q : pseudoOf s ≡ none = none-is s (sym e ∙ h) (sym i ∙ t) in

@@ -121,7 +121,7 @@ module _ {s rules₀ : List ℕ} {place : ℕ} {store₀ : List ℕ} {fill : ℕ
             text-is = read .texts ∙ ap length (sym b);
           }
 
-      -- room for more
+      -- there is room for the selectors behind the first
       pub place-fits : place + row < 2 ^ 64
       place-fits = omega (arith, u .bits, sizes .wide, first-fits)
 

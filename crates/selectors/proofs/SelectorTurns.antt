@@ -33,7 +33,7 @@ pub record Reading-on (s rules₀ : List ℕ) (place : ℕ) (store₀ : List ℕ
   pub long : text ≤ taken + 2
   pub sharp : taken < length s → text ≤ taken
 
--- before the first
+-- before the first further selector nothing is gathered
 pub begin : (s rules : List ℕ) (place : ℕ) (store : List ℕ) (fill : ℕ) → Reading-on s rules place store fill rules store 0 0 0 0
 unfolding moreFrom
 begin s rules place store fill =

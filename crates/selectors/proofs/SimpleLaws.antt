@@ -39,7 +39,7 @@ left-first (reads n c) o′ st fill r z w h = w
 left-first fails o′ st fill r z w h = let e : r ≡ NoComponent = w .0 in not-some (rw e at h)
 left-first (panics p) o′ st fill r z w h = w
 
--- the first fails
+-- where the first alternative fails, what the second leaves is left
 left-second : (o o′ : Outcome syntax.Component) (st : List ℕ) (fill : ℕ) → o ≡ fails → (r : ComponentAnswer) (z : List ℕ) → Left o′ st fill r z → Left (orElse o o′) st fill r z
 left-second o o′ st fill e r z w = rw (or-fails o o′ e) w
 
@@ -56,7 +56,7 @@ tried o st fill r z w h = not-component o st fill z (rw h at w)
 
 -- ---- the returns of `parse_named`
 module _ (s st : List ℕ) (fill : ℕ) (r : ComponentAnswer) (z : List ℕ) (w : Left (classOf s) st fill r z) where
-  -- a class
+  -- the return where a class was read
   pub named-class : OneOf some (tagOf the-type r) → Left (namedOf s) st fill r z
   unfolding namedOf
   named-class h = left-first _ _ st fill r z w h
@@ -77,7 +77,7 @@ module _ (s st : List ℕ) (fill : ℕ) (r : ComponentAnswer) (z : List ℕ) (w 
       from-attr : Left (attrOf s) st fill r₂ z₂
       from-attr = rw same-class at w₂
 
-      -- an attribute
+      -- the return where an attribute was read
       pub named-attr : OneOf some (tagOf the-type r₂) → Left (namedOf s) st fill r₂ z₂
       named-attr k = no-class r₂ z₂ (left-first _ _ st fill r₂ z₂ from-attr k)
 
@@ -96,7 +96,7 @@ module _ (s st : List ℕ) (fill : ℕ) (r : ComponentAnswer) (z : List ℕ) (w 
           from-hash : Left (hashOf s) st fill r₃ z₃
           from-hash = rw same-attr at w₃
 
-          -- a hash
+          -- the return where a hash was read
           pub named-hash : OneOf some (tagOf the-type r₃) → Left (namedOf s) st fill r₃ z₃
           named-hash k = no-attr r₃ z₃ (left-first _ _ st fill r₃ z₃ from-hash k)
 
@@ -115,7 +115,7 @@ module _ (s st : List ℕ) (fill : ℕ) (r : ComponentAnswer) (z : List ℕ) (w 
               from-element : Left (parsed 0 (identOf s) element) st fill r₄ z₄
               from-element = rw same-hash at w₄
 
-              -- an element
+              -- the return where an element was read
               pub named-element : OneOf some (tagOf the-type r₄) → Left (namedOf s) st fill r₄ z₄
               named-element k = no-hash r₄ z₄ (left-first _ _ st fill r₄ z₄ from-element k)
 
@@ -144,27 +144,27 @@ or-textless (reads n c) o′ e f = e
 or-textless fails o′ e f = f
 or-textless (panics p) o′ e f = e
 
--- a reading
+-- a component without a text writes none
 bare-textless : (n : ℕ) (c : syntax.Component) → componentText c ≡ [] → written componentText (reads n c) ≡ []
 unfolding written onOutcome
 bare-textless n c e = e
 
--- the three components
+-- `>`, `*` and white space have no text
 bare : (componentText child ≡ []) × (componentText star ≡ []) × (componentText descendant ≡ [])
 unfolding componentText
 bare = (refl, refl, refl)
 
--- `>` and `*`
+-- `>` and `*` write no text
 marked-textless : (s : List ℕ) (mark : ℕ) (c : syntax.Component) → componentText c ≡ [] → written componentText (marked s mark c) ≡ []
 unfolding marked
 marked-textless s mark c e = pick-holds (λ (o : Outcome syntax.Component). written componentText o ≡ []) _ _ _ (λ _. bare-textless _ c e) (λ _. none-textless)
 
--- white space
+-- white space writes no text
 blank-textless : (s : List ℕ) → written componentText (blankOf s) ≡ []
 unfolding blankOf
 blank-textless s = pick-holds (λ (o : Outcome syntax.Component). written componentText o ≡ []) _ _ _ (λ _. bare-textless _ descendant (bare .2)) (λ _. none-textless)
 
--- all of them
+-- none of the three writes a text
 mark-textless : (s : List ℕ) → written componentText (markOf s) ≡ []
 unfolding markOf
 mark-textless s = or-textless _ _ (marked-textless s _ child (bare .0)) (or-textless _ _ (marked-textless s _ star (bare .1)) (blank-textless s))
@@ -174,7 +174,7 @@ module _ (s st : List ℕ) (fill : ℕ) (r : ComponentAnswer) (er : r ≡ compon
   mark-left : Left (markOf s) st fill r st
   mark-left = (er, sym (ap (sets st fill) (mark-textless s)))
 
-  -- a mark
+  -- the return where one of the three was read
   pub simple-mark : OneOf some (tagOf the-type r) → (r ≡ componentAnswer (componentOf s)) × ((st ≡ sets st fill (written componentText (componentOf s))) × ComponentBounds s r)
   simple-mark h =
       let w : Left (componentOf s) st fill r st = rw (← component-is s) (left-first _ _ st fill r st mark-left h) in

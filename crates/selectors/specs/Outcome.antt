@@ -3,6 +3,7 @@
 use Prim.Native.Nat.{ℕ, _+_}
 use Rattle.combinators.specs.Parsed.{Parsed, ok, err}
 
+-- "`unwrap` becomes refusal 4": `panics`
 pub data Outcome (A : Type 0) : Type 0 where
   reads : ℕ → A → Outcome A
   fails : Outcome A

@@ -43,7 +43,7 @@ record Said (r : Statement) (b : Bool) (n k t : ℕ) : Type 0 where
   count : k ≡ length (r .tokens)
   text : t ≡ length (textsOf (r .tokens))
 
--- of a statement
+-- an answer with a statement says that its brackets close, and what it counts
 said-by : (b : Bool) (p q u n k t : ℕ) → answer.Statement n k t ≡ pick b (answer.Statement p q u) (answer.Unbalanced p q u)
     → (b ≡ true) × (n ≡ p) × (k ≡ q) × (t ≡ u)
 unfolding pick
@@ -63,7 +63,7 @@ module _ (s : List ℕ) (n : ℕ) (tokens brackets store : List ℕ) (fill : ℕ
   abbrev lent : List ℕ
   lent = take (length s - n) (drop n s)
 
-  -- what it means
+  -- the statement that the lent text means
   abbrev stated : Statement
   stated = statementOf true (drop n s)
 
@@ -71,7 +71,7 @@ module _ (s : List ℕ) (n : ℕ) (tokens brackets store : List ℕ) (fill : ℕ
   sized : Sized (drop n s) 0 stated
   sized = statement-sized true (drop n s)
 
-  -- it has room
+  -- the stores have room for the statement
   pub end-room : Room (length lent) fill tokens brackets store
   end-room =
       let l = ap length (rest s n) ∙ length-drop n s in
@@ -85,7 +85,7 @@ module _ (s : List ℕ) (n : ℕ) (tokens brackets store : List ℕ) (fill : ℕ
   -- what was left of it
   module _ {a : StatementAnswer} {x b z : List ℕ}
       (e : record { answer = a; rows = x; brackets = b; store = z } ≡ left (statementOf true lent) tokens brackets store fill) where
-    -- by its meaning
+    -- what was left is what the statement leaves
     left-is : record { answer = a; rows = x; brackets = b; store = z } ≡ left stated tokens brackets store fill
     left-is = e ∙ ap (λ l. left (statementOf true l) tokens brackets store fill) (rest s n)
 
@@ -94,12 +94,12 @@ module _ (s : List ℕ) (n : ℕ) (tokens brackets store : List ℕ) (fill : ℕ
     unfolding left
     tokens-are = ap (λ (l : Left). l .rows) left-is
 
-    -- the brackets
+    -- the store of brackets is as the statement's tokens leave it
     brackets-are : b ≡ bracketsAfter (stated .tokens) brackets 0
     unfolding left
     brackets-are = ap (λ (l : Left). l .brackets) left-is
 
-    -- its texts
+    -- the text store holds the texts of its tokens
     store-is : z ≡ sets store fill (textsOf (stated .tokens))
     unfolding left
     store-is = ap (λ (l : Left). l .store) left-is
@@ -139,7 +139,7 @@ module _ (s : List ℕ) (n : ℕ) (tokens brackets store : List ℕ) (fill : ℕ
           p ∙ rw (q .count, brackets-are) (brackets-wiped (stated .tokens) brackets 0 (length (stated .tokens)) (omega arith))
           ∙ o .brackets-zeros .wiping (length (stated .tokens))
 
-      -- and the texts
+      -- once these are wiped the text store is as it was
       store-back : {z′ : List ℕ} → z′ ≡ wiped fill t z → z′ ≡ store
       store-back p =
           p ∙ rw (q .text, store-is) (zeros-back store fill (o .store-zeros) (textsOf (stated .tokens)) (length (textsOf (stated .tokens))) (omega arith))
@@ -205,7 +205,7 @@ module _ (s tokens brackets store : List ℕ) (fill : ℕ) (o : WorkRoom s token
       × ((x ≡ tokens) × ((b ≡ brackets) × ((z ≡ store) × (Bounds ruleWidth 0 s r × Progress r))))
 
   module _ {a : ℕ} (ea : a ≡ skipWhitespace s) {t : Bool} (et : t ≡ is (getD s a 0) ascii.commercialAt) where
-    -- no '@'
+    -- without `@` nothing is read
     pub at-missing : t ≡ false → Told Fails tokens brackets store
     unfolding atRuleOf reading onOutcome pick Progress
     at-missing f = (rw (← ea, ← et, f), (refl, (refl, (refl, (fails-bounds, tt)))))
@@ -227,7 +227,7 @@ module _ (s tokens brackets store : List ℕ) (fill : ℕ) (o : WorkRoom s token
         behind-at = take (length s - i) (drop i s)
 
         module _ {x : Name} (ex : x ≡ nameAnswer (identOf behind-at)) {z : List ℕ} (ez : z ≡ sets store fill (nameText (identOf behind-at))) where
-          -- none
+          -- without a name behind `@` nothing is read
           pub name-missing : x ≡ name.NoName → Told Fails tokens brackets z
           unfolding reading onOutcome onParsed nameText Progress
           name-missing q =
@@ -236,7 +236,7 @@ module _ (s tokens brackets store : List ℕ) (fill : ℕ) (o : WorkRoom s token
               (rw (rule-is, u), (refl, (refl, (ez ∙ rw p, (fails-bounds, tt)))))
 
           module _ {n m : ℕ} (q : x ≡ name.Text n m) where
-            -- what it is
+            -- the name that was read, with its bytes
             named : NameRead (identOf (drop i s)) n m
             named = named-from (identOf (drop i s)) n m (sym q ∙ ex ∙ ap (λ l. nameAnswer (identOf l)) (rest s i))
 

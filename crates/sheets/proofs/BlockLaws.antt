@@ -57,7 +57,7 @@ module _ (s : List ℕ) (n : ℕ) {e p f : ℕ} (ee : e ≡ n + skipWhitespace (
   unfolding beforeEnd spaced
   end-is = ef ∙ rw (ep, ee)
 
-  -- and go forward
+  -- white space and a semicolon lead forward
   pub end-behind : n ≤ f
   end-behind = omega (arith, ee, ef, ep, next-or-same (is (getD s e 0) ascii.semicolon) e)
 
@@ -105,7 +105,7 @@ module _ (s : List ℕ) (n at : ℕ) (rules : List ℕ) (place : ℕ) (tokens br
   failed e ey ex eb ez = (rw e, (ey ∙ rw e, (ex, (eb, (ez ∙ rw e, tt)))))
 
   module _ {w : ℕ} (ew : w ≡ n + skipWhitespace (drop n s)) {t : Bool} (et : t ≡ is (getD s w 0) ascii.leftCurlyBracket) where
-    -- no '{'
+    -- without an opening brace there is no block
     pub brace-missing : t ≡ false → Blocked Fails rules tokens brackets store
     unfolding blockOf spaced pick
     brace-missing f = failed (rw (← ew, ← et, f)) refl refl refl refl
@@ -121,7 +121,7 @@ module _ (s : List ℕ) (n at : ℕ) (rules : List ℕ) (place : ℕ) (tokens br
         abbrev lent : List ℕ
         lent = take (length s - d) (drop d s)
 
-        -- what it means
+        -- the declarations that the lent text means
         abbrev found : Rules
         found = declarationsOf (drop d s)
 
@@ -132,14 +132,14 @@ module _ (s : List ℕ) (n at : ℕ) (rules : List ℕ) (place : ℕ) (tokens br
         -- what `parse_rules` left
         module _ {r : RulesRead} {y x b z : List ℕ}
             (e : record { answer = r; rules = y; tokens = x; brackets = b; store = z } ≡ rulesLeft true (at + d) lent rules place tokens brackets store fill) where
-          -- by its meaning
+          -- what was left is what these declarations leave
           left-is : record { answer = r; rules = y; tokens = x; brackets = b; store = z } ≡ leaves (rulesAnswer (found .taken) ds) ds (usedRules true (drop d s)) rules place tokens brackets store fill
           unfolding rulesLeft rulesOf
           left-is =
               e ∙ ap (λ l. rulesLeft true (at + d) l rules place tokens brackets store fill) (rest s d)
               ∙ ap (λ (l : List Declaration). leaves (rulesAnswer (found .taken) l) l (usedRules true (drop d s)) rules place tokens brackets store fill) (kept-starts at d (found .declarations))
 
-          -- the bytes taken
+          -- the bytes taken are those of the declarations
           taken-is : r .taken ≡ found .taken
           unfolding leaves rulesAnswer
           taken-is = ap (λ (l : Leaves RulesRead). l .answer .taken) left-is
@@ -154,7 +154,7 @@ module _ (s : List ℕ) (n at : ℕ) (rules : List ℕ) (place : ℕ) (tokens br
           unfolding leaves rulesAnswer
           text-is = ap (λ (l : Leaves RulesRead). l .answer .text) left-is
 
-          -- their rows
+          -- the store of rules holds their rows
           rules-are : y ≡ sets rules place (declarationRows fill ds)
           unfolding leaves
           rules-are = ap (λ (l : Leaves RulesRead). l .rules) left-is
@@ -169,7 +169,7 @@ module _ (s : List ℕ) (n at : ℕ) (rules : List ℕ) (place : ℕ) (tokens br
           unfolding leaves
           brackets-are = ap (λ (l : Leaves RulesRead). l .brackets) left-is ∙ o .brackets-zeros .wiping _
 
-          -- their texts
+          -- the text store holds their texts
           store-is : z ≡ sets store fill (declarationTexts ds)
           unfolding leaves
           store-is = ap (λ (l : Leaves RulesRead). l .store) left-is ∙ ap (λ (l : List ℕ). sets l fill (declarationTexts ds)) (o .store-zeros .wiping _)
@@ -207,7 +207,7 @@ module _ (s : List ℕ) (n at : ℕ) (rules : List ℕ) (place : ℕ) (tokens br
             end-at : g ≡ beforeEnd s (d + found .taken)
             end-at = eg ∙ ap (λ k. beforeEnd s (d + k)) taken-is
 
-            -- not
+            -- without a closing brace there is no block, and rows and texts are wiped
             pub end-missing : u ≡ false → {y′ z′ : List ℕ} → y′ ≡ wiped place (declarationWidth * r .count) y → z′ ≡ wiped fill (r .text) z → Blocked Fails y′ x b z′
             unfolding blockOf spaced pick
             end-missing v ey ez =
@@ -223,7 +223,7 @@ module _ (s : List ℕ) (n at : ℕ) (rules : List ℕ) (place : ℕ) (tokens br
               end-there = byte-there s g ascii.rightCurlyBracket (omega arith) (sym eu ∙ v)
 
               module _ {i : ℕ} (ei : i ≡ g + 1 + skipWhitespace (drop (g + 1) s)) (hi : i ≤ length s) where
-                -- the block reads
+                -- with both braces the block reads as its declarations
                 block-is : blockAt at s n ≡ reads i ds
                 unfolding blockAt blockOf behind onOutcome spaced pick
                 block-is =

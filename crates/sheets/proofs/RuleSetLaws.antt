@@ -28,7 +28,7 @@ use Rattle.combinators.proofs.ZeroLaws.{zeros-later, zeros-behind, zeros-back}
 
 -- what is stored behind something
 module _ (l l₀ : List ℕ) (f n : ℕ) (xs : List ℕ) (e : l ≡ sets l₀ f xs) (en : n ≡ length xs) where
-  -- both are one
+  -- two lists stored one behind the other are stored as one
   stored-behind : (ys : List ℕ) → sets l (f + n) ys ≡ sets l₀ f (xs ++ ys)
   stored-behind ys = rw (e, en) (sym (sets-append l₀ f xs ys))
 
@@ -108,7 +108,7 @@ module _ (s : List ℕ) (at : ℕ) (rules : List ℕ) (place : ℕ) (tokens brac
         let l = lent-long in
         record { zeros = o .work .store-zeros; for-texts = omega (arith, o .work .for-texts); bits = omega (arith, o .work .text-bits) }
 
-    -- what it means
+    -- the selectors that the lent text means
     abbrev list : Outcome (List Selector)
     list = selectorsOf (drop w s)
 
@@ -125,15 +125,15 @@ module _ (s : List ℕ) (at : ℕ) (rules : List ℕ) (place : ℕ) (tokens brac
       said : r ≡ reading length (selectorRows fill) selectorTexts list
       said = er ∙ ap (λ l. reading length (selectorRows fill) selectorTexts (selectorsOf l)) (rest s w)
 
-      -- their rows
+      -- the store of rules holds their rows
       rules-are : y ≡ sets rules (place + ruleHead) (written (selectorRows fill) list)
       rules-are = ey ∙ ap (λ l. sets rules (place + ruleHead) (written (selectorRows fill) (selectorsOf l))) (rest s w)
 
-      -- their texts
+      -- the text store holds their texts
       store-is : z ≡ sets store fill (written selectorTexts list)
       store-is = ez ∙ ap (λ l. sets store fill (written selectorTexts (selectorsOf l))) (rest s w)
 
-      -- no selectors
+      -- without selectors there is no rule
       pub list-fails : r ≡ Fails → Ruled Fails y tokens brackets z
       unfolding behind onOutcome
       list-fails h =
@@ -142,7 +142,7 @@ module _ (s : List ℕ) (at : ℕ) (rules : List ℕ) (place : ℕ) (tokens brac
 
       -- the crate panics at them
       module _ {p : ℕ} (h : r ≡ Panics p) where
-        -- within the text
+        -- a panic in them lies within the text
         pub list-place : w + p ≤ length s
         list-place = omega (arith, panics-within b h, lent-long)
 
@@ -157,7 +157,7 @@ module _ (s : List ℕ) (at : ℕ) (rules : List ℕ) (place : ℕ) (tokens brac
 
       -- they read
       module _ {n count numbers text : ℕ} (h : r ≡ Reads n count numbers text) where
-        -- what they are
+        -- the selectors that were read, with their counts
         got : ReadAs length (selectorRows fill) selectorTexts list n count numbers text
         got = read-by length (selectorRows fill) selectorTexts list n count numbers text (sym h ∙ said)
 
@@ -212,7 +212,7 @@ module _ (s : List ℕ) (at : ℕ) (rules : List ℕ) (place : ℕ) (tokens brac
               start-bits = o .start-bits;
             }
 
-        -- the block
+        -- the declarations that the text behind them means
         abbrev block : Outcome (List Declaration)
         block = blockAt at s (w + n)
 
@@ -232,12 +232,12 @@ module _ (s : List ℕ) (at : ℕ) (rules : List ℕ) (place : ℕ) (tokens brac
               p ∙ ap (wiped (place + ruleHead) numbers) (e ∙ list-rules)
               ∙ zeros-back rules (place + ruleHead) (zeros-later rules place (o .rules-zeros) ruleHead) (selectorRows fill ss) numbers (omega (arith, got .rows))
 
-          -- and their texts
+          -- once the texts are wiped the text store is as it was
           store-back : z₂ ≡ z → {z₃ : List ℕ} → z₃ ≡ wiped fill text z₂ → z₃ ≡ store
           store-back e p =
               p ∙ ap (wiped fill text) (e ∙ list-store) ∙ zeros-back store fill (o .work .store-zeros) (selectorTexts ss) text (omega (arith, got .texts))
 
-          -- no block
+          -- without a block there is no rule, and what the selectors left is wiped
           pub block-fails : q ≡ Fails → {y₃ z₃ : List ℕ} → y₃ ≡ wiped (place + ruleHead) numbers y₂ → z₃ ≡ wiped fill text z₂ → Ruled Fails y₃ x₂ b₂ z₃
           unfolding behind onOutcome
           block-fails hq ey₃ ez₃ =
@@ -257,7 +257,7 @@ module _ (s : List ℕ) (at : ℕ) (rules : List ℕ) (place : ℕ) (tokens brac
 
           -- it reads
           module _ {end declarations more kept : ℕ} (hq : q ≡ Reads end declarations more kept) where
-            -- what it is
+            -- the declarations that were read, with their counts
             got₂ : ReadAs length (declarationRows (fill + text)) declarationTexts block end declarations more kept
             got₂ = read-by length (declarationRows (fill + text)) declarationTexts block end declarations more kept (sym hq ∙ eq)
 
@@ -290,11 +290,11 @@ module _ (s : List ℕ) (at : ℕ) (rules : List ℕ) (place : ℕ) (tokens brac
             pub texts-fit : text + kept < 2 ^ 64
             texts-fit = omega (arith, sizes .long, size .short, size .within, o .start-bits)
 
-            -- the rule
+            -- the rule of both
             abbrev rule : RuleSet
             rule = ruleAt (at + w) ss ds
 
-            -- it reads
+            -- the text reads as that rule
             rule-is : meant ≡ reads end rule
             unfolding behind onOutcome
             rule-is =
@@ -309,7 +309,7 @@ module _ (s : List ℕ) (at : ℕ) (rules : List ℕ) (place : ℕ) (tokens brac
             abbrev body : List ℕ
             body = selectorRows fill ss ++ declarationRows (fill + text) ds
 
-            -- its texts
+            -- its texts are those of the selectors and then those of the declarations
             text-is : selectorTexts ss ++ declarationTexts ds ≡ ruleText rule
             unfolding ruleText
             text-is = refl
@@ -320,12 +320,12 @@ module _ (s : List ℕ) (at : ℕ) (rules : List ℕ) (place : ℕ) (tokens brac
                 ey₂ ∙ sets-read (declarationRows (fill + text)) y (place + ruleHead + numbers) block end ds (got₂ .reads-it)
                 ∙ stored-behind y rules (place + ruleHead) numbers (selectorRows fill ss) list-rules (got .rows) (declarationRows (fill + text) ds)
 
-            -- then the head
+            -- with its head written last the rule's row is whole
             row-written : {y₃ : List ℕ} → y₃ ≡ sets y₂ place head → y₃ ≡ sets rules place (ruleRow fill rule)
             row-written p =
                 p ∙ ap (λ (l : List ℕ). sets l place head) body-written ∙ row-left rules place fill (at + w) ss ds count declarations text (got .counts) (got₂ .counts) (got .texts)
 
-            -- and its texts
+            -- its texts lie in the store
             text-written : z₂ ≡ sets store fill (ruleText rule)
             text-written =
                 ez₂ ∙ sets-read declarationTexts z (fill + text) block end ds (got₂ .reads-it)
@@ -336,7 +336,7 @@ module _ (s : List ℕ) (at : ℕ) (rules : List ℕ) (place : ℕ) (tokens brac
             row-long : length (ruleRow fill rule) ≡ ruleHead + numbers + more
             row-long = omega (arith, row-length fill (at + w) ss ds text (got .texts), got .rows, got₂ .rows)
 
-            -- and its texts
+            -- its texts are as long as the two counts say
             text-long : length (ruleText rule) ≡ text + kept
             text-long = ap length (sym text-is) ∙ omega (arith, length-append (selectorTexts ss) (declarationTexts ds), got .texts, got₂ .texts)
 

@@ -25,7 +25,7 @@ stored-back rs m n h =
     rules-back (ruleTexts rs ++ replicate (n - length (ruleTexts rs)) 0) rs 0 (replicate (m - length (ruleRows 0 rs)) 0) h
     (record { more = replicate (n - length (ruleTexts rs)) 0; held = refl })
 
--- by the answer
+-- an answer that refuses nothing says that the sheet reads, and that its rules fit
 answered : (o : Outcome (List RuleSet)) → ((k : ℕ) (rs : List RuleSet) → o ≡ reads k rs → RulesFit rs) → (o ≡ fails → ⊥) → (long short : ℕ)
     → sheetNumbers o .refusal ≡ noRefusal
     → o ≡ reads (sheetNumbers o .stop) (rulesAt (padded (written (ruleRows 0) o) long) (padded (written ruleTexts o) short) (sheetNumbers o .count))

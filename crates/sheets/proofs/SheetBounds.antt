@@ -56,7 +56,7 @@ kept-text : (d : Declaration) → declarationText (kept true 0 d) ≡ declaratio
 unfolding declarationText kept
 kept-text d = rw (named-same (d .decl))
 
--- nor are they
+-- keeping names changes no text
 kept-texts : (r : Rules) → declarationTexts (rulesOf true 0 r) ≡ declarationTexts (r .declarations)
 unfolding declarationTexts rulesOf
 kept-texts r = texts-map declarationText (kept true 0) kept-text (r .declarations)
@@ -80,7 +80,7 @@ module _ (s : List ℕ) (n : ℕ) where
   abbrev opens : ℕ
   opens = spaced s n
 
-  -- where declarations start
+  -- where the declarations of a block start
   abbrev begins : ℕ
   begins = spaced s (opens + 1)
 
@@ -137,7 +137,7 @@ pub record RulesKeep (s : List ℕ) (n : ℕ) (rs : List RuleSet) : Type 0 where
   pub small : All RuleSmall rs
   pub fit : RulesFit rs
 
--- a rule
+-- a rule whose selectors and block keep to the bounds does
 one-rule : (s : List ℕ) (n stop : ℕ) (xs : List Selector) (ds : List Declaration)
     → SelectorsKeep selectorHead (drop (skipWhitespace s) s) n xs → BlockKeeps s (skipWhitespace s + n) stop ds
     → RulesKeep s (0 + (0 + stop)) (record { selectors = xs; declarations = ds; start = skipWhitespace s } ∷ [])
@@ -209,12 +209,12 @@ moved-text : (at : ℕ) (r : RuleSet) → ruleText (movedBy at r) ≡ ruleText r
 unfolding ruleText movedBy
 moved-text at r = rw (starts-texts at (r .declarations))
 
--- their selectors too
+-- moving a rule to its place in the text leaves its selectors as they are
 moved-small : (at : ℕ) (r : RuleSet) → RuleSmall r → RuleSmall (movedBy at r)
 unfolding movedBy
 moved-small at r h = h
 
--- their colours too
+-- moving a rule to its place in the text leaves its colours as they are
 moved-fit : (at : ℕ) (r : RuleSet) → DeclarationsFit (r .declarations) → DeclarationsFit (movedBy at r .declarations)
 unfolding movedBy
 moved-fit at r h = starts-fit at (r .declarations) h
@@ -243,7 +243,7 @@ record FromKeeps (at size stop : ℕ) (rs : List RuleSet) : Type 0 where
   small : All RuleSmall rs
   fit : RulesFit rs
 
--- none
+-- no statement left keeps to the bounds
 from-none : (at size : ℕ) → FromKeeps at size at []
 unfolding ruleTexts textsMany sizes
 from-none at size = record { within = omega arith; counted = omega arith; wide = omega arith; long = omega arith; small = tt; fit = tt }

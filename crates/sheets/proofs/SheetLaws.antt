@@ -34,7 +34,7 @@ all-cleared l =
     let e : length l - 0 ≡ length l = omega arith in
     cleared-is 0 l ∙ rw e refl
 
--- zeros behind zeros
+-- behind some zeros of a list of zeros are the others
 drop-zeros : (k n : ℕ) → drop {A = ℕ} k (replicate n 0) ≡ replicate (n - k) 0
 drop-zeros zero n =
     let e : n - 0 ≡ n = omega arith in
@@ -69,7 +69,7 @@ text-is c w x (reads n a) = refl
 text-is c w x fails = refl
 text-is c w x (panics p) = refl
 
--- answers in numbers
+-- an answer with rules says the counts of the rules that were read
 answer-reads : (o : Outcome (List RuleSet)) (stop count numbers bytes : ℕ) → Reads stop count numbers bytes ≡ reading length (ruleRows 0) ruleTexts o
     → numbersOf (Sheet count stop numbers bytes) ≡ sheetNumbers o
 unfolding reading sheetNumbers numbersOf onOutcome
@@ -189,7 +189,7 @@ Accepted (reads n rs) = Unit
 Accepted fails = ⊥
 Accepted (panics p) = Unit
 
--- behind others
+-- rules read before others leave accepted what is
 behind-accepted : (o : Outcome (List RuleSet)) (rs : List RuleSet) → Accepted o → Accepted (behind 0 o (λ more. rs ++ more))
 unfolding behind onOutcome
 behind-accepted (reads n more) rs h = tt

@@ -42,7 +42,7 @@ module _ (at fill : ℕ) where
   unfolding statementEnd
   nothing-end s n = pick-holds (Nothing at fill) _ _ _ (λ _. nothing-read _) (λ _. nothing-fails)
 
-  -- of an at-rule
+  -- an at-rule keeps nothing
   at-rule-nothing : (s : List ℕ) → Nothing at fill (atRuleOf s)
   unfolding atRuleOf
   at-rule-nothing s =
@@ -50,11 +50,11 @@ module _ (at fill : ℕ) where
 
 -- ---- a rule, or else what stands behind it
 module _ (at : ℕ) (k : Outcome (List RuleSet)) where
-  -- both, moved
+  -- a rule, or else what another reading gives, both at their place in the text
   abbrev either-of : Outcome RuleSet → Outcome (List RuleSet)
   either-of o = behind 0 (orElse (behind 0 o (λ r. r ∷ [])) k) (map (movedBy at))
 
-  -- a rule
+  -- where a rule reads it is the statement
   either-reads : (o : Outcome RuleSet) (n : ℕ) (x : RuleSet) → behind 0 o (movedBy at) ≡ reads n x → either-of o ≡ reads n (x ∷ [])
   unfolding behind onOutcome orElse
   either-reads (reads m a) n x e =
@@ -75,7 +75,7 @@ module _ (at : ℕ) (k : Outcome (List RuleSet)) where
       let z : 0 + (0 + m) ≡ p = omega (arith, h) in
       rw z
 
-  -- no rule
+  -- where none does the other reading decides
   either-second : (o : Outcome RuleSet) → behind 0 o (movedBy at) ≡ fails → either-of o ≡ behind 0 k (map (movedBy at))
   unfolding behind onOutcome orElse
   either-second (reads m a) e = absurd (let z : _≡_ {A = ℕ} 0 1 = cc in omega arith)
@@ -87,14 +87,14 @@ one-rule : (f : ℕ) (r : RuleSet) → ruleRow f r ≡ ruleRows f (r ∷ [])
 unfolding ruleRows rowsMany
 one-rule f r = sym (append-nil (ruleRow f r))
 
--- its texts
+-- the texts of one rule are its text
 one-text : (r : RuleSet) → ruleText r ≡ ruleTexts (r ∷ [])
 unfolding ruleTexts textsMany
 one-text r = sym (append-nil (ruleText r))
 
 -- ---- `parse_statement`
 module _ (s : List ℕ) (at : ℕ) (rules : List ℕ) (place : ℕ) (tokens brackets store : List ℕ) (fill : ℕ) (o : RuleRoom s at rules place tokens brackets store fill) where
-  -- the meaning
+  -- the statement that the text means
   abbrev meant : Outcome (List RuleSet)
   meant = movedTo at (statementsOf s)
 
@@ -111,7 +111,7 @@ module _ (s : List ℕ) (at : ℕ) (rules : List ℕ) (place : ℕ) (tokens brac
   -- what `parse_ruleset` left
   module _ {r : Reading} {y x b z : List ℕ} (er : r ≡ reading (λ _. 1) (ruleRow fill) ruleText first) (ey : y ≡ sets rules place (written (ruleRow fill) first))
       (ex : x ≡ tokens) (eb : b ≡ brackets) (ez : z ≡ sets store fill (written ruleText first)) (h : Bounds ruleWidth 0 s r) where
-    -- a rule
+    -- the return where a rule was read
     pub rule-stated : {n count numbers text : ℕ} → r ≡ Reads n count numbers text → Stated (Reads n count numbers text) y x b z
     unfolding movedTo statementsOf reading written onOutcome Progress
     rule-stated {n} {count} {numbers} {text} e =
@@ -132,7 +132,7 @@ module _ (s : List ℕ) (at : ℕ) (rules : List ℕ) (place : ℕ) (tokens brac
           ),
         )
 
-    -- the crate panics
+    -- the return where the crate panics
     pub panic-stated : {p : ℕ} → r ≡ Panics p → Stated (Panics p) y x b z
     unfolding movedTo statementsOf reading written onOutcome Progress
     panic-stated {p} e =
@@ -160,7 +160,7 @@ module _ (s : List ℕ) (at : ℕ) (rules : List ℕ) (place : ℕ) (tokens brac
       pub at-room : WorkRoom s x b z fill
       at-room = rw (ex, eb, store-same) (o .work)
 
-      -- it says nothing
+      -- the at-rule keeps nothing
       nothing : Nothing at fill (atRuleOf s)
       nothing = at-rule-nothing at fill s
 

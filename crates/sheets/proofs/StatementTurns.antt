@@ -110,7 +110,7 @@ pub record Reading-on (s rules₀ tokens₀ brackets₀ store₀ rules tokens br
   pub long : text ≤ taken + 2
   pub sharp : taken < length s → text ≤ taken
 
--- before the first
+-- before the first statement nothing is gathered
 pub begin : (s rules tokens brackets store : List ℕ) → Reading-on s rules tokens brackets store rules tokens brackets store 0 0 0 0
 unfolding sheetOf
 begin s rules tokens brackets store =

@@ -75,5 +75,6 @@ sheetFrom (suc l) t at =
     (λ n rs. behind 0 (sheetFrom l (drop n t) (at + n)) (λ more. map (movedBy at) rs ++ more))
     (reads at []) (λ p. panics (at + p))
 
+-- "The answer is the rules and the place of the first byte not read."
 unfoldable pub sheetOf : List ℕ → Outcome (List RuleSet)
 sheetOf s = sheetFrom (length s) s 0

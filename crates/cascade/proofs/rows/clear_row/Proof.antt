@@ -1,3 +1,4 @@
+-- As many numbers as a row has are zero.
 use Rattle.cascade.proofs.Rewriting.{emptied}
 use borrow.Author.Needs.{needs}
 use Rattle.cascade.proofs.rows.clear_row.Statement.{statement}

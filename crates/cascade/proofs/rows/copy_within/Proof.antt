@@ -1,3 +1,4 @@
+-- The numbers copied so far are the parent's, and what is left to copy is as it was.
 use mathlib.Core.Path.{_≡_, refl, sym, _∙_}
 use Prim.Native.Nat.{_+_, _-_}
 use lib.ListN.{length, take, drop, length-set}

@@ -1,3 +1,4 @@
+-- In the crate's cascade the copy stays, with its own record present; in the book order each record is rewritten.
 use mathlib.Core.Path.{refl, _∙_}
 use lib.ListN.{length-set}
 use Rattle.cascade.proofs.Rewriting.{inherited-by-crate, inherited-in-book-order}

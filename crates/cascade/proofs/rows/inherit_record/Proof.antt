@@ -1,3 +1,4 @@
+-- The slots so far are inherited, and those that are left are as they were.
 use mathlib.Core.Path.{_≡_, refl, sym, _∙_}
 use Prim.Native.Nat.{_+_, _*_, _≤_}
 use lib.ListN.{length}

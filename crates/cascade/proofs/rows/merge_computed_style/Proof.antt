@@ -1,3 +1,4 @@
+-- A record or a slot that there is not changes nothing; else the slot is read, updated and put back.
 use mathlib.Core.Path.{refl}
 use Rattle.cascade.proofs.Merging.{no-record, no-slot, merged, merged-nothing}
 use borrow.Author.Needs.{needs}

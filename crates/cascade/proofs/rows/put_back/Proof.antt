@@ -1,3 +1,4 @@
+-- The slot's numbers and the mark of its record are written at two places that do not meet.
 use borrow.Author.Needs.{needs}
 use Rattle.cascade.proofs.rows.put_back.Statement.{statement}
 use Rattle.cascade.proofs.rows.put_back.Tie as tie

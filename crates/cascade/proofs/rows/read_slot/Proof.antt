@@ -1,3 +1,4 @@
+-- The nine numbers of the slot, read field by field.
 use mathlib.Core.Path.{refl}
 use Rattle.combinators.specs.Choice.{pick, is}
 use Rattle.syntax.specs.Layout.{flagOf}

@@ -1,3 +1,4 @@
+-- The nine numbers one after the other are those of the filled slot.
 use lib.ListN.{length-set}
 use native.Mathlib.Omega.{arith}
 use Rattle.syntax.specs.Layout.{valueNumbers}

@@ -1,3 +1,4 @@
+-- Six places, each by its own tests.
 use Rattle.cascade.specs.Slot.{rank}
 use Rattle.combinators.proofs.Rules.{cases}
 use Rattle.cascade.proofs.slots.rank_of.Statement.{statement}

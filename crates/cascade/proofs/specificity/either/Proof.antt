@@ -1,3 +1,4 @@
+-- The first, or else the second.
 use Rattle.combinators.proofs.Rules.{cases}
 use Rattle.cascade.proofs.specificity.either.Statement.{statement}
 use Rattle.cascade.proofs.specificity.either.Tie as tie

@@ -1,3 +1,4 @@
+-- The closing bracket is there, or the text is wiped.
 use Rattle.selectors.proofs.AttrLaws as laws
 use borrow.Author.Needs.{needs}
 use Rattle.selectors.proofs.attr.closed.Statement.{statement}

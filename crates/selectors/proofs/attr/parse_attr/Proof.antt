@@ -1,3 +1,4 @@
+-- Each alternative of the definition in its order; where none reads, what was written is wiped.
 use Rattle.selectors.proofs.AttrLaws as laws
 use borrow.Author.Needs.{needs}
 use Rattle.selectors.proofs.attr.parse_attr.Statement.{statement}

@@ -1,3 +1,4 @@
+-- A text that ends behind `=` is where the crate panics; else a value is read or not, and where not the name is wiped.
 use Rattle.selectors.proofs.AttrLaws as laws
 use borrow.Author.Needs.{needs}
 use Rattle.selectors.proofs.attr.parse_attr_equal.Statement.{statement}

@@ -1,3 +1,4 @@
+-- A quoted string, or else a name, each with its bracket.
 use Rattle.selectors.proofs.ComponentLaws.{clean-same}
 use Rattle.selectors.proofs.AttrLaws as laws
 use borrow.Author.Needs.{needs}

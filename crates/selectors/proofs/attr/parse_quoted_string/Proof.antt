@@ -1,3 +1,4 @@
+-- A string token is the text; any other token's text is wiped, and where none begins the store is as it was.
 use Rattle.selectors.proofs.AttrLaws as laws
 use borrow.Author.Needs.{needs}
 use Rattle.selectors.proofs.attr.parse_quoted_string.Statement.{statement}

@@ -1,3 +1,4 @@
+-- A quoted string with its bracket, or nothing.
 use Rattle.lexer.proofs.IdentBounds.{answer-le}
 use Rattle.selectors.proofs.AttrLaws as laws
 use borrow.Author.Needs.{needs}

@@ -1,3 +1,4 @@
+-- The mark with the white space on both sides, or nothing.
 use Rattle.selectors.proofs.ComponentLaws as laws
 use borrow.Author.Needs.{needs}
 use Rattle.selectors.proofs.components.mark_taken.Statement.{statement}

@@ -1,3 +1,4 @@
+-- The name is read to the store, compared and wiped, so that the store is as it was.
 use Rattle.selectors.proofs.PseudoLaws as laws
 use borrow.Author.Needs.{needs}
 use Rattle.selectors.proofs.components.nth_child_name.Statement.{statement}

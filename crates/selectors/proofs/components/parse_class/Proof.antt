@@ -1,3 +1,4 @@
+-- A full stop and a name, or nothing.
 use native.Mathlib.Omega.{arith}
 use Rattle.lexer.proofs.IdentBounds.{ident-keeps, answer-le}
 use Rattle.selectors.proofs.ComponentLaws as laws

@@ -1,3 +1,4 @@
+-- A name, or nothing.
 use Rattle.selectors.proofs.ComponentLaws as laws
 use borrow.Author.Needs.{needs}
 use Rattle.selectors.proofs.components.parse_element.Statement.{statement}

@@ -1,3 +1,4 @@
+-- A number sign and a name, or nothing.
 use native.Mathlib.Omega.{arith}
 use Rattle.lexer.proofs.IdentBounds.{identstring-keeps, answer-le}
 use Rattle.selectors.proofs.ComponentLaws as laws

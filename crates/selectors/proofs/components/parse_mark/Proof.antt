@@ -1,3 +1,4 @@
+-- The three alternatives in the crate's order; each takes bytes exactly if it reads.
 use Rattle.selectors.proofs.ComponentLaws as laws
 use borrow.Author.Needs.{needs}
 use Rattle.selectors.proofs.components.parse_mark.Statement.{statement}

@@ -1,3 +1,4 @@
+-- The five alternatives in the crate's order; each that fails leaves the store as it was.
 use Rattle.selectors.proofs.ComponentLaws.{clean-same}
 use Rattle.selectors.proofs.SimpleLaws as laws
 use borrow.Author.Needs.{needs}

@@ -1,3 +1,4 @@
+-- A colon, the name `nth-child` and arguments, or nothing; a panic in these is told from the colon on.
 use Rattle.selectors.proofs.PseudoLaws as laws
 use borrow.Author.Needs.{needs}
 use Rattle.selectors.proofs.components.parse_pseudo_class.Statement.{statement}

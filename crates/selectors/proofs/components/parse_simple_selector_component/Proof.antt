@@ -1,3 +1,4 @@
+-- A mark is read without the store; else one of the named components. The bounds are those of any component.
 use Rattle.selectors.proofs.SimpleLaws as laws
 use borrow.Author.Needs.{needs}
 use Rattle.selectors.proofs.components.parse_simple_selector_component.Statement.{statement}

@@ -1,3 +1,4 @@
+-- Each condition of the definition by its own test; the first number that does not fit is where the crate panics.
 use Rattle.selectors.proofs.NthLaws as laws
 use borrow.Author.Needs.{needs}
 use Rattle.selectors.proofs.nth.both_of.Statement.{statement}

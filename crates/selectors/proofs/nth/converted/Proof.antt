@@ -1,3 +1,4 @@
+-- No digits stand for 1; digits that fit are the number with its sign.
 use Rattle.selectors.proofs.NthNumbers as laws
 use borrow.Author.Needs.{needs}
 use Rattle.selectors.proofs.nth.converted.Statement.{statement}

@@ -1,3 +1,4 @@
+-- The letter is there, and the number before it fits or the crate panics.
 use Rattle.selectors.proofs.NthLaws as laws
 use borrow.Author.Needs.{needs}
 use Rattle.selectors.proofs.nth.just_a.Statement.{statement}

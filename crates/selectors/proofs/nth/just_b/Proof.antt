@@ -1,3 +1,4 @@
+-- Digits are there, and their number fits or the crate panics.
 use Rattle.selectors.proofs.NthLaws as laws
 use borrow.Author.Needs.{needs}
 use Rattle.selectors.proofs.nth.just_b.Statement.{statement}

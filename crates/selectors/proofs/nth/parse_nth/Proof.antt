@@ -1,3 +1,4 @@
+-- The five alternatives in the crate's order.
 use Rattle.selectors.proofs.NthLaws as laws
 use borrow.Author.Needs.{needs}
 use Rattle.selectors.proofs.nth.parse_nth.Statement.{statement}

@@ -1,3 +1,4 @@
+-- Both brackets with an argument between them, or nothing; a panic is told from the bracket on. What is read lies within the text.
 use Rattle.selectors.proofs.NthLaws as laws
 use borrow.Author.Needs.{needs}
 use Rattle.selectors.proofs.nth.parse_nth_child_args.Statement.{statement}

@@ -1,3 +1,4 @@
+-- 0, an odd number for one below 0, an even one for one above.
 use Rattle.selectors.proofs.NthNumbers as laws
 use borrow.Author.Needs.{needs}
 use Rattle.selectors.proofs.nth.signed_number.Statement.{statement}

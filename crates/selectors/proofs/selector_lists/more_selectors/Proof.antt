@@ -1,3 +1,4 @@
+-- What is gathered and what is left from the byte on give the whole; each turn takes a selector behind a comma or ends.
 use mathlib.Core.Path.{_≡_, _∙_}
 use Prim.Native.Nat.{_-_}
 use native.Mathlib.Omega.{arith}

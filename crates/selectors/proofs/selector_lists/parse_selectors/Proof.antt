@@ -1,3 +1,4 @@
+-- A first selector and those behind it, or none; the counts add up.
 use mathlib.Core.Path.{_∙_}
 use native.Mathlib.Omega.{arith}
 use Rattle.selectors.proofs.SelectorLists as laws

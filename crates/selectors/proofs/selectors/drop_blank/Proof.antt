@@ -1,3 +1,4 @@
+-- The last row is looked at, and wiped where it is a blank's.
 use Rattle.selectors.proofs.SelectorLaws as laws
 use borrow.Author.Needs.{needs}
 use Rattle.selectors.proofs.selectors.drop_blank.Statement.{statement}

@@ -1,3 +1,4 @@
+-- The first component and those behind it are read one behind the other; a blank at the start has no row.
 use mathlib.Core.Path.{_≡_, refl, _∙_}
 use native.Mathlib.Omega.{arith}
 use Rattle.selectors.proofs.Bodies as laws

@@ -1,3 +1,4 @@
+-- What is gathered and what is left from the byte on give the whole; a component takes a byte, so the loop ends.
 use mathlib.Core.Path.{_∙_}
 use native.Mathlib.Omega.{arith}
 use Prim.Native.Nat.{_-_}

@@ -1,3 +1,4 @@
+-- A type selector where a name is there, or else any component.
 use mathlib.Core.Path.{_∙_}
 use Rattle.selectors.proofs.FirstLaws as laws
 use borrow.Author.Needs.{needs}

@@ -1,3 +1,4 @@
+-- Two words and neither, in the order of the definition.
 use Rattle.selectors.proofs.SelectorLaws as laws
 use borrow.Author.Needs.{needs}
 use Rattle.selectors.proofs.selectors.parse_pseudo_element.Statement.{statement}

@@ -1,3 +1,4 @@
+-- The components are read behind the place of the head, a blank at their end is dropped, and the head is written last.
 use mathlib.Core.Path.{_∙_}
 use native.Mathlib.Omega.{arith}
 use Rattle.selectors.proofs.Selecting as laws

@@ -1,3 +1,4 @@
+-- nth has no text, any other component the sum of its two lengths.
 use mathlib.Core.Path.{_≡_, ap, sym}
 use native.Mathlib.Omega.{arith}
 use Rattle.selectors.proofs.SelectorLaws as laws

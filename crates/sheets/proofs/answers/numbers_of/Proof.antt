@@ -1,3 +1,4 @@
+-- In each arm the answer is known, and the definition gives the same numbers.
 use Rattle.sheets.specs.SheetAnswer.{refusedSheet, numbersOf}
 use Rattle.combinators.specs.declared.refusals.Refusal.{Refusal}
 use mathlib.Core.Path.{sym, ap, _∙_}

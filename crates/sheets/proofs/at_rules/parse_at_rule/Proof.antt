@@ -1,3 +1,4 @@
+-- Without `@` and a name nothing is read; with them the statement is read to its end and the name is wiped.
 use native.Mathlib.Omega.{arith}
 use Rattle.sheets.proofs.AtRuleLaws as laws
 use borrow.Author.Needs.{needs}

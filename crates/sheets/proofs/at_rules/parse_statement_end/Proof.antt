@@ -1,3 +1,4 @@
+-- The statement's tokens and texts are wiped, so that the stores are as they were, whether its brackets close or not.
 use native.Mathlib.Omega.{arith}
 use Rattle.sheets.proofs.AtRuleLaws as laws
 use borrow.Author.Needs.{needs}

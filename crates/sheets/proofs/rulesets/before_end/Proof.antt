@@ -1,3 +1,4 @@
+-- White space, a semicolon or none, and white space are passed.
 use Rattle.sheets.proofs.BlockLaws as laws
 use borrow.Author.Needs.{needs}
 use Rattle.sheets.proofs.rulesets.before_end.Statement.{statement}

@@ -1,3 +1,4 @@
+-- Both braces with declarations between them; without the second the rows and texts are wiped.
 use native.Mathlib.Omega.{arith}
 use Rattle.sheets.proofs.BlockLaws as laws
 use borrow.Author.Needs.{needs}

@@ -1,3 +1,4 @@
+-- Selectors and a block are read behind the place of the head, which is written last; where one fails what the other left is wiped.
 use native.Mathlib.Omega.{arith}
 use Rattle.sheets.proofs.RuleSetLaws as laws
 use borrow.Author.Needs.{needs}

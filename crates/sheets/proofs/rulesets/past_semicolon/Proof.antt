@@ -1,3 +1,4 @@
+-- One byte further where a semicolon stands.
 use Rattle.sheets.proofs.BlockLaws as laws
 use borrow.Author.Needs.{needs}
 use Rattle.sheets.proofs.rulesets.past_semicolon.Statement.{statement}

@@ -1,3 +1,4 @@
+-- Each store is cleared once.
 use borrow.Author.Needs.{needs}
 use Rattle.sheets.proofs.sheet.clear_stores.Statement.{statement}
 use Rattle.sheets.proofs.sheet.clear_stores.Tie as tie

@@ -1,3 +1,4 @@
+-- The refusals 1, 2 and 3 in their order, each by its own test; what is left is read.
 use Rattle.sheets.proofs.SheetLaws as laws
 use borrow.Author.Needs.{needs}
 use Rattle.sheets.proofs.sheet.read_sheet.Statement.{statement}

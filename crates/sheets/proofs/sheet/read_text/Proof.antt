@@ -1,3 +1,4 @@
+-- The stores are cleared, so that they are zero whatever they held; the answer is that of the reader.
 use Rattle.sheets.proofs.SheetLaws as laws
 use borrow.Author.Needs.{needs}
 use Rattle.sheets.proofs.sheet.read_text.Statement.{statement}

@@ -1,3 +1,4 @@
+-- A rule, or else an at-rule, which keeps nothing.
 use Rattle.sheets.proofs.StatementLaws as laws
 use borrow.Author.Needs.{needs}
 use Rattle.sheets.proofs.statements.parse_statement.Statement.{statement}

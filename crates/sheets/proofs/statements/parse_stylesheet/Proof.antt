@@ -1,3 +1,4 @@
+-- What is gathered and what is left from the byte on give the whole; a statement takes a byte, so the loop ends.
 use mathlib.Core.Path.{_≡_, ap, _∙_}
 use Prim.Native.Nat.{_-_}
 use native.Mathlib.Omega.{arith}

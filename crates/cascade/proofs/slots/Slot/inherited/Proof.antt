@@ -1,3 +1,4 @@
+-- A filled slot keeps its value with the weight of what is inherited, an empty one stays.
 use Rattle.cascade.proofs.SlotLaws.{handed-on, handed-on-empty}
 use borrow.Author.Needs.{needs}
 use Rattle.cascade.proofs.slots.Slot.inherited.Statement.{statement}

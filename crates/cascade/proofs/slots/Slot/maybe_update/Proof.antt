@@ -1,3 +1,4 @@
+-- An empty slot takes the value; a filled one keeps its own exactly where that is held against the new.
 use Rattle.cascade.proofs.SlotLaws.{crate-keeps, crate-takes, crate-fills}
 use borrow.Author.Needs.{needs}
 use Rattle.cascade.proofs.slots.Slot.maybe_update.Statement.{statement}

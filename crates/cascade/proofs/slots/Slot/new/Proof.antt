@@ -1,3 +1,4 @@
+-- The fields are those of the definition.
 use mathlib.Core.Path.{refl}
 use Rattle.combinators.specs.Choice.{pick}
 use Rattle.cascade.specs.Slot.{slotBy}

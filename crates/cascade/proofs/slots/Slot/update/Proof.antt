@@ -1,3 +1,4 @@
+-- Each cascade by its own method.
 use Rattle.cascade.proofs.SlotLaws.{by-crate, by-book}
 use borrow.Author.Needs.{needs}
 use Rattle.cascade.proofs.slots.Slot.update.Statement.{statement}

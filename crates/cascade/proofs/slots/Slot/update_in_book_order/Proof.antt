@@ -1,3 +1,4 @@
+-- An empty slot takes the value; a filled one keeps its own exactly where that is held in the book order.
 use Rattle.cascade.proofs.SlotLaws.{book-keeps, book-takes, book-fills}
 use borrow.Author.Needs.{needs}
 use Rattle.cascade.proofs.slots.Slot.update_in_book_order.Statement.{statement}

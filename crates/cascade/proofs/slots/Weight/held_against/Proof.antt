@@ -1,3 +1,4 @@
+-- Importance, origin and specificity in this order, as the definition asks them.
 use Rattle.cascade.specs.Slot.{heldAgainst}
 use Rattle.combinators.proofs.Rules.{cases}
 use borrow.Author.Needs.{needs}

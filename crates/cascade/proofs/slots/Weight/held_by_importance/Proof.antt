@@ -1,3 +1,4 @@
+-- Both marks as the definition asks them.
 use Rattle.cascade.specs.Slot.{heldByImportance}
 use Rattle.combinators.proofs.Rules.{cases}
 use Rattle.cascade.proofs.slots.Weight.held_by_importance.Statement.{statement}

@@ -1,3 +1,4 @@
+-- The order of origins, turned round where the new value is important.
 use Rattle.cascade.specs.Slot.{heldByOrigin}
 use Rattle.combinators.proofs.Rules.{cases}
 use Rattle.cascade.proofs.slots.Weight.held_by_origin.Statement.{statement}

@@ -1,3 +1,4 @@
+-- The ranks decide, and where they are equal the specificity.
 use Rattle.cascade.proofs.SlotLaws.{lower-rank, higher-rank, same-rank}
 use borrow.Author.Needs.{needs}
 use Rattle.cascade.proofs.slots.Weight.held_in_book.Statement.{statement}

@@ -1,3 +1,4 @@
+-- Field by field the sums of the definition, which fit by what is asked.
 use Rattle.cascade.specs.Specificity.{sum}
 use borrow.Author.Needs.{needs}
 use Rattle.cascade.proofs.specificity.Specificity.add.Statement.{statement}

@@ -1,3 +1,4 @@
+-- The constant is the definition's.
 use mathlib.Core.Path.{refl}
 use Rattle.cascade.specs.Specificity.{inlineSpecificity}
 use Rattle.cascade.proofs.specificity.Specificity.inline.Statement.{statement}

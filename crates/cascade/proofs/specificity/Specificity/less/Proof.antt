@@ -1,3 +1,4 @@
+-- Inline decides where one of the two is, and else the counts.
 use mathlib.Core.Path.{_∙_, sym}
 use Rattle.cascade.specs.Specificity.{less}
 use Rattle.cascade.proofs.Orders.{flags-same, flag-below, flag-above}

@@ -1,3 +1,4 @@
+-- Ids, classes and types in this order: the first that differ decide.
 use Rattle.cascade.specs.Specificity.{lessBySelector}
 use Rattle.cascade.proofs.Orders.{then-lower, then-higher, then-same}
 use borrow.Author.Needs.{needs}

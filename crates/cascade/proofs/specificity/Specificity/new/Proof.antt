@@ -1,3 +1,4 @@
+-- The fields are those of the definition.
 use mathlib.Core.Path.{refl}
 use Rattle.cascade.specs.Specificity.{specificityOf}
 use Rattle.cascade.proofs.specificity.Specificity.new.Statement.{statement}
