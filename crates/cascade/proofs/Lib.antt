@@ -11,3 +11,4 @@ pub mod Inheriting
 pub mod Relating
 pub mod Agreeing
 pub mod AgreeingStyles
+pub mod AgreeingCases

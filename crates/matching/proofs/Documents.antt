@@ -1,6 +1,6 @@
 -- Laws from Selectors Level 3: what each simple selector matches, as an 'exactly if', and what the document matches. Combinators, nth-child and specificities
 -- are in proofs/Selectors.antt. The document's text is not at hand: a section is named, not quoted.
-use Prim.Native.Nat.{ℕ}
+use Prim.Native.Nat.{ℕ, zero, suc, _+_, _<_}
 use mathlib.Core.Bool.{Bool, true, false}
 use mathlib.Core.List.{List, [], _∷_, _++_}
 use mathlib.Core.Logic.{_⊎_, inl, inr, ⊎-elim}
@@ -19,6 +19,10 @@ use Rattle.unicode.specs.WhiteSpace.{isWhiteSpace}
 use Rattle.unicode.proofs.Texts.{is-valid}
 use Rattle.syntax.specs.Selector.{Component, star, class, element, hash, child, descendant, nth, attribute, attributeEqual}
 use Rattle.page.specs.Path.{Attribute, Element, Path}
+use Rattle.page.specs.PathOf.{attributesFrom, elementAt}
+use Rattle.page.specs.Rows.{nodeCount, nodeAt, attributeValue}
+use Rattle.page.proofs.AcceptedPages.{Accepted}
+use Rattle.page.proofs.RowFacts.{attribute-value-valid}
 use Rattle.matching.specs.Matches.{anyAttribute, isNamed, isClass, hasClass, isId, hasId, hasAttribute, firstIs, attributeIs, nameIs, here, onParent, onAncestors, step, matches}
 use Rattle.matching.specs.Texts.{hasWord}
 use Rattle.matching.specs.Documents.{Some, isSelectorsWhiteSpace, WordOf, PlainText, Named, FirstValue, Distinct, Simple}
@@ -86,7 +90,7 @@ module _ (e : Element) (up : Path) where
       (any-exactly (isId h) _ (e .attributes) (of-all _ (λ a. both-exactly _ _ _ _ (named-exactly (text "id") a) (same-exactly (a .value) h)) (e .attributes)))
 
   -- by section 6.4, a class selector represents an element whose `class` is a whitespace-separated list of words, one of which is exactly the name; white
-  -- space is that of Unicode. Values are in UTF-8, as on every accepted page.
+  -- space is that of Unicode. Values are in UTF-8, as on every accepted page (`accepted-values`).
   pub class-exactly : (c : List ℕ) → All (λ a. valid (a .value) ≡ true) (e .attributes)
       → Exactly (matches (class c ∷ []) (e ∷ up) ≡ true) (Some (λ a. Named (text "class") a × WordOf isWhiteSpace c (a .value)) (e .attributes))
   unfolding matches step here hasClass isClass
@@ -236,3 +240,20 @@ document-star (attributeEqual n v) e = never e
 -- the document (row 0, the empty path) has neither name nor attributes: only the universal selector matches it, which is the crate's choice
 pub document-exactly : (c : Component) → Exactly (matches (c ∷ []) [] ≡ true) (c ≡ star)
 document-exactly c = (document-star c, (λ e. ap (λ (d : Component). matches (d ∷ []) []) e ∙ universal []))
+
+-- ---- on an accepted page the values of every element are in UTF-8, as `class-exactly` asks
+values-from : (attributes bytes : List ℕ) (k at : ℕ) → ((j : ℕ) → j < k → valid (attributeValue attributes bytes (at + j)) ≡ true)
+    → All (λ a. valid (a .value) ≡ true) (attributesFrom attributes bytes k at)
+unfolding attributesFrom
+values-from attributes bytes zero at h = tt
+values-from attributes bytes (suc k) at h = (
+  ap (λ n. valid (attributeValue attributes bytes n)) (omega arith) ∙ h 0 (omega arith),
+  values-from attributes bytes k (at + 1) (λ j l. ap (λ n. valid (attributeValue attributes bytes n)) (omega arith) ∙ h (suc j) (omega arith)),
+)
+
+-- by refusal 7
+pub accepted-values : (nodes attributes bytes : List ℕ) → Accepted nodes attributes bytes → (row : ℕ) → row < nodeCount nodes
+    → All (λ a. valid (a .value) ≡ true) (elementAt nodes attributes bytes row .attributes)
+unfolding elementAt
+accepted-values nodes attributes bytes ok row there =
+    values-from attributes bytes (nodeAt nodes row .attributeCount) (nodeAt nodes row .firstAttribute) (λ j l. attribute-value-valid nodes attributes bytes ok row there j l)
