@@ -14,7 +14,7 @@ all-reverse P [] p = tt
 all-reverse P (x ∷ xs) p =
     subst (All P) (sym (reverse-cons x xs)) (all-append P (reverse xs) (x ∷ []) (all-reverse P xs (p .1)) (p .0, tt))
 
--- of their images
+-- what holds of each value of a list, carried over to their images, holds of each of these
 pub all-map : {A B : Type 0} (P : A → Type 0) (Q : B → Type 0) (f : A → B) → ((a : A) → P a → Q (f a)) → (xs : List A) → All P xs → All Q (map f xs)
 all-map P Q f h [] p = tt
 all-map P Q f h (x ∷ xs) p = (h x (p .0), all-map P Q f h xs (p .1))

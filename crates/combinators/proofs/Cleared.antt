@@ -14,18 +14,18 @@ step i [] h = absurd (omega arith)
 step zero (x ∷ l) h = refl
 step (suc i) (x ∷ l) h = ap (λ (r : List ℕ). x ∷ r) (step i l (omega arith))
 
--- one zero more
+-- once the number at i is zero, clearing from i + 1 on is clearing from i on
 pub cleared-step : (i : ℕ) (l : List ℕ) → i < length l → cleared (i + 1) (set l i 0) ≡ cleared i l
 cleared-step i l h = rw add-one (step i l h)
 
--- nothing is left
+-- from the end on there is nothing to clear
 pub cleared-done : (i : ℕ) (l : List ℕ) → length l ≤ i → cleared i l ≡ l
 unfolding cleared
 cleared-done i [] h = refl
 cleared-done zero (x ∷ l) h = absurd (omega arith)
 cleared-done (suc i) (x ∷ l) h = ap (λ (r : List ℕ). x ∷ r) (cleared-done i l (omega arith))
 
--- the length stays
+-- clearing keeps the length
 pub length-cleared : (i : ℕ) (l : List ℕ) → length (cleared i l) ≡ length l
 unfolding cleared
 length-cleared i [] = refl

@@ -53,14 +53,14 @@ module _ (s : List ℕ) where
   pub front-one : 1 ≤ length s → take 1 s ≡ getD s 0 0 ∷ []
   front-one h = take-suc s 0 0 h
 
-  -- the first two
+  -- the first two bytes of a text, one by one
   pub front-two : 2 ≤ length s → take 2 s ≡ getD s 0 0 ∷ getD s 1 0 ∷ []
   front-two h = take-suc s 1 0 h ∙ rw (front-one (omega arith))
 
-  -- the first three
+  -- the first three bytes of a text, one by one
   pub front-three : 3 ≤ length s → take 3 s ≡ getD s 0 0 ∷ getD s 1 0 ∷ getD s 2 0 ∷ []
   front-three h = take-suc s 2 0 h ∙ rw (front-two (omega arith))
 
-  -- the first four
+  -- the first four bytes of a text, one by one
   pub front-four : 4 ≤ length s → take 4 s ≡ getD s 0 0 ∷ getD s 1 0 ∷ getD s 2 0 ∷ getD s 3 0 ∷ []
   front-four h = take-suc s 3 0 h ∙ rw (front-three (omega arith))

@@ -20,7 +20,7 @@ module _ (store : List ℕ) (start n : ℕ) where
       let l = length-drop start store in
       take-all (length store - start) (drop start store) (omega arith) ∙ sym (take-all n (drop start store) (omega arith))
 
-  -- the whole part
+  -- a part that ends within the store is lent whole
   pub part-whole : take (start + n - start) (drop start store) ≡ part store start n
   unfolding part
   part-whole = let d : start + n - start ≡ n = omega arith in rw d

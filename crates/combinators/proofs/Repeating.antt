@@ -36,7 +36,7 @@ module _ (u : List ℕ → ℕ) (s : List ℕ) (i : ℕ) (c : Repeating u s i) w
   repeat-more n e h d =
       record { within-text = h; left = sym (many-more u s i n (omega (arith, length-drop i s)) e d) ∙ c .left }
 
-  -- u takes none
+  -- where the reader takes nothing, the repetition stops: what was counted is all that it takes
   pub repeat-stop : u (drop i s) ≡ 0 → i ≡ many u 0 0 s
   repeat-stop e = sym (many-stop u (drop i s) i e) ∙ c .left
 

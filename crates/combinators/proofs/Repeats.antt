@@ -35,7 +35,7 @@ module _ (u : List ℕ → ℕ) where
   many-stop [] i e = refl
   many-stop (x ∷ r) i e = rw e
 
-  -- nothing is left
+  -- behind the end of the text nothing more is counted
   pub many-end : (s : List ℕ) (j i : ℕ) → length s ≤ i → many u j 0 (drop i s) ≡ j
   unfolding many took
   many-end s j i h = rw (drop-of-length-le s h)
@@ -129,7 +129,7 @@ module _ (u : List ℕ → ℕ) (b : List ℕ → List ℕ) where
   texts-stop [] e = refl
   texts-stop (x ∷ r) e = rw e
 
-  -- nothing is left
+  -- behind the end of the text nothing more is written
   pub texts-end : (s : List ℕ) (i : ℕ) → length s ≤ i → texts u b 0 (drop i s) ≡ []
   unfolding texts
   texts-end s i h = rw (drop-of-length-le s h)

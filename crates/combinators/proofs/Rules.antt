@@ -19,7 +19,7 @@ module _ {A : Type 0} (v x y : A) (t : Bool) where
   unfolding pick
   pick-true e p = rw e p
 
-  -- the second
+  -- a test that fails picks the second
   pub pick-false : t ≡ false → v ≡ y → v ≡ pick t x y
   unfolding pick
   pick-false e p = rw e p
@@ -29,7 +29,7 @@ module _ {A : Type 0} (v x y : A) (a b : ℕ) where
   pub at-most : a ≤ b → v ≡ x → v ≡ pick (leb a b) x y
   at-most h p = pick-true v x y _ (le-leb a b h) p
 
-  -- the second
+  -- a number that is greater picks the second
   pub above : b < a → v ≡ y → v ≡ pick (leb a b) x y
   above h p = pick-false v x y _ (lt-leb a b h) p
 
@@ -64,12 +64,12 @@ module _ (a b : Bool) where
   unfolding or
   or-right e p = rw (e, p)
 
-  -- neither does
+  -- where neither test holds, `or` does not
   pub or-none : a ≡ false → b ≡ false → or a b ≡ false
   unfolding or
   or-none e p = rw (e, p)
 
-  -- both do
+  -- where both tests hold, `and` does
   pub and-both : a ≡ true → b ≡ true → and a b ≡ true
   unfolding and
   and-both e p = rw (e, p)
@@ -93,7 +93,7 @@ module _ (a b : Bool) where
   unfolding and
   and-gives r e p = rw e p
 
-  -- the first fails
+  -- where the first test fails, `and` does
   pub and-gives-false : a ≡ false → false ≡ and a b
   and-gives-false e = sym (and-left e)
 

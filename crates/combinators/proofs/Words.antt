@@ -22,7 +22,7 @@ module _ (w s : List ℕ) (i : ℕ) where
   unfolding startsWith
   word-short h l = rw (drop-cons w i 0 h, drop-of-length-le s l)
 
-  -- a byte differs
+  -- a byte differs from the word's: the text does not begin with it
   pub word-differs : i < length w → i < length s → ¬ (getD s i 0 ≡ getD w i 0) → startsWith (drop i w) (drop i s) ≡ false
   unfolding startsWith and
   word-differs h l d = rw (drop-cons w i 0 h, drop-cons s i 0 l, is-no _ _ d)

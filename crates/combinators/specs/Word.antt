@@ -4,6 +4,7 @@ use mathlib.Core.List.{List, [], _∷_}
 use mathlib.Core.Bool.{Bool, true, false}
 use Rattle.combinators.specs.Choice.{and, is}
 
+-- "Keywords such as `important` and `::before` are fixed byte strings"
 unfoldable pub startsWith : List ℕ → List ℕ → Bool
 startsWith [] s = true
 startsWith (w ∷ ws) [] = false

@@ -106,7 +106,7 @@ module _ (s ts : List ℕ) (i d t : ℕ)
   pub at-most-below : d < t → true ≡ atMost (digits s) ts
   at-most-below l = pick-true _ _ _ _ (lt-ltb d t l) refl ∙ sym at-most-from
 
-  -- and the greater
+  -- at the first place that differs the greater digit decides: the number is above
   pub at-most-above : t < d → false ≡ atMost (digits s) ts
   at-most-above l = pick-false _ _ _ _ (le-ltb d t (omega arith)) (pick-true _ _ _ _ (lt-ltb t d l) refl) ∙ sym at-most-from
 

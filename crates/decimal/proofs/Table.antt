@@ -18,7 +18,7 @@ pub places-rule : number places ≡ 5 ^ 150
 unfolding number places
 places-rule = refl
 
--- there are 150
+-- the table has 150 places
 pub places-count : length places ≡ 150
 unfolding places
 places-count = refl
@@ -40,7 +40,7 @@ all-below-ten [] e k = omega arith
 all-below-ten (d ∷ ds) e zero = ltb-true d 10 (and-true (ltb d 10) (allBelowTen ds) e .0)
 all-below-ten (d ∷ ds) e (suc k) = all-below-ten ds (and-true (ltb d 10) (allBelowTen ds) e .1) k
 
--- each place is
+-- each place of the table is a digit
 pub places-below-ten : BelowTen places
 unfolding allBelowTen places and
 places-below-ten = all-below-ten places refl

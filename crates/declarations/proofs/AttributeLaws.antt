@@ -47,7 +47,7 @@ module _ (s : List ℕ) where
   unfolding colourAttribute valueOf valueFrom onParsed pick colourAnswer onFound
   attribute-none h = rw h
 
-  -- a value
+  -- of a text whose brackets close the colour is that of its tokens without the mark, or else that of a text that lacks its `#`
   attribute-some : statementOf false s .balanced ≡ true → colourAttribute s ≡ orFaulty (colourOf (withoutMark (tokensOf (statementOf false s .tokens)))) s
   unfolding colourAttribute valueOf valueFrom onParsed pick
   attribute-some h = rw h
@@ -72,7 +72,7 @@ module _ (s tokens brackets store : List ℕ) (fill : ℕ) (room : Room (length 
 
   -- ---- a bracket is wrong
   module _ {k m : ℕ} (ea : a ≡ value.NoValue k m) where
-    -- the answer's numbers
+    -- the answer tells how many tokens, and how many bytes of text, were used
     none-here : declaring.Unvalued r k m
     none-here = declaring.none-said s tokens brackets store fill e ea
 
@@ -80,14 +80,14 @@ module _ (s tokens brackets store : List ℕ) (fill : ℕ) (room : Room (length 
     pub none-count : tokenWidth * k < 2 ^ 64
     none-count = declaring.count-bits s tokens brackets store fill e (none-here .count) room
 
-    -- no colour
+    -- without a value there is no colour, and what was used is zero again
     pub none-left : {x′ b′ z′ : List ℕ} → x′ ≡ wiped 0 (tokenWidth * k) x → b′ ≡ wiped 0 k b → z′ ≡ wiped fill m z
         → record { answer = answer.the-variants.NoColour; tokens = x′; brackets = b′; store = z′ } ≡ colourLeft s tokens brackets store fill
     none-left ex eb ez = attribute-left (none-here .count) (none-here .text) (sym (attribute-none s (none-here .balanced))) ex eb ez
 
   -- ---- a value
   module _ {t k m : ℕ} {i : Bool} (ea : a ≡ value.Value t k m i) where
-    -- the answer's numbers
+    -- the answer tells the bytes taken, how many tokens and bytes of text there are, and the mark
     some-here : declaring.Valued r t k m i
     some-here = declaring.some-said s tokens brackets store fill e ea
 
@@ -100,7 +100,7 @@ module _ (s tokens brackets store : List ℕ) (fill : ℕ) (room : Room (length 
       pub some-counted : Counted x j
       some-counted = declaring.left-counted s tokens brackets store fill e (some-here .count) room (some-here .important) ej
 
-      -- which read back
+      -- the rows without the mark read back as the tokens of the value
       tokens-read : tokensAt x z j ≡ withoutMark (tokensOf (r .tokens))
       tokens-read = declaring.tokens-left s tokens brackets store fill e (some-here .count) room (some-here .important) ej
 

@@ -234,7 +234,7 @@ module _ (s tokens brackets store : List ℕ) (fill : ℕ) {a : ValueAnswer} {x 
         pub tokens-left : tokensAt x z j ≡ withoutMark (tokensOf (stated .tokens))
         tokens-left = tokens-unmarked x z k (tokensOf (stated .tokens)) back (ek ∙ tokens-count (stated .tokens)) j (ej ∙ ap (λ c. pick c (k - 2) k) ei)
 
-        -- of all
+        -- without the mark there are no more tokens than with it
         unmarked-le : j ≤ k
         unmarked-le = rw ej (pick-holds (λ c. c ≤ k) i _ _ (λ _. omega arith) (λ _. omega arith))
 
@@ -242,7 +242,7 @@ module _ (s tokens brackets store : List ℕ) (fill : ℕ) {a : ValueAnswer} {x 
         tokens-long : length x ≡ length tokens
         tokens-long = ap length tokens-are ∙ length-sets tokens 0 (rowsOf fill (stated .tokens))
 
-        -- and holds them
+        -- the store holds the rows of the tokens without the mark
         pub left-counted : Counted x j
         left-counted = record { inside = omega (arith, unmarked-le, tokens-long, ek, sized .counted, sized .within, room .for-tokens) }
 

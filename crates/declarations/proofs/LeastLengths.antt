@@ -29,16 +29,16 @@ pub record Small (n : ℕ) (u : Used) : Type 0 where
   pub tokens : u .tokens ≤ n
   pub bytes : u .bytes ≤ n + 2
 
--- by no declaration
+-- reading no declaration uses nothing
 unused-small : (n : ℕ) → Small n unused
 unfolding unused
 unused-small n = record { tokens = omega arith; bytes = omega arith }
 
--- by less text
+-- what a shorter text uses is within the bounds of a longer one
 small-more : (m n : ℕ) (u : Used) → m ≤ n → Small m u → Small n u
 small-more m n u h s = record { tokens = omega (arith, s .tokens); bytes = omega (arith, s .bytes) }
 
--- by one declaration
+-- one declaration uses no more tokens than its text has bytes, and two bytes more of text
 pub one-small : (s : List ℕ) → Small (length s) (usedBy s)
 unfolding usedBy
 one-small s =

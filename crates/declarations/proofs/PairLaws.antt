@@ -28,19 +28,19 @@ module _ (t : List ℕ) where
   unfolding pairs onFound
   first-missing e = rw e
 
-  -- the second
+  -- where the second pair is no number there is no colour
   pub second-missing : parseHex 255 (take 2 (drop 2 t)) ≡ missing → pairs t ≡ missing
   unfolding pairs onFound
   second-missing e = rw e (none-of (parseHex 255 (take 2 t)) (λ _. missing) (λ _. refl))
 
-  -- the third
+  -- where the third pair is no number there is no colour
   pub third-missing : parseHex 255 (take 2 (drop 4 t)) ≡ missing → pairs t ≡ missing
   unfolding pairs onFound
   third-missing e =
       let g = parseHex 255 (take 2 (drop 2 t)) in
       rw e (none-of (parseHex 255 (take 2 t)) (λ _. onFound g (λ _. missing) missing) (λ _. none-of g (λ _. missing) (λ _. refl)))
 
-  -- all are
+  -- three pairs that are numbers are a colour
   all-found : (r g b : ℕ) → parseHex 255 (take 2 t) ≡ found r → parseHex 255 (take 2 (drop 2 t)) ≡ found g
       → parseHex 255 (take 2 (drop 4 t)) ≡ found b → found (rgb r g b) ≡ pairs t
   unfolding pairs onFound
@@ -68,15 +68,15 @@ module _ (t : List ℕ) where
   pub first-none : (x : NumberAnswer) → x ≡ numberAnswer (parseHex 255 (take 2 t)) → x ≡ NoNumber → NoColour ≡ colourAnswer (pairs t)
   first-none x ex h = no-colour _ (sym (first-missing t (number-missing x _ ex h)))
 
-  -- the second
+  -- the answer where the second pair is no number
   pub second-none : (y : NumberAnswer) → y ≡ numberAnswer (parseHex 255 (take 2 (drop 2 t))) → y ≡ NoNumber → NoColour ≡ colourAnswer (pairs t)
   second-none y ey h = no-colour _ (sym (second-missing t (number-missing y _ ey h)))
 
-  -- the third
+  -- the answer where the third pair is no number
   pub third-none : (z : NumberAnswer) → z ≡ numberAnswer (parseHex 255 (take 2 (drop 4 t))) → z ≡ NoNumber → NoColour ≡ colourAnswer (pairs t)
   third-none z ez h = no-colour _ (sym (third-missing t (number-missing z _ ez h)))
 
-  -- all are
+  -- the answer where all three are
   pub three-pairs : (x : NumberAnswer) → x ≡ numberAnswer (parseHex 255 (take 2 t)) → (r : ℕ) → x ≡ Number r
       → (y : NumberAnswer) → y ≡ numberAnswer (parseHex 255 (take 2 (drop 2 t))) → (g : ℕ) → y ≡ Number g
       → (z : NumberAnswer) → z ≡ numberAnswer (parseHex 255 (take 2 (drop 4 t))) → (b : ℕ) → z ≡ Number b

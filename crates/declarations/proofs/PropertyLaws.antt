@@ -28,7 +28,7 @@ module _ (s : List ℕ) (n : ℕ) (name : List ℕ) (e : identOf s ≡ ok n name
   unfolding propertyOf colonBehind onParsed pick
   colon-there c ec t = rw (e, ← ec, t)
 
-  -- or none
+  -- a name without a colon behind it is no property
   colon-missing : (c : ℕ) → c ≡ n + skipWhitespace (drop n s) → is (getD s c 0) ascii.colon ≡ false → propertyOf s ≡ err
   unfolding propertyOf colonBehind onParsed pick
   colon-missing c ec t = rw (e, ← ec, t)
@@ -39,6 +39,7 @@ unfolding propertyOf onParsed
 no-name s e = rw e
 
 -- ---- the answer
+-- a property that is read is answered with the place of its value and the length of its name
 answer-hit : (s : List ℕ) (v : ℕ) (name : List ℕ) → propertyOf s ≡ ok v name → property.Name v (length name) ≡ propertyAnswer s
 unfolding propertyAnswer onParsed
 answer-hit s v name e = rw e

@@ -20,12 +20,12 @@ use Rattle.declarations.specs.DeclRow.{namedBy, shift, keptText, Keeping
 
 -- ---- `named`
 module _ (d : declared.Decl) (names : Bool) where
-  -- names are kept
+  -- where names are kept an unknown declaration keeps its name
   pub named-kept : d .kind ≡ unknownKind → names ≡ true → d ≡ namedBy names d
   unfolding namedBy declOfNumbers pick
   named-kept h e = rw (is-yes _ _ h, e)
 
-  -- or not
+  -- where they are not it has none
   pub named-dropped : d .kind ≡ unknownKind → names ≡ false → record { kind = d .kind; value = d .value; text = 0 } ≡ namedBy names d
   unfolding namedBy declOfNumbers pick
   named-dropped h e = rw (is-yes _ _ h, e)

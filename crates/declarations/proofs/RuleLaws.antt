@@ -84,13 +84,13 @@ module _ (names : Bool) (s : List ℕ) (i : ℕ) where
     unfolding moreRules usedMore pick onParsed
     more-next t l n d e = (rw (first s i, t, skip-is, drop-is, e, behind-is n, at-is n, from-is), rw (first s i, t, skip-is, drop-is, e, behind-is n))
 
-    -- ';' and none
+    -- a semicolon behind which no declaration reads: reading ends before it
     pub more-none : is (getD s i 0) ascii.semicolon ≡ true → (l : ℕ) → declarationOf (drop w s) ≡ err
         → (moreRules (suc l) (drop i s) i ≡ record { declarations = []; taken = i }) × (usedMore names (suc l) (drop i s) ≡ usedBy (drop w s))
     unfolding moreRules usedMore pick onParsed
     more-none t l e = (rw (first s i, t, skip-is, drop-is, e), rw (first s i, t, skip-is, drop-is, e))
 
-  -- no ';'
+  -- without a semicolon reading ends
   pub more-stop : is (getD s i 0) ascii.semicolon ≡ false → (l : ℕ)
       → (moreRules l (drop i s) i ≡ record { declarations = []; taken = i }) × (usedMore names l (drop i s) ≡ unused)
   unfolding moreRules usedMore pick

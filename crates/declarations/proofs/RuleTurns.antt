@@ -35,7 +35,7 @@ leavesFrom names at place fill c t m u rules tokens brackets store =
     rules (place + declarationWidth * c) tokens brackets store (fill + t)
 
 module _ (names : Bool) (at place fill : ℕ) where
-  -- all of it
+  -- from the first declaration on, what is left is what the whole reading leaves
   from-zero : (m : Rules) (u : Used) (rules tokens brackets store : List ℕ) → leavesFrom names at place fill 0 0 m u rules tokens brackets store
       ≡ leaves (rulesAnswer (m .taken) (rulesOf names at m)) (rulesOf names at m) u rules place tokens brackets store fill
   unfolding leavesFrom rulesAnswer
@@ -46,7 +46,7 @@ module _ (names : Bool) (at place fill : ℕ) where
       rw (e₁, e₂, e₃, add-zero fill)
 
   module _ (c t : ℕ) (rules tokens brackets store : List ℕ) where
-    -- of none
+    -- with no declaration left the stores stay, but for what was used
     from-used : (i : ℕ) (u : Used) → leavesFrom names at place fill c t (record { declarations = []; taken = i }) u rules tokens brackets store
         ≡ record {
           answer = record { taken = i; count = c; text = t };
@@ -95,7 +95,7 @@ pub record Reading (names : Bool) (at : ℕ) (s : List ℕ) (from : ℕ) (rules�
   pub brackets-long : length brackets ≡ length brackets₀
   pub store-long : length store ≡ length store₀
 
--- before the first
+-- before the first further declaration nothing is counted
 pub begin : (names : Bool) (at : ℕ) (s : List ℕ) (from : ℕ) (rules : List ℕ) (place : ℕ) (tokens brackets store : List ℕ) (fill : ℕ)
     → MoreRoom s from at rules place tokens brackets store fill → Reading names at s from rules place tokens brackets store fill rules tokens brackets store from 0 0
 unfolding moreLeft
@@ -137,7 +137,7 @@ module _ (names : Bool) (at : ℕ) (s rules : List ℕ) (place : ℕ) (tokens br
   unfolding declarationLeft leaves
   answer-is = ap (λ (l : Leaves DeclarationAnswer). l .answer) e
 
-  -- nothing
+  -- where no declaration reads, what was used is zero again
   pub none-is : declarationOf s ≡ err → {B : Type 0} (r : B)
       → _≡_ {A = Leaves B} (record { answer = r; rules = y; tokens = x; brackets = b; store = z })
       (record { answer = r; rules = rules; tokens = wiped 0 (tokenWidth * usedBy s .tokens) tokens; brackets = wiped 0 (usedBy s .tokens) brackets; store = wiped fill (usedBy s .bytes) store })
@@ -146,7 +146,7 @@ module _ (names : Bool) (at : ℕ) (s rules : List ℕ) (place : ℕ) (tokens br
       let q : record { answer = a; rules = y; tokens = x; brackets = b; store = z } ≡ leaves (declarationAnswer names err) [] (usedBy s) rules place tokens brackets store fill = e ∙ rw h in
       ap {B = Leaves B} (λ (l : Leaves DeclarationAnswer). record { answer = r; rules = l .rules; tokens = l .tokens; brackets = l .brackets; store = l .store }) q
 
-  -- a declaration
+  -- where one reads, its row and its text are left
   pub one-is : (n : ℕ) (d : Declaration) → declarationOf s ≡ ok n d
       → record { answer = a; rules = y; tokens = x; brackets = b; store = z } ≡ leaves a (kept names at d ∷ []) (usedBy s) rules place tokens brackets store fill
   unfolding declarationLeft leaves keptOf onParsed
@@ -176,7 +176,7 @@ module _ {names : Bool} {at : ℕ} {s : List ℕ} {from : ℕ} {rules₀ : List 
       → leavesFrom names at place fill count text m u rules tokens brackets store ≡ moreLeft names at s from rules₀ place tokens₀ brackets₀ store₀ fill
   ahead-is m u em eu = rw (← em, ← eu) (c .same)
 
-  -- no ';'
+  -- without a semicolon the reading ends with what was read
   pub ends-here : {t : Bool} → t ≡ is (getD s taken 0) ascii.semicolon → t ≡ false → {r : RulesRead} → r ≡ here → Ends r rules tokens brackets store
   ends-here et f er =
       let p = more-stop names s taken (sym et ∙ f) (c .turns) in
@@ -241,7 +241,7 @@ module _ {names : Bool} {at : ℕ} {s : List ℕ} {from : ℕ} {rules₀ : List 
         said : a ≡ declarationAnswer names (declarationOf (drop w s))
         said = answer-is names (at + w) (drop w s) rules (place + declarationWidth * count) tokens brackets store (fill + text) left-is
 
-        -- nothing
+        -- where no declaration reads behind a semicolon the reading ends with what was read
         pub ends-none : a ≡ answer.NoDeclaration → {r : RulesRead} → r ≡ here → Ends r y x b z
         ends-none ea {r} er =
             let n = undeclared-by names (declarationOf (drop w s)) (sym ea ∙ said) in
@@ -301,12 +301,12 @@ module _ {names : Bool} {at : ℕ} {s : List ℕ} {from : ℕ} {rules₀ : List 
 
 -- ---- `parse_rules`, from what `parse_declaration` left
 module _ (names : Bool) (s : List ℕ) where
-  -- none
+  -- where the first declaration does not read there is none
   rules-none : declarationOf s ≡ err → (declarationsOf s ≡ record { declarations = []; taken = 0 }) × (usedRules names s ≡ usedBy s)
   unfolding declarationsOf usedRules onParsed
   rules-none e = (rw e, rw e)
 
-  -- one and more
+  -- where it reads, the others are read behind it
   rules-next : (n : ℕ) (d : Declaration) → declarationOf s ≡ ok n d →
       let m = moreRules (length s) (drop n s) n in
       (declarationsOf s ≡ record { declarations = d ∷ m .declarations; taken = m .taken }) × (usedRules names s ≡ usedThen (usedBy s) (textKept names d) (usedMore names (length s) (drop n s)))
@@ -316,7 +316,7 @@ module _ (names : Bool) (s : List ℕ) where
 module _ (names : Bool) (at : ℕ) (s rules : List ℕ) (place : ℕ) (tokens brackets store : List ℕ) (fill : ℕ) (o : RulesRoom s at rules place tokens brackets store fill)
     {a : DeclarationAnswer} {y x b z : List ℕ}
     (e : record { answer = a; rules = y; tokens = x; brackets = b; store = z } ≡ declarationLeft names at s rules place tokens brackets store fill) where
-  -- no declaration
+  -- without a first declaration nothing is left
   pub all-none : a ≡ answer.NoDeclaration → {r : RulesRead} → r ≡ record { taken = 0; count = 0; text = 0 }
       → record { answer = r; rules = y; tokens = x; brackets = b; store = z } ≡ rulesLeft names at s rules place tokens brackets store fill
   unfolding rulesLeft leaves rulesAnswer rulesOf declarationRows declarationTexts rowsMany textsMany
@@ -393,7 +393,7 @@ module _ (names : Bool) (at : ℕ) (s rules : List ℕ) (place : ℕ) (tokens br
           (one-is names at s rules place tokens brackets store fill e n d (one-said .reads))
           ∙ ap (λ j. leaves (rulesAnswer (more .taken) behind) behind v (one .rules) (place + declarationWidth) (one .tokens) (one .brackets) (one .store) (fill + j)) (one-said .keeps)
 
-      -- the answer
+      -- the counts of the first declaration and of those behind it add up to the answer
       answer-all : record { taken = r .taken; count = r .count + 1; text = r .text + k } ≡ rulesAnswer (more .taken) (kept names at d ∷ behind)
       unfolding rulesAnswer leaves declarationTexts textsMany textKept kept declarationText
       answer-all =

@@ -127,7 +127,7 @@ pub record Bounded (names : Bool) (at long : ℕ) (r : Rules) : Type 0 where
   pub fit : DeclarationsFit (r .declarations)
 
 module _ (names : Bool) where
-  -- none
+  -- no declaration ends where it begins
   bounded-none : (at long : ℕ) → Bounded names at long (record { declarations = []; taken = at })
   unfolding rulesOf declarationTexts textsMany
   bounded-none at long =
@@ -205,7 +205,7 @@ own-fits i (whiteSpace w) h = (tt, tt)
 own-fits i (content t) h = (tt, tt)
 own-fits i (unknown n) h = tt
 
--- those of declarations
+-- the styles of declarations that fit do fit
 all-own-fit : (ds : List Declaration) → DeclarationsFit ds → StylesFit (ownStyles ds)
 unfolding ownStyles
 all-own-fit [] h = tt
@@ -218,7 +218,7 @@ unfolding stylesOf one StyleFits
 styles-fit ds h =
     all-append (λ d. StyleFits (d .style)) (ownStyles ds) _ (all-own-fit ds h) (pick-holds StylesFit _ _ _ (λ _. (tt, tt)) (λ _. tt))
 
--- of every attribute
+-- the styles of every attribute fit
 pub attribute-fits : (s : List ℕ) → StylesFit (styleAttribute s)
 unfolding styleAttribute
 attribute-fits s = styles-fit (declarationsOf s .declarations) (bounded false s .fit)
@@ -265,7 +265,7 @@ module _ (s : List ℕ) where
       unfolding rulesLeft leaves rulesAnswer
       count-is = ap (λ (l : Leaves RulesRead). l .answer .count) e
 
-      -- their rows
+      -- what is left in the store of rules are the rows of the declarations
       rules-are : y ≡ sets rules 0 (declarationRows fill ds)
       unfolding rulesLeft leaves
       rules-are = ap (λ (l : Leaves RulesRead). l .rules) e
@@ -296,7 +296,7 @@ module _ (s : List ℕ) where
           rw (rules-are, count-is, sets-drop rules 0 (declarationRows fill ds) rows-fit)
           (rows-meant fill (drop (0 + length (declarationRows fill ds)) rules))
 
-      -- their count
+      -- as many styles are counted as the attribute means
       styles-are : styleCount y (r .count) ≡ length (styleAttribute s)
       unfolding styleCount
       styles-are = omega (arith, ap length numbers-are, length-styles fill (styleAttribute s))

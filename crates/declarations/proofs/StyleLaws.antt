@@ -90,12 +90,12 @@ module _ (store : List ℕ) where
     pub long : length xs ≡ styleWidth * length ds
     pub reads : (t : List ℕ) → readMany (readStyle store) (length ds) (xs ++ t) ≡ record { value = ds; rest = t }
 
-  -- none
+  -- no rows read as no styles
   reads-none : Reads [] []
   unfolding readMany
   reads-none = record { long = refl; reads = λ t. refl }
 
-  -- one row
+  -- one row reads as its style
   reads-one : (x : StyleNumbers) → Reads (rowOfNumbers x) (styleIn store x ∷ [])
   unfolding readMany readStyle
   reads-one x = record { long = length-style x; reads = λ t. rw (row-numbers-back x t, row-numbers-rest x t) }
@@ -255,7 +255,7 @@ own-or-zero i (whiteSpace w) = omega arith
 own-or-zero i (content t) = omega arith
 own-or-zero i (unknown n) = omega arith
 
--- one of two
+-- one of two conditions counts for no more than both
 flag-or : (a b : Bool) → flag (or a b) ≤ flag a + flag b
 unfolding flag or
 flag-or true b = omega arith
@@ -314,7 +314,7 @@ module _ {A : Type 0} (x : A → List ℕ) where
   texts-behind [] ys = refl
   texts-behind (a ∷ xs) ys = rw (texts-behind xs ys, append-assoc (x a) (textsMany x xs) (textsMany x ys))
 
-  -- their rows
+  -- the rows of two lists, one behind the other, are those of the lists joined
   rows-behind : (w : ℕ → A → List ℕ) (xs ys : List A) (f : ℕ) → rowsMany w x f (xs ++ ys) ≡ rowsMany w x f xs ++ rowsMany w x (f + length (textsMany x xs)) ys
   unfolding textsMany rowsMany
   rows-behind w [] ys f = rw (add-zero f)
@@ -358,7 +358,7 @@ own-row i s f (whiteSpace w) t = one-row _ f _ (rw (flag-back i))
 own-row i s f (content b) t = one-row _ f _ (rw (flag-back i))
 own-row i s f (unknown b) t = refl
 
--- its text
+-- the text of a style is that of its declaration
 own-text : (i : Bool) (d : Decl) → NamelessDecl d → textsMany styleText (styleOf i d) ≡ declText d
 unfolding NamelessDecl textsMany styleText styleTextOf styleOf one declText pick
 own-text i (color c) u = refl
@@ -442,7 +442,7 @@ module _ (p : List ℕ → Bool) (q : Decl → Bool) (h : (i s f : ℕ) (d : Dec
         any-declared ds g t,
       )
 
--- their texts
+-- the texts of styles are those of their declarations, where these have no names
 own-texts-only : (ds : List Declaration) → Nameless ds → textsMany styleText (ownStyles ds) ≡ textsMany declarationText ds
 unfolding ownStyles textsMany declarationText
 own-texts-only [] u = refl

@@ -66,25 +66,25 @@ module _ (rows : List ℕ) (at k a : ℕ) (ek : k ≡ getD rows (at + declaratio
 
 -- ---- what a declaration asks for by itself is written
 module _ (t : List ℕ) (r : OwnStyle) (e : r ≡ ownNumbersAt t) (o₀ : Store) where
-  -- a style
+  -- a declaration that has a style puts its row
   pub own-put : (x : StyleNumbers) → r ≡ Style x → (o₁ : Store) → o₁ ≡ emits o₀ (rowOfNumbers x) → o₁ ≡ emits o₀ (ownRow t)
   unfolding ownRow rowOfOwn
   own-put x h o₁ p = p ∙ ap (λ (q : OwnStyle). emits o₀ (rowOfOwn q)) (sym h ∙ e)
 
-  -- none
+  -- a declaration that has none puts nothing
   pub own-none : r ≡ NoStyle → o₀ ≡ emits o₀ (ownRow t)
   unfolding ownRow rowOfOwn
   own-none h = sym (emits-none o₀) ∙ ap (λ (q : OwnStyle). emits o₀ (rowOfOwn q)) (sym h ∙ e)
 
 -- ---- tests that the code joins
 
--- by `|`
+-- the code's `|` is `or`
 pub or-is : (a b : Bool) → (a || b) ≡ or a b
 unfolding or
 or-is true b = refl
 or-is false b = refl
 
--- by `&`
+-- the code's `&` is `and`
 pub and-is : (a b : Bool) → (a && b) ≡ and a b
 unfolding and
 and-is true b = refl
@@ -100,7 +100,7 @@ rows-step rows count at i h =
     let d : count - i ≡ suc (count - (i + 1)) = omega arith in
     rw (d, drop-drop declarationWidth at rows)
 
--- none is left
+-- with no declaration left there are no rows
 rows-none : (n : ℕ) (t : List ℕ) → n ≡ 0 → ownRows n t ≡ []
 unfolding ownRows
 rows-none n t d = rw d
@@ -115,7 +115,7 @@ any-step p rows count at i z x v h e w =
     let q : or x r ≡ anyRow p (count - i) (drop at rows) = rw (d, drop-drop declarationWidth at rows, e) in
     rw (or-is z x) (sym (or-assoc z x r) ∙ ap (or z) q ∙ w)
 
--- of none
+-- with none left what was noted is whether any row passes
 any-done : (p : List ℕ → Bool) (t : List ℕ) (n : ℕ) (z v : Bool) → n ≡ 0 → or z (anyRow p n t) ≡ v → z ≡ v
 unfolding anyRow
 any-done p t n z v d w = sym (or-false z (anyRow p n t) (rw d)) ∙ w
@@ -165,7 +165,7 @@ styling-begin rows count styles =
 
 module _ (rows : List ℕ) (count : ℕ) (styles₀ styles : List ℕ) (place : ℕ) (height-zero overflow-hidden : Bool) (at i : ℕ)
     (c : Styling rows count styles₀ styles place height-zero overflow-hidden at i) where
-  -- a declaration
+  -- a turn: the style of one declaration is put, and whether it is a zero height or a hidden overflow is noted
   pub styling-more : i < count → (styles₁ : List ℕ) (place₁ : ℕ)
       → record { bytes = styles₁; fill = place₁ } ≡ emits (record { bytes = styles; fill = place }) (ownRow (drop at rows)) → length styles₁ ≡ length styles
       → (x y : Bool) → x ≡ zeroRow (drop at rows) → y ≡ hiddenRow (drop at rows)
@@ -182,7 +182,7 @@ module _ (rows : List ℕ) (count : ℕ) (styles₀ styles : List ℕ) (place : 
 
   -- all declarations
   module _ (h : count ≤ i) (room : StylesRoom rows count styles₀) where
-    -- none is left
+    -- behind the last declaration none is left
     none-left : count - i ≡ 0
     none-left = omega arith
 
@@ -203,7 +203,7 @@ module _ (rows : List ℕ) (count : ℕ) (styles₀ styles : List ℕ) (place : 
         styled rows count styles₀ styles₁ place₁ room
         (then _ _ _ _ _ own-styled (e ∙ ap (λ (y : StyleNumbers). emits (record { bytes = styles; fill = place }) (rowOfNumbers y)) ex) ∙ ap (λ l. emits (record { bytes = styles₀; fill = 0 }) (ownRows count rows ++ l)) (pick-true _ _ _ _ (sym both ∙ b) refl))
 
-    -- they add none
+    -- without both a zero height and a hidden overflow the rows are all styles
     pub styling-done : (height-zero && overflow-hidden) ≡ false → Styled rows count styles₀ styles (place / styleWidth)
     unfolding styleNumbers
     styling-done b =

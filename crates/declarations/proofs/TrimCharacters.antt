@@ -74,7 +74,7 @@ no-character x r e =
     at-none (x ∷ r) (λ z. omega arith) x refl (record { long = 0; low = 0; high = 0 })
     (above _ _ _ x 0x7f (omega arith) (at-most _ _ _ x 0xc1 (omega arith) refl)) refl
 
--- nor White_Space
+-- a continuation byte begins no White_Space
 continuation-first : (x : ℕ) (r : List ℕ) → isContinuation x ≡ true → allWhite (x ∷ r) ≡ false
 continuation-first x r e = not-all (x ∷ r) (omega arith) (sym (white-none (x ∷ r) NoScalar (no-character x r e) refl))
 

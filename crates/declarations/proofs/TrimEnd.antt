@@ -52,7 +52,7 @@ module _ (x : ℕ) (e : unread x ≡ true) where
   unfolding unread
   no-digit = fails-false _ (and-true _ _ e .0)
 
-  -- and no '+'
+  -- a byte that no digit is read from is no `+`
   no-sign : is x plusSign ≡ false
   unfolding unread
   no-sign = fails-false _ (and-true _ _ e .1)
@@ -206,7 +206,7 @@ module _ (s : List ℕ) (n : ℕ) (e : n ≡ many whiteTaken 0 0 s) where
   pub trimmed-short : length (take (length s - n) (drop n s)) < 6 → NoColour ≡ colourAnswer (faultyColour (trimmed s))
   trimmed-short h = no-colour _ (sym (short _ h) ∙ lent-trimmed)
 
-  -- six or more
+  -- where six bytes or more are left, the pairs are those of the text trimmed at both ends
   pub trimmed-long : 6 ≤ length (take (length s - n) (drop n s)) → (r : ColourAnswer) → r ≡ colourAnswer (pairs (take (length s - n) (drop n s)))
       → r ≡ colourAnswer (faultyColour (trimmed s))
   trimmed-long h r er = er ∙ ap colourAnswer (sym (long _ h) ∙ lent-trimmed)

@@ -61,6 +61,6 @@ unfoldable pub ownStyles : List Declaration → List StyleDecl
 ownStyles [] = []
 ownStyles (d ∷ ds) = styleOf (d .important) (d .decl) ++ ownStyles ds
 
--- zero height with hidden overflow adds one unimportant `display: none` at the end
+-- "Zero height with hidden overflow adds one unimportant `display: none` at the end."
 unfoldable pub stylesOf : List Declaration → List StyleDecl
 stylesOf ds = ownStyles ds ++ pick (and (anyDecl zeroHeight ds) (anyDecl hidesOverflow ds)) (one false style.displayNone) []

@@ -36,6 +36,7 @@ white-space-back pre = refl
 white-space-back preWrap = refl
 
 -- ---- colours
+-- a colour whose three parts are bytes
 pub record OfBytes (c : Colour) : Type 0 where
   pub red : c .red < 256
   pub green : c .green < 256
@@ -87,6 +88,7 @@ row-numbers-rest x t = refl
 
 module _ (store : List ℕ) where
   -- ---- one declaration
+  -- a declaration's row, with its text in the store, reads back as the declaration, its mark and its start
   decl-back : (i s f : ℕ) (d : Decl) (t : List ℕ) → DeclFits d → Held store f (declText d)
       → readDeclaration store (declRow i s f d ++ t) ≡ record { value = record { decl = d; important = flagOf i; start = s }; rest = t }
   unfolding readDeclaration declRow declText declOf DeclFits pick is
@@ -120,6 +122,7 @@ module _ (store : List ℕ) where
   declarations-back ds f t u h = ap (λ (r : Read (List Declaration)). r .value) (declarations-read ds f t u h)
 
   -- ---- one style
+  -- a style's two numbers, with its text in the store, read back as the style
   style-of-back : (f : ℕ) (d : Style) → StyleFits d → Held store f (styleTextOf d) → styleOf store (styleSlotOf d) (valueFrom f d) ≡ d
   unfolding styleOf styleSlotOf valueFrom styleTextOf StyleFits pick is
   style-of-back f (style.colour c) b h = rw (colour-back c b)

@@ -32,6 +32,7 @@ module _ {A : Type 0} (w : ℕ → A → List ℕ) (x : A → List ℕ) where
       omega (arith, length-append (w f a) (rowsMany w x g xs), e f a, length-wide k e xs g, mul-suc k (length xs))
 
 -- ---- declarations
+-- a declaration takes a row of the declarations' width
 length-decl : (i s f : ℕ) (d : Decl) → length (declRow i s f d) ≡ declarationWidth
 unfolding declRow
 length-decl i s f (color c) = refl
@@ -56,6 +57,7 @@ unfolding declarationRows
 length-declarations f ds = length-wide declarationRow declarationText declarationWidth length-declaration ds f
 
 -- ---- styles
+-- a style takes a row of the styles' width
 pub length-style : (x : StyleNumbers) → length (rowOfNumbers x) ≡ styleWidth
 unfolding rowOfNumbers valueNumbers
 length-style x = refl
@@ -66,6 +68,7 @@ unfolding styleRows styleRow
 length-styles f ds = length-wide styleRow styleText styleWidth (λ f d. length-style (numbersFrom f d)) ds f
 
 -- ---- components
+-- a component takes a row of the components' width
 pub length-component : (f : ℕ) (c : Component) → length (componentRow f c) ≡ componentWidth
 unfolding componentRow
 length-component f c = refl
@@ -76,6 +79,7 @@ unfolding componentRows
 length-components f cs = length-wide componentRow componentText componentWidth length-component cs f
 
 -- ---- selectors
+-- a selector takes as many numbers as its size says
 pub length-selector : (f : ℕ) (s : Selector) → length (selectorRow f s) ≡ selectorSize s
 unfolding selectorRow selectorSize
 length-selector f s =
@@ -88,6 +92,7 @@ unfolding selectorRows
 length-selectors f ss = length-rows selectorRow selectorText selectorSize length-selector ss f
 
 -- ---- rules
+-- a rule takes as many numbers as its size says
 pub length-rule : (f : ℕ) (r : RuleSet) → length (ruleRow f r) ≡ ruleSize r
 unfolding ruleRow ruleSize
 length-rule f r =

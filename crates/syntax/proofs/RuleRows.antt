@@ -58,7 +58,7 @@ module _ (store : List ℕ) where
   selector-back f s t h =
       rw (← length-reverse (s .components), components-back (reverse (s .components)) f t h, pseudo-back (s .pseudo), reverse-reverse (s .components))
 
-  -- and selectors
+  -- the rows of selectors, with their texts in the store, read back as the selectors
   pub selectors-back : (ss : List Selector) (f : ℕ) (t : List ℕ) → Held store f (selectorTexts ss)
       → readMany (readSelector store) (length ss) (selectorRows f ss ++ t) ≡ record { value = ss; rest = t }
   unfolding selectorRows selectorTexts

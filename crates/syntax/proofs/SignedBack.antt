@@ -6,7 +6,7 @@ use lib.IntN.{ℤ, pos, negsuc}
 use Rattle.combinators.proofs.Rules.{pick-true, pick-false, is-yes, is-no}
 use Rattle.syntax.specs.Signed.{signedNumber, signedOf}
 
--- of either sign
+-- a number of either sign reads back from the number that stands for it
 pub signed-back : (v : ℤ) → signedOf (signedNumber v) ≡ v
 unfolding signedOf signedNumber
 signed-back (pos n) =

@@ -59,7 +59,7 @@ module _ (l : List ℕ) (i : ℕ) (xs : List ℕ) (h : i + length xs ≤ length 
 
 -- the texts and the rows of two lists, one behind the other
 module _ {A : Type 0} (w : ℕ → A → List ℕ) (x : A → List ℕ) where
-  -- texts
+  -- the texts of two lists, one behind the other, are those of the lists joined
   pub texts-append : (xs ys : List A) → textsMany x (xs ++ ys) ≡ textsMany x xs ++ textsMany x ys
   unfolding textsMany
   texts-append [] ys = refl

@@ -73,7 +73,7 @@ module _ (s : List ℕ) (some : ¬ (length s ≡ 0)) (a : ℕ) (ea : a ≡ getD 
     unfolding scalarBy pick
     at-tail w r e = rw (by-row, is-no (l .long) 1 more, is-no (l .long) 0 any, ← eb, w, e)
 
-    -- it is not
+    -- the second byte is not between the bounds that the first one sets: no scalar value
     pub at-other : within b (l .low) (l .high) ≡ false → NoScalar ≡ scalarOf s
     unfolding scalarBy pick
     at-other w = rw (by-row, is-no (l .long) 1 more, is-no (l .long) 0 any, ← eb, w)

@@ -34,23 +34,23 @@ starts a t l e = by-row (a ∷ t) (λ z. omega arith) a refl l e
 
 -- the first byte has a row of so many bytes, and the bytes behind it are in their ranges
 module _ (lo hi a : ℕ) (t : List ℕ) where
-  -- one byte
+  -- a lead byte of length one is read as its scalar value
   reads-ascii : record { long = 1; low = lo; high = hi } ≡ leadOf a → scalarOf (a ∷ t) ≡ Value 1 a
   unfolding scalarBy pick is
   reads-ascii e = starts a t _ e
 
-  -- two bytes
+  -- a lead byte of length two and a second byte within its bounds are read as one scalar value
   reads-two : (b : ℕ) → record { long = 2; low = lo; high = hi } ≡ leadOf a → within b lo hi ≡ true → scalarOf (a ∷ b ∷ t) ≡ Value 2 (two a b)
   unfolding scalarBy scalarTail pick is
   reads-two b e h = rw (starts a (b ∷ t) _ e, h)
 
-  -- three bytes
+  -- a lead byte of length three, a second byte within its bounds and a continuation byte are read as one scalar value
   reads-three : (b c : ℕ) → record { long = 3; low = lo; high = hi } ≡ leadOf a → within b lo hi ≡ true → isContinuation c ≡ true
       → scalarOf (a ∷ b ∷ c ∷ t) ≡ Value 3 (three a b c)
   unfolding scalarBy scalarTail pick is
   reads-three b c e h k = rw (starts a (b ∷ c ∷ t) _ e, h, k)
 
-  -- four bytes
+  -- a lead byte of length four, a second byte within its bounds and two continuation bytes are read as one scalar value
   reads-four : (b c d : ℕ) → record { long = 4; low = lo; high = hi } ≡ leadOf a → within b lo hi ≡ true → isContinuation c ≡ true
       → isContinuation d ≡ true → scalarOf (a ∷ b ∷ c ∷ d ∷ t) ≡ Value 4 (four a b c d)
   unfolding scalarBy scalarTail pick is
@@ -81,12 +81,12 @@ abbrev Row : ℕ → ℕ → ℕ → ℕ → ℕ → Type 0
 Row a₀ a₁ n lo hi = (x : ℕ) → a₀ ≤ x → x ≤ a₁ → record { long = n; low = lo; high = hi } ≡ leadOf x
 
 module _ (t : List ℕ) (v : ℕ) where
-  -- one byte
+  -- a scalar value of one byte reads back
   back-ascii : v ≤ 0x7f → Back t v
   unfolding leadOf
   back-ascii h = rw (utf8-ascii v h) (reads-ascii 0 0 v t (search ranges))
 
-  -- two bytes
+  -- a scalar value of two bytes reads back
   back-two : 0x7f < v → v ≤ 0x7ff → Back t v
   unfolding leadOf two continuation isContinuation
   back-two l h =
@@ -176,7 +176,7 @@ bytes-three a b c a₀ a₁ b₀ b₁ c₀ c₁ l =
     let r : 0x80 + v % 64 ≡ c = omega arith in
     rw (p, q, r) at (utf8-three v l (omega arith))
 
--- and four
+-- what is read of four bytes is written as the same four
 bytes-four : (a b c d : ℕ) → 0xf0 ≤ a → a ≤ 0xf4 → 0x80 ≤ b → b ≤ 0xbf → 0x80 ≤ c → c ≤ 0xbf → 0x80 ≤ d → d ≤ 0xbf → 0x10000 ≤ four a b c d
     → utf8 (four a b c d) ≡ a ∷ b ∷ c ∷ d ∷ []
 unfolding four continuation

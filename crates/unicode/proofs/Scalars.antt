@@ -55,7 +55,7 @@ module _ (v : ℕ) where
   unfolding utf8
   utf8-three l h = sym (above _ _ _ v 0x7f (omega arith) (above _ _ _ v 0x7ff l (at-most _ _ _ v 0xffff h refl)))
 
-  -- above it four
+  -- a scalar value above U+FFFF has four bytes
   pub utf8-four : 0xffff < v → utf8 v ≡ (0xf0 + v / 262144 % 8) ∷ continuation (v / 4096) ∷ continuation (v / 64) ∷ continuation v ∷ []
   unfolding utf8
   utf8-four l = sym (above _ _ _ v 0x7f (omega arith) (above _ _ _ v 0x7ff (omega arith) (above _ _ _ v 0xffff l refl)))
@@ -71,11 +71,11 @@ module _ (v : ℕ) where
       P : List ℕ → Type 0
       P l = (1 ≤ length l) × (length l ≤ 4)
 
-  -- at least one
+  -- a scalar value has at least one byte
   pub utf8-some : 1 ≤ length (utf8 v)
   utf8-some = utf8-long .0
 
-  -- at most four
+  -- a scalar value has at most four bytes
   pub utf8-le : length (utf8 v) ≤ 4
   utf8-le = utf8-long .1
 

@@ -45,7 +45,7 @@ pub record Encoded (s : List ℕ) : Type 0 where
   pub all : Scalars scalars
   pub same : s ≡ encode scalars
 
--- the empty text
+-- the empty text is that of no scalar values
 encoded-empty : Encoded []
 unfolding encode
 encoded-empty = record { scalars = []; all = none; same = refl }
@@ -81,7 +81,7 @@ encoded (suc k) [] l h = encoded-empty
 encoded (suc k) (x ∷ r) l h =
     encoded-step (x ∷ r) (omega arith) h (λ n p q. encoded k (drop n (x ∷ r)) (omega (arith, length-drop n (x ∷ r))) q)
 
--- every well-formed text
+-- every well-formed text is the bytes of scalar values
 pub valid-is : (s : List ℕ) → valid s ≡ true → Encoded s
 valid-is s h = encoded (length s) s (omega arith) h
 
@@ -92,7 +92,7 @@ unfolding encode
 valid-front vs t none = refl
 valid-front vs t (more {v = v} {vs = ws} e r) = ap valid (append-assoc (utf8 v) (encode ws) t) ∙ valid-scalar v (encode ws ++ t) e ∙ valid-front ws t r
 
--- all of it
+-- the bytes of scalar values are well formed
 pub is-valid : (vs : List ℕ) → Scalars vs → valid (encode vs) ≡ true
 is-valid vs h = ap valid (sym (append-nil (encode vs))) ∙ valid-front vs [] h ∙ valid-empty
 

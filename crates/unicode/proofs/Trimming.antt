@@ -23,7 +23,7 @@ module _ (s : List ℕ) (x : Scalar) (e : x ≡ scalarOf s) where
   unfolding whiteTaken whiteOf
   white-value n v h r t a b = ap (λ q. pick q n 0) (sym b ∙ a) ∙ ap whiteOf (sym h ∙ e)
 
-  -- no character
+  -- where no scalar value begins, no White_Space is taken
   pub white-none : x ≡ NoScalar → 0 ≡ whiteTaken s
   unfolding whiteTaken whiteOf
   white-none h = ap whiteOf (sym h ∙ e)

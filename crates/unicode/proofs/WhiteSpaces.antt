@@ -20,7 +20,7 @@ unfoldable pub ascends : ℕ → List ℕ → Bool
 ascends x [] = true
 ascends x (y ∷ ys) = and (ltb x y) (ascends y ys)
 
--- the table, computed
+-- the table of White_Space ascends, which is computed
 pub ascending : ascends 0 whiteSpace ≡ true
 unfolding ascends and
 ascending = refl
@@ -66,7 +66,7 @@ unfolding isWhiteSpace
 seeking-begin v = record { left = refl }
 
 module _ (v i : ℕ) (c : Seeking v i) where
-  -- a turn
+  -- a turn: an entry below the number is passed
   pub seeking-more : i < length whiteSpace → getD whiteSpace i 0 < v → Seeking v (i + 1)
   seeking-more l h = record { left = rw (add-one i) (sym (passed whiteSpace v i l h) ∙ c .left) }
 

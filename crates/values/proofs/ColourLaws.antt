@@ -34,12 +34,12 @@ no-number : (f : Found ℕ) → missing ≡ f → NoNumber ≡ numberAnswer f
 unfolding numberAnswer onFound
 no-number f e = ap numberAnswer e
 
--- a number
+-- a number that was found is answered as it is
 a-number : (f : Found ℕ) (v : ℕ) → found v ≡ f → Number v ≡ numberAnswer f
 unfolding numberAnswer onFound
 a-number f v e = ap numberAnswer e
 
--- no colour
+-- where no colour is found the answer says so
 pub no-colour : (f : Found Colour) → missing ≡ f → NoColour ≡ colourAnswer f
 unfolding colourAnswer onFound
 no-colour f e = ap colourAnswer e
@@ -51,7 +51,7 @@ a-colour f c w ew e = rw ew (ap colourAnswer e)
 
 -- what was found, from the answer
 module _ (x : NumberAnswer) (f : Found ℕ) (e : x ≡ numberAnswer f) where
-  -- a number
+  -- an answer with a number says that it was found
   pub number-found : (v : ℕ) → x ≡ Number v → f ≡ found v
   number-found v h = go f (sym e ∙ h)
     where
@@ -59,7 +59,7 @@ module _ (x : NumberAnswer) (f : Found ℕ) (e : x ≡ numberAnswer f) where
       go (found w) k = unfold numberAnswer onFound in cc
       go missing k = absurd (let z : _≡_ {A = ℕ} 0 1 = unfold numberAnswer onFound in cc in omega arith)
 
-  -- none
+  -- an answer without one says that none was found
   pub number-missing : x ≡ NoNumber → f ≡ missing
   number-missing h = go f (sym e ∙ h)
     where
@@ -146,7 +146,7 @@ module _ (p : ℕ → Bool) (base : ℕ) (d : ℕ → ℕ) (most : ℕ) where
       omega (arith, numeral-ge h (a * base + d x) t)
 
   module _ (t : List ℕ) where
-    -- no digit
+    -- an empty text writes no number
     none-read : length t ≡ 0 → missing ≡ digitsIn p base d most t
     unfolding digitsIn
     none-read e = pick-true _ _ _ _ (is-yes _ _ e) refl
@@ -197,7 +197,7 @@ module _ (p : ℕ → Bool) (base : ℕ) (d : ℕ → ℕ) (most : ℕ) where
   summing-begin t = record { digits = refl; value = refl; small = omega arith }
 
   module _ (t : List ℕ) (v i : ℕ) (c : Summing t v i) where
-    -- all were digits
+    -- behind the last digit the sum is the number
     pub summing-done : ¬ (length t ≡ 0) → length t ≤ i → Number v ≡ numberAnswer (digitsIn p base d most t)
     unfolding allOf numeral
     summing-done n h =
@@ -205,7 +205,7 @@ module _ (p : ℕ → Bool) (base : ℕ) (d : ℕ → ℕ) (most : ℕ) where
         a-number _ v (number-read t n (c .digits ∙ rw e) v (c .value ∙ rw e) (c .small))
 
     module _ (h : i < length t) (r : Bool) (er : r ≡ p (getD t i 0)) where
-      -- one was none
+      -- a byte that is no digit makes the whole no number
       pub summing-stop : r ≡ false → NoNumber ≡ numberAnswer (digitsIn p base d most t)
       unfolding allOf
       summing-stop e = no-number _ (bad-read t (λ z. omega arith) (c .digits ∙ rw (drop-cons t i 0 h) (and-left _ _ (told _ _ _ er e))))
@@ -259,12 +259,12 @@ module _ (s : List ℕ) (r : Bool) (er : r ≡ is (getD s 0 0) plusSign) where
 
   -- so the number x that was read there is the one that is asked for
   module _ (p : ℕ → Bool) (base : ℕ) (d : ℕ → ℕ) (most : ℕ) (x : NumberAnswer) where
-    -- behind a '+'
+    -- behind a `+` the digits are read
     pub plus-read : r ≡ true → x ≡ numberAnswer (digitsIn p base d most (take (length s - 1) (drop 1 s)))
         → x ≡ numberAnswer (digitsIn p base d most (withoutPlus s))
     plus-read e h = h ∙ ap (λ t. numberAnswer (digitsIn p base d most t)) (behind-plus e)
 
-    -- from the start
+    -- without a `+` the digits are read from the start
     pub no-plus-read : r ≡ false → x ≡ numberAnswer (digitsIn p base d most s) → x ≡ numberAnswer (digitsIn p base d most (withoutPlus s))
     no-plus-read e h = h ∙ ap (λ t. numberAnswer (digitsIn p base d most t)) (no-plus e)
 
@@ -278,12 +278,12 @@ module _ (s : List ℕ) where
       (pick-holds (λ (r : Found Colour). missing ≡ r) _ _ _ (λ _. refl)
       (λ _. pick-holds (λ (r : Found Colour). missing ≡ r) _ _ _ (λ _. refl) (λ _. refl)))
 
-  -- three digits
+  -- a number of three digits is the colour that each digit gives twice
   three-found : (v : ℕ) → parseHex 0xffffffff s ≡ found v → length s ≡ 3 → found (threeDigits v) ≡ hashColour s
   unfolding hashColour onFound
   three-found v e l = rw e (pick-true _ _ _ _ (is-yes _ _ l) refl)
 
-  -- six digits
+  -- a number of six digits is the colour of its three bytes
   six-found : (v : ℕ) → parseHex 0xffffffff s ≡ found v → length s ≡ 6 → found (sixDigits v) ≡ hashColour s
   unfolding hashColour onFound
   six-found v e l = rw e (pick-false _ _ _ _ (is-no _ _ (λ z. omega arith)) (pick-true _ _ _ _ (is-yes _ _ l) refl))
@@ -298,16 +298,16 @@ module _ (s : List ℕ) where
   hash-other n m = no-colour _ (other-missing n m)
 
   module _ (x : NumberAnswer) (ex : x ≡ numberAnswer (parseHex 0xffffffff s)) where
-    -- no number
+    -- a text that is no hexadecimal number is no colour
     pub hash-none : x ≡ NoNumber → NoColour ≡ colourAnswer (hashColour s)
     hash-none h = no-colour _ (hash-missing (number-missing x _ ex h))
 
     module _ (v : ℕ) (h : x ≡ Number v) (w : ℕ) where
-      -- three digits
+      -- the answer for three digits
       pub hash-three : length s ≡ 3 → w ≡ colourNumber (threeDigits v) → answer.the-variants.Colour w ≡ colourAnswer (hashColour s)
       hash-three l ew = a-colour _ _ w ew (three-found v (number-found x _ ex v h) l)
 
-      -- six digits
+      -- the answer for six digits
       pub hash-six : length s ≡ 6 → w ≡ colourNumber (sixDigits v) → answer.the-variants.Colour w ≡ colourAnswer (hashColour s)
       hash-six l ew = a-colour _ _ w ew (six-found v (number-found x _ ex v h) l)
 
@@ -325,18 +325,18 @@ module _ (r g b : List ℕ) (x : NumberAnswer) (ex : x ≡ numberAnswer (parseU8
   red-none h = rw (number-missing x _ ex h)
 
   module _ (i : ℕ) (hx : x ≡ Number i) (y : NumberAnswer) (ey : y ≡ numberAnswer (parseU8 g)) where
-    -- the second
+    -- where the second is no byte there is no colour
     pub green-none : y ≡ NoNumber → NoColour ≡ colourAnswer (threeNumbers r g b)
     unfolding colourAnswer onFound threeNumbers
     green-none h = rw (number-found x _ ex i hx, number-missing y _ ey h)
 
     module _ (j : ℕ) (hy : y ≡ Number j) (z : NumberAnswer) (ez : z ≡ numberAnswer (parseU8 b)) where
-      -- the third
+      -- where the third is no byte there is no colour
       pub blue-none : z ≡ NoNumber → NoColour ≡ colourAnswer (threeNumbers r g b)
       unfolding colourAnswer onFound threeNumbers
       blue-none h = rw (number-found x _ ex i hx, number-found y _ ey j hy, number-missing z _ ez h)
 
-      -- all are
+      -- three bytes are a colour
       pub three-numbers : (k : ℕ) → z ≡ Number k → (w : ℕ) → w ≡ colourNumber (rgb i j k) → answer.the-variants.Colour w ≡ colourAnswer (threeNumbers r g b)
       unfolding colourAnswer onFound threeNumbers
       three-numbers k hz w ew = rw (number-found x _ ex i hx, number-found y _ ey j hy, number-found z _ ez k hz, ew)

@@ -22,7 +22,7 @@ use Rattle.values.proofs.WordLaws.{found-holds, or-holds}
 abbrev Bytes : Found Colour → Type 0
 Bytes f = (c : Colour) → f ≡ found c → OfBytes c
 
--- nothing
+-- where nothing is found there is nothing to show
 none : Bytes missing
 none c e = absurd (let z : _≡_ {A = ℕ} 0 1 = cc in omega arith)
 
@@ -33,7 +33,7 @@ one c h d e = go (let q : c ≡ d = cc in q)
     go : c ≡ d → OfBytes d
     go q = rw (sym q) h
 
--- one of two
+-- of two colours made of bytes either is
 of-two : (t : Bool) (f g : Found Colour) → Bytes f → Bytes g → Bytes (pick t f g)
 of-two t f g p q = pick-holds Bytes t f g (λ _. p) (λ _. q)
 
@@ -41,7 +41,7 @@ of-two t f g p q = pick-holds Bytes t f g (λ _. p) (λ _. q)
 by-number : (n : Found ℕ) (f : ℕ → Found Colour) → ((v : ℕ) → n ≡ found v → Bytes (f v)) → Bytes (onFound n f missing)
 by-number n f p = found-holds Bytes n f missing p none
 
--- three bytes
+-- a colour of three bytes is made of bytes
 rgb-of : (r g b : ℕ) → r < 256 → g < 256 → b < 256 → Bytes (found (rgb r g b))
 unfolding rgb
 rgb-of r g b hr hg hb = one (rgb r g b) (record { red = hr; green = hg; blue = hb })
@@ -104,7 +104,7 @@ byte-lt : (s : List ℕ) (v : ℕ) → parseU8 s ≡ found v → v < 256
 unfolding numberAnswer onFound
 byte-lt s v e = omega (arith, byte-le s (numberAnswer (parseU8 s)) v refl (ap numberAnswer e))
 
--- three of them
+-- a colour of three numbers is made of bytes
 numbers-bytes : (r g b : List ℕ) → Bytes (threeNumbers r g b)
 unfolding threeNumbers
 numbers-bytes r g b =
@@ -126,7 +126,7 @@ list-bytes (a ∷ b ∷ c ∷ d ∷ e ∷ f ∷ g ∷ r) = none
 
 -- ---- values
 
--- one token
+-- a colour of one token is made of bytes
 token-bytes : (k : Token) → Bytes (oneToken k)
 unfolding oneToken
 token-bytes k = of-two _ _ _ (table-bytes (textOf k) colours names-small) (of-two _ _ _ (hash-bytes (textOf k)) none)

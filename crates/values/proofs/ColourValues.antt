@@ -63,7 +63,7 @@ tokens-length rows store (suc n) = ap suc (tokens-length (drop tokenWidth rows) 
 -- ---- `one_token`
 module _ (rows store : List ℕ) where
   module _ (r : Bool) (er : r ≡ kindAt rows 0 identKind) where
-    -- a name
+    -- a name is the colour that the table gives it
     pub one-named : r ≡ true → (t : List ℕ) → t ≡ firstText rows store 0 → (x : ColourAnswer) → x ≡ colourAnswer (lookup t colours)
         → x ≡ colourAnswer (oneToken (tokenHere rows store 0))
     unfolding oneToken
@@ -83,7 +83,7 @@ module _ (rows store : List ℕ) where
           (pick-false _ _ _ _ (kind-told rows store 0 identKind (ident-text .kind) r false er h)
           (pick-true _ _ _ _ (kind-told rows store 0 hashKind (hash-text .kind) l true el g) (ap hashColour s)))
 
-      -- any other token
+      -- a token that is neither a name nor a hash is no colour
       pub one-other : l ≡ false → NoColour ≡ colourAnswer (oneToken (tokenHere rows store 0))
       unfolding oneToken
       one-other g =
@@ -132,7 +132,7 @@ module _ (rows : List ℕ) (p q n : ℕ) (r : Bool) (er : r ≡ kindAt rows p nu
   unfolding numberBefore
   before-there h x ex = and-gives _ _ _ (told _ _ _ er h) ex
 
-  -- no number
+  -- where no number stands, there is none before a mark
   pub before-none : r ≡ false → false ≡ numberBefore rows p q n
   unfolding numberBefore
   before-none h = and-gives-false _ _ (told _ _ _ er h)
@@ -144,7 +144,7 @@ module _ (rows : List ℕ) (r : Bool) (er : r ≡ numberBefore rows tokenWidth (
   list-first h = and-gives-false _ _ (told _ _ _ er h)
 
   module _ (h : r ≡ true) (l : Bool) (el : l ≡ numberBefore rows (3 * tokenWidth) (4 * tokenWidth) commaKind) where
-    -- none behind them
+    -- where no number and comma stand behind the first, it is no list of three
     pub list-second : l ≡ false → false ≡ rgbKinds rows
     unfolding rgbKinds
     list-second g = and-gives _ _ _ (told _ _ _ er h) (and-gives-false _ _ (told _ _ _ el g))
@@ -156,7 +156,7 @@ module _ (rows : List ℕ) (r : Bool) (er : r ≡ numberBefore rows tokenWidth (
 
 -- ---- `rgb_value`
 
--- the three texts
+-- three texts of the rows are the colour's numbers
 pub value-here : (rows store r g b : List ℕ) → r ≡ firstText rows store tokenWidth → g ≡ firstText rows store (3 * tokenWidth)
     → b ≡ firstText rows store (5 * tokenWidth) → (x : ColourAnswer) → x ≡ colourAnswer (threeNumbers r g b)
     → x ≡ colourAnswer (rgbHere rows store)
@@ -174,7 +174,7 @@ module _ (rows store : List ℕ) where
       → tokensAt (drop p rows) store (suc n) ≡ tokenHere rows store p ∷ l
   more p n l e = tokens-here rows store p n ∙ ap (λ ks. tokenHere rows store p ∷ ks) e
 
-  -- the seven tokens
+  -- the tokens of `rgb(r, g, b)`, one by one
   seven : tokensAt rows store rgbCount ≡ nth 0 ∷ nth 1 ∷ nth 2 ∷ nth 3 ∷ nth 4 ∷ nth 5 ∷ nth 6 ∷ []
   seven =
       more 0 6 _ (more tokenWidth 5 _ (more (2 * tokenWidth) 4 _ (more (3 * tokenWidth) 3 _
@@ -207,7 +207,7 @@ module _ (rows store : List ℕ) where
   nth-text : (i : ℕ) → kindAt rows (i * tokenWidth) numberKind ≡ true → textOf (nth i) ≡ firstText rows store (i * tokenWidth)
   nth-text i e = here-text rows store (i * tokenWidth) numberKind number-text e
 
-  -- the three texts
+  -- of seven tokens of the right kinds the three numbers' texts are those of the rows
   texts : rgbKinds rows ≡ true → threeNumbers (textOf (nth 1)) (textOf (nth 3)) (textOf (nth 5)) ≡ rgbHere rows store
   unfolding rgbKinds numberBefore rgbHere
   texts e =
@@ -222,7 +222,7 @@ module _ (rows store : List ℕ) where
   seven-colour = sym (ap colourOf seven ∙ rw (name-test, list-test))
 
   module _ (r : Bool) (er : r ≡ rgbName rows store) where
-    -- another name
+    -- a function of another name is no colour
     pub rgb-unnamed : r ≡ false → NoColour ≡ colourAnswer (colourOf (tokensAt rows store rgbCount))
     rgb-unnamed h = no-colour _ (pick-false _ _ _ _ (told _ _ _ er h) refl ∙ seven-colour)
 
@@ -260,18 +260,18 @@ colour-other (k ∷ []) n m = absurd (n refl)
 colour-other (k ∷ a ∷ r) n m = pick-holds (λ (f : Found Colour). missing ≡ f) _ _ _ (λ _. rgb-other (a ∷ r) (λ e. m (ap suc e))) (λ _. refl)
 
 module _ (rows store : List ℕ) (n : ℕ) where
-  -- one token
+  -- a value of one token is asked as one token
   pub count-one : n ≡ 1 → (x : ColourAnswer) → x ≡ colourAnswer (oneToken (tokenHere rows store 0))
       → x ≡ colourAnswer (colourOf (tokensAt rows store n))
   unfolding colourOf
   count-one e x ex = ex ∙ ap (λ ks. colourAnswer (colourOf ks)) (sym (ap (tokensAt rows store) e ∙ more rows store 0 0 [] (tokens-none _ store)))
 
-  -- those of `rgb`
+  -- a value of seven tokens is asked as `rgb`
   pub count-rgb : n ≡ rgbCount → (x : ColourAnswer) → x ≡ colourAnswer (colourOf (tokensAt rows store rgbCount))
       → x ≡ colourAnswer (colourOf (tokensAt rows store n))
   count-rgb e x ex = ex ∙ ap (λ k. colourAnswer (colourOf (tokensAt rows store k))) (sym e)
 
-  -- any other count
+  -- a value of any other count is no colour
   pub count-other : ¬ (n ≡ 1) → ¬ (n ≡ rgbCount) → NoColour ≡ colourAnswer (colourOf (tokensAt rows store n))
   count-other a b =
       let l = tokens-length rows store n in
@@ -293,7 +293,7 @@ unfolding behindComma
 behind-first acc ks k = refl
 
 module _ (rows store : List ℕ) (n : ℕ) where
-  -- the tokens
+  -- the tokens of the value
   abbrev all : List Token
   all = tokensAt rows store n
 
@@ -353,7 +353,7 @@ module _ (rows : List ℕ) (n i : ℕ) (c : Seeking rows n i) where
     pub seeking-hit : r ≡ true → (i ≡ lastPart rows n) × (i ≤ n)
     seeking-hit p = (pick-true _ _ _ _ (told _ _ _ er p) refl ∙ sym turn, c .inside)
 
-    -- none does
+    -- a token that is no comma is passed, towards the start
     pub seeking-more : r ≡ false → Seeking rows n (i - 1)
     seeking-more p = record { left = turn ∙ sym (pick-false _ _ _ _ (told _ _ _ er p) refl); inside = let l = c .inside in omega arith }
 

@@ -23,7 +23,7 @@ use Rattle.values.proofs.TokenViews.{string-text, kind-told, here-text,
 unfoldable pub contentBehind : ℕ → Found (List ℕ) → ContentAnswer
 contentBehind n f = onFound f (λ b. Content (n + length b)) NoContent
 
--- where none do
+-- with no bytes before it a content is answered as it is
 behind-none : (f : Found (List ℕ)) → contentAnswer f ≡ contentBehind 0 f
 unfolding contentAnswer contentBehind onFound
 behind-none (found b) = ap Content (sym (zero-add (length b)))
@@ -75,7 +75,7 @@ module _ (rows store : List ℕ) (count at left n : ℕ) (c : Joining rows store
     unfolding contentOf
     turn = c .same ∙ ap (λ ks. contentBehind n (contentOf ks)) tokens
 
-    -- it is none
+    -- a token that is no string makes the whole no content
     pub joining-stop : b ≡ false → NoContent ≡ whole
     unfolding contentBehind onFound
     joining-stop p = sym (turn ∙ ap (contentBehind n) (sym (pick-false _ _ _ _ (told-string false p) refl)))

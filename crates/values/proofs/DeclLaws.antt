@@ -32,71 +32,71 @@ use Rattle.values.proofs.ColourRange.{colour-bytes, background-bytes}
 
 -- ---- `with_colour` and its like: the arms of an answer a
 module _ (k n : ℕ) where
-  -- a colour
+  -- a property whose colour was found
   pub colour-there : (a : colours.ColourAnswer) (v : ℕ) → a ≡ colours.the-variants.Colour v → record { kind = k; value = v; text = 0 } ≡ colourDecl k a n
   unfolding colourDecl declOfNumbers
   colour-there a v e = rw e
 
-  -- none
+  -- a property whose colour was not found is unknown
   pub colour-none : (a : colours.ColourAnswer) → a ≡ NoColour → (r : declared.Decl) → r ≡ unknownDecl n → r ≡ colourDecl k a n
   unfolding colourDecl
   colour-none a e r er = rw e er
 
-  -- a height
+  -- a property whose height was found
   pub height-there : (a : HeightAnswer) (z : Bool) → a ≡ Height z → (v : ℕ) → v ≡ flag z → record { kind = k; value = v; text = 0 } ≡ heightDecl k a n
   unfolding heightDecl declOfNumbers
   height-there a z e v ev = rw (e, ev)
 
-  -- none
+  -- a property whose height was not found is unknown
   pub height-none : (a : HeightAnswer) → a ≡ NoHeight → (r : declared.Decl) → r ≡ unknownDecl n → r ≡ heightDecl k a n
   unfolding heightDecl
   height-none a e r er = rw e er
 
-  -- a keyword
+  -- a property whose keyword was found
   pub word-there : (a : WordAnswer) (v : ℕ) → a ≡ Word v → record { kind = k; value = v; text = 0 } ≡ wordDecl k a n
   unfolding wordDecl declOfNumbers
   word-there a v e = rw e
 
-  -- none
+  -- a property whose keyword was not found is unknown
   pub word-none : (a : WordAnswer) → a ≡ NoWord → (r : declared.Decl) → r ≡ unknownDecl n → r ≡ wordDecl k a n
   unfolding wordDecl
   word-none a e r er = rw e er
 
 module _ (n : ℕ) (a : ContentAnswer) where
-  -- a content
+  -- a property whose content was found
   pub content-there : (l : ℕ) → a ≡ Content l → record { kind = contentKind; value = 0; text = l } ≡ contentDecl a n
   unfolding contentDecl declOfNumbers
   content-there l e = rw e
 
-  -- none
+  -- a property whose content was not found is unknown
   pub content-none : a ≡ NoContent → (r : declared.Decl) → r ≡ unknownDecl n → r ≡ contentDecl a n
   unfolding contentDecl
   content-none e r er = rw e er
 
 -- ---- the declaration by an answer is the answer for the declaration
 module _ (name : List ℕ) where
-  -- of a colour
+  -- the code's answer on a colour is the declaration that the colour makes
   colour-told : (k : ℕ) (f : Colour → Decl) → ((c : Colour) → declAnswer (f c) ≡ declOfNumbers k (colourNumber c) 0) → (x : Found Colour)
       → colourDecl k (colourAnswer x) (length name) ≡ declAnswer (onFound x f (unknown name))
   unfolding colourDecl colourAnswer onFound unknownDecl declAnswer
   colour-told k f h (found c) = sym (h c)
   colour-told k f h missing = refl
 
-  -- of a height
+  -- the code's answer on a height is the declaration that the height makes
   height-told : (k : ℕ) (f : Bool → Decl) → ((z : Bool) → declAnswer (f z) ≡ declOfNumbers k (flag z) 0) → (x : Found Bool)
       → heightDecl k (heightAnswer x) (length name) ≡ declAnswer (onFound x f (unknown name))
   unfolding heightDecl heightAnswer onFound unknownDecl declAnswer
   height-told k f h (found z) = sym (h z)
   height-told k f h missing = refl
 
-  -- of an overflow
+  -- the code's answer on an overflow is the declaration that it makes
   overflow-told : (k : ℕ) (f : Overflow → Decl) → ((o : Overflow) → declAnswer (f o) ≡ declOfNumbers k (overflowNumber o) 0) → (x : Found Overflow)
       → wordDecl k (overflowAnswer x) (length name) ≡ declAnswer (onFound x f (unknown name))
   unfolding wordDecl overflowAnswer onFound unknownDecl declAnswer
   overflow-told k f h (found o) = sym (h o)
   overflow-told k f h missing = refl
 
-  -- of a content
+  -- the code's answer on a content is the declaration that it makes
   content-told : (x : Found (List ℕ)) → contentDecl (contentAnswer x) (length name) ≡ declAnswer (onFound x content (unknown name))
   unfolding contentDecl contentAnswer onFound unknownDecl declAnswer
   content-told (found t) = refl
@@ -112,14 +112,14 @@ module _ (p : ℕ) (name : List ℕ) (ks : List Token) where
   here q r h e = e ∙ ap (λ n. declAnswer (declAt n name ks)) (sym h)
 
   module _ (a : colours.ColourAnswer) (r : declared.Decl) where
-    -- background-color
+    -- at its place in the table `background-color` reads a colour
     pub background-color-at : p ≡ backgroundColorPlace → a ≡ colourAnswer (colourOf ks) → r ≡ colourDecl backgroundColorKind a (length name) → r ≡ whole
     unfolding declAt rowAt onFound declAnswer
     background-color-at h ea er =
         here backgroundColorPlace r h
         (er ∙ ap (λ x. colourDecl backgroundColorKind x (length name)) ea ∙ colour-told name backgroundColorKind backgroundColor (λ c. refl) (colourOf ks))
 
-    -- background
+    -- at its place in the table `background` reads a colour among its tokens
     pub background-at : p ≡ backgroundPlace → a ≡ colourAnswer (backgroundOf ks) → r ≡ colourDecl backgroundColorKind a (length name) → r ≡ whole
     unfolding declAt rowAt onFound declAnswer
     background-at h ea er =
@@ -135,7 +135,7 @@ module _ (p : ℕ) (name : List ℕ) (ks : List Token) where
         (er ∙ ap (λ x. colourDecl colorKind x (length name)) ea ∙ colour-told name colorKind color (λ c. refl) (colourOf ks))
 
   module _ (a : HeightAnswer) (ea : a ≡ heightAnswer (heightOf ks)) (r : declared.Decl) where
-    -- height
+    -- at its place in the table `height` reads a height
     pub height-at : p ≡ heightPlace → r ≡ heightDecl heightKind a (length name) → r ≡ whole
     unfolding declAt rowAt onFound declAnswer
     height-at h er =
@@ -150,7 +150,7 @@ module _ (p : ℕ) (name : List ℕ) (ks : List Token) where
         (er ∙ ap (λ x. heightDecl maxHeightKind x (length name)) ea ∙ height-told name maxHeightKind maxHeight (λ z. refl) (heightOf ks))
 
   module _ (a : WordAnswer) (ea : a ≡ overflowAnswer (overflowOf ks)) (r : declared.Decl) where
-    -- overflow
+    -- at its place in the table `overflow` reads a keyword
     pub overflow-at : p ≡ overflowPlace → r ≡ wordDecl overflowKind a (length name) → r ≡ whole
     unfolding declAt rowAt onFound declAnswer
     overflow-at h er =
@@ -174,7 +174,7 @@ module _ (p : ℕ) (name : List ℕ) (ks : List Token) where
   unfolding declAt rowAt onFound declAnswer declOfNumbers
   white-space-at h v ev = here whiteSpacePlace _ h (ap (λ n. declOfNumbers whiteSpaceKind n 0) ev)
 
-  -- content
+  -- at its place in the table `content` reads strings
   pub content-at : p ≡ contentPlace → (a : ContentAnswer) → a ≡ contentAnswer (contentOf ks) → (r : declared.Decl) → r ≡ contentDecl a (length name) → r ≡ whole
   unfolding declAt rowAt onFound
   content-at h a ea r er = here contentPlace r h (er ∙ ap (λ x. contentDecl x (length name)) ea ∙ content-told name (contentOf ks))

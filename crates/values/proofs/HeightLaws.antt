@@ -103,7 +103,7 @@ module _ (rows store : List ℕ) (n : ℕ) (e : n ≡ 1) (d : Bool) (ed : d ≡ 
   abbrev whole : HeightAnswer
   whole = heightAnswer (heightOf (tokensAt rows store n))
 
-  -- its tokens
+  -- a value of one token has that token alone
   one : tokensAt rows store n ≡ token ∷ []
   one = ap (tokensAt rows store) e ∙ tokens-here rows store 0 0 ∙ ap (λ ks. token ∷ ks) (tokens-none (drop tokenWidth rows) store)
 
@@ -132,7 +132,7 @@ module _ (rows store : List ℕ) (n : ℕ) (e : n ≡ 1) (d : Bool) (ed : d ≡ 
         let f = ap found (ez ∙ sym (ap numberZero (here-number rows store 0 dimension-row))) in
         height-as (found z) (pick-true _ _ _ _ (kind true p) (pick-true _ _ _ _ (unit true q) f))
 
-    -- it is not
+    -- a dimension of another unit is no height
     pub height-other : u ≡ false → NoHeight ≡ whole
     unfolding heightAnswer onFound heightOf
     height-other q = height-as missing (pick-true _ _ _ _ (kind true p) (pick-false _ _ _ _ (unit false q) refl))
@@ -149,21 +149,21 @@ module _ (rows store : List ℕ) (n : ℕ) (e : n ≡ 1) (d : Bool) (ed : d ≡ 
       zero-told : (v : Bool) → z ≡ v → numberZero (textOf token) ≡ v
       zero-told v o = ap numberZero (here-text rows store 0 numberKind number-text (told _ _ _ ek q)) ∙ told _ _ _ ez o
 
-      -- it is zero
+      -- a number that is zero is a height, without a unit
       pub height-zero : z ≡ true → Height true ≡ whole
       unfolding heightAnswer onFound heightOf
       height-zero o =
           height-as (found true)
           (pick-false _ _ _ _ (kind false p) (pick-true _ _ _ _ (number-kind true q) (pick-true _ _ _ _ (zero-told true o) refl)))
 
-      -- it is not
+      -- a number that is not zero is no height without a unit
       pub height-bare : z ≡ false → NoHeight ≡ whole
       unfolding heightAnswer onFound heightOf
       height-bare o =
           height-as missing
           (pick-false _ _ _ _ (kind false p) (pick-true _ _ _ _ (number-kind true q) (pick-false _ _ _ _ (zero-told false o) refl)))
 
-    -- it is neither
+    -- a token that is neither a dimension nor a number is no height
     pub height-neither : k ≡ false → NoHeight ≡ whole
     unfolding heightAnswer onFound heightOf
     height-neither q = height-as missing (pick-false _ _ _ _ (kind false p) (pick-false _ _ _ _ (number-kind false q) refl))

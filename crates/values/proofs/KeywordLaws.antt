@@ -41,7 +41,7 @@ module _ (rows store : List ℕ) (at : ℕ) (table : List (List ℕ)) (b : Bool)
       pick-true _ _ _ _ (named true p)
       (er ∙ ap (λ t. placeOf t table) (ew ∙ sym (here-text rows store at identKind ident-text (told _ _ _ e p))))
 
-  -- it is none
+  -- a token that is no name has no place in the table
   pub name-none : b ≡ false → length table ≡ namePlace table (tokenHere rows store at)
   unfolding namePlace
   name-none p = pick-false _ _ _ _ (named false p) refl
@@ -172,7 +172,7 @@ module _ (ks : List Token) (i : ℕ) where
     unfolding overflowAnswer overflowOf numbersOf numbersFrom overflowNumber
     overflow-hit h = place-hit overflowNumber Word NoWord overflows refl ks i e h
 
-    -- it names none
+    -- a value that names no word of the table is no overflow
     pub overflow-miss : length overflows ≤ i → NoWord ≡ overflowAnswer (overflowOf ks)
     unfolding overflowAnswer overflowOf numbersOf numbersFrom overflowNumber
     overflow-miss h = place-miss overflowNumber Word NoWord overflows refl ks i e h
@@ -198,7 +198,7 @@ module _ (ks : List Token) (i : ℕ) where
     unfolding whiteSpaceOf numbersOf numbersFrom whiteSpaceNumber
     white-space-hit h = place-hit whiteSpaceNumber (λ n. n) 0 whiteSpaces refl ks i e h ∙ through (firstWord whiteSpaces ks)
 
-    -- it names none
+    -- a value that names no word of the table is `normal`
     pub white-space-miss : length whiteSpaces ≤ i → whiteSpaceNumber normal ≡ whiteSpaceNumber (whiteSpaceOf ks)
     unfolding whiteSpaceOf numbersOf numbersFrom whiteSpaceNumber
     white-space-miss h = place-miss whiteSpaceNumber (λ n. n) 0 whiteSpaces refl ks i e h ∙ through (firstWord whiteSpaces ks)

@@ -69,7 +69,7 @@ module _ (rows store : List ℕ) where
           unfolding isMark isWord
           mark-no-name f = sym (mark-is ∙ and-right _ _ (and-left _ _ (kind-told rows store (m + tokenWidth) identKind (ident-text .kind) i false ei f)))
 
-          -- with this text
+          -- behind the exclamation mark a name decides by its text
           pub mark-name : i ≡ true → (r : Bool) (v : List ℕ) → v ≡ firstText rows store (m + tokenWidth) → r ≡ sameText v (text "important")
               → r ≡ isImportant (tokensAt rows store n)
           unfolding isMark isDelim isWord

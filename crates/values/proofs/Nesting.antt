@@ -152,7 +152,7 @@ unfolding awaited
 awaited-set b zero i v h = refl
 awaited-set b (suc d) i v h = rw (getD-set-other b i d v 0 (λ e. absurd (omega arith)), awaited-set b d i v (omega arith))
 
--- one more
+-- an opening bracket adds the one that closes it to those awaited
 awaited-push : (b : List ℕ) (d v : ℕ) → d < length b → awaited (set b d v) (d + 1) ≡ v ∷ awaited b d
 unfolding awaited
 awaited-push b d v h = rw (add-one d, getD-set-same b d v 0 h, awaited-set b d d v (omega arith))

@@ -23,7 +23,7 @@ pub record Sized (s : List ℕ) (at : ℕ) (r : Statement) : Type 0 where
   pub none : length s ≡ 0 → length (textsOf (r .tokens)) ≡ 0
   pub sharp : r .taken < at + length s → at + length (textsOf (r .tokens)) ≤ r .taken
 
--- of no token
+-- a statement that ends at once has no tokens and no texts
 stop-sized : (s : List ℕ) (at : ℕ) (b : Bool) → Sized s at (stop at b)
 unfolding stop textsMany
 stop-sized s at b = record { counted = omega arith; within = omega arith; text = omega arith; none = λ _. refl; sharp = λ _. omega arith }
@@ -60,7 +60,7 @@ scan-sized (suc l) include s at cs =
     (λ ds. cons-sized s at n _ f _ (scan-sized l include (drop n s) (at + n) ds)))
     (λ _. stop-sized s at true)
 
--- of every text
+-- a statement of any text has no more tokens, and no more bytes in their texts, than the text has
 pub statement-sized : (include : Bool) (s : List ℕ) → Sized s 0 (statementOf include s)
 unfolding statementOf
 statement-sized include s = scan-sized (length s + 1) include s 0 []

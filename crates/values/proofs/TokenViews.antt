@@ -175,7 +175,7 @@ module _ (rows store : List ℕ) (p : ℕ) where
   unfolding tokensAt readMany tokenHere readToken
   tokens-here n = rw (drop-drop tokenWidth p rows)
 
--- no tokens
+-- no rows are no tokens
 pub tokens-none : (rows store : List ℕ) → tokensAt rows store 0 ≡ []
 unfolding tokensAt readMany
 tokens-none rows store = refl

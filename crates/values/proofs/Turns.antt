@@ -41,7 +41,7 @@ leaves r o n b d st fill t =
       store = sets st (fill + t) (textsOf (r .tokens));
     }
 
--- of the whole
+-- from empty stores on, what a statement leaves is what the definition says
 leaves-all : (r : Statement) (rows b st : List ℕ) (fill : ℕ) → leaves r (record { bytes = rows; fill = 0 }) 0 b 0 st fill 0 ≡ left r rows b st fill
 unfolding leaves left
 leaves-all r rows b st fill =
@@ -50,7 +50,7 @@ leaves-all r rows b st fill =
     rw (e₁, e₂, add-zero fill, emits-bytes (rowsOf fill (r .tokens)) rows 0)
 
 module _ (o : Store) (n : ℕ) (b : List ℕ) (d : ℕ) (st : List ℕ) (fill t : ℕ) where
-  -- of no token
+  -- a statement that ends here leaves the stores as they are
   leaves-stop : (at : ℕ) → leaves (stop at true) o n b d st fill t ≡ record { answer = answer.Statement at n t; rows = o .bytes; brackets = b; store = st }
   unfolding leaves stop pick rowsMany textsMany bracketsAfter
   leaves-stop at = rw (add-zero n, add-zero t, emits-none o)

@@ -31,7 +31,7 @@ unfolding pick
 unmarked-more true n = omega arith
 unmarked-more false n = refl
 
--- two tokens
+-- of two tokens a mark leaves none, and what is no mark leaves both
 mark-take : (t : Bool) (a b : Token) → pick t [] (a ∷ b ∷ []) ≡ take (pick t 0 2) (a ∷ b ∷ [])
 unfolding pick
 mark-take true a b = refl
@@ -46,7 +46,7 @@ unmarked-take (a ∷ b ∷ []) = mark-take (isMark a b) a b
 unmarked-take (a ∷ b ∷ c ∷ ks) =
     rw (unmarked-more (isImportant (b ∷ c ∷ ks)) (length ks)) (ap {B = List Token} (λ r. a ∷ r) (unmarked-take (b ∷ c ∷ ks)))
 
--- of all tokens
+-- without its mark a value has no more tokens
 unmarked-le : (ks : List Token) → unmarkedCount ks ≤ length ks
 unmarked-le ks = pick-holds (λ m. m ≤ length ks) (isImportant ks) _ _ (λ _. omega arith) (λ _. omega arith)
 

@@ -95,7 +95,7 @@ module _ (include : Bool) (s rows brackets store : List ℕ) (fill : ℕ) (room 
           let l = ap length same-rows ∙ length-sets rows 0 (rowsOf fill (r .tokens)) in
           record { inside = omega (arith, numbers .count, h .counted, h .within, room .for-tokens) }
 
-      -- which read back
+      -- the rows read back as the tokens of the value
       back : tokensAt x z k ≡ tokensOf (r .tokens)
       back =
           rw (same-rows, same-store, numbers .count)

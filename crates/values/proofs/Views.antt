@@ -26,7 +26,7 @@ use Rattle.values.specs.View.{tokenWith, readToken, tokensAt}
 unfoldable pub Small : Token → Type 0
 Small k = (c : ℕ) → k ≡ delim c → c < 2 ^ 32
 
--- such tokens only
+-- tokens whose numbers fit 32 bits
 abbrev pub AllSmall : List Placed → Type 0
 AllSmall ts = All (λ t. Small (t .token)) ts
 
@@ -52,11 +52,11 @@ module _ (store : List ℕ) where
   text-behind : (f n : ℕ) (xs : List ℕ) → f + n + length xs < 2 ^ 32 → Held store (f + n) xs → part store (word f + n) (length xs) ≡ xs
   text-behind f n xs l h = rw (word-same f (omega arith)) (held-part store (f + n) xs h)
 
-  -- at the start
+  -- a text that lies in the store is read back by its start and its length
   text-back : (f : ℕ) (xs : List ℕ) → f + length xs < 2 ^ 32 → Held store f xs → part store (word f) (length xs) ≡ xs
   text-back f xs l h = rw (word-same f (omega arith)) (held-part store f xs h)
 
-  -- its texts
+  -- the texts of a token are read back
   texts-back : (f : ℕ) (k : Token) → f + length (textOf k) < 2 ^ 32 → Held store f (textOf k) → tokenWith store (word f) (coded k) ≡ k
   unfolding tokenWith coded textOf
   texts-back f (ident b) l h = ap ident (text-back f b l h)
@@ -82,7 +82,7 @@ module _ (store : List ℕ) where
   texts-back f openBrace l h = refl
   texts-back f closeBrace l h = refl
 
-  -- its two numbers
+  -- the two numbers of a small token fit 32 bits
   narrow : (k : Token) → Small k → length (textOf k) < 2 ^ 32 → (columnsOf (coded k) .first < 2 ^ 32) × (columnsOf (coded k) .second < 2 ^ 32)
   unfolding columnsOf coded textOf Small
   narrow (ident b) s l = (l, omega arith)
@@ -106,7 +106,7 @@ module _ (store : List ℕ) where
   narrow openBrace s l = (omega arith, omega arith)
   narrow closeBrace s l = (omega arith, omega arith)
 
-  -- its row
+  -- a token is read back from its row
   token-back : (byte f : ℕ) (k : Token) (t : List ℕ) → Small k → Held store f (textOf k) → f + length (textOf k) < 2 ^ 32
       → readToken store (tokenRow byte f k ++ t) ≡ record { value = k; rest = t }
   unfolding readToken tokenRow
@@ -157,7 +157,7 @@ scan-small (suc l) include s at cs =
     step-holds P (stepOf include (bracketOf k) cs) _ _ _ _ tt (h, tt) tt (λ ds. (h, scan-small l include (drop n s) (at + n) ds)))
     (λ _. tt)
 
--- of every text
+-- the tokens of a statement of any text are small
 pub statement-small : (include : Bool) (s : List ℕ) → AllSmall (statementOf include s .tokens)
 unfolding statementOf
 statement-small include s = scan-small (length s + 1) include s 0 []

@@ -27,7 +27,7 @@ module _ (n m : ℕ) where
       by-order (λ k. take k l ≡ take n l) n m n m (λ h. refl)
       (λ h. take-all m l (omega arith) ∙ sym (take-all n l (omega arith)))
 
-  -- and left
+  -- what is left behind a part that is cut at the end is what is left behind the whole part
   drop-clipped : (l : List ℕ) → length l ≡ m → drop (pick (leb n m) n m) l ≡ drop n l
   drop-clipped l e =
       by-order (λ k. drop k l ≡ drop n l) n m n m (λ h. refl)
@@ -57,7 +57,7 @@ module _ (s joined lengths : List ℕ) (at i : ℕ) (c : Placing s joined length
   -- the next word has k bytes
   module _ (h : i < length lengths) (k : ℕ)
       (e : k ≡ pick (leb (getD lengths i 0) (length joined - at)) (getD lengths i 0) (length joined - at)) where
-    -- which are there
+    -- the bytes of a word end within the joined ones
     pub placing-end : at + k ≤ length joined
     placing-end = let l = c .inside in omega (arith, e, clipped-le (getD lengths i 0) (length joined - at))
 
@@ -74,11 +74,11 @@ module _ (s joined lengths : List ℕ) (at i : ℕ) (c : Placing s joined length
         c .left ∙ rw (drop-cons lengths i 0 h, d, t, r, add-one i) (ap (λ x. i + x) (place-first s (drop at joined) n (drop (suc i) lengths)))
 
     module _ (r : Bool) (er : r ≡ sameText s (take (at + k - at) (drop at joined))) where
-      -- it is
+      -- a word of the table that is the one sought: its place is found
       pub placing-hit : r ≡ true → i ≡ placeOf s (split joined lengths)
       placing-hit p = sym (turn ∙ ap (λ x. i + x) (sym (pick-true _ _ _ _ (told _ _ _ er p) refl)) ∙ add-zero i)
 
-      -- it is not
+      -- a word that is another: the next one is asked
       pub placing-more : r ≡ false → Placing s joined lengths (at + k) (i + 1)
       placing-more p =
           record {

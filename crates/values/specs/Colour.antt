@@ -18,7 +18,7 @@ use Rattle.values.specs.Words.{Entry, Found, found, missing, lookup, onF
 unfoldable pub rgb : ℕ → ℕ → ℕ → Colour
 rgb r g b = record { red = r; green = g; blue = b }
 
--- the seventeen names
+-- "Seventeen colour names."
 abbrev pub colours : List (Entry Colour)
 colours =
     record { word = text "aqua"; means = rgb 0 0xff 0xff }

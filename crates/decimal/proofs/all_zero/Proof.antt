@@ -1,3 +1,4 @@
+-- The digits so far are 0, so the digits that are left have the answer of all.
 use mathlib.Core.Path.{_≡_, refl}
 use Prim.Native.Nat.{_-_}
 use lib.ListN.{length, drop}

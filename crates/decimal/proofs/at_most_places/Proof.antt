@@ -1,3 +1,4 @@
+-- The digits so far are those of the table, so the first that differ decide; a tie counts as at most.
 use mathlib.Core.Path.{_≡_, refl}
 use Prim.Native.Nat.{_-_}
 use lib.ListN.{length, drop}

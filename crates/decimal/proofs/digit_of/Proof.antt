@@ -1,3 +1,4 @@
+-- A digit is worth its distance from `0`, any other byte counts as 0.
 use Rattle.decimal.proofs.Steps as laws
 use borrow.Author.Needs.{needs}
 use Rattle.decimal.proofs.digit_of.Statement.{statement}

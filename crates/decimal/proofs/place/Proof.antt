@@ -1,3 +1,4 @@
+-- The table holds the definition's places, and behind its end they are 0.
 use mathlib.Core.Path.{refl, sym}
 use lib.ListN.{List·getD-eq-default}
 use Rattle.decimal.specs.Places.{places}

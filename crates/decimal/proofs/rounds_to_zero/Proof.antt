@@ -1,3 +1,4 @@
+-- The digits before the point have to be 0, and those behind it at most the table's.
 use Rattle.decimal.proofs.Compare as laws
 use borrow.Author.Needs.{needs}
 use Rattle.decimal.proofs.rounds_to_zero.Statement.{statement}

@@ -1,3 +1,4 @@
+-- The two bounds, one test behind the other.
 use Rattle.combinators.proofs.Rules.{within-false, within-rest}
 use Rattle.combinators.proofs.bytes.between.Statement.{statement}
 use Rattle.combinators.proofs.bytes.between.Tie as tie

@@ -1,3 +1,4 @@
+-- The byte at the place, or 0 past the end, is compared.
 use mathlib.Core.Path.{ap}
 use Prim.Native.Nat.{ℕ}
 use lib.Dec.{eqb}

@@ -1,3 +1,4 @@
+-- The byte is there, or the place is past the end.
 use mathlib.Core.Path.{sym}
 use lib.ListN.{List·getD-eq-default}
 use borrow.Author.Needs.{needs}

@@ -1,3 +1,4 @@
+-- One comparison.
 use Rattle.combinators.specs.Choice.{is}
 use borrow.Author.Needs.{needs}
 use Rattle.combinators.proofs.bytes.same.Statement.{statement}

@@ -1,3 +1,4 @@
+-- The bytes so far are the word's, so what is left of both has the answer of the whole.
 use mathlib.Core.Path.{_≡_, refl, sym, _∙_}
 use Prim.Native.Nat.{_-_}
 use lib.ListN.{length, drop}

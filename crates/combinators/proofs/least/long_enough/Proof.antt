@@ -1,3 +1,4 @@
+-- A quotient is at least the count exactly if the length less what is added is at least so many widths.
 use Rattle.combinators.proofs.LeastLaws as laws
 use borrow.Author.Needs.{needs}
 use Rattle.combinators.proofs.least.long_enough.Statement.{statement}

@@ -1,3 +1,4 @@
+-- Each store by its own test, in the order of the definition.
 use Rattle.combinators.proofs.LeastLaws as laws
 use borrow.Author.Needs.{needs}
 use Rattle.combinators.proofs.least.stores_suffice.Statement.{statement}

@@ -1,3 +1,4 @@
+-- Clearing what is left of the store as it is gives what clearing the whole gives.
 use mathlib.Core.Path.{_≡_, refl, sym, _∙_}
 use Prim.Native.Nat.{_-_}
 use lib.ListN.{length, length-set}

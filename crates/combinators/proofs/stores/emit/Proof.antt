@@ -1,3 +1,4 @@
+-- A byte that fits is stored, one that does not sets the fill behind the end.
 use borrow.Author.Tests.{lt-ltb, le-ltb}
 use Rattle.combinators.specs.Choice.{pick}
 use Rattle.combinators.specs.Store.{step, emits}

@@ -1,3 +1,4 @@
+-- Emitting what is left of the part into the store as it is gives what emitting the whole gives.
 use Prim.Native.Nat.{_-_}
 use Rattle.combinators.proofs.Emitted as laws
 use borrow.Author.Needs.{needs}

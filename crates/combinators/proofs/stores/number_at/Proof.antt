@@ -1,3 +1,4 @@
+-- The number is there, or the place is past the end; the sum is tested before it is made.
 use mathlib.Core.Path.{sym}
 use native.Mathlib.Omega.{arith}
 use lib.ListN.{List·getD-eq-default}

@@ -1,3 +1,4 @@
+-- Wiping what is left of the store as it is gives what wiping the whole gives.
 use mathlib.Core.Path.{_≡_, refl, sym, _∙_}
 use lib.ListN.{length, length-set}
 use Rattle.combinators.specs.Store.{wiped}

@@ -1,3 +1,4 @@
+-- The part lies within the store, runs out at its end, or begins behind it.
 use Rattle.combinators.proofs.Parts as laws
 use borrow.Author.Needs.{needs}
 use Rattle.combinators.proofs.texts.part_of.Statement.{statement}

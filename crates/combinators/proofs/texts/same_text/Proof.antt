@@ -1,3 +1,4 @@
+-- Texts of different lengths differ; of one length the one is the other exactly if it begins with it.
 use mathlib.Core.Path.{_∙_}
 use Rattle.combinators.proofs.Words as laws
 use borrow.Author.Needs.{needs}

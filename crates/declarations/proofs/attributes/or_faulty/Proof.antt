@@ -1,3 +1,4 @@
+-- The colour that was read, or that of the text that lacks its `#`.
 use Rattle.declarations.proofs.AttributeLaws as laws
 use borrow.Author.Needs.{needs}
 use Rattle.declarations.proofs.attributes.or_faulty.Statement.{statement}

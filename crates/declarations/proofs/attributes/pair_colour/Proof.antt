@@ -1,3 +1,4 @@
+-- Each pair is a number up to 255 or there is no colour; three of them are one.
 use native.Mathlib.Omega.{arith}
 use Rattle.declarations.proofs.PairLaws as laws
 use borrow.Author.Needs.{needs}

@@ -1,3 +1,4 @@
+-- The value's tokens give the colour, or else the text itself; what was used of the stores is wiped.
 use Rattle.declarations.proofs.AttributeLaws as laws
 use borrow.Author.Needs.{needs}
 use Rattle.declarations.proofs.attributes.parse_color_attribute.Statement.{statement}

@@ -1,3 +1,4 @@
+-- White_Space at the start is passed; at the end it may stay, since where it is among the pairs they are none.
 use Rattle.declarations.proofs.TrimEnd as laws
 use borrow.Author.Needs.{needs}
 use Rattle.declarations.proofs.attributes.parse_faulty_color.Statement.{statement}

@@ -1,3 +1,4 @@
+-- The declarations are read, their styles are put over the token rows, and the declaration rows are wiped.
 use native.Mathlib.Omega.{arith}
 use Rattle.declarations.proofs.StyleAttribute as laws
 use borrow.Author.Needs.{needs}

@@ -1,3 +1,4 @@
+-- The text of the declaration is moved down over its name, and what lay behind it is wiped.
 use Rattle.declarations.proofs.RowLaws as laws
 use borrow.Author.Needs.{needs}
 use Rattle.declarations.proofs.rows.keep_text.Statement.{statement}

@@ -1,3 +1,4 @@
+-- An unknown declaration loses its name where names are not kept.
 use Rattle.declarations.proofs.RowLaws as laws
 use Rattle.declarations.proofs.rows.named.Statement.{statement}
 use Rattle.declarations.proofs.rows.named.Tie as tie

@@ -1,3 +1,4 @@
+-- The five numbers are emitted one behind the other.
 use mathlib.Core.Path.{_∙_}
 use Rattle.declarations.proofs.RowLaws as laws
 use borrow.Author.Needs.{needs}

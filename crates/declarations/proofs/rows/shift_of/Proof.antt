@@ -1,3 +1,4 @@
+-- A content lies behind the name, any other text at its start.
 use Rattle.combinators.proofs.Rules.{cases}
 use Rattle.declarations.specs.DeclRow.{shift}
 use Rattle.declarations.proofs.rows.shift_of.Statement.{statement}

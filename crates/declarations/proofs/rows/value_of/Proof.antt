@@ -1,3 +1,4 @@
+-- A content and an unknown name have their start, any other declaration its own number.
 use Rattle.combinators.proofs.Rules.{pick-true, pick-false, or-left, or-right, or-none, is-yes, is-no}
 use Rattle.declarations.specs.DeclRow.{rowValue}
 use mathlib.Core.Path.{refl}

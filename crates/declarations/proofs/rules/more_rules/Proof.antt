@@ -1,3 +1,4 @@
+-- What is left to read from the byte on, into the stores as they are, leaves what the whole leaves; each turn takes a declaration behind a semicolon or ends.
 use mathlib.Core.Path.{_≡_, _∙_}
 use Prim.Native.Nat.{_-_}
 use native.Mathlib.Omega.{arith}

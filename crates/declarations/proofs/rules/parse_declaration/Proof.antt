@@ -1,3 +1,4 @@
+-- A property is read on with its value; without one its name is wiped.
 use mathlib.Core.Path.{_∙_}
 use Rattle.declarations.proofs.Declaring as laws
 use borrow.Author.Needs.{needs}

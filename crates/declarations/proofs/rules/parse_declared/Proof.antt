@@ -1,3 +1,4 @@
+-- Without a value all that was written is wiped; with one the declaration is put down and what was used is wiped.
 use native.Mathlib.Omega.{arith}
 use Rattle.declarations.proofs.Declaring as laws
 use borrow.Author.Needs.{needs}

@@ -1,3 +1,4 @@
+-- A name, white space or none and a colon, or nothing is read.
 use native.Mathlib.Omega.{arith}
 use Rattle.declarations.proofs.PropertyLaws as laws
 use borrow.Author.Needs.{needs}

@@ -1,3 +1,4 @@
+-- Without a first declaration nothing is left; with one the others are read behind it, and the counts add up.
 use mathlib.Core.Path.{_∙_}
 use native.Mathlib.Omega.{arith}
 use Rattle.declarations.proofs.RuleTurns as laws

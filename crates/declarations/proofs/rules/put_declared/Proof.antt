@@ -1,3 +1,4 @@
+-- The declaration is made of the tokens, its text is kept, and its row is put down.
 use Rattle.declarations.proofs.Putting as laws
 use borrow.Author.Needs.{needs}
 use Rattle.declarations.proofs.rules.put_declared.Statement.{statement}

@@ -1,3 +1,4 @@
+-- A mark takes two tokens away, no more than there are.
 use Rattle.declarations.proofs.Putting as laws
 use Rattle.declarations.proofs.rules.unmarked.Statement.{statement}
 use Rattle.declarations.proofs.rules.unmarked.Tie as tie

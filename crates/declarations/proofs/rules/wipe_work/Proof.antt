@@ -1,3 +1,4 @@
+-- Both stores are wiped up to what was used.
 use borrow.Author.Needs.{needs}
 use Rattle.declarations.proofs.rules.wipe_work.Statement.{statement}
 use Rattle.declarations.proofs.rules.wipe_work.Tie as tie

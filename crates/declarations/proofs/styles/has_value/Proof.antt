@@ -1,3 +1,4 @@
+-- The kind is one of two, and the value is the one asked for.
 use Rattle.declarations.proofs.Styling as laws
 use borrow.Author.Needs.{needs}
 use Rattle.declarations.proofs.styles.has_value.Statement.{statement}

@@ -1,3 +1,4 @@
+-- The two kinds and the value of the definition.
 use Rattle.syntax.specs.Layout.{flag}
 use Rattle.declarations.specs.StyleNumbers.{zeroRow}
 use borrow.Author.Needs.{needs}

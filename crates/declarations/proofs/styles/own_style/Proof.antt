@@ -1,3 +1,4 @@
+-- Each kind by its own test, as the definition splits declarations.
 use Rattle.combinators.proofs.Rules.{cases}
 use Rattle.syntax.specs.Layout.{flagOf}
 use Rattle.declarations.specs.StyleNumbers.{ownNumbers}

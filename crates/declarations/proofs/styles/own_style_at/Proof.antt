@@ -1,3 +1,4 @@
+-- The numbers of the row are those of the declaration.
 use Rattle.declarations.proofs.Styling as laws
 use borrow.Author.Needs.{needs}
 use Rattle.declarations.proofs.styles.own_style_at.Statement.{statement}

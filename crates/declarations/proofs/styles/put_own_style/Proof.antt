@@ -1,3 +1,4 @@
+-- A declaration puts the row of its style, or nothing.
 use Rattle.declarations.proofs.Styling as laws
 use borrow.Author.Needs.{needs}
 use Rattle.declarations.proofs.styles.put_own_style.Statement.{statement}

@@ -1,3 +1,4 @@
+-- The four numbers are emitted one behind the other.
 use mathlib.Core.Path.{_∙_}
 use Rattle.declarations.proofs.Styling as laws
 use borrow.Author.Needs.{needs}

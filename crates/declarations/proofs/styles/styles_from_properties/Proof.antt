@@ -1,3 +1,4 @@
+-- What is left to put from the declaration on is the rest of the whole; at the end a zero height with a hidden overflow adds one.
 use mathlib.Core.Path.{refl, _∙_}
 use Prim.Native.Nat.{_-_}
 use Rattle.declarations.proofs.Styling as laws

@@ -1,3 +1,4 @@
+-- The bytes moved so far stand where they should, and those still to move are as they were, since they are moved down.
 use Prim.Native.Nat.{_-_}
 use Rattle.declarations.proofs.Moves as laws
 use borrow.Author.Needs.{needs}

@@ -1,3 +1,4 @@
+-- 1 where the flag is set, 0 where it is not.
 use Rattle.syntax.specs.Layout.{flag}
 use borrow.Author.Needs.{needs}
 use Rattle.syntax.proofs.rows.flag_of.Statement.{statement}

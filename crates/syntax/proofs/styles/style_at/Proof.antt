@@ -1,3 +1,4 @@
+-- The four numbers of the row, whatever they are, are those of the style.
 use Rattle.combinators.specs.Choice.{is}
 use Rattle.syntax.specs.Layout.{flagOf}
 use Rattle.syntax.proofs.StyleRead.{row-read}

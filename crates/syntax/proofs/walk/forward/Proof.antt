@@ -1,3 +1,4 @@
+-- The place lies within the rows, or it is their end; the sum is tested before it is made.
 use Rattle.syntax.proofs.Walks as laws
 use borrow.Author.Needs.{needs}
 use Rattle.syntax.proofs.walk.forward.Statement.{statement}

@@ -1,3 +1,4 @@
+-- The four numbers are emitted one behind the other.
 use Rattle.syntax.proofs.Writes as laws
 use borrow.Author.Needs.{needs}
 use Rattle.syntax.proofs.writers.put_component.Statement.{statement}

@@ -1,3 +1,4 @@
+-- The two numbers are emitted one behind the other.
 use Rattle.syntax.proofs.Writes as laws
 use borrow.Author.Needs.{needs}
 use Rattle.syntax.proofs.writers.put_selector_head.Statement.{statement}

@@ -1,3 +1,4 @@
+-- The characters so far are White_Space; what is counted is what the definition repeats.
 use Rattle.unicode.proofs.Trimming.{white-le}
 use Rattle.combinators.proofs.Repeating.{Repeating, repeat-begin, repeat-more, repeat-stop, repeat-end, lent, lent-le}
 use Rattle.unicode.specs.Trim.{whiteTaken}

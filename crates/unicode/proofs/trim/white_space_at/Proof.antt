@@ -1,3 +1,4 @@
+-- The character that the text begins with counts if it is White_Space; where none begins nothing does.
 use Rattle.unicode.proofs.Trimming as laws
 use Rattle.combinators.specs.Choice.{pick}
 use borrow.Author.Needs.{needs}

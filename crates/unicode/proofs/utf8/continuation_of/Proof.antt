@@ -1,3 +1,4 @@
+-- The low six bits fit a continuation byte.
 use Rattle.unicode.specs.Utf8.{continuation}
 use borrow.Author.Needs.{needs}
 use Rattle.unicode.proofs.utf8.continuation_of.Statement.{statement}

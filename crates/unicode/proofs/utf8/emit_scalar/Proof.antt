@@ -1,3 +1,4 @@
+-- One to four bytes, by the bounds of the definition, emitted one behind the other.
 use Rattle.unicode.proofs.Writing as laws
 use borrow.Author.Needs.{needs}
 use Rattle.unicode.proofs.utf8.emit_scalar.Statement.{statement}

@@ -1,3 +1,4 @@
+-- Two bytes are emitted one behind the other.
 use Rattle.combinators.proofs.Emitted.{then}
 use borrow.Author.Needs.{needs}
 use Rattle.unicode.proofs.utf8.emit_two.Statement.{statement}

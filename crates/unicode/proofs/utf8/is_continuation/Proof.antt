@@ -1,3 +1,4 @@
+-- The bounds of the definition.
 use Rattle.unicode.specs.Utf8.{isContinuation}
 use borrow.Author.Needs.{needs}
 use Rattle.unicode.proofs.utf8.is_continuation.Statement.{statement}

@@ -1,3 +1,4 @@
+-- The scalar values so far are passed; the text is well formed exactly if the rest is.
 use native.Mathlib.Omega.{arith}
 use Prim.Native.Nat.{_-_}
 use lib.ListN.{length}

@@ -1,3 +1,4 @@
+-- Each bound of the table by its own test.
 use Rattle.combinators.proofs.Rules.{orders}
 use Rattle.unicode.specs.Utf8.{leadOf}
 use borrow.Author.Needs.{needs}

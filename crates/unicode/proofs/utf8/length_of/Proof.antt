@@ -1,3 +1,4 @@
+-- Each bound of the definition by its own test.
 use mathlib.Core.Path.{ap, sym}
 use lib.ListN.{length}
 use Rattle.unicode.proofs.Scalars as laws

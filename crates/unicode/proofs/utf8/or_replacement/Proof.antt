@@ -1,3 +1,4 @@
+-- Below and above the surrogates the number stays, any other becomes U+FFFD.
 use borrow.Author.Tests.{le-leb, lt-leb}
 use Rattle.combinators.proofs.Rules.{cases}
 use Rattle.combinators.specs.Choice.{within}

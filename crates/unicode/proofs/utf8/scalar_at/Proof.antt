@@ -1,3 +1,4 @@
+-- The first byte selects a row of the table, and the second has to lie within its bounds.
 use Rattle.combinators.proofs.Rules.{told}
 use Rattle.unicode.proofs.Reading as laws
 use borrow.Author.Needs.{needs}

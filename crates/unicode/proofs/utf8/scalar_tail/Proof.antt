@@ -1,3 +1,4 @@
+-- The bytes behind the second have to be continuation bytes, as many as the row has.
 use Rattle.combinators.proofs.Rules.{told}
 use Rattle.unicode.proofs.Reading as laws
 use borrow.Author.Needs.{needs}

@@ -1,3 +1,4 @@
+-- The parts of four bytes make a number below 2^21, so nothing wraps.
 use Rattle.unicode.specs.Utf8.{four}
 use borrow.Author.Needs.{needs}
 use Rattle.unicode.proofs.utf8.value_of_four.Statement.{statement}

@@ -1,3 +1,4 @@
+-- The parts of three bytes make a number below 2^16, so nothing wraps.
 use Rattle.unicode.specs.Utf8.{three}
 use borrow.Author.Needs.{needs}
 use Rattle.unicode.proofs.utf8.value_of_three.Statement.{statement}

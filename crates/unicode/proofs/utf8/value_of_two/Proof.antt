@@ -1,3 +1,4 @@
+-- The parts of two bytes make a number below 2^11, so nothing wraps.
 use Rattle.unicode.specs.Utf8.{two}
 use borrow.Author.Needs.{needs}
 use Rattle.unicode.proofs.utf8.value_of_two.Statement.{statement}

@@ -1,3 +1,4 @@
+-- The entries so far are below the number; the table ascends, so the first that is not decides.
 use Prim.Native.Nat.{_-_}
 use borrow.Author.Needs.{needs}
 use lib.ListN.{length}

@@ -1,3 +1,4 @@
+-- No token behind the place is a comma; the search goes towards the start and ends at the last comma or at 0.
 use Rattle.values.proofs.ColourValues as laws
 use borrow.Author.Needs.{needs}
 use Rattle.values.proofs.colour_values.behind_comma.Statement.{statement}

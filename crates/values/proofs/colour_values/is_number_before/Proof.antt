@@ -1,3 +1,4 @@
+-- The two kinds, one test behind the other.
 use Rattle.values.proofs.ColourValues as laws
 use borrow.Author.Needs.{needs}
 use Rattle.values.proofs.colour_values.is_number_before.Statement.{statement}

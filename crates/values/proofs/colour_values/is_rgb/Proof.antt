@@ -1,3 +1,4 @@
+-- A function, and its name.
 use Rattle.values.proofs.ColourValues as laws
 use borrow.Author.Needs.{needs}
 use Rattle.values.proofs.colour_values.is_rgb.Statement.{statement}

@@ -1,3 +1,4 @@
+-- The six tokens behind the function, pair by pair.
 use Rattle.values.proofs.ColourValues as laws
 use borrow.Author.Needs.{needs}
 use Rattle.values.proofs.colour_values.is_rgb_list.Statement.{statement}

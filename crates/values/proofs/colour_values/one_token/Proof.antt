@@ -1,3 +1,4 @@
+-- A name, a hash or neither, as the definition splits tokens.
 use Rattle.values.proofs.ColourValues as laws
 use borrow.Author.Needs.{needs}
 use Rattle.values.proofs.colour_values.one_token.Statement.{statement}

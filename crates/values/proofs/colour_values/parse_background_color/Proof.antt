@@ -1,3 +1,4 @@
+-- The tokens behind the last comma are those whose rows are lent.
 use Rattle.values.proofs.ColourValues as laws
 use borrow.Author.Needs.{needs}
 use Rattle.values.proofs.colour_values.parse_background_color.Statement.{statement}

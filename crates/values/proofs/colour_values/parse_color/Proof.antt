@@ -1,3 +1,4 @@
+-- One token, the seven of `rgb`, or no colour.
 use Rattle.values.proofs.ColourValues as laws
 use borrow.Author.Needs.{needs}
 use Rattle.values.proofs.colour_values.parse_color.Statement.{statement}

@@ -1,3 +1,4 @@
+-- The kinds and the name of the seven tokens are those of the definition, or there is no colour.
 use Rattle.values.proofs.ColourValues as laws
 use borrow.Author.Needs.{needs}
 use Rattle.values.proofs.colour_values.rgb_tokens.Statement.{statement}

@@ -1,3 +1,4 @@
+-- The texts of the three rows are those of the three numbers.
 use Rattle.values.proofs.ColourValues as laws
 use borrow.Author.Needs.{needs}
 use Rattle.values.proofs.colour_values.rgb_value.Statement.{statement}

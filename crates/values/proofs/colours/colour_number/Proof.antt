@@ -1,3 +1,4 @@
+-- Three bytes make a number below 2^24, so nothing wraps.
 use Rattle.syntax.specs.Layout.{colourNumber}
 use Rattle.values.specs.Colour.{rgb}
 use borrow.Author.Needs.{needs}

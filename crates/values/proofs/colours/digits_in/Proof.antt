@@ -1,3 +1,4 @@
+-- The sum of the digits so far is their number, within the bound; a byte that is no digit, or a sum above the bound, makes the whole none.
 use Rattle.combinators.proofs.Rules.{told}
 use lib.ListN.{length}
 use native.Mathlib.Omega.{arith}

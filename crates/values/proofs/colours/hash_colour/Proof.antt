@@ -1,3 +1,4 @@
+-- A number of three or of six digits, or no colour.
 use Rattle.values.proofs.ColourLaws as laws
 use borrow.Author.Needs.{needs}
 use Rattle.values.proofs.colours.hash_colour.Statement.{statement}

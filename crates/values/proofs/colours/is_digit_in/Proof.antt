@@ -1,3 +1,4 @@
+-- A hexadecimal digit whose worth is below the base.
 use Rattle.values.proofs.ColourLaws as laws
 use borrow.Author.Needs.{needs}
 use Rattle.values.proofs.colours.is_digit_in.Statement.{statement}

@@ -1,3 +1,4 @@
+-- The place of the name in the table is that of its colour.
 use Rattle.values.proofs.WordLaws.{numbersOf, joinedOf, lengthsOf}
 use Rattle.syntax.specs.Layout.{colourNumber}
 use Rattle.values.specs.declared.colours.ColourAnswer.the-variants.{Colour, NoColour}

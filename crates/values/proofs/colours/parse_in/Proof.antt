@@ -1,3 +1,4 @@
+-- Behind a `+`, or from the start, the digits are read.
 use native.Mathlib.Omega.{arith}
 use Rattle.values.proofs.ColourLaws as laws
 use borrow.Author.Needs.{needs}

@@ -1,3 +1,4 @@
+-- The base is 10, the bound 255.
 use mathlib.Core.Path.{ap, _∙_}
 use Rattle.values.specs.ColourAnswer.{numberAnswer}
 use Rattle.values.specs.Colour.{parseU8}

@@ -1,3 +1,4 @@
+-- Each text is a number up to 255 or there is no colour; three of them are one.
 use native.Mathlib.Omega.{arith}
 use Rattle.values.proofs.ColourLaws as laws
 use borrow.Author.Needs.{needs}

@@ -1,3 +1,4 @@
+-- Each byte of the number is a part of the colour.
 use Rattle.values.specs.Colour.{sixDigits}
 use borrow.Author.Needs.{needs}
 use Rattle.values.proofs.colours.six_digits.Statement.{statement}

@@ -1,3 +1,4 @@
+-- Each digit of the number, seventeen times, is a part of the colour.
 use Rattle.values.specs.Colour.{threeDigits}
 use borrow.Author.Needs.{needs}
 use Rattle.values.proofs.colours.three_digits.Statement.{statement}

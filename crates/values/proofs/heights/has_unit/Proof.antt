@@ -1,3 +1,4 @@
+-- The unit is the text behind the number, and it has a place in the table exactly if it is one of a length's.
 use Rattle.values.specs.Words.{split}
 use Rattle.values.specs.Property.{units}
 use Rattle.unicode.specs.Utf8.{utf8, continuation}

@@ -1,3 +1,4 @@
+-- White space and the sign are passed, and the rest is asked.
 use Rattle.values.proofs.HeightLaws as laws
 use mathlib.Core.Path.{refl}
 use borrow.Author.Needs.{needs}

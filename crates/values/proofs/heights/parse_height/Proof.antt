@@ -1,3 +1,4 @@
+-- One token: a dimension of a length's unit, or a number that is zero, or no height.
 use Rattle.values.proofs.HeightLaws as laws
 use borrow.Author.Needs.{needs}
 use Rattle.values.proofs.heights.parse_height.Statement.{statement}

@@ -1,3 +1,4 @@
+-- The text of the row is the number.
 use mathlib.Core.Path.{ap, _∙_}
 use Rattle.values.specs.Property.{numberZero}
 use borrow.Author.Needs.{needs}

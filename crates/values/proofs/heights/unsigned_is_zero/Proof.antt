@@ -1,3 +1,4 @@
+-- The digits before the point and those behind it are the parts that the zero test takes.
 use mathlib.Core.Path.{sym}
 use lib.Seq.{length-take-le}
 use Rattle.values.proofs.HeightLaws as laws

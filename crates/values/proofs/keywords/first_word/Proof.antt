@@ -1,3 +1,4 @@
+-- The tokens so far are no words of the table; the first that is decides.
 use Rattle.values.specs.Words.{split}
 use Rattle.values.proofs.KeywordLaws as laws
 use borrow.Author.Needs.{needs}

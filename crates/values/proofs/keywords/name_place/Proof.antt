@@ -1,3 +1,4 @@
+-- A name has its place in the table, any other token none.
 use mathlib.Core.Path.{sym, _∙_}
 use Rattle.values.proofs.KeywordLaws as laws
 use borrow.Author.Needs.{needs}

@@ -1,3 +1,4 @@
+-- The table has one word, so that a place in it says that the value names `none`.
 use Rattle.values.proofs.WordLaws.{joinedOf, lengthsOf}
 use Rattle.unicode.specs.Utf8.{utf8, continuation}
 use Rattle.unicode.specs.Literal.{text}

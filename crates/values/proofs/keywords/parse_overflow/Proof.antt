@@ -1,3 +1,4 @@
+-- The place in the table is the number of the word.
 use Rattle.values.proofs.WordLaws.{joinedOf, lengthsOf}
 use Rattle.unicode.specs.Utf8.{utf8, continuation}
 use Rattle.unicode.specs.Literal.{text}

@@ -1,3 +1,4 @@
+-- The three properties of a colour, each by its place in the table.
 use Rattle.values.proofs.DeclLaws as laws
 use borrow.Author.Needs.{needs}
 use Rattle.values.proofs.properties.colour_at.Statement.{statement}

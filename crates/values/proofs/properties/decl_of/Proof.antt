@@ -1,3 +1,4 @@
+-- The place of the name among the properties says which reader makes the declaration.
 use Rattle.values.proofs.WordLaws.{joinedOf, lengthsOf}
 use Rattle.unicode.specs.Utf8.{utf8, continuation}
 use Rattle.unicode.specs.Literal.{text}

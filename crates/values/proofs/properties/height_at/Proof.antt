@@ -1,3 +1,4 @@
+-- The two properties of a height, each by its place in the table.
 use Rattle.values.proofs.DeclLaws as laws
 use borrow.Author.Needs.{needs}
 use Rattle.values.proofs.properties.height_at.Statement.{statement}

@@ -1,3 +1,4 @@
+-- The last three properties, each by its place in the table; any other name is unknown.
 use Rattle.values.proofs.DeclLaws as laws
 use borrow.Author.Needs.{needs}
 use Rattle.values.proofs.properties.other_at.Statement.{statement}

@@ -1,3 +1,4 @@
+-- The fields are those of the definition.
 use mathlib.Core.Path.{refl}
 use Rattle.values.specs.DeclAnswer.{declOfNumbers, unknownDecl}
 use Rattle.values.proofs.properties.unknown_decl.Statement.{statement}

@@ -1,3 +1,4 @@
+-- A height that was found, or else the unknown declaration.
 use Rattle.values.proofs.DeclLaws as laws
 use borrow.Author.Needs.{needs}
 use Rattle.values.proofs.properties.with_height.Statement.{statement}

@@ -1,3 +1,4 @@
+-- In each arm the token is known, and the definition gives the same.
 use Rattle.values.proofs.Nesting as laws
 use mathlib.Core.Path.{sym, ap}
 use Rattle.values.specs.Value.{bracketBy}

@@ -1,3 +1,4 @@
+-- The bracket that is awaited last decides, as the definition looks at those awaited.
 use Rattle.values.proofs.Nesting as laws
 use borrow.Author.Needs.{needs}
 use Rattle.values.proofs.statements.closing_step.Statement.{statement}

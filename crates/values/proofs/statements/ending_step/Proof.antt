@@ -1,3 +1,4 @@
+-- Outside all brackets a semicolon ends the statement, inside it is a token like others.
 use Rattle.combinators.proofs.Rules.{cases}
 use Rattle.values.specs.Layout.{endingBy}
 use Rattle.values.proofs.statements.ending_step.Statement.{statement}

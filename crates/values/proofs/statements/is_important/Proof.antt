@@ -1,3 +1,4 @@
+-- The last two tokens are an exclamation mark and the name `important`, test by test.
 use Rattle.unicode.specs.Literal.{text}
 use Rattle.unicode.specs.Utf8.{utf8, continuation}
 use Rattle.combinators.specs.Choice.{pick}

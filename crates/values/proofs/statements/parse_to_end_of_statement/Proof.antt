@@ -1,3 +1,5 @@
+-- What is left to read from the byte on, with the brackets awaited and into the stores as they are, leaves what the whole leaves; each turn takes a token,
+-- which takes a byte.
 use mathlib.Core.Path.{_≡_, sym, ap, _∙_}
 use mathlib.Core.List.{List}
 use Prim.Native.Nat.{ℕ, _-_, _+_}

@@ -1,3 +1,4 @@
+-- The statement's tokens, and whether their last two are the mark; or the brackets did not close.
 use Rattle.values.proofs.ValueLaws as laws
 use borrow.Author.Needs.{needs}
 use Rattle.values.proofs.statements.parse_value.Statement.{statement}

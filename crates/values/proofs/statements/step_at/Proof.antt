@@ -1,3 +1,4 @@
+-- The store of brackets is a stack of those awaited; each kind of token does to it what the definition does.
 use Rattle.values.proofs.Nesting as laws
 use borrow.Author.Needs.{needs}
 use Rattle.values.proofs.statements.step_at.Statement.{statement}

@@ -1,3 +1,4 @@
+-- In each arm the token is known, and the definition gives the same.
 use mathlib.Core.Path.{sym, ap}
 use native.Mathlib.Omega.{arith}
 use Rattle.values.specs.Layout.{lengthBy}

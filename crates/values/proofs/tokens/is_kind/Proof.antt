@@ -1,3 +1,4 @@
+-- The first number of the row is the token's kind.
 use mathlib.Core.Path.{ap}
 use Prim.Native.Nat.{ℕ}
 use lib.Dec.{eqb}

@@ -1,3 +1,4 @@
+-- The row's start and length give the part.
 use Rattle.values.proofs.TokenViews as views
 use borrow.Author.Needs.{needs}
 use Rattle.values.proofs.tokens.text_at.Statement.{statement}

@@ -1,3 +1,4 @@
+-- The smaller of the two.
 use Rattle.combinators.proofs.Rules.{at-most, above}
 use mathlib.Core.Path.{refl}
 use Rattle.values.proofs.words.clipped.Statement.{statement}

@@ -1,3 +1,4 @@
+-- The words so far are others; the words that are left lie in the bytes that are left.
 use lib.ListN.{length}
 use native.Mathlib.Omega.{arith}
 use Prim.Native.Nat.{_-_}
