@@ -7,7 +7,7 @@ use native.Mathlib.Omega.{arith}
 use borrow.Author.Tests.{lt-ltb, le-ltb, ltb-true}
 use lib.Dec.{ltb}
 use lib.ListN.{length, getD, take, drop, set, length-set, replicate, length-replicate}
-use lib.Seq.{take-set-le, drop-set-lt}
+use lib.Seq.{sets, take-set-le, drop-set-lt}
 use Rattle.combinators.specs.Choice.{pick}
 use Rattle.combinators.specs.Part.{part}
 use Rattle.combinators.proofs.Rules.{pick-holds, is-yes-of, is-no-of}
@@ -58,7 +58,36 @@ pub stored-first : (b : ℕ) (bs state : List ℕ) (own width j : ℕ) → partS
 unfolding partSets
 stored-first b bs state own width j = refl
 
+-- bytes that all lie in the part are stored in the state
+pub stored-within : (bs state : List ℕ) (own width j : ℕ) → j + length bs ≤ width → sets state (own + j) bs ≡ partSets state own width j bs
+unfolding partSets
+stored-within [] state own width j h = refl
+stored-within (b ∷ bs) state own width j h =
+    let e : suc (own + j) ≡ own + (j + 1) = omega arith in
+    ap (λ (n : ℕ). sets (set state (own + j) b) n bs) e
+    ∙ ap (λ (s : List ℕ). sets s (own + (j + 1)) bs) (set-there state own width j b (omega arith))
+    ∙ stored-within bs (partSet state own width j b) own width (j + 1) (omega arith)
+
+-- ---- the return of `put_pair_there`
+pub pair-there : (s : List ℕ) (at n : ℕ) → set (set s at (n % byteValues)) (at + 1) (n / byteValues % byteValues) ≡ sets s at (pairBytes n)
+unfolding pairBytes
+pair-there s at n = let e : at + 1 ≡ suc at = omega arith in ap (λ (i : ℕ). set (set s at (n % byteValues)) i (n / byteValues % byteValues)) e
+
+-- ---- the return of `put_mark_there`
+pub mark-there : (s : List ℕ) (at n : ℕ) → set (set (set s at withTests) (at + 1) (n % byteValues)) (at + 2) (n / byteValues % byteValues) ≡ sets s at (withTests ∷ pairBytes n)
+unfolding pairBytes
+mark-there s at n =
+    let e : at + 1 ≡ suc at = omega arith in
+    let f : at + 2 ≡ suc (suc at) = omega arith in
+    rw (e, f)
+
 -- ---- the returns of `put_pair`, `put_mark` and `put_fresh`
+-- two bytes that lie in the part
+pub pair-within : (s₀ s₁ : List ℕ) (own width at n : ℕ) → at + 1 < width → s₁ ≡ sets s₀ (own + at) (pairBytes n) → s₁ ≡ partSets s₀ own width at (pairBytes n)
+pair-within s₀ s₁ own width at n h e =
+    let l : length (pairBytes n) ≡ 2 = unfold pairBytes in refl in
+    e ∙ stored-within (pairBytes n) s₀ own width at (omega (arith, l, h))
+
 module _ (s₀ s₁ s₂ : List ℕ) (own width at : ℕ) where
   -- two bytes
   pub pair-stored : (n : ℕ) → s₁ ≡ partSet s₀ own width at (n % byteValues) → s₂ ≡ partSet s₁ own width (at + 1) (n / byteValues % byteValues)

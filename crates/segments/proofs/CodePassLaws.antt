@@ -60,11 +60,11 @@ module _ (code : List ℕ) (row : Path) (state₀ : List ℕ) (above own width f
         e ∙ pass-step
 
     -- the next one
-    pub pass-more : ¬ (p ≡ noPlace) → (flags : List ℕ) → flags ≡ part state above width → (next : ℕ) → next ≡ pairAt flags (p + toNext) → next < pairLimit
+    pub pass-more : ¬ (p ≡ noPlace) → (next : ℕ) → next ≡ pairAt (part state above width) (p + toNext) → next < pairLimit
         → (s₁ : List ℕ) → s₁ ≡ blockStored state own width (visitAt code row (part state above width) p) (pairAt (part state above width) (p + toNext)) p
         → Passing code row state₀ above own width first count place s₁ next (left - 1)
-    pass-more z flags ef next en small s₁ e₁ =
-        let n : next ≡ nextFrom state above width p = (unfold nextFrom in en ∙ ap (λ (x : List ℕ). pairAt x (p + toNext)) ef) in
+    pass-more z next en small s₁ e₁ =
+        let n : next ≡ nextFrom state above width p = (unfold nextFrom in en) in
         let w : s₁ ≡ visitStored code row above own width p state = (unfold visitStored nextFrom in e₁) in
         let l : length s₁ ≡ length state = ap length w ∙ length-visit code row above own width p state in
         let e : passStored code row above own width (left - 1) (nextFrom state above width p) (visitStored code row above own width p state)

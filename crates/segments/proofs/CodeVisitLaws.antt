@@ -1,15 +1,16 @@
 -- The visit of a selector as code: the block that is stored, by what was swept.
-use Prim.Native.Nat.{ℕ, suc, _+_, _-_, _≤_, _<_}
+use Prim.Native.Nat.{ℕ, zero, suc, _+_, _-_, _≤_, _<_}
 use mathlib.Core.Path.{_≡_, refl, sym, ap, _∙_}
 use mathlib.Core.Bool.{Bool, true, false}
 use mathlib.Core.List.{List, [], _∷_, _++_, append-assoc}
 use native.Mathlib.Omega.{arith}
-use lib.ListN.{length}
+use lib.ListN.{length, getD, set, length-take, drop}
+use lib.Seq.{sets}
 use Rattle.combinators.specs.Choice.{pick, is}
 use Rattle.combinators.specs.Part.{part}
 use Rattle.syntax.specs.Layout.{flag, flagOf}
 use Rattle.syntax.specs.Style.{agentOrigin}
-use Rattle.combinators.proofs.Rules.{is-yes, is-no}
+use Rattle.combinators.proofs.Rules.{never, is-yes, is-no}
 use Rattle.page.specs.Path.{Path}
 use Rattle.compiled.specs.Answer.{headAnswer}
 use Rattle.compiled.specs.Decoded.{Decoded, read, fault, onDecoded}
@@ -17,17 +18,17 @@ use Rattle.compiled.specs.Sheet.{Head, headAt}
 use Rattle.compiled.specs.declared.sheets.HeadAnswer.{HeadAnswer}
 use Rattle.compiled.specs.declared.sheets.HeadAnswer.the-variants as head
 use Rattle.compiled.proofs.Answers.{head-read, head-fault}
-use Rattle.segments.specs.Sweep.{pairAt, pairBytes, markBytes, sweepAt}
+use Rattle.segments.specs.Sweep.{pairAt, pairBytes, testsPass, withTests, markBytes, sweepAt}
 use Rattle.segments.specs.Before.{Segment, beginning, segmentBefore, freshBytes}
 use Rattle.segments.specs.Visits.{toNext, toAwaited, toFlags, blockBytes, Visited, awaits, endedBy, endedAt, decided, visitAt}
-use Rattle.segments.specs.Parts.{partSets, Apart}
-use Rattle.segments.specs.Swept.{sweptOne, sweptBehind}
-use Rattle.segments.specs.Visiting.{blockStored, behindFirst, sweptVisit, nextAwaited, awaitedVisit}
+use Rattle.segments.specs.Parts.{partSets, Apart, pairLimit}
+use Rattle.segments.specs.Swept.{sweptMark, sweptOne, sweptBehind}
+use Rattle.segments.specs.Visiting.{toTests, toEnd, blockStored, behindFirst, sweptVisit, nextAwaited, awaitedVisit}
 use Rattle.segments.specs.declared.sweeping.Swept.{Swept}
 use Rattle.segments.specs.declared.visiting.Awaited.{Awaited}
 use Rattle.segments.specs.declared.visiting.Awaited.the-variants as segment
-use Rattle.segments.proofs.CodePartLaws.{stored-then, part-above-all}
-use Rattle.segments.proofs.CodeSweepLaws.{sweep-step}
+use Rattle.segments.proofs.CodePartLaws.{tests-some, stored-then, stored-within, part-above-all}
+use Rattle.segments.proofs.CodeSweepLaws.{one-mark, sweep-step}
 
 -- a number takes two bytes
 length-pair : (n : ℕ) → length (pairBytes n) ≡ 2
@@ -60,6 +61,15 @@ module _ (s₀ s₁ s₂ : List ℕ) (own width p next awaited : ℕ) where
       ∙ ap (λ (n : ℕ). partSets (partSets s₀ own width (p + toNext) places) own width n flags) d
       ∙ sym (stored-then places flags s₀ own width (p + toNext))
       ∙ ap (partSets s₀ own width (p + toNext)) (append-assoc (pairBytes next) (pairBytes awaited) flags)
+
+-- ---- the return of `put_marked`
+pub marked-stored : (s₀ s₁ s₂ s₃ : List ℕ) (at next awaited tests : ℕ) → s₁ ≡ sets s₀ (at + toNext) (pairBytes next) → s₂ ≡ sets s₁ (at + toAwaited) (pairBytes awaited)
+    → s₃ ≡ sets s₂ (at + toFlags) (withTests ∷ pairBytes tests) → s₃ ≡ sets s₀ (at + toNext) (blockBytes next awaited (withTests ∷ pairBytes tests))
+unfolding pairBytes blockBytes
+marked-stored s₀ s₁ s₂ s₃ at next awaited tests e₁ e₂ e₃ =
+    let a : at + toAwaited ≡ suc (suc (at + toNext)) = omega arith in
+    let f : at + toFlags ≡ suc (suc (suc (suc (at + toNext)))) = omega arith in
+    e₃ ∙ rw (e₂, e₁, a, f)
 
 -- ---- the return of `put_awaits`
 pub awaits-stored : (s₀ s₁ s₂ : List ℕ) (own width p next : ℕ) (s : Segment) (start steps tests : ℕ) → record { start = start; steps = steps; tests = tests } ≡ s
@@ -183,20 +193,63 @@ module _ (code : List ℕ) (row : Path) (s₀ : List ℕ) (above own width p nex
       → s₁ ≡ blockStored s₀ own width (awaits (segmentBefore code awaited count (beginning first) first)) next p → Sweeps false
   swept-before count first q s = sweeps-as (awaits (segmentBefore code awaited count (beginning first) first)) (unfold awaitedVisit in rw q) false (unfold awaits in refl, s)
 
--- ---- the returns of `visit`
+-- ---- the returns of `visit_marked`
+-- tests that do not pass are some
+some-tests : (code : List ℕ) (row : Path) (tests i : ℕ) → testsPass code row tests i ≡ false → withTests ∷ pairBytes tests ≡ markBytes tests
+unfolding testsPass markBytes
+some-tests code row zero i e = never (sym e)
+some-tests code row (suc t) i e = refl
+
+module _ (code : List ℕ) (row : Path) (s₀ : List ℕ) (above own width p next awaited tests : ℕ) (ends : Bool) (ee : ends ≡ testsPass code row tests awaited) (s₁ : List ℕ) where
+  -- what is told
+  abbrev Marked : Bool → Type 0
+  Marked b = Told s₀ own width next p (sweptVisit code row (part s₀ above width) p awaited (sweptMark code row tests awaited)) b s₁
+
+  -- they pass
+  pub marked-ends : (b : Bool) → Told s₀ own width next p (sweptVisit code row (part s₀ above width) p awaited (record { marked = true; ends = ends; tests = tests; place = awaited })) b s₁ → Marked b
+  marked-ends b t = rw (← ee) t
+
+  -- they do not, and the block stays
+  pub marked-stays : ends ≡ false → p + toEnd ≤ width → s₁ ≡ sets s₀ (own + p + toNext) (blockBytes next awaited (withTests ∷ pairBytes tests)) → Marked false
+  marked-stays f h e =
+      let one : Swept = sweptMark code row tests awaited in
+      let no : testsPass code row tests awaited ≡ false = sym ee ∙ f in
+      let at : own + p + toNext ≡ own + (p + toNext) = omega arith in
+      let bytes = blockBytes next awaited (withTests ∷ pairBytes tests) in
+      let l : length bytes ≡ 7 = unfold blockBytes pairBytes in refl in
+      let w : markBytes tests ≡ behindFirst code row (part s₀ above width) p one = unfold behindFirst sweptBehind pick in refl in
+      swept-same code row s₀ above own width p next awaited one (nextAwaited code p awaited (one .ends)) refl s₁ false (sym (awaited-stays code p awaited (one .ends) no))
+      (e ∙ ap (λ (n : ℕ). sets s₀ n bytes) at ∙ stored-within bytes s₀ own width (p + toNext) (omega (arith, l, h))
+      ∙ ap (λ (x : List ℕ). partSets s₀ own width (p + toNext) (blockBytes next awaited x)) (some-tests code row tests awaited no ∙ w))
+
+-- ---- the returns of `visit_any` and `visit`
+-- a part is no longer than was asked for
+part-le : (store : List ℕ) (a n : ℕ) → length (part store a n) ≤ n
+unfolding part
+part-le store a n = omega (arith, length-take n (drop a store))
+
+-- so a block that it holds has room in the own one
+pub holds-end : (s₀ flags : List ℕ) (above width p : ℕ) → flags ≡ part s₀ above width → p + toEnd ≤ length flags → p + toEnd ≤ width
+holds-end s₀ flags above width p e h = let l : length flags ≡ length (part s₀ above width) = ap length e in omega (arith, l, h, part-le s₀ above width)
+
 module _ (code : List ℕ) (row : Path) (s₀ : List ℕ) (above own width p : ℕ) (flags : List ℕ) (ef : flags ≡ part s₀ above width)
-    (next : ℕ) (en : next ≡ pairAt flags (p + toNext)) (awaited : ℕ) (ea : awaited ≡ pairAt flags (p + toAwaited)) (s₁ : List ℕ) where
+    (next : ℕ) (en : (next ≡ pairAt flags (p + toNext)) × (next < pairLimit)) (awaited : ℕ) (ea : awaited ≡ pairAt flags (p + toAwaited)) (s₁ : List ℕ) where
   -- what is to be told
   abbrev Visits : Bool → Type 0
-  Visits b = Told s₀ own width (pairAt (part s₀ above width) (p + toNext)) p (visitAt code row (part s₀ above width) p) b s₁
+  Visits b =
+      let following = pairAt (part s₀ above width) (p + toNext) in
+      let v : Visited = visitAt code row (part s₀ above width) p in
+      (b ≡ v .matched) × ((s₁ ≡ blockStored s₀ own width v following p) × ((next ≡ following) × (next < pairLimit)))
 
   -- by another, which it is
   visits-as : (w : Visited) → decided code p awaited (sweepAt code row flags (length code) (p + toFlags) awaited) ≡ w → (b : Bool) → Told s₀ own width next p w b s₁ → Visits b
   visits-as w e b t =
       let o : visitAt code row (part s₀ above width) p ≡ w = unfold visitAt in rw (← ef, ← ea) e in
-      let n : next ≡ pairAt (part s₀ above width) (p + toNext) = en ∙ ap (λ (x : List ℕ). pairAt x (p + toNext)) ef in
+      let n : next ≡ pairAt (part s₀ above width) (p + toNext) = en .0 ∙ ap (λ (x : List ℕ). pairAt x (p + toNext)) ef in
+      let told : Told s₀ own width (pairAt (part s₀ above width) (p + toNext)) p (visitAt code row (part s₀ above width) p) b s₁ =
       told-as s₀ own width (pairAt (part s₀ above width) (p + toNext)) p (visitAt code row (part s₀ above width) p) w o b s₁
-      (t .0, t .1 ∙ ap (λ (x : ℕ). blockStored s₀ own width w x p) n)
+      (t .0, t .1 ∙ ap (λ (x : ℕ). blockStored s₀ own width w x p) n) in
+      (told .0, (told .1, (n, en .1)))
 
   -- of no bytes
   pub visit-none : length code ≤ 0 → s₁ ≡ partSets s₀ own width (p + toNext) (pairBytes next ++ pairBytes awaited) → Visits false
@@ -222,3 +275,12 @@ module _ (code : List ℕ) (row : Path) (s₀ : List ℕ) (above own width p : �
     -- so it is told
     pub visit-by : (b : Bool) → Told s₀ own width next p (sweptVisit code row (part s₀ above width) p awaited one) b s₁ → Visits b
     visit-by b t = visits-as (sweptVisit code row (part s₀ above width) p awaited one) visit-first b t
+
+  -- by the count of its mark
+  pub visit-mark : 0 < length code → getD flags (p + toFlags) 0 ≡ withTests → (tests : ℕ) → tests ≡ pairAt flags (p + toTests)
+      → (b : Bool) → Told s₀ own width next p (sweptVisit code row (part s₀ above width) p awaited (sweptMark code row tests awaited)) b s₁ → Visits b
+  visit-mark h m tests et b t =
+      let d : p + toTests ≡ p + toFlags + 1 = omega arith in
+      let n = tests-some flags (p + toFlags) (getD flags (p + toFlags) 0) refl (λ e. absurd (omega (arith, e, m))) tests (et ∙ ap (pairAt flags) d) in
+      visit-by h (sweptMark code row tests awaited)
+      (one-mark code row flags (p + toFlags) awaited (getD flags (p + toFlags) 0) refl (omega (arith, m)) tests n (testsPass code row tests awaited) refl) b t

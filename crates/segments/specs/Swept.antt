@@ -12,10 +12,14 @@ use Rattle.segments.specs.Met.{placeLimit}
 use Rattle.segments.specs.Parts.{Apart, flagsLimit}
 use Rattle.segments.specs.declared.sweeping.Swept.{Swept}
 
+-- the leftmost compound, of so many tests from i on
+abbrev pub sweptMark : List ℕ → Path → ℕ → ℕ → Swept
+sweptMark code row tests i = record { marked = true; ends = testsPass code row tests i; tests = tests; place = i }
+
 -- the compound whose flag is at j and whose components stand from i on
 unfoldable pub sweptOne : List ℕ → Path → List ℕ → ℕ → ℕ → Swept
 sweptOne code row part j i =
-    pick (leb withoutTests (getD part j 0)) (record { marked = true; ends = testsPass code row (markedTests part j) i; tests = markedTests part j; place = i })
+    pick (leb withoutTests (getD part j 0)) (sweptMark code row (markedTests part j) i)
     (let c : Ended = compoundAt code row (length code) (flagOf (getD part j 0)) i in record { marked = false; ends = c .ends; tests = 0; place = c .place })
 
 -- the bytes behind its flag: the mark of the leftmost, or those of at most k others

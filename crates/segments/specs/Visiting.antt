@@ -26,6 +26,13 @@ pub record VisitLent (code state : List ℕ) (above own width p place : ℕ) : T
   pub near : p ≤ compiledLimit
   pub few : place ≤ placeLimit
 
+-- from the place of a selector whose block has a mark: to the count of its tests, and to the end of the block
+abbrev pub toTests : ℕ
+toTests = 6
+
+abbrev pub toEnd : ℕ
+toEnd = 8
+
 -- the state with the block of the selector at p in the own part
 unfoldable pub blockStored : List ℕ → ℕ → ℕ → Visited → ℕ → ℕ → List ℕ
 blockStored state own width v next p = partSets state own width (p + toNext) (blockBytes next (v .awaited) (v .flags))

@@ -1,9 +1,11 @@
 // Bytes and numbers of two bytes in a part of the state. What lies behind the part reads as 0, and is not written.
 use combinators::bytes::peek;
 ghost use mathlib.Core.Path.{_≡_};
+ghost use mathlib.Core.List.{_∷_};
 ghost use Prim.Native.Nat.{_+_, _≤_, _<_};
 ghost use lib.ListN.{length, replicate};
-ghost use Rattle.segments.specs.Sweep.{pairAt, pairBytes, markBytes, markedTests};
+ghost use lib.Seq.{sets};
+ghost use Rattle.segments.specs.Sweep.{byteValues, pairAt, pairBytes, withTests, markBytes, markedTests};
 ghost use Rattle.segments.specs.Before.{freshBytes};
 ghost use Rattle.segments.specs.Parts.{partSet, partSets, flagsLimit, pairLimit};
 
@@ -13,14 +15,36 @@ const BYTE_VALUES: usize = 256;
 // The mark of a leftmost compound that has no test, and of one that has tests, whose count stands behind it.
 pub const WITHOUT_TESTS: u8 = 2;
 
-const WITH_TESTS: u8 = 3;
+pub const WITH_TESTS: u8 = 3;
 
-// The number at `j`, the lower byte first.
+// The byte as a number of a place's width.
+fn wide(b: u8) -> usize
+    ensures { λ r. ⌜ r ≡ b ⌝ }
+    ensures { λ r. ⌜ r < byteValues ⌝ }
+{
+    b as usize
+}
+
+// The number at `j`, the lower byte first, of two bytes that are there.
+pub fn pair_there(part: &[u8], j: usize) -> usize
+    requires { ⌜ j + 1 < length (now part) ⌝ }
+    ensures { λ r. ⌜ r ≡ pairAt (now (part .entry)) j ⌝ }
+    ensures { λ r. ⌜ r < pairLimit ⌝ }
+{
+    let low = wide(part[j]);
+    let high = wide(part[j + 1]);
+    low + BYTE_VALUES * high
+}
+
+// The number at `j`, the lower byte first. The end is tested once where both bytes are there.
 pub fn pair_at(part: &[u8], j: usize) -> usize
     requires { ⌜ j ≤ flagsLimit ⌝ }
     ensures { λ r. ⌜ r ≡ pairAt (now (part .entry)) j ⌝ }
     ensures { λ r. ⌜ r < pairLimit ⌝ }
 {
+    if j + 1 < part.len() {
+        return pair_there(part, j);
+    }
     let low = peek(part, j) as usize;
     let high = peek(part, j + 1) as usize;
     low + BYTE_VALUES * high
@@ -47,12 +71,25 @@ pub fn put_byte(state: &mut [u8], own: usize, width: usize, at: usize, byte: u8)
     }
 }
 
-// Stores a number, the lower byte first; one too large for two bytes wraps.
+// Stores a number where both bytes have room, the lower byte first; one too large for two bytes wraps.
+pub fn put_pair_there(state: &mut [u8], at: usize, n: usize)
+    requires { ⌜ at + 1 < length (now state) ⌝ }
+    ensures { λ _. ⌜ now (state .exit) ≡ sets (now (state .entry)) at (pairBytes n) ⌝ }
+{
+    state[at] = (n % BYTE_VALUES) as u8;
+    state[at + 1] = (n / BYTE_VALUES % BYTE_VALUES) as u8;
+}
+
+// Stores a number in the part. Its end is tested once where both bytes have room.
 pub fn put_pair(state: &mut [u8], own: usize, width: usize, at: usize, n: usize)
     requires { ⌜ own + width ≤ length (now state) ⌝ }
     requires { ⌜ at ≤ flagsLimit ⌝ }
     ensures { λ _. ⌜ now (state .exit) ≡ partSets (now (state .entry)) own width at (pairBytes n) ⌝ }
 {
+    if at + 1 < width {
+        put_pair_there(state, own + at, n);
+        return;
+    }
     put_byte(state, own, width, at, (n % BYTE_VALUES) as u8);
     put_byte(
         state,
@@ -75,6 +112,16 @@ pub fn put_mark(state: &mut [u8], own: usize, width: usize, at: usize, tests: us
     }
     put_byte(state, own, width, at, WITH_TESTS);
     put_pair(state, own, width, at + 1, tests);
+}
+
+// Stores the mark of one that has tests, where its three bytes have room.
+pub fn put_mark_there(state: &mut [u8], at: usize, tests: usize)
+    requires { ⌜ at + 2 < length (now state) ⌝ }
+    ensures { λ _. ⌜ now (state .exit) ≡ sets (now (state .entry)) at (withTests ∷ pairBytes tests) ⌝ }
+{
+    state[at] = WITH_TESTS;
+    state[at + 1] = (tests % BYTE_VALUES) as u8;
+    state[at + 2] = (tests / BYTE_VALUES % BYTE_VALUES) as u8;
 }
 
 // Stores so many zeros.

@@ -1,8 +1,5 @@
 // The selectors of a sheet that have a style, at a row: from one to the next by what the parent's part says.
-use crate::parts::pair_at;
-use crate::visiting::TO_NEXT;
 use crate::visiting::visit;
-use combinators::texts::part_of;
 ghost use mathlib.Core.Path.{_≡_};
 ghost use Rattle.segments.specs.Met.{rowAlone, handedElement};
 ghost use Rattle.segments.specs.Visiting.{VisitLent};
@@ -35,9 +32,7 @@ pub fn pass_blocks(
         if p == NO_PLACE {
             return;
         }
-        let flags = part_of(state, above, width);
-        let next = pair_at(flags, p + TO_NEXT);
-        visit(
+        let answer = visit(
             compiled,
             state,
             above,
@@ -50,7 +45,7 @@ pub fn pass_blocks(
             text,
             place,
         );
-        p = next;
+        p = answer.next;
         left -= 1;
     }
 }

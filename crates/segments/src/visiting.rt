@@ -1,9 +1,14 @@
 // One selector at a row: by the block of its parent's part, the block of the own part, and whether it matches.
 use crate::compounds::segment_before;
+use crate::compounds::tests_pass;
+use crate::parts::WITH_TESTS;
 use crate::parts::pair_at;
+use crate::parts::pair_there;
 use crate::parts::put_fresh;
 use crate::parts::put_mark;
+use crate::parts::put_mark_there;
 use crate::parts::put_pair;
+use crate::parts::put_pair_there;
 use crate::sweeping::Swept;
 use crate::sweeping::sweep_one;
 use crate::sweeping::sweep_rest;
@@ -12,17 +17,19 @@ use compiled::sheets::HeadAnswer;
 use compiled::sheets::read_head;
 use syntax::rows::AGENT_ORIGIN;
 ghost use mathlib.Core.Path.{_≡_};
-ghost use mathlib.Core.List.{_++_};
+ghost use mathlib.Core.List.{_∷_, _++_};
 ghost use Prim.Native.Nat.{_+_, _≤_, _<_};
 ghost use lib.ListN.{length};
+ghost use lib.Seq.{sets};
 ghost use Rattle.combinators.specs.Part.{part};
 ghost use Rattle.compiled.specs.Sheet.{compiledLimit};
-ghost use Rattle.segments.specs.Sweep.{pairAt, pairBytes};
+ghost use Rattle.segments.specs.Sweep.{pairAt, pairBytes, withTests};
 ghost use Rattle.segments.specs.Before.{beginning, segmentBefore};
 ghost use Rattle.segments.specs.Visits.{toNext, awaits, blockBytes, visitAt};
 ghost use Rattle.segments.specs.Met.{rowAlone, handedElement};
-ghost use Rattle.segments.specs.Parts.{partSets};
-ghost use Rattle.segments.specs.Visiting.{VisitLent, blockStored, behindFirst, sweptVisit, nextAwaited};
+ghost use Rattle.segments.specs.Parts.{partSets, pairLimit};
+ghost use Rattle.segments.specs.Swept.{sweptMark};
+ghost use Rattle.segments.specs.Visiting.{VisitLent, toEnd, blockStored, behindFirst, sweptVisit, nextAwaited};
 
 // From the place of a selector, to where its block has the place of the next selector, that of the segment that is awaited, and its flags.
 pub const TO_NEXT: usize = 1;
@@ -31,10 +38,21 @@ const TO_AWAITED: usize = 3;
 
 pub const TO_FLAGS: usize = 5;
 
+// Where the first flag is the mark of a compound that has tests: to their count, and to the end of the block.
+const TO_TESTS: usize = 6;
+
+const TO_END: usize = 8;
+
 // The segment that is awaited behind a row: the same one, with whether the selector matches; or the one before it, of so many components from a place on.
 pub enum Awaited {
     Same(bool),
     Before(u32, usize),
+}
+
+// Whether a selector matches, and the place of the next one.
+pub struct VisitAnswer {
+    pub matched: bool,
+    pub next: usize,
 }
 
 // Stores the two places that a block begins with.
@@ -45,6 +63,16 @@ pub fn put_places(state: &mut [u8], own: usize, width: usize, p: usize, next: us
 {
     put_pair(state, own, width, p + TO_NEXT, next);
     put_pair(state, own, width, p + TO_AWAITED, awaited);
+}
+
+// Stores the whole block of a selector whose first compound is the leftmost and has tests; `at` is the place of the selector in the state, which has room.
+fn put_marked(state: &mut [u8], at: usize, next: usize, awaited: usize, tests: usize)
+    requires { ⌜ at + toEnd ≤ length (now state) ⌝ }
+    ensures { λ _. ⌜ now (state .exit) ≡ sets (now (state .entry)) (at + toNext) (blockBytes next awaited (withTests ∷ pairBytes tests)) ⌝ }
+{
+    put_pair_there(state, at + TO_NEXT, next);
+    put_pair_there(state, at + TO_AWAITED, awaited);
+    put_mark_there(state, at + TO_FLAGS, tests);
 }
 
 // Stores the block of a selector of which the segment before the one at `awaited` is awaited next.
@@ -186,14 +214,17 @@ fn visit_swept(
     }
 }
 
-// The selector at `p`, at a row: whether it matches; its block goes to the own part, by that of the parent's part.
-pub fn visit(
+// A selector whose first compound is the leftmost and has tests, in a part that holds its whole block: most often they do not pass, and the block stays as it is.
+fn visit_marked(
     compiled: &[u8],
     state: &mut [u8],
     above: usize,
     own: usize,
     width: usize,
     p: usize,
+    next: usize,
+    awaited: usize,
+    tests: usize,
     element: bool,
     name: &[u8],
     attributes: &[u32],
@@ -201,26 +232,31 @@ pub fn visit(
     place: usize,
 ) -> bool
     requires { ⌜ VisitLent (now compiled) (now state) above own width p place ⌝ }
-    ensures { λ r. ⌜ r ≡ (visitAt (now (compiled .entry)) (rowAlone element (handedElement (now (name .entry)) (now (attributes .entry)) (now (text .entry)) place)) (part (now (state .entry)) above width) p) .matched ⌝ }
+    requires { ⌜ 0 < length (now compiled) ⌝ }
+    requires { ⌜ p + toEnd ≤ width ⌝ }
+    ensures { λ r. ⌜ r ≡ (sweptVisit (now (compiled .entry)) (rowAlone element (handedElement (now (name .entry)) (now (attributes .entry)) (now (text .entry)) place)) (part (now (state .entry)) above width) p awaited
+        (sweptMark (now (compiled .entry)) (rowAlone element (handedElement (now (name .entry)) (now (attributes .entry)) (now (text .entry)) place)) tests awaited)) .matched ⌝ }
     ensures { λ _. ⌜ now (state .exit) ≡ blockStored (now (state .entry)) own width
-        (visitAt (now (compiled .entry)) (rowAlone element (handedElement (now (name .entry)) (now (attributes .entry)) (now (text .entry)) place)) (part (now (state .entry)) above width) p)
-        (pairAt (part (now (state .entry)) above width) (p + toNext)) p ⌝ }
+        (sweptVisit (now (compiled .entry)) (rowAlone element (handedElement (now (name .entry)) (now (attributes .entry)) (now (text .entry)) place)) (part (now (state .entry)) above width) p awaited
+        (sweptMark (now (compiled .entry)) (rowAlone element (handedElement (now (name .entry)) (now (attributes .entry)) (now (text .entry)) place)) tests awaited)) next p ⌝ }
 {
-    let flags = part_of(state, above, width);
-    let next = pair_at(flags, p + TO_NEXT);
-    let awaited = pair_at(flags, p + TO_AWAITED);
-    if compiled.len() > 0 {
-        let one = sweep_one(
-            compiled,
-            flags,
-            p + TO_FLAGS,
-            awaited,
-            element,
-            name,
-            attributes,
-            text,
-            place,
-        );
+    let ends = tests_pass(
+        compiled,
+        awaited,
+        tests,
+        element,
+        name,
+        attributes,
+        text,
+        place,
+    );
+    if ends {
+        let one = Swept {
+            marked: true,
+            ends,
+            tests,
+            place: awaited,
+        };
         return visit_swept(
             compiled,
             state,
@@ -238,6 +274,132 @@ pub fn visit(
             place,
         );
     }
-    put_places(state, own, width, p, next, awaited);
+    put_marked(state, own + p, next, awaited, tests);
     false
+}
+
+// The selector at `p`, at a row, by whatever its block is: also one that the part does not hold whole.
+fn visit_any(
+    compiled: &[u8],
+    state: &mut [u8],
+    above: usize,
+    own: usize,
+    width: usize,
+    p: usize,
+    element: bool,
+    name: &[u8],
+    attributes: &[u32],
+    text: &[u8],
+    place: usize,
+) -> VisitAnswer
+    requires { ⌜ VisitLent (now compiled) (now state) above own width p place ⌝ }
+    ensures { λ r. ⌜ r .matched ≡ (visitAt (now (compiled .entry)) (rowAlone element (handedElement (now (name .entry)) (now (attributes .entry)) (now (text .entry)) place)) (part (now (state .entry)) above width) p) .matched ⌝ }
+    ensures { λ _. ⌜ now (state .exit) ≡ blockStored (now (state .entry)) own width
+        (visitAt (now (compiled .entry)) (rowAlone element (handedElement (now (name .entry)) (now (attributes .entry)) (now (text .entry)) place)) (part (now (state .entry)) above width) p)
+        (pairAt (part (now (state .entry)) above width) (p + toNext)) p ⌝ }
+    ensures { λ r. ⌜ r .next ≡ pairAt (part (now (state .entry)) above width) (p + toNext) ⌝ }
+    ensures { λ r. ⌜ r .next < pairLimit ⌝ }
+{
+    let flags = part_of(state, above, width);
+    let next = pair_at(flags, p + TO_NEXT);
+    let awaited = pair_at(flags, p + TO_AWAITED);
+    if compiled.len() > 0 {
+        let one = sweep_one(
+            compiled,
+            flags,
+            p + TO_FLAGS,
+            awaited,
+            element,
+            name,
+            attributes,
+            text,
+            place,
+        );
+        let matched = visit_swept(
+            compiled,
+            state,
+            above,
+            own,
+            width,
+            p,
+            next,
+            awaited,
+            one,
+            element,
+            name,
+            attributes,
+            text,
+            place,
+        );
+        return VisitAnswer { matched, next };
+    }
+    put_places(state, own, width, p, next, awaited);
+    VisitAnswer {
+        matched: false,
+        next,
+    }
+}
+
+// The selector at `p`, at a row: whether it matches; its block goes to the own part, by that of the parent's part. The end of the part is tested once for a block with a mark.
+pub fn visit(
+    compiled: &[u8],
+    state: &mut [u8],
+    above: usize,
+    own: usize,
+    width: usize,
+    p: usize,
+    element: bool,
+    name: &[u8],
+    attributes: &[u32],
+    text: &[u8],
+    place: usize,
+) -> VisitAnswer
+    requires { ⌜ VisitLent (now compiled) (now state) above own width p place ⌝ }
+    ensures { λ r. ⌜ r .matched ≡ (visitAt (now (compiled .entry)) (rowAlone element (handedElement (now (name .entry)) (now (attributes .entry)) (now (text .entry)) place)) (part (now (state .entry)) above width) p) .matched ⌝ }
+    ensures { λ _. ⌜ now (state .exit) ≡ blockStored (now (state .entry)) own width
+        (visitAt (now (compiled .entry)) (rowAlone element (handedElement (now (name .entry)) (now (attributes .entry)) (now (text .entry)) place)) (part (now (state .entry)) above width) p)
+        (pairAt (part (now (state .entry)) above width) (p + toNext)) p ⌝ }
+    ensures { λ r. ⌜ r .next ≡ pairAt (part (now (state .entry)) above width) (p + toNext) ⌝ }
+    ensures { λ r. ⌜ r .next < pairLimit ⌝ }
+{
+    let flags = part_of(state, above, width);
+    if compiled.len() > 0 {
+        if p + TO_END <= flags.len() {
+            if flags[p + TO_FLAGS] == WITH_TESTS {
+                let next = pair_there(flags, p + TO_NEXT);
+                let awaited = pair_there(flags, p + TO_AWAITED);
+                let tests = pair_there(flags, p + TO_TESTS);
+                let matched = visit_marked(
+                    compiled,
+                    state,
+                    above,
+                    own,
+                    width,
+                    p,
+                    next,
+                    awaited,
+                    tests,
+                    element,
+                    name,
+                    attributes,
+                    text,
+                    place,
+                );
+                return VisitAnswer { matched, next };
+            }
+        }
+    }
+    visit_any(
+        compiled,
+        state,
+        above,
+        own,
+        width,
+        p,
+        element,
+        name,
+        attributes,
+        text,
+        place,
+    )
 }

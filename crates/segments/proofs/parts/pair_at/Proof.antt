@@ -1,7 +1,17 @@
+-- Two bytes that are there are read at once, the others one by one.
 use Rattle.segments.specs.Sweep.{pairAt}
 use borrow.Author.Needs.{needs}
 use Rattle.segments.proofs.parts.pair_at.Statement.{statement}
 use Rattle.segments.proofs.parts.pair_at.Tie as tie
+
+add-if1 : tie.Need-add-if1
+add-if1 c = search needs
+
+pair-there-requires : tie.Need-pair-there-requires
+pair-there-requires c κs = search needs
+
+returns : tie.Need-returns
+returns c = c .pair-there .ensures
 
 peek-requires : tie.Need-peek-requires
 peek-requires c κs = search needs
@@ -24,14 +34,17 @@ mul-result c = search needs
 add-result : tie.Need-add-result
 add-result c = search needs
 
-returns : tie.Need-returns
+returns-2 : tie.Need-returns-2
 unfolding pairAt
-returns c = (search needs, search needs)
+returns-2 c = (search needs, search needs)
 
 pub pair-at-spec : {M : Type 1} → statement M
 pair-at-spec =
     tie.close
     (tie.spec
+    add-if1
+    pair-there-requires
+    returns
     peek-requires
     cast-low
     add-peek
@@ -39,4 +52,4 @@ pair-at-spec =
     cast-high
     mul-result
     add-result
-    returns)
+    returns-2)

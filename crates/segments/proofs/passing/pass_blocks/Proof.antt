@@ -1,3 +1,4 @@
+-- Each turn stores the block of one selector, and the visit says where the next one is.
 use mathlib.Core.Path.{refl}
 use Rattle.segments.specs.Met.{rowAlone, handedElement}
 use Rattle.segments.proofs.CodePassLaws as laws
@@ -20,15 +21,6 @@ same-length c = search needs
 returns : tie.Need-returns Inv-loop μ-loop
 returns c = laws.pass-none _ _ _ _ _ _ _ _ _ _ _ _ (c .before .before .loop .inv) (c .before .loop-test .taken) (c .if1 .taken)
 
-part-of-requires : tie.Need-part-of-requires Inv-loop μ-loop
-part-of-requires c κs = search needs
-
-add-pair-at : tie.Need-add-pair-at Inv-loop μ-loop
-add-pair-at c = search needs
-
-pair-at-requires : tie.Need-pair-at-requires Inv-loop μ-loop
-pair-at-requires c κs = search needs
-
 visit-requires : tie.Need-visit-requires Inv-loop μ-loop
 visit-requires c κs = search needs
 
@@ -39,7 +31,11 @@ loop-less : tie.Need-loop-less Inv-loop μ-loop
 loop-less c = search needs
 
 loop-again : tie.Need-loop-again Inv-loop μ-loop
-loop-again c = laws.pass-more _ _ _ _ _ _ _ _ _ _ _ _ (c .before .before .before .before .before .before .before .before .before .loop .inv) (c .before .before .before .before .before .before .before .before .loop-test .taken) (c .before .before .before .before .before .before .before .if1 .left) _ (c .before .before .before .before .before .part-of .ensures) _ (c .before .before .before .before .pair-at .ensures .0) (c .before .before .before .before .pair-at .ensures .1) _ (c .before .before .visit .ensures .1)
+loop-again c =
+    let at-visit = c .before .before in
+    let at-if1 = at-visit .before .before in
+    let at-loop-test = at-if1 .before in
+    laws.pass-more _ _ _ _ _ _ _ _ _ _ _ _ (at-loop-test .before .loop .inv) (at-loop-test .loop-test .taken) (at-if1 .if1 .left) _ (at-visit .visit .ensures .1 .1 .0) (at-visit .visit .ensures .1 .1 .1) _ (at-visit .visit .ensures .1 .0)
 
 same-length-2 : tie.Need-same-length-2 Inv-loop μ-loop
 same-length-2 c = search needs
@@ -56,9 +52,6 @@ pass-blocks-spec =
     loop-holds
     same-length
     returns
-    part-of-requires
-    add-pair-at
-    pair-at-requires
     visit-requires
     sub-left
     loop-less
