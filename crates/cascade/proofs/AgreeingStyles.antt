@@ -1,6 +1,6 @@
 -- Where both cascades leave the same in a slot of an element's style: the declarations that they count are the same, and the laws of proofs/Agreeing.antt
 -- hold of them. Assumes nothing.
-use mathlib.Core.Path.{_≡_, refl, sym, ap, ap₂, _∙_}
+use mathlib.Core.Path.{_≡_, refl, sym, ap, ap₂, subst, _∙_}
 use mathlib.Core.Bool.{Bool, true, false}
 use mathlib.Core.List.{List, [], _∷_, _++_, map, foldl, append-assoc}
 use Prim.Native.Nat.{ℕ, _≤_, _<_}
@@ -15,7 +15,7 @@ use Rattle.cascade.specs.Specificity.{noSpecificity, inlineSpecificity, 
 use Rattle.cascade.specs.declared.slots.Cascade.{Cascade}
 use Rattle.cascade.specs.declared.slots.Cascade.the-variants.{Crate, Book}
 use Rattle.cascade.specs.Slot.{Candidate, Slot, empty, maybeUpdate, bookUpdate, updateBy, inheritedSlot}
-use Rattle.cascade.specs.Record.{slotCount, recordCount, mainRecord, beforeRecord, Record, ComputedStyle, Formed, recordIn, slotIn, isNamed, mergeBy, inherit, inheritRecord, inheritInBookOrder, inheritBy, declaredBy, cascadeBy, Declared, AttributeStyle, Sources, fromRule, fromAttribute, crateDeclared, colourAttributes, styleAttributes, bookDeclared, candidatesFor}
+use Rattle.cascade.specs.Record.{slotCount, recordCount, mainRecord, beforeRecord, Record, ComputedStyle, Formed, recordIn, slotIn, isNamed, mergeBy, inherit, inheritRecord, inheritInBookOrder, inheritBy, declaredBy, cascadeBy, Declared, RuleStyle, AttributeStyle, Sources, fromRule, fromAttribute, crateDeclared, colourAttributes, styleAttributes, bookDeclared, candidatesFor}
 use Rattle.cascade.specs.Agreeing.{KnownOrigin, AllDecidedAlike, InheritedAlike, by-author, SameOrInherited, CountedAlike, declaredFor, ReplacedAlike, AgreesDown, NormalAuthor, NotLessSpecific, AuthorDown}
 use Rattle.cascade.proofs.Agreeing.{Holds, same-slot, slot-agrees, one-origin}
 use Rattle.cascade.proofs.Cascading.{book-folds, crate-folds, merge-present, cascade-main-present}
@@ -265,6 +265,24 @@ module _ {A : Type 0} where
 
   -- ---- down a path, sheets of the author alone without `!important`
   module _ (r k : ℕ) where
+    -- what they declare is the author's and normal; `style` attributes are so in any case
+    pub author-alone : (x : Sources A) → x .agent ≡ [] → x .user ≡ [] → All (λ s. s .style .important ≡ false) (x .author) → All (NormalAuthor r k) (declaredFor r k x)
+    author-alone x a u n = all-for r k (NormalAuthor r k) (crateDeclared x) all
+      where
+        Normal : Declared A → Type 0
+        Normal d = (d .candidate .weight .origin ≡ authorOrigin) × (d .candidate .weight .important ≡ false)
+
+        none-of : (o : ℕ) (l : List (RuleStyle A)) → l ≡ [] → All Normal (map (fromRule o) l)
+        none-of o l e = subst (λ m. All Normal (map (fromRule o) m)) (sym e) tt
+
+        all : All Normal (crateDeclared x)
+        all =
+            unfold crateDeclared fromRule fromAttribute in
+            all-append Normal (map (fromRule agentOrigin) (x .agent)) _ (none-of agentOrigin (x .agent) a)
+            (all-append Normal (map (fromRule userOrigin) (x .user)) _ (none-of userOrigin (x .user) u)
+            (all-append Normal (map (fromRule authorOrigin) (x .author)) _ (all-map (λ s. s .style .important ≡ false) Normal (fromRule authorOrigin) (λ s e. (refl, e)) (x .author) n)
+            (all-map (λ _. Unit) Normal (fromAttribute false inlineSpecificity) (λ _ _. (refl, refl)) (x .attributes) (of-all (λ _. Unit) (λ _. tt) (x .attributes)))))
+
     author-above : (xs : List (Sources A)) → AuthorDown r k xs → All (λ z. All (NormalAuthor r k) (declaredFor r k z)) xs
     author-above [] h = tt
     author-above (x ∷ above) h = (h .1 .0, author-above above (h .1 .1 .1))

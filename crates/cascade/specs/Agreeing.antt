@@ -71,13 +71,15 @@ module _ {A : Type 0} (r k : ℕ) where
   AgreesDown (x ∷ above) =
       All (CountedAlike r k) (x .attributes) × (AllDecidedAlike (declaredFor x) × (All (λ z. All (ReplacedAlike x) (declaredFor z)) above × AgreesDown above))
 
-  -- what sheets of the author alone have without `!important`, where no element's declaration is less specific than one of an element above it
+  -- a normal declaration of the author
   abbrev pub NormalAuthor : Candidate A → Type 0
   NormalAuthor c = (c .weight .origin ≡ authorOrigin) × (c .weight .important ≡ false)
 
+  -- no declaration of an element is less specific than c
   abbrev pub NotLessSpecific : Sources A → Candidate A → Type 0
   NotLessSpecific x c = All (λ y. ¬ (LessSpecific (y .weight .spec) (c .weight .spec))) (declaredFor x)
 
+  -- what sheets of the author alone say without `!important`, where no declaration is less specific than one of an element above
   abbrev pub AuthorDown : List (Sources A) → Type 0
   AuthorDown [] = Unit
   AuthorDown (x ∷ above) =

@@ -65,15 +65,19 @@ test-other-words : (words isWhiteSpace (smallA ∷ nextLine ∷ smallN ∷ []) �
 unfolding words withoutEmpty pieces longer isSelectorsWhiteSpace isWhiteSpace member pick or is
 test-other-words = (refl, refl, refl, refl)
 
--- the same by where it stands: a word has a character and no white space, and white space or an end of the text on both sides
+-- ---- the same by where a word stands: white space or an end of the text on both sides
+
+-- what stands before it
 pub data EndsInWhite (white : ℕ → Bool) : List ℕ → Type 0 where
   nothing-before : EndsInWhite white []
   white-before : (t : List ℕ) (v : ℕ) → white v ≡ true → EndsInWhite white (t ++ (v ∷ []))
 
+-- what stands behind it
 pub data BeginsWithWhite (white : ℕ → Bool) : List ℕ → Type 0 where
   nothing-behind : BeginsWithWhite white []
   white-behind : (v : ℕ) (t : List ℕ) → white v ≡ true → BeginsWithWhite white (v ∷ t)
 
+-- w has no white space, and is parted from the rest of a text
 pub record Parted (white : ℕ → Bool) (w t : List ℕ) : Type 0 where
   pub earlier : List ℕ
   pub later : List ℕ
