@@ -74,20 +74,24 @@ module _ (code : List ℕ) where
 
 -- ---- returns of `visit_found`
 module _ (code : List ℕ) (e : Element) (above own width p : ℕ) (state row : List ℕ) (m : Bool) (em : m ≡ visitAt code (rowAlone true e) (part state above width) p .matched)
-    (state₁ : List ℕ) (es : state₁ ≡ blockStored state own width (visitAt code (rowAlone true e) (part state above width) p) (pairAt (part state above width) (p + toNext)) p) where
+    (state₁ : List ℕ) (es : state₁ ≡ blockStored state own width (visitAt code (rowAlone true e) (part state above width) p) (pairAt (part state above width) (p + toNext)) p)
+    (next : ℕ) (en : (next ≡ pairAt (part state above width) (p + toNext)) × (next < pairLimit)) where
   -- what is left
   abbrev Visits : List ℕ → Type 0
-  Visits z = (state₁ ≡ visitStored code (e ∷ []) above own width p state) × (z ≡ mergedRow Crate row (declaredAt code (matchedHere (visitAt code (e ∷ []) (part state above width) p) p)))
+  Visits z =
+      (state₁ ≡ visitStored code (e ∷ []) above own width p state)
+      × ((z ≡ mergedRow Crate row (declaredAt code (matchedHere (visitAt code (e ∷ []) (part state above width) p) p)))
+      × ((next ≡ nextFrom state above width p) × (next < pairLimit)))
 
   -- its styles are merged
   pub visit-matched : m ≡ true → (z : List ℕ) → z ≡ mergedRow Crate row (declaredAt code (p ∷ [])) → Visits z
   unfolding rowAlone visitStored nextFrom matchedHere pick
-  visit-matched t z h = (es, rw (← em, t) h)
+  visit-matched t z h = (es, (rw (← em, t) h, (en .0, en .1)))
 
   -- it has none here
   pub visit-passed : m ≡ false → Visits row
   unfolding rowAlone visitStored nextFrom matchedHere pick readIn selectorsDeclare
-  visit-passed f = (es, rw (← em, f) (sym (merged-none Crate row)))
+  visit-passed f = (es, (rw (← em, f) (sym (merged-none Crate row)), (en .0, en .1)))
 
 -- ---- the loop of `pass_found`
 module _ (code : List ℕ) (row : Path) (above own width : ℕ) where
@@ -126,7 +130,7 @@ module _ (code : List ℕ) (row : Path) (above own width : ℕ) where
         let z : declaredAt code [] ≡ [] = unfold readIn selectorsDeclare in refl in
         (stored.pass-none code row state₀ above own width first count place state p left (v .passing) h e, merging-done out₀ _ out _ (v .merging) (ap (declaredAt code) n ∙ z))
 
-    module _ (h : 0 < left) (z : ¬ (p ≡ noPlace)) (flags : List ℕ) (ef : flags ≡ part state above width) (next : ℕ) (en : next ≡ pairAt flags (p + toNext)) (small : next < pairLimit)
+    module _ (h : 0 < left) (z : ¬ (p ≡ noPlace)) (next : ℕ) (en : next ≡ nextFrom state above width p) (small : next < pairLimit)
         (state₁ : List ℕ) (es : state₁ ≡ visitStored code row above own width p state) where
       -- the parent's part, what a visit comes to by it, and the place that it says
       abbrev flagsAbove : List ℕ
@@ -138,6 +142,11 @@ module _ (code : List ℕ) (row : Path) (above own width : ℕ) where
       abbrev following : ℕ
       following = pairAt flagsAbove (p + toNext)
 
+      -- which is the next one
+      next-is : next ≡ following
+      unfolding nextFrom
+      next-is = en
+
       -- by its block
       block-is : state₁ ≡ blockStored state own width visited following p
       unfolding visitStored nextFrom
@@ -148,8 +157,7 @@ module _ (code : List ℕ) (row : Path) (above own width : ℕ) where
       others-are =
           let a : part state₁ above width ≡ flagsAbove = ap (λ (x : List ℕ). part x above width) block-is ∙ block-above state own width visited following p above (v .passing .lent .apart) in
           let b : part state₁ own width ≡ blockSet visited following p (part state own width) = ap (λ (x : List ℕ). part x own width) block-is ∙ block-own state own width visited following p in
-          let c : next ≡ following = en ∙ ap (λ (x : List ℕ). pairAt x (p + toNext)) ef in
-          rw (a, b, c)
+          rw (a, b, next-is)
 
       -- the first declares, then the others
       declared-on : declaredFrom state left p ≡ declaredAt code (matchedHere visited p) ++ declaredFrom state₁ (left - 1) next
@@ -165,7 +173,7 @@ module _ (code : List ℕ) (row : Path) (above own width : ℕ) where
           → Finding state₀ out₀ first count place state₁ out₁ next (left - 1)
       find-more out₁ eo =
           record {
-            passing = stored.pass-more code row state₀ above own width first count place state p left (v .passing) h z flags ef next en small state₁ block-is;
+            passing = stored.pass-more code row state₀ above own width first count place state p left (v .passing) h z next next-is small state₁ block-is;
             merging = merging-more out₀ _ out _ (v .merging) _ _ declared-on out₁ eo;
           }
 

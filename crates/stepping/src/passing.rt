@@ -1,17 +1,15 @@
 // The selectors of a compiled sheet at a row: by the part of its parent into its own, and at an element the styles of those that match.
 use crate::merging::merge_found;
-use combinators::texts::part_of;
 use compiled::numbers::NumberAnswer;
 use compiled::numbers::read_number;
 use segments::document::first_styled;
 use segments::document::tell_document;
-use segments::parts::pair_at;
 use segments::passing::NO_PLACE;
 use segments::passing::pass_blocks;
-use segments::visiting::TO_NEXT;
 use segments::visiting::visit;
 ghost use mathlib.Core.Path.{_≡_};
 ghost use mathlib.Core.List.{[], _∷_};
+ghost use Prim.Native.Nat.{_<_};
 ghost use lib.Seq.{sets};
 ghost use Rattle.combinators.specs.Part.{part};
 ghost use Rattle.cascade.specs.declared.slots.Cascade.the-variants.{Crate};
@@ -21,12 +19,13 @@ ghost use Rattle.segments.specs.Met.{handedElement};
 ghost use Rattle.segments.specs.Visits.{visitAt};
 ghost use Rattle.segments.specs.Visiting.{VisitLent};
 ghost use Rattle.segments.specs.Pass.{matchedHere, passFrom};
-ghost use Rattle.segments.specs.Passing.{visitStored, passStored};
+ghost use Rattle.segments.specs.Parts.{pairLimit};
+ghost use Rattle.segments.specs.Passing.{nextFrom, visitStored, passStored};
 ghost use Rattle.segments.specs.Down.{passAt};
 ghost use Rattle.runner.specs.Run.{selectorsDeclare, foundAt};
 ghost use Rattle.stepping.specs.Passing.{SheetLent, DocumentLent, documentPassed};
 
-// The selector at `p`, at an element: its block goes to the own part, and where it matches its styles are merged.
+// The selector at `p`, at an element: its block goes to the own part, and where it matches its styles are merged. Returns the place of the next selector.
 fn visit_found(
     compiled: &[u8],
     state: &mut [u8],
@@ -39,14 +38,16 @@ fn visit_found(
     text: &[u8],
     place: usize,
     out: &mut [u32],
-)
+) -> usize
     requires { ⌜ RowRoom (now out) ⌝ }
     requires { ⌜ VisitLent (now compiled) (now state) above own width p place ⌝ }
     ensures { λ _. ⌜ now (state .exit) ≡ visitStored (now (compiled .entry)) (handedElement (now (name .entry)) (now (attributes .entry)) (now (text .entry)) place ∷ []) above own width p (now (state .entry)) ⌝ }
     ensures { λ _. ⌜ now (out .exit) ≡ mergedRow Crate (now (out .entry)) (selectorsDeclare (foundAt (now (compiled .entry))
         (matchedHere (visitAt (now (compiled .entry)) (handedElement (now (name .entry)) (now (attributes .entry)) (now (text .entry)) place ∷ []) (part (now (state .entry)) above width) p) p))) ⌝ }
+    ensures { λ r. ⌜ r ≡ nextFrom (now (state .entry)) above width p ⌝ }
+    ensures { λ r. ⌜ r < pairLimit ⌝ }
 {
-    if visit(
+    let answer = visit(
         compiled,
         state,
         above,
@@ -58,9 +59,12 @@ fn visit_found(
         attributes,
         text,
         place,
-    ) {
+    );
+    if answer.matched {
         merge_found(compiled, p, out);
+        return answer.next;
     }
+    answer.next
 }
 
 // At most `count` selectors from the one at `first` on, at an element.
@@ -90,9 +94,7 @@ fn pass_found(
         if p == NO_PLACE {
             return;
         }
-        let flags = part_of(state, above, width);
-        let next = pair_at(flags, p + TO_NEXT);
-        visit_found(
+        p = visit_found(
             compiled,
             state,
             above,
@@ -105,7 +107,6 @@ fn pass_found(
             place,
             out,
         );
-        p = next;
         left -= 1;
     }
 }

@@ -29,15 +29,6 @@ returns c =
     let at-loop = at-loop-test .before in
     laws.find-none _ _ _ _ _ _ _ _ _ _ _ _ _ _ (at-loop .loop .inv) (at-loop-test .loop-test .taken) (c .if1 .taken)
 
-part-of-requires : tie.Need-part-of-requires Inv-loop μ-loop
-part-of-requires c κs = search needs
-
-add-pair-at : tie.Need-add-pair-at Inv-loop μ-loop
-add-pair-at c = search needs
-
-pair-at-requires : tie.Need-pair-at-requires Inv-loop μ-loop
-pair-at-requires c κs = search needs
-
 visit-found-requires : tie.Need-visit-found-requires Inv-loop μ-loop
 visit-found-requires c κs = search needs
 
@@ -50,12 +41,10 @@ loop-less c = search needs
 loop-again : tie.Need-loop-again Inv-loop μ-loop
 loop-again c =
     let at-visit-found = c .before .before .before .before in
-    let at-pair-at = at-visit-found .before .before .before in
-    let at-part-of = at-pair-at .before in
-    let at-if1 = at-part-of .before .before in
+    let at-if1 = at-visit-found .before .before .before in
     let at-loop-test = at-if1 .before in
     let at-loop = at-loop-test .before in
-    laws.find-more _ _ _ _ _ _ _ _ _ _ _ _ _ _ (at-loop .loop .inv) (at-loop-test .loop-test .taken) (at-if1 .if1 .left) _ (at-part-of .part-of .ensures) _ (at-pair-at .pair-at .ensures .0) (at-pair-at .pair-at .ensures .1) _ (at-visit-found .visit-found .ensures .0) _ (at-visit-found .visit-found .ensures .1)
+    laws.find-more _ _ _ _ _ _ _ _ _ _ _ _ _ _ (at-loop .loop .inv) (at-loop-test .loop-test .taken) (at-if1 .if1 .left) _ (at-visit-found .visit-found .ensures .1 .1 .0) (at-visit-found .visit-found .ensures .1 .1 .1) _ (at-visit-found .visit-found .ensures .0) _ (at-visit-found .visit-found .ensures .1 .0)
 
 same-length-3 : tie.Need-same-length-3 Inv-loop μ-loop
 same-length-3 c = search needs
@@ -78,9 +67,6 @@ pass-found-spec =
     same-length
     same-length-2
     returns
-    part-of-requires
-    add-pair-at
-    pair-at-requires
     visit-found-requires
     sub-left
     loop-less
