@@ -1,62 +1,50 @@
 -- Returns of `read_behind`: one sheet, read behind what the stores hold.
-use mathlib.Core.Path.{_≡_, refl, ap, sym, subst, _∙_}
-use mathlib.Core.List.{List, []}
+use mathlib.Core.Path.{_≡_, refl, sym, _∙_}
+use mathlib.Core.List.{List}
 use Prim.Native.Nat.{ℕ, _+_, _-_, _*_, _≤_}
 use native.Mathlib.Omega.{arith}
 use borrow.Rule.Slice.PartMut.{putMid}
 use lib.ListN.{length}
 use lib.Seq.{sets}
-use Rattle.combinators.proofs.Lists.{nil-of}
 use Rattle.syntax.specs.RuleLayout.{ruleRows, ruleTexts}
-use Rattle.syntax.specs.Stream.{rowsMany, textsMany}
 use Rattle.syntax.specs.Selector.{RuleSet}
 use Rattle.selectors.specs.Outcome.{Outcome, reads, fails, panics, onOutcome}
-use Rattle.selectors.specs.Reading.{reading, written, Bounds, takenBy, countBy, numbersBy, textBy}
+use Rattle.selectors.specs.Reading.{manyReading, written}
 use Rattle.sheets.specs.Rules.{ruleWidth, SheetRoom}
-use Rattle.sheets.specs.Sheet.{sheetFrom, sheetOf}
-use Rattle.selectors.specs.declared.readings.Reading.{Reading}
-use Rattle.selectors.specs.declared.readings.Reading.the-variants.{Reads, Fails, Panics}
+use Rattle.sheets.specs.Sheet.{sheetOf}
+use Rattle.selectors.specs.declared.readings.ManyReading.{ManyReading}
+use Rattle.selectors.specs.declared.readings.ManyReading.the-variants as many
+use Rattle.selectors.proofs.ReadingLaws.{many-by}
+use Rattle.sheets.proofs.SheetBounds.{sheet-keeps}
+use Rattle.sheets.proofs.SheetLaws.{sheet-never-fails}
 use Rattle.origins.specs.Reading.{rulesAnswer, RulesSize, RulesBounds, ReadRoom}
 use Rattle.origins.specs.declared.reading.RulesRead.{RulesRead}
 use Rattle.origins.specs.declared.reading.RulesRead.the-variants.{Rules, Panic}
 use Rattle.origins.proofs.Parts.{lentPart, part-length, part-zeros, part-stored}
 
 -- ---- answers, by the reader's
-answer-reads : (o : Outcome (List RuleSet)) (n c m x : ℕ) → Reads n c m x ≡ reading length (ruleRows 0) ruleTexts o → Rules c m x ≡ rulesAnswer o
-unfolding reading rulesAnswer onOutcome
+answer-reads : (o : Outcome (List RuleSet)) (n c m x : ℕ) → many.Reads n c m x ≡ manyReading length (ruleRows 0) ruleTexts o → Rules c m x ≡ rulesAnswer o
+unfolding manyReading rulesAnswer onOutcome
 answer-reads (reads k rs) n c m x e = cc
-answer-reads fails n c m x e = absurd (let z : _≡_ {A = ℕ} 0 1 = cc in omega arith)
+answer-reads fails n c m x e = cc
 answer-reads (panics p) n c m x e = absurd (let z : _≡_ {A = ℕ} 0 1 = cc in omega arith)
 
-answer-fails : (o : Outcome (List RuleSet)) → Fails ≡ reading length (ruleRows 0) ruleTexts o → Rules 0 0 0 ≡ rulesAnswer o
-unfolding reading rulesAnswer onOutcome
-answer-fails (reads k rs) e = absurd (let z : _≡_ {A = ℕ} 0 1 = cc in omega arith)
-answer-fails fails e = refl
-answer-fails (panics p) e = absurd (let z : _≡_ {A = ℕ} 0 1 = cc in omega arith)
-
-answer-panics : (o : Outcome (List RuleSet)) (p : ℕ) → Panics p ≡ reading length (ruleRows 0) ruleTexts o → Panic p ≡ rulesAnswer o
-unfolding reading rulesAnswer onOutcome
+answer-panics : (o : Outcome (List RuleSet)) (p : ℕ) → many.Panics p ≡ manyReading length (ruleRows 0) ruleTexts o → Panic p ≡ rulesAnswer o
+unfolding manyReading rulesAnswer onOutcome
 answer-panics (reads k rs) p e = absurd (let z : _≡_ {A = ℕ} 0 1 = cc in omega arith)
 answer-panics fails p e = absurd (let z : _≡_ {A = ℕ} 0 1 = cc in omega arith)
 answer-panics (panics q) p e = cc
 
--- an empty sheet has no texts
-empty-text : (s : List ℕ) (n c m x : ℕ) → Reads n c m x ≡ reading length (ruleRows 0) ruleTexts (sheetOf s) → length s ≡ 0 → x ≡ 0
-unfolding reading onOutcome sheetOf sheetFrom ruleTexts textsMany textBy
-empty-text s n c m x e h =
-    let z : s ≡ [] = nil-of s (omega arith) in
-    let g : Reads n c m x ≡ Reads 0 0 (length (ruleRows 0 [])) 0 = e ∙ ap (λ (t : List ℕ). reading length (ruleRows 0) ruleTexts (sheetOf t)) z in
-    ap textBy g
-
 -- what was read is no more than there is
-size : (s : List ℕ) (n c m x : ℕ) → Reads n c m x ≡ reading length (ruleRows 0) ruleTexts (sheetOf s) → Bounds ruleWidth 0 s (Reads n c m x) → RulesSize s c m x
-unfolding takenBy countBy numbersBy textBy
-size s n c m x e b =
+size : (s : List ℕ) (n c m x : ℕ) → many.Reads n c m x ≡ manyReading length (ruleRows 0) ruleTexts (sheetOf s) → RulesSize s c m x
+size s n c m x e =
+    let r = many-by length (ruleRows 0) ruleTexts (sheetOf s) n c m x (sheet-never-fails s) e in
+    let k = sheet-keeps s n (r .value) (r .reads-it) in
     record {
-      counted = omega (arith, b .taken, b .count);
-      wide = omega (arith, b .taken, b .numbers);
-      short = omega (arith, b .taken, b .text);
-      nothing = empty-text s n c m x e;
+      counted = omega (arith, r .counts, k .within, k .counted);
+      wide = omega (arith, r .rows, k .within, k .wide);
+      short = omega (arith, r .texts, k .within, k .long);
+      nothing = λ h. omega (arith, r .texts, k .within, k .long);
     }
 
 module _ {s rules : List ℕ} {place : ℕ} {tokens brackets texts : List ℕ} {fill : ℕ} (o : ReadRoom s rules place tokens brackets texts fill) where
@@ -89,9 +77,9 @@ module _ {s rules : List ℕ} {place : ℕ} {tokens brackets texts : List ℕ} {
       }
 
   -- what the call leaves, by the reader's answer
-  module _ {r : Reading} {y x b z : List ℕ} (er : r ≡ reading length (ruleRows 0) ruleTexts (sheetOf s))
+  module _ {r : ManyReading} {y x b z : List ℕ} (er : r ≡ manyReading length (ruleRows 0) ruleTexts (sheetOf s))
       (ey : y ≡ sets (lentPart rules place place-in) 0 (written (ruleRows 0) (sheetOf s))) (ex : x ≡ tokens) (eb : b ≡ brackets)
-      (ez : z ≡ sets (lentPart texts fill fill-in) 0 (written ruleTexts (sheetOf s))) (k : Bounds ruleWidth 0 s r) where
+      (ez : z ≡ sets (lentPart texts fill fill-in) 0 (written ruleTexts (sheetOf s))) where
     abbrev Left : RulesRead → Type 0
     Left a =
         (a ≡ rulesAnswer (sheetOf s))
@@ -104,18 +92,11 @@ module _ {s rules : List ℕ} {place : ℕ} {tokens brackets texts : List ℕ} {
     left : (a : RulesRead) → a ≡ rulesAnswer (sheetOf s) → RulesBounds s a → Left a
     left a e h = (e, (part-stored rules place place-in (written (ruleRows 0) (sheetOf s)) y ey, (ex, (eb, (part-stored texts fill fill-in (written ruleTexts (sheetOf s)) z ez, h)))))
 
-    pub rules-read : {n count numbers text : ℕ} → r ≡ Reads n count numbers text → Left (Rules count numbers text)
+    pub rules-read : {n count numbers text : ℕ} → r ≡ many.Reads n count numbers text → Left (Rules count numbers text)
     unfolding RulesBounds
     rules-read {n} {count} {numbers} {text} g =
-        left (Rules count numbers text) (answer-reads (sheetOf s) n count numbers text (sym g ∙ er))
-        (size s n count numbers text (sym g ∙ er) (subst (Bounds ruleWidth 0 s) g k))
+        left (Rules count numbers text) (answer-reads (sheetOf s) n count numbers text (sym g ∙ er)) (size s n count numbers text (sym g ∙ er))
 
-    pub rules-fail : r ≡ Fails → Left (Rules 0 0 0)
-    unfolding RulesBounds
-    rules-fail g =
-        left (Rules 0 0 0) (answer-fails (sheetOf s) (sym g ∙ er))
-        (record { counted = omega arith; wide = omega arith; short = omega arith; nothing = λ _. refl })
-
-    pub rules-panic : {p : ℕ} → r ≡ Panics p → Left (Panic p)
+    pub rules-panic : {p : ℕ} → r ≡ many.Panics p → Left (Panic p)
     unfolding RulesBounds
     rules-panic {p} g = left (Panic p) (answer-panics (sheetOf s) p (sym g ∙ er)) tt

@@ -1,7 +1,7 @@
 // The three sheets read into one set of stores, one behind the other.
 use combinators::stores::wipe_bytes;
 use combinators::stores::wipe_numbers;
-use selectors::readings::Reading;
+use selectors::readings::ManyReading;
 use sheets::statements::parse_stylesheet;
 ghost use mathlib.Core.Path.{_≡_};
 ghost use lib.Seq.{sets};
@@ -68,7 +68,7 @@ fn read_behind(
     ensures { λ r. ⌜ RulesBounds (now (s .entry)) r ⌝ }
 {
     match parse_stylesheet(s, &mut rules[place..], tokens, brackets, &mut texts[fill..]) {
-        Reading::Reads {
+        ManyReading::Reads {
             count,
             numbers,
             text,
@@ -80,14 +80,7 @@ fn read_behind(
                 bytes: text,
             };
         }
-        Reading::Fails => {
-            return RulesRead::Rules {
-                count: 0,
-                numbers: 0,
-                bytes: 0,
-            };
-        }
-        Reading::Panics(p) => {
+        ManyReading::Panics(p) => {
             return RulesRead::Panic(p);
         }
     }

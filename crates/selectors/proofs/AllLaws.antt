@@ -1,5 +1,5 @@
 -- Sums over lists and what they say of all values, and what holds of all that an outcome may have read.
-use mathlib.Core.Path.{_≡_, refl, subst}
+use mathlib.Core.Path.{_≡_, refl, ap, subst}
 use mathlib.Core.List.{List, [], _∷_, _++_, map}
 use Prim.Native.Nat.{ℕ, _+_, _≤_}
 use native.Mathlib.Omega.{arith}
@@ -43,35 +43,72 @@ texts-map x g e [] = refl
 texts-map x g e (a ∷ xs) = rw (e a, texts-map x g e xs)
 
 -- ---- outcomes
--- what holds of the bytes taken and of what was read, where something was
-abbrev pub Where : {A : Type 0} → (ℕ → A → Type 0) → Outcome A → Type 0
-Where P (reads n a) = P n a
-Where P fails = Unit
-Where P (panics p) = Unit
+-- one that reads, or where the crate panics, is none that fails
+readCode : {A : Type 0} → Outcome A → ℕ
+readCode (reads n a) = 1
+readCode fails = 0
+readCode (panics p) = 2
+
+-- a reading is no failure
+pub reads-no : {A : Type 0} {n : ℕ} {a : A} → reads n a ≡ fails → ⊥
+unfolding readCode
+reads-no e = absurd (let z : _≡_ {A = ℕ} 1 0 = ap readCode e in omega arith)
+
+-- a panic is none
+pub panics-no : {A : Type 0} {p : ℕ} → _≡_ {A = Outcome A} (panics p) fails → ⊥
+unfolding readCode
+panics-no {A} e = absurd (let z : _≡_ {A = ℕ} 2 0 = ap (readCode {A = A}) e in omega arith)
+
+-- what holds of the bytes taken and of what was read, where something was; the crate panics at m or before
+abbrev pub Where : {A : Type 0} → ℕ → (ℕ → A → Type 0) → Outcome A → Type 0
+Where m P (reads n a) = P n a
+Where m P fails = Unit
+Where m P (panics p) = p ≤ m
 
 -- by what was read
-pub where-read : {A : Type 0} (P : ℕ → A → Type 0) (o : Outcome A) (n : ℕ) (a : A) → o ≡ reads n a → Where P o → P n a
-where-read P o n a e w = subst (Where P) e w
+pub where-read : {A : Type 0} (m : ℕ) (P : ℕ → A → Type 0) (o : Outcome A) (n : ℕ) (a : A) → o ≡ reads n a → Where m P o → P n a
+where-read m P o n a e w = subst (Where m P) e w
+
+-- by where the crate panics
+pub where-panics : {A : Type 0} (m : ℕ) (P : ℕ → A → Type 0) (o : Outcome A) (p : ℕ) → o ≡ panics p → Where m P o → p ≤ m
+where-panics m P o p e w = subst (Where m P) e w
 
 -- what holds of all that may be read, moved behind some bytes, holds there
-pub where-behind : {A B : Type 0} (P : ℕ → A → Type 0) (Q : ℕ → B → Type 0) (k : ℕ) (o : Outcome A) (f : A → B)
-    → ((n : ℕ) (a : A) → P n a → Q (k + n) (f a)) → Where P o → Where Q (behind k o f)
+pub where-behind : {A B : Type 0} (m i : ℕ) (P : ℕ → A → Type 0) (Q : ℕ → B → Type 0) (k : ℕ) (o : Outcome A) (f : A → B)
+    → ((n : ℕ) (a : A) → P n a → Q (k + n) (f a)) → k + m ≤ i → Where m P o → Where i Q (behind k o f)
 unfolding behind onOutcome
-where-behind P Q k (reads n a) f h p = h n a p
-where-behind P Q k fails f h p = tt
-where-behind P Q k (panics q) f h p = tt
+where-behind m i P Q k (reads n a) f h l p = h n a p
+where-behind m i P Q k fails f h l p = tt
+where-behind m i P Q k (panics q) f h l p = omega arith
 
 -- what holds of each way that a reading may go on holds of it
-pub where-then : {A B : Type 0} (P : ℕ → A → Type 0) (Q : ℕ → B → Type 0) (o : Outcome A) (f : ℕ → A → Outcome B) (b : Outcome B) (g : ℕ → ℕ)
-    → ((n : ℕ) (a : A) → P n a → Where Q (f n a)) → Where Q b → Where P o → Where Q (onOutcome o f b (λ p. panics (g p)))
+pub where-then : {A B : Type 0} (m i : ℕ) (P : ℕ → A → Type 0) (Q : ℕ → B → Type 0) (o : Outcome A) (f : ℕ → A → Outcome B) (b : Outcome B) (g : ℕ → ℕ)
+    → ((n : ℕ) (a : A) → P n a → Where i Q (f n a)) → Where i Q b → ((p : ℕ) → p ≤ m → g p ≤ i) → Where m P o
+    → Where i Q (onOutcome o f b (λ p. panics (g p)))
 unfolding onOutcome
-where-then P Q (reads n a) f b g h k p = h n a p
-where-then P Q fails f b g h k p = k
-where-then P Q (panics q) f b g h k p = tt
+where-then m i P Q (reads n a) f b g h k l p = h n a p
+where-then m i P Q fails f b g h k l p = k
+where-then m i P Q (panics q) f b g h k l p = l q p
 
 -- what holds of two alternatives holds of the first that reads
-pub where-else : {A : Type 0} (P : ℕ → A → Type 0) (o q : Outcome A) → Where P o → Where P q → Where P (orElse o q)
+pub where-else : {A : Type 0} (m : ℕ) (P : ℕ → A → Type 0) (o q : Outcome A) → Where m P o → Where m P q → Where m P (orElse o q)
 unfolding orElse
-where-else P (reads n a) q h k = h
-where-else P fails q h k = k
-where-else P (panics p) q h k = tt
+where-else m P (reads n a) q h k = h
+where-else m P fails q h k = k
+where-else m P (panics p) q h k = h
+
+-- ---- what never fails
+-- behind some bytes
+pub behind-never : {A B : Type 0} (k : ℕ) (o : Outcome A) (f : A → B) → (o ≡ fails → ⊥) → behind k o f ≡ fails → ⊥
+unfolding behind onOutcome
+behind-never k (reads n a) f h e = reads-no e
+behind-never k fails f h e = h refl
+behind-never k (panics p) f h e = panics-no e
+
+-- by cases
+pub then-never : {A B : Type 0} (o : Outcome A) (f : ℕ → A → Outcome B) (b : Outcome B) (g : ℕ → ℕ) → ((n : ℕ) (a : A) → f n a ≡ fails → ⊥) → (b ≡ fails → ⊥)
+    → onOutcome o f b (λ p. panics (g p)) ≡ fails → ⊥
+unfolding onOutcome
+then-never (reads n a) f b g h k e = h n a e
+then-never fails f b g h k e = k e
+then-never (panics p) f b g h k e = panics-no e

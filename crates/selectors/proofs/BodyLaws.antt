@@ -7,13 +7,14 @@ use native.Mathlib.Omega.{arith}
 use lib.ListN.{length, drop, length-drop}
 use Rattle.combinators.specs.Choice.{pick, is}
 use Rattle.combinators.specs.Parsed.{Parsed, ok, err, onParsed}
-use Rattle.combinators.proofs.Rules.{is-no}
+use Rattle.combinators.proofs.Rules.{is-no, pick-true}
 use Rattle.lexer.specs.Name.{identOf}
 use Rattle.syntax.specs.Selector.{Component, star, class, element, hash, child, descendant, nth, attribute, attributeEqual}
 use Rattle.selectors.specs.Outcome.{Outcome, reads, fails, panics, onOutcome, behind, parsed, orElse}
 use Rattle.selectors.specs.Selector.{componentOf, componentsOf, componentsFrom, someOf, withElementOf, withoutElementOf, bodyOf, isDescendant, withoutBlank, withoutFirst}
-use Rattle.selectors.specs.Components.{firstOf, startedOf}
-use Rattle.selectors.proofs.ComponentSome.{component-some, none-left, enough-turns, reads-no, panics-no, behind-fails}
+use Rattle.selectors.specs.Components.{firstOf, startedOf, keptOf}
+use Rattle.selectors.proofs.AllLaws.{reads-no, panics-no, behind-never, then-never}
+use Rattle.selectors.proofs.ComponentEnds.{component-some, none-left, enough-turns}
 
 -- ---- a blank at the end
 -- behind other components
@@ -29,35 +30,28 @@ unfolding pick
 reverse-one true c = refl
 reverse-one false c = refl
 
--- one component or none before others
-one-before : (b : Bool) (c : Component) (cs : List Component) → pick b [] (c ∷ []) ++ cs ≡ pick b cs (c ∷ cs)
-unfolding pick
-one-before true c cs = refl
-one-before false c cs = refl
+-- what is kept of a first component
+kept-first : (c : Component) → keptOf true c ≡ pick (isDescendant c) [] (c ∷ [])
+unfolding keptOf
+kept-first c = sym (pick-true _ _ _ _ refl refl)
 
 -- ---- a blank at the start
-pub without-first : (c : Component) (cs : List Component) → withoutFirst (c ∷ cs) ≡ pick (isDescendant c) cs (c ∷ cs)
+pub without-first : (c : Component) (cs : List Component) → withoutFirst (c ∷ cs) ≡ keptOf true c ++ cs
 unfolding withoutFirst
 without-first c cs =
     ap (λ (xs : List Component). reverse (withoutBlank xs)) (reverse-cons c cs)
     ∙ ap reverse (blank-last (reverse cs) c)
     ∙ reverse-append (reverse cs) (pick (isDescendant c) [] (c ∷ []))
-    ∙ rw (reverse-one (isDescendant c) c, reverse-reverse cs) (one-before (isDescendant c) c cs)
+    ∙ rw (reverse-one (isDescendant c) c, reverse-reverse cs, kept-first c)
 
-first-none : withoutFirst [] ≡ []
+-- of one component
+first-one : (c : Component) → withoutFirst (c ∷ []) ≡ pick (isDescendant c) [] (c ∷ [])
+first-one c = without-first c [] ∙ append-nil (keptOf true c) ∙ kept-first c
+
+-- of no components
+pub first-none : withoutFirst [] ≡ []
 unfolding withoutFirst withoutBlank
 first-none = refl
-
--- dropped at one end and then at the other
-either-end : (b : Bool) (c : Component) → isDescendant c ≡ b → withoutFirst (pick b [] (c ∷ [])) ≡ withoutBlank (pick b [] (c ∷ []))
-unfolding pick withoutBlank
-either-end true c e = first-none
-either-end false c e = without-first c [] ∙ rw e
-
-longer : (b : Bool) (c d : Component) (cs : List Component) → pick b (withoutBlank (d ∷ cs)) (c ∷ withoutBlank (d ∷ cs)) ≡ withoutBlank (pick b (d ∷ cs) (c ∷ d ∷ cs))
-unfolding pick withoutBlank
-longer true c d cs = refl
-longer false c d cs = refl
 
 one-end : (c : Component) → withoutBlank (c ∷ []) ≡ pick (isDescendant c) [] (c ∷ [])
 unfolding withoutBlank
@@ -72,34 +66,38 @@ pub no-end : withoutBlank [] ≡ []
 unfolding withoutBlank
 no-end = refl
 
+-- dropped at one end and then at the other
+either-end : (b : Bool) (c : Component) → withoutFirst (c ∷ []) ≡ withoutBlank (c ∷ []) → withoutFirst (pick b [] (c ∷ [])) ≡ withoutBlank (pick b [] (c ∷ []))
+unfolding pick
+either-end true c e = first-none ∙ sym no-end
+either-end false c e = e
+
+longer : (b : Bool) (c d : Component) (cs : List Component) → pick b [] (c ∷ []) ++ withoutBlank (d ∷ cs) ≡ withoutBlank (pick b [] (c ∷ []) ++ d ∷ cs)
+unfolding pick withoutBlank
+longer true c d cs = refl
+longer false c d cs = refl
+
 -- a blank dropped at the start and then at the end, or the other way round
 pub both-ends : (cs : List Component) → withoutFirst (withoutBlank cs) ≡ withoutBlank (withoutFirst cs)
 both-ends [] = ap withoutFirst no-end ∙ first-none ∙ sym no-end ∙ ap withoutBlank (sym first-none)
 both-ends (c ∷ []) =
-    ap withoutFirst (one-end c) ∙ either-end (isDescendant c) c refl ∙ ap withoutBlank (sym (without-first c []))
+    ap withoutFirst (one-end c) ∙ either-end (isDescendant c) c (first-one c ∙ sym (one-end c)) ∙ ap withoutBlank (sym (first-one c))
 both-ends (c ∷ d ∷ cs) =
-    ap withoutFirst (more-end c d cs) ∙ without-first c (withoutBlank (d ∷ cs)) ∙ longer (isDescendant c) c d cs ∙ ap withoutBlank (sym (without-first c (d ∷ cs)))
+    ap withoutFirst (more-end c d cs) ∙ without-first c (withoutBlank (d ∷ cs)) ∙ rw (kept-first c) (longer (isDescendant c) c d cs)
+    ∙ ap withoutBlank (sym (without-first c (d ∷ cs)))
 
--- ---- components never fail as a whole
-never-by : (o : Outcome Component) (f : ℕ → Component → Outcome (List Component)) → ((n : ℕ) (c : Component) → f n c ≡ fails → ⊥)
-    → onOutcome o f (reads 0 []) (λ p. panics p) ≡ fails → ⊥
-unfolding onOutcome
-never-by (reads n c) f h e = h n c e
-never-by fails f h e = reads-no e
-never-by (panics p) f h e = panics-no e
-
--- reading components never fails: where none reads there are none
+-- ---- reading components never fails: where none reads there are none
 pub never-fail : (l : ℕ) (t : List ℕ) → componentsOf l t ≡ fails → ⊥
 unfolding componentsOf
 never-fail zero t e = reads-no e
-never-fail (suc l) t e = never-by (componentOf t) _ (λ n c h. never-fail l (drop n t) (behind-fails n (componentsOf l (drop n t)) _ h)) e
+never-fail (suc l) t e = then-never (componentOf t) _ (reads 0 []) _ (λ n c. behind-never n _ _ (never-fail l (drop n t))) reads-no e
 
 -- ---- the first component, and more behind it
 unfoldable pub firstBehind : Outcome Component → (ℕ → Outcome (List Component)) → Outcome (List Component)
-firstBehind o more = onOutcome o (λ n c. behind n (more n) (λ cs. pick (isDescendant c) cs (c ∷ cs))) fails (λ p. panics p)
+firstBehind o more = onOutcome o (λ n c. behind n (more n) (λ cs. keptOf true c ++ cs)) fails (λ p. panics p)
 
 -- a reading behind nothing, without a blank at the start
-behind-first : (n : ℕ) (o : Outcome (List Component)) (c : Component) → behind 0 (behind n o (λ cs. c ∷ cs)) withoutFirst ≡ behind n o (λ cs. pick (isDescendant c) cs (c ∷ cs))
+behind-first : (n : ℕ) (o : Outcome (List Component)) (c : Component) → behind 0 (behind n o (λ cs. c ∷ cs)) withoutFirst ≡ behind n o (λ cs. keptOf true c ++ cs)
 unfolding behind onOutcome
 behind-first n (reads m cs) c =
     let e : 0 + (n + m) ≡ n + m = omega arith in
@@ -160,7 +158,7 @@ panic-behind p =
     rw e
 
 element-behind : (n : ℕ) (name : List ℕ) (more : ℕ → Outcome (List Component))
-    → behind n (more n) (λ cs. pick (isDescendant (element name)) cs (element name ∷ cs)) ≡ firstBehind (reads n (element name)) more
+    → behind n (more n) (λ cs. keptOf true (element name) ++ cs) ≡ firstBehind (reads n (element name)) more
 unfolding firstBehind onOutcome
 element-behind n name more = refl
 
@@ -174,7 +172,7 @@ by-first t (panics p) e = ap (λ (o : Outcome (List Component)). behind 0 o with
 -- nor does it fail behind a first component
 never-behind : (n : ℕ) (t : List ℕ) (c : Component) → behind n (componentsFrom t) (λ cs. c ∷ cs) ≡ fails → ⊥
 unfolding componentsFrom
-never-behind n t c e = never-fail (length t) t (behind-fails n (componentsOf (length t) t) (λ cs. c ∷ cs) e)
+never-behind n t c e = behind-never n (componentsOf (length t) t) (λ cs. c ∷ cs) (never-fail (length t) t) e
 
 -- a type selector is the first component
 first-name : (t : List ℕ) (n : ℕ) (name : List ℕ) → identOf t ≡ ok n name → firstOf t ≡ reads n (element name)

@@ -1,39 +1,32 @@
 -- What a component keeps to: it takes a byte or more, and no more than there are; its text is no longer than what it takes, or two bytes
 -- longer where a backslash ends the text.
 use mathlib.Core.Path.{_≡_, refl, sym}
-use mathlib.Core.Bool.{false}
+use mathlib.Core.Bool.{Bool}
 use mathlib.Core.List.{List, [], _++_}
-use Prim.Native.Nat.{ℕ, _+_, _-_, _≤_, _<_}
+use Prim.Native.Nat.{ℕ, _+_, _^_, _≤_, _<_}
 use native.Mathlib.Omega.{arith}
 use borrow.Author.Tests.{leb-true}
 use lib.ListN.{length, getD, drop, length-append, length-drop}
 use Rattle.combinators.specs.Ascii as ascii
 use Rattle.combinators.specs.Choice.{pick, is}
 use Rattle.combinators.specs.Parsed.{Parsed, ok, err, onParsed}
-use Rattle.combinators.specs.Store.{most}
 use Rattle.combinators.proofs.Lists.{byte-there}
-use Rattle.combinators.proofs.Rules.{pick-holds, pick-false}
-use Rattle.combinators.proofs.Wiped.{most-left, most-right}
+use Rattle.combinators.proofs.Rules.{pick-holds}
 use Rattle.lexer.specs.Name.{identOf}
 use Rattle.lexer.specs.Whitespace.{skipWhitespace}
-use Rattle.lexer.proofs.Bounds.{Bound, short, lone, Fits, fits-behind, bound-two, bound-short}
+use Rattle.lexer.proofs.Bounds.{short, Fits, fits-behind, bound-two, bound-short}
 use Rattle.lexer.proofs.Comments.{skip-le, skip-from-le}
 use Rattle.lexer.proofs.IdentBounds.{NameKeeps, ident-keeps, identstring-keeps, ident-fits}
 use Rattle.lexer.proofs.TokenBounds.{on-holds}
-use Rattle.syntax.specs.RuleLayout.{nthKind, componentKind, componentFirst, componentSecond, componentText}
+use Rattle.syntax.specs.RuleLayout.{componentFirst, componentSecond, componentText}
 use Rattle.syntax.specs.Selector.{Component, star, class, element, hash, child, descendant, nth, attribute, attributeEqual}
 use Rattle.syntax.specs.Signed.{signedNumber}
-use Rattle.values.specs.Layout.{slack}
-use Rattle.values.proofs.Turns.{slack-here}
 use Rattle.selectors.specs.Outcome.{Outcome, reads, fails, panics, onOutcome, parsed, orElse}
 use Rattle.selectors.specs.Selector as selector
 use Rattle.selectors.specs.Selector.{classOf, hashOf, closed, valueOf, attrOf, nthArgsOf, pseudoClassOf, marked, blankOf, componentOf}
 use Rattle.selectors.specs.NthAnswer.{greatestSigned}
-use Rattle.selectors.specs.Reading.{written}
-use Rattle.selectors.specs.Components.{textLength, firstOf}
-use Rattle.selectors.specs.ComponentAnswer.{componentAnswer, leastTaken, componentPlace, textLengthBy, firstNumber, secondNumber, ComponentBounds}
-use Rattle.selectors.specs.declared.components.ComponentAnswer.{ComponentAnswer}
-use Rattle.selectors.specs.declared.components.ComponentAnswer.the-variants as answer
+use Rattle.selectors.specs.Components.{firstOf, nextOf}
+use Rattle.selectors.proofs.AllLaws.{Where, where-else}
 use Rattle.selectors.proofs.NthKeeps.{NthKeeps, args-keeps}
 use Rattle.selectors.proofs.AttrLaws.{quoted-keeps}
 use Rattle.selectors.proofs.PseudoLaws.{args, args-read, args-fail, args-panic}
@@ -52,17 +45,12 @@ Small (attributeEqual n v) = Unit
 
 -- where it reads or panics
 abbrev pub ComponentKeeps : List ℕ → Outcome Component → Type 0
-ComponentKeeps s (reads n c) = Fits s n (componentText c) × Small c
-ComponentKeeps s fails = Unit
-ComponentKeeps s (panics p) = p ≤ length s
+ComponentKeeps s o = Where (length s) (λ n c. Fits s n (componentText c) × Small c) o
 
 -- ---- by the parts of the definition
 -- of two alternatives
 or-keeps : (s : List ℕ) (o o′ : Outcome Component) → ComponentKeeps s o → ComponentKeeps s o′ → ComponentKeeps s (orElse o o′)
-unfolding orElse
-or-keeps s (reads n x) o′ h i = h
-or-keeps s fails o′ h i = i
-or-keeps s (panics p) o′ h i = h
+or-keeps s o o′ h k = where-else (length s) (λ n c. Fits s n (componentText c) × Small c) o o′ h k
 
 -- a text that is no longer than what it takes
 short-fits : (s : List ℕ) (n : ℕ) (b : List ℕ) → 1 ≤ n → n ≤ length s → length b ≤ n → Fits s n b
@@ -163,7 +151,6 @@ attr-keeps s =
     pick-holds (ComponentKeeps s) _ _ _
     (λ _. on-holds (ComponentKeeps s) (identOf (drop 1 s)) _ _ (λ n b e. named-keeps s n b (ident-fits (drop 1 s) n b e)) (λ _. tt)) (λ _. tt)
 
--- ---- pseudo-classes
 -- the arguments of `nth-child` keep to the bounds as a component
 args-component : (s : List ℕ) (k : ℕ) → 1 ≤ k → k ≤ length s → (o : Outcome selector.Nth) → nthArgsOf (drop k s) ≡ o → NthKeeps (drop k s) o → ComponentKeeps s (args (drop k s) k)
 unfolding componentText
@@ -184,7 +171,6 @@ pseudo-keeps s =
     (λ _. args-component s (1 + n) (omega arith) (omega (arith, f .within-text, length-drop 1 s)) _ refl (args-keeps (drop (1 + n) s))) (λ _. tt)) (λ _. tt))
     (λ _. tt)
 
--- ---- all
 -- `>` and `*` have no text
 bare : (componentText child ≡ []) × (componentText star ≡ [])
 unfolding componentText
@@ -200,109 +186,25 @@ component-keeps s =
     (or-keeps s _ _ (class-keeps s)
     (or-keeps s _ _ (attr-keeps s) (or-keeps s _ _ (hash-keeps s) (or-keeps s _ _ (element-keeps s) (pseudo-keeps s)))))))
 
--- a component that was read
-pub component-fits : (s : List ℕ) (n : ℕ) (c : Component) → componentOf s ≡ reads n c → Fits s n (componentText c)
-component-fits s n c e = let k : ComponentKeeps s (reads n c) = rw e at (component-keeps s) in k .0
+-- the next one: a type selector at the start of a selector, or else any
+pub next-keeps : (start : Bool) (s : List ℕ) → ComponentKeeps s (nextOf start s)
+unfolding nextOf firstOf
+next-keeps start s = pick-holds (ComponentKeeps s) start _ _ (λ _. or-keeps s _ _ (element-keeps s) (component-keeps s)) (λ _. component-keeps s)
 
--- ---- the bounds of an answer
-bound-slack : (s : List ℕ) (n : ℕ) (b : List ℕ) → Bound s n b → length b ≤ n + slack s n
-bound-slack s n b (short h) = omega arith
-bound-slack s n b (lone h e l) = omega (arith, slack-here s n e l)
+-- the numbers that go to its row
+module _ (s : List ℕ) (bits : length s + 2 < 2 ^ 32) (n : ℕ) where
+  -- a text's length
+  text-bits : (t b : List ℕ) → Fits s n b → length t ≤ length b → length t < 2 ^ 32
+  text-bits t b f h = omega (arith, bound-two (f .bound), f .within-text)
 
--- of a component with texts
-bounds-text : (s : List ℕ) (n k a b : ℕ) (t : List ℕ) → Fits s n t → a + b ≡ length t → is k nthKind ≡ false → ComponentBounds s (answer.Component n k a b)
-unfolding leastTaken componentPlace textLengthBy textLength firstNumber secondNumber
-bounds-text s n k a b t f e i =
-    let q : pick (is k nthKind) 0 (a + b) ≡ a + b = sym (pick-false _ _ _ _ i refl) in
-    let m = most-left (length s + 2) greatestSigned in
-    let w = bound-two (f .bound) in
-    record {
-      some = f .some;
-      place = f .within-text;
-      text = omega (arith, q, bound-slack s n t (f .bound));
-      first = omega (arith, f .within-text);
-      second = omega (arith, f .within-text);
-    }
-
--- the answer of an+b is within its bounds
-bounds-nth : (s : List ℕ) (n a b : ℕ) → Fits s n [] → a ≤ greatestSigned → b ≤ greatestSigned → ComponentBounds s (answer.Component n nthKind a b)
-unfolding leastTaken componentPlace textLengthBy textLength firstNumber secondNumber pick is
-bounds-nth s n a b f h i =
-    let m = most-right (length s + 2) greatestSigned in
-    record { some = f .some; place = f .within-text; text = omega arith; first = omega arith; second = omega arith }
-
--- of none, and of a panic
-bounds-none : (s : List ℕ) → ComponentBounds s answer.NoComponent
-unfolding leastTaken componentPlace textLengthBy textLength firstNumber secondNumber
-bounds-none s = record { some = omega arith; place = omega arith; text = omega arith; first = omega arith; second = omega arith }
-
--- the answer of a panic is within its bounds
-bounds-panic : (s : List ℕ) (p : ℕ) → p ≤ length s → ComponentBounds s (answer.Panic p)
-unfolding leastTaken componentPlace textLengthBy textLength firstNumber secondNumber
-bounds-panic s p h = record { some = omega arith; place = h; text = omega arith; first = omega arith; second = omega arith }
-
--- the answer of any outcome that keeps to the bounds is within them
-bounds-by : (s : List ℕ) (o : Outcome Component) → ComponentKeeps s o → ComponentBounds s (componentAnswer o)
-unfolding componentAnswer onOutcome componentKind componentFirst componentSecond componentText is
-bounds-by s (reads n star) f = bounds-text s n _ 0 0 [] (f .0) (omega arith) refl
-bounds-by s (reads n (class t)) f = bounds-text s n _ (length t) 0 t (f .0) (omega arith) refl
-bounds-by s (reads n (element t)) f = bounds-text s n _ (length t) 0 t (f .0) (omega arith) refl
-bounds-by s (reads n (hash t)) f = bounds-text s n _ (length t) 0 t (f .0) (omega arith) refl
-bounds-by s (reads n child) f = bounds-text s n _ 0 0 [] (f .0) (omega arith) refl
-bounds-by s (reads n descendant) f = bounds-text s n _ 0 0 [] (f .0) (omega arith) refl
-bounds-by s (reads n (nth a b)) f = bounds-nth s n _ _ (f .0) (f .1 .0) (f .1 .1)
-bounds-by s (reads n (attribute t)) f = bounds-text s n _ (length t) 0 t (f .0) (omega arith) refl
-bounds-by s (reads n (attributeEqual t v)) f = bounds-text s n _ (length t) (length v) (t ++ v) (f .0) (sym (length-append t v)) refl
-bounds-by s fails f = bounds-none s
-bounds-by s (panics p) f = bounds-panic s p f
-
--- the answer of a component is within its bounds
-pub component-bounds : (s : List ℕ) (r : ComponentAnswer) → r ≡ componentAnswer (componentOf s) → ComponentBounds s r
-component-bounds s r e = rw e (bounds-by s (componentOf s) (component-keeps s))
-
--- of a first component
-pub first-bounds : (s : List ℕ) (r : ComponentAnswer) → r ≡ componentAnswer (firstOf s) → ComponentBounds s r
-unfolding firstOf
-first-bounds s r e = rw e (bounds-by s _ (or-keeps s _ _ (element-keeps s) (component-keeps s)))
-
--- ---- for callers: what the bounds say of a component that was read
-module _ (s : List ℕ) (n k a b : ℕ) (h : ComponentBounds s (answer.Component n k a b)) where
-  -- it takes a byte or more
-  pub component-some : 1 ≤ n
-  unfolding leastTaken componentPlace
-  component-some = h .some
-
-  -- and no more than there are
-  pub component-place : n ≤ length s
-  unfolding componentPlace
-  component-place = h .place
-
-  -- its texts are two bytes longer at most
-  pub component-text : pick (is k nthKind) 0 (a + b) ≤ n + slack s n
-  unfolding componentPlace textLengthBy textLength
-  component-text = h .text
-
-  -- the numbers that go to its row
-  pub component-numbers : (a ≤ most (length s + 2) greatestSigned) × (b ≤ most (length s + 2) greatestSigned)
-  unfolding firstNumber secondNumber
-  component-numbers = (h .first, h .second)
-
--- a panic lies within the text
-pub component-panic : (s : List ℕ) (p : ℕ) → ComponentBounds s (answer.Panic p) → p ≤ length s
-unfolding componentPlace
-component-panic s p h = h .place
-
--- the length of the texts is that of what goes to the store
-pub text-length : (o : Outcome Component) → textLengthBy (componentAnswer o) ≡ length (written componentText o)
-unfolding componentAnswer written onOutcome componentKind componentFirst componentSecond componentText textLengthBy textLength pick is
-text-length (reads n star) = refl
-text-length (reads n (class t)) = omega arith
-text-length (reads n (element t)) = omega arith
-text-length (reads n (hash t)) = omega arith
-text-length (reads n child) = refl
-text-length (reads n descendant) = refl
-text-length (reads n (nth a b)) = refl
-text-length (reads n (attribute t)) = omega arith
-text-length (reads n (attributeEqual t v)) = sym (length-append t v)
-text-length fails = refl
-text-length (panics p) = refl
+  pub row-numbers : (c : Component) → Fits s n (componentText c) → Small c → (componentFirst c < 2 ^ 32) × (componentSecond c < 2 ^ 32)
+  unfolding componentText componentFirst componentSecond
+  row-numbers star f h = (omega arith, omega arith)
+  row-numbers (class t) f h = (text-bits t t f (omega arith), omega arith)
+  row-numbers (element t) f h = (text-bits t t f (omega arith), omega arith)
+  row-numbers (hash t) f h = (text-bits t t f (omega arith), omega arith)
+  row-numbers child f h = (omega arith, omega arith)
+  row-numbers descendant f h = (omega arith, omega arith)
+  row-numbers (nth a b) f h = (omega (arith, h .0), omega (arith, h .1))
+  row-numbers (attribute t) f h = (text-bits t t f (omega arith), omega arith)
+  row-numbers (attributeEqual t v) f h = (text-bits t (t ++ v) f (omega (arith, length-append t v)), text-bits v (t ++ v) f (omega (arith, length-append t v)))

@@ -1,32 +1,39 @@
--- Turns of `parse_components`.
-use mathlib.Core.Path.{_≡_, refl, ap, sym, subst, _∙_}
+-- Turns of `parse_body`: a first component, and more behind it.
+use mathlib.Core.Path.{_≡_, refl, ap, sym, _∙_}
+use mathlib.Core.Bool.{Bool, true, false}
 use mathlib.Core.List.{List, [], _∷_, _++_}
 use Prim.Native.Nat.{ℕ, zero, suc, _+_, _-_, _*_, _^_, _≤_, _<_}
 use native.Mathlib.Omega.{arith}
 use lib.ListN.{length, take, drop, length-drop, length-append}
-use lib.Seq.{sets, length-sets, drop-drop}
+use lib.Seq.{sets, drop-drop}
 use Rattle.combinators.specs.Choice.{pick, is}
-use Rattle.combinators.specs.Store.{wiped, most, Zeros}
+use Rattle.combinators.specs.Store.{wiped}
 use Rattle.combinators.proofs.Lists.{rest}
-use Rattle.combinators.proofs.Rules.{pick-holds}
-use Rattle.values.proofs.Turns.{slack-none, slack-two}
-use Rattle.syntax.specs.RuleLayout.{componentWidth, nthKind, componentKind, componentFirst, componentSecond, componentText, componentRow, componentRows, componentTexts}
+use Rattle.combinators.proofs.Rules.{is-true, is-yes, is-no}
+use Rattle.lexer.proofs.Bounds.{Fits, bound-two, bound-short}
+use Rattle.syntax.specs.RuleLayout.{componentWidth, descendantKind, componentKind, componentFirst, componentSecond, componentText, componentRow, componentRows, componentTexts}
 use Rattle.syntax.specs.Selector.{Component, star, class, element, hash, child, descendant, nth, attribute, attributeEqual}
+use Rattle.syntax.specs.Stream.{rowsMany, textsMany}
 use Rattle.syntax.specs.Writing.{ComponentFits}
+use Rattle.syntax.proofs.RowSizes.{length-components}
 use Rattle.selectors.specs.Outcome.{Outcome, reads, fails, panics, onOutcome, behind}
 use Rattle.selectors.specs.Selector.{componentOf, componentsOf, componentsFrom}
-use Rattle.selectors.specs.Components.{textLength}
-use Rattle.selectors.specs.ComponentAnswer.{componentAnswer, ComponentBounds}
+use Rattle.selectors.specs.Components.{textLength, firstOf, nextOf, keptOf, startedOf}
+use Rattle.selectors.specs.ComponentAnswer.{componentAnswer}
 use Rattle.selectors.specs.Stores.{Clean}
-use Rattle.selectors.specs.NthAnswer.{greatestSigned}
-use Rattle.selectors.specs.Reading.{reading, written, TextRoom, RowRoom, Bounds, takenBy, countBy, numbersBy, textBy, placeBy}
+use Rattle.selectors.specs.Reading.{written, TextRoom, RowRoom}
 use Rattle.selectors.specs.declared.components.ComponentAnswer.{ComponentAnswer}
 use Rattle.selectors.specs.declared.components.ComponentAnswer.the-variants as answer
 use Rattle.selectors.specs.declared.readings.Reading.{Reading}
 use Rattle.selectors.specs.declared.readings.Reading.the-variants.{Reads, Fails, Panics}
-use Rattle.selectors.proofs.ComponentKeeps.{component-some, component-place, component-text, component-numbers, component-panic}
-use Rattle.selectors.proofs.ComponentSome.{none-left, panics-no}
-use Rattle.selectors.proofs.Gathering.{Gathered, gathered-none, gathered-next, rules-zeros, store-zeros, rules-long, store-long, end-answer, end-rules, end-store, panic-answer, panic-rules, panic-store}
+use Rattle.selectors.proofs.AllLaws.{where-read, where-panics, panics-no}
+use Rattle.selectors.proofs.Blanks.{kept-count, kept-row, kept-text}
+use Rattle.selectors.proofs.BodyLaws.{firstBehind, started}
+use Rattle.selectors.proofs.ComponentKeeps.{Small, next-keeps, row-numbers}
+use Rattle.selectors.proofs.ComponentLaws as components
+use Rattle.selectors.proofs.ComponentEnds.{none-left}
+use Rattle.selectors.proofs.Gathering.{Gathered, gathered-none, gathered-more, gathered-as, none-yet, store-zeros, rules-long, store-long, all-read, all-panics}
+use Rattle.selectors.proofs.ReadingLaws.{Left, left-fails}
 
 -- ---- the numbers of a component
 -- the length of its texts is told by them
@@ -71,45 +78,99 @@ panics-by (reads m c) p e = absurd (let z : _≡_ {A = ℕ} 0 1 = cc in omega ar
 panics-by fails p e = absurd (let z : _≡_ {A = ℕ} 0 1 = cc in omega arith)
 panics-by (panics q) p e = let h : p ≡ q = cc in rw h
 
--- ---- how much a component takes: a byte or more, and its texts are no longer than that, but for two bytes at the end of s
-pub record ComponentSize (s : List ℕ) (n k a b : ℕ) : Type 0 where
-  pub some : 1 ≤ n
-  pub within : n ≤ length s
-  pub text : textLength k a b ≤ n + 2
-  pub sharp : n < length s → textLength k a b ≤ n
-  pub first-bits : a < 2 ^ 32
-  pub second-bits : b < 2 ^ 32
+-- the length of its texts, by the numbers of its row
+length-told : (c : Component) (k a b : ℕ) → k ≡ componentKind c → a ≡ componentFirst c → b ≡ componentSecond c → textLength k a b ≡ length (componentText c)
+length-told c k a b e f g = rw (e, f, g) (text-told c)
 
-most-below : (a b m : ℕ) → a < m → b < m → most a b < m
-unfolding most
-most-below a b m h k = pick-holds (λ x. x < m) _ b a (λ _. k) (λ _. h)
+-- its row where it is kept
+row-told : (c : Component) (k a b kept fill : ℕ) (start : Bool) → k ≡ componentKind c → a ≡ componentFirst c → b ≡ componentSecond c → kept ≡ length (keptOf start c)
+    → pick (is kept 0) [] (k ∷ fill ∷ a ∷ b ∷ []) ≡ rowsMany componentRow componentText fill (keptOf start c)
+unfolding componentRow
+row-told c k a b kept fill start e f g h = rw (e, f, g, h) (kept-row c fill start)
 
--- from the bounds of the reader
-pub size-of : (s : List ℕ) (n k a b : ℕ) → length s + 2 < 2 ^ 32 → ComponentBounds s (answer.Component n k a b) → ComponentSize s n k a b
-unfolding textLength
-size-of s n k a b bits h =
-    let w = most-below (length s + 2) greatestSigned (2 ^ 32) bits (omega arith) in
-    let t = component-text s n k a b h in
-    let g = component-numbers s n k a b h in
-    record {
-      some = component-some s n k a b h;
-      within = component-place s n k a b h;
-      text = omega (arith, t, slack-two s n);
-      sharp = λ i. omega (arith, t, slack-none s n i);
-      first-bits = omega (arith, g .0, w);
-      second-bits = omega (arith, g .1, w);
-    }
+-- its text, kept or not
+texts-told : (o : Outcome Component) (n : ℕ) (c : Component) (store : List ℕ) (fill : ℕ) (start : Bool) → o ≡ reads n c
+    → sets store fill (written componentText o) ≡ sets store fill (textsMany componentText (keptOf start c))
+unfolding written onOutcome
+texts-told o n c store fill start e = rw e (ap (sets store fill) (sym (kept-text c 0 start)))
 
 -- at the end of the text there is no panic
 none-panics : (t : List ℕ) (p : ℕ) → length t ≤ 0 → componentOf t ≡ panics p → ⊥
 none-panics [] p h e = panics-no (sym e ∙ none-left)
 none-panics (x ∷ t) p h e = absurd (omega arith)
 
+-- ---- what is still to be read behind so many bytes, in so many turns or fewer
+unfoldable pub restOf : List ℕ → ℕ → ℕ → Outcome (List Component)
+restOf s turns taken = pick (is taken 0) (startedOf s) (componentsOf turns (drop taken s))
+
+module _ (s : List ℕ) (turns taken : ℕ) (enough : length s ≤ taken + turns) where
+  -- one more
+  record Step (n : ℕ) (c : Component) : Type 0 where
+    others : ℕ
+    suffice : length s ≤ taken + n + others
+    rest-is : restOf s turns taken ≡ behind n (restOf s others (taken + n)) (λ more. keptOf (is taken 0) c ++ more)
+
+  module _ (n : ℕ) (c : Component) (some : 1 ≤ n) (inside : taken + n ≤ length s) where
+    later : (t : ℕ) → restOf s t (taken + n) ≡ componentsOf t (drop (taken + n) s)
+    unfolding restOf pick
+    later t = rw (is-no (taken + n) 0 (λ e. absurd (omega arith)))
+
+    first-turn : is taken 0 ≡ true → firstOf s ≡ reads n c → taken + n ≡ n
+        → restOf s turns taken ≡ behind n (componentsOf (length (drop (taken + n) s)) (drop (taken + n) s)) (λ more. keptOf true c ++ more)
+    unfolding restOf firstBehind componentsFrom onOutcome pick
+    first-turn b e z = rw (b, z) (started s ∙ rw e)
+
+    later-turn : (t : ℕ) → length s ≤ taken + t → is taken 0 ≡ false → componentOf (drop taken s) ≡ reads n c
+        → restOf s t taken ≡ behind n (componentsOf (t - 1) (drop (taken + n) s)) (λ more. keptOf false c ++ more)
+    unfolding restOf componentsOf keptOf onOutcome pick
+    later-turn zero l b e = absurd (omega arith)
+    later-turn (suc t) l b e =
+        let d : suc t - 1 ≡ t = omega arith in
+        rw (b, e, d, drop-drop n taken s)
+
+    step : (b : Bool) → is taken 0 ≡ b → nextOf b (drop taken s) ≡ reads n c → Step n c
+    unfolding nextOf pick
+    step true b e =
+        let z : taken ≡ 0 = is-true taken 0 b in
+        let f : firstOf s ≡ reads n c = ap (λ (i : ℕ). firstOf (drop i s)) (sym z) ∙ e in
+        record {
+          others = length (drop (taken + n) s);
+          suffice = omega (arith, length-drop (taken + n) s);
+          rest-is = rw (b, later (length (drop (taken + n) s))) (first-turn b f (omega arith));
+        }
+    step false b e =
+        record { others = turns - 1; suffice = omega (arith, enough, some, inside); rest-is = rw (b, later (turns - 1)) (later-turn turns enough b e) }
+
+  -- no more
+  first-none : is taken 0 ≡ true → nextOf (is taken 0) (drop taken s) ≡ fails → startedOf s ≡ fails
+  unfolding nextOf firstBehind onOutcome pick
+  first-none b e =
+      let z : taken ≡ 0 = is-true taken 0 b in
+      let f : nextOf true (drop taken s) ≡ fails = ap (λ (i : Bool). nextOf i (drop taken s)) (sym b) ∙ e in
+      started s ∙ rw (ap (λ (i : ℕ). firstOf (drop i s)) (sym z) ∙ f)
+
+  later-none : (t : ℕ) → is taken 0 ≡ false → nextOf (is taken 0) (drop taken s) ≡ fails → restOf s t taken ≡ reads 0 []
+  unfolding restOf nextOf componentsOf onOutcome pick
+  later-none zero b e = rw b
+  later-none (suc t) b e =
+      let f : nextOf false (drop taken s) ≡ fails = ap (λ (i : Bool). nextOf i (drop taken s)) (sym b) ∙ e in
+      rw (b, f)
+
+  -- the crate panics
+  panics-at : (b : Bool) → is taken 0 ≡ b → (p : ℕ) → nextOf b (drop taken s) ≡ panics p → (t : ℕ) → length s ≤ taken + t → restOf s t taken ≡ panics p
+  unfolding restOf nextOf componentsOf firstBehind onOutcome pick
+  panics-at true b p e t l =
+      let z : taken ≡ 0 = is-true taken 0 b in
+      let f : firstOf s ≡ panics p = ap (λ (i : ℕ). firstOf (drop i s)) (sym z) ∙ e in
+      rw b (started s ∙ rw f)
+  panics-at false b p e zero l = absurd (none-panics (drop taken s) p (omega (arith, length-drop taken s)) e)
+  panics-at false b p e (suc t) l = rw (b, e)
+
 -- ---- the reader, where so many bytes were taken
 pub record Reading-on (s rules₀ : List ℕ) (place : ℕ) (store₀ : List ℕ) (fill : ℕ) (rules store : List ℕ) (taken count numbers text : ℕ) : Type 0 where
   pub turns : ℕ
   pub enough : length s ≤ taken + turns
-  pub gathered : Gathered componentRow componentText (componentsFrom s) (componentsOf turns (drop taken s)) rules₀ place store₀ fill taken rules store count numbers text
+  pub gathered : Gathered componentRow componentText (startedOf s) (restOf s turns taken) rules₀ place store₀ fill taken rules store count numbers text
   pub within : taken ≤ length s
   pub counted : count ≤ taken
   pub wide : numbers ≡ componentWidth * count
@@ -118,12 +179,12 @@ pub record Reading-on (s rules₀ : List ℕ) (place : ℕ) (store₀ : List ℕ
 
 -- before the first component nothing is gathered
 pub begin : (s rules : List ℕ) (place : ℕ) (store : List ℕ) (fill : ℕ) → Reading-on s rules place store fill rules store 0 0 0 0
-unfolding componentsFrom
+unfolding restOf pick is
 begin s rules place store fill =
     record {
       turns = length s;
       enough = omega arith;
-      gathered = gathered-none componentRow componentText (componentsFrom s) rules place store fill;
+      gathered = gathered-none componentRow componentText (startedOf s) rules place store fill;
       within = omega arith;
       counted = omega arith;
       wide = refl;
@@ -131,240 +192,152 @@ begin s rules place store fill =
       sharp = λ _. omega arith;
     }
 
+-- what a return leaves
+abbrev pub Ends : List ℕ → List ℕ → ℕ → List ℕ → ℕ → Reading → List ℕ → List ℕ → Type 0
+Ends s rules place store fill r y z = Left length (componentRows fill) componentTexts (startedOf s) rules place store fill r y z
+
 module _ {s rules₀ : List ℕ} {place : ℕ} {store₀ : List ℕ} {fill : ℕ} {rules store : List ℕ} {taken count numbers text : ℕ}
-    (i : Reading-on s rules₀ place store₀ fill rules store taken count numbers text) where
-  -- the part that is left is the rest
-  pub left-is : take (length s - taken) (drop taken s) ≡ drop taken s
-  left-is = rest s taken
+    (i : Reading-on s rules₀ place store₀ fill rules store taken count numbers text) (r : RowRoom 0 s rules₀ place) (q : TextRoom 4 s store₀ fill) where
+  -- the rest as the code lends it
+  abbrev lent : List ℕ
+  lent = take (length s - taken) (drop taken s)
 
   -- room for the next
-  pub next-room : TextRoom 4 s store₀ fill → TextRoom 2 (drop taken s) store (fill + text)
-  next-room r =
-      record {
-        zeros = store-zeros _ _ _ _ _ _ _ _ _ _ _ _ _ _ (i .gathered) (r .zeros);
-        for-texts = omega (arith, r .for-texts, i .long, i .within, length-drop taken s, store-long _ _ _ _ _ _ _ _ _ _ _ _ _ _ (i .gathered));
-        bits = omega (arith, r .bits, i .long, i .within, length-drop taken s);
-      }
+  pub next-room : Clean (length lent) (fill + text) store
+  next-room =
+      rw (rest s taken)
+      (record { zeros = store-zeros (i .gathered) (q .zeros); room = omega (arith, q .for-texts, i .long, i .within, length-drop taken s, store-long (i .gathered)) })
 
-  -- the same, of the part that is lent
-  pub part-room : TextRoom 4 s store₀ fill → Clean (length (take (length s - taken) (drop taken s))) (fill + text) store
-  part-room r =
-      let q = next-room r in
-      rw left-is (record { zeros = q .zeros; room = omega (arith, q .for-texts) })
+  pub place-fits : place + numbers < 2 ^ 64
+  place-fits = omega (arith, r .bits, i .wide, i .counted, i .within)
 
-  -- no component: all were read
-  stopped : componentOf (drop taken s) ≡ fails → (t : ℕ) → componentsOf t (drop taken s) ≡ reads 0 []
-  unfolding componentsOf onOutcome
-  stopped e zero = refl
-  stopped e (suc t) = rw e
+  pub fill-fits : fill + text < 2 ^ 64
+  fill-fits = omega (arith, q .bits, i .long, i .within)
 
-  module _ (e : componentOf (drop taken s) ≡ fails) where
-    -- where no more reads, the counts are the answer
-    pub stop-answer : Reads taken count numbers text ≡ reading length (componentRows fill) componentTexts (componentsFrom s)
-    unfolding componentRows componentTexts
-    stop-answer =
-        let z : taken + 0 ≡ taken = omega arith in
-        ap (λ (n : ℕ). Reads n count numbers text) (sym z) ∙ end-answer _ _ _ _ _ _ _ _ _ _ _ _ _ _ (i .gathered) 0 (stopped e (i .turns))
+  -- the rows keep their length
+  pub rows-long : length rules ≡ length rules₀
+  rows-long = rules-long (i .gathered)
 
-    -- and the rows of all components are written
-    pub stop-rules : rules ≡ sets rules₀ place (written (componentRows fill) (componentsFrom s))
-    unfolding componentRows
-    stop-rules = end-rules _ _ _ _ _ _ _ _ _ _ _ _ _ _ (i .gathered) 0 (stopped e (i .turns))
+  module _ {a : ComponentAnswer} {store₁ : List ℕ} (e : components.Left (nextOf (is taken 0) lent) store (fill + text) a store₁) where
+    abbrev found : Outcome Component
+    found = nextOf (is taken 0) (drop taken s)
 
-    -- and their texts are
-    pub stop-store : store ≡ sets store₀ fill (written componentTexts (componentsFrom s))
-    unfolding componentTexts
-    stop-store = end-store _ _ _ _ _ _ _ _ _ _ _ _ _ _ (i .gathered) 0 (stopped e (i .turns))
+    answered : components.Left found store (fill + text) a store₁
+    answered = rw (← rest s taken) e
 
-    -- and the answer is within its bounds
-    pub stop-bounds : Bounds componentWidth 0 s (Reads taken count numbers text)
-    unfolding takenBy countBy numbersBy textBy placeBy
-    stop-bounds = record { taken = i .within; place = omega arith; count = i .counted; numbers = omega (arith, i .wide, i .counted); text = i .long; sharp = i .sharp }
-
-  -- the crate panics in the next
-  panicked : (p : ℕ) → componentOf (drop taken s) ≡ panics p → (t : ℕ) → length s ≤ taken + t → componentsOf t (drop taken s) ≡ panics p
-  unfolding componentsOf onOutcome
-  panicked p e zero l = absurd (none-panics (drop taken s) p (omega (arith, length-drop taken s)) e)
-  panicked p e (suc t) l = rw e
-
-  module _ (p : ℕ) (e : componentOf (drop taken s) ≡ panics p) (h : p ≤ length (drop taken s)) where
-    -- where the crate panics, the place counts from the first component
-    pub panic-answered : Panics (taken + p) ≡ reading length (componentRows fill) componentTexts (componentsFrom s)
-    unfolding componentRows componentTexts
-    panic-answered = panic-answer _ _ _ _ _ _ _ _ _ _ _ _ _ _ (i .gathered) p (panicked p e (i .turns) (i .enough))
-
-    -- the rows, which are wiped
-    pub panic-rows : Zeros rules₀ place → wiped place numbers rules ≡ sets rules₀ place (written (componentRows fill) (componentsFrom s))
-    unfolding componentRows
-    panic-rows z = panic-rules _ _ _ _ _ _ _ _ _ _ _ _ _ _ (i .gathered) p (panicked p e (i .turns) (i .enough)) z
-
-    -- the texts, which are wiped
-    pub panic-texts : Zeros store₀ fill → wiped fill text store ≡ sets store₀ fill (written componentTexts (componentsFrom s))
-    unfolding componentTexts
-    panic-texts z = panic-store _ _ _ _ _ _ _ _ _ _ _ _ _ _ (i .gathered) p (panicked p e (i .turns) (i .enough)) z
-
-    -- and it is within the bounds
-    pub panic-bounds : Bounds componentWidth 0 s (Panics (taken + p))
-    unfolding takenBy countBy numbersBy textBy placeBy
-    panic-bounds =
-        record {
-          taken = omega arith;
-          place = omega (arith, i .within, length-drop taken s);
-          count = omega arith;
-          numbers = omega arith;
-          text = omega arith;
-          sharp = λ _. omega arith;
-        }
-
-  -- the next
-  module _ (n k a b : ℕ) (o : Read (componentOf (drop taken s)) n k a b) (z : ComponentSize (drop taken s) n k a b) where
-    -- there is something left to read
-    pub some-left : taken < length s
-    some-left = omega (arith, z .some, z .within, length-drop taken s, i .within)
-
-    -- its numbers fit a row
-    pub component-fits : TextRoom 4 s store₀ fill → ComponentFits a b (fill + text)
-    component-fits r = record { first-fits = z .first-bits; second-fits = z .second-bits; fill-fits = omega (arith, r .bits, i .long, i .within) }
-
-    -- its row lies within the rows
-    pub row-fits : RowRoom 0 s rules₀ place → place + numbers + componentWidth ≤ length rules₀
-    row-fits r = omega (arith, r .for-rows, i .wide, i .counted, some-left)
-
-    turned : (t : ℕ) → length s ≤ taken + t → componentsOf t (drop taken s) ≡ behind n (componentsOf (t - 1) (drop (taken + n) s)) (λ more. o .component ∷ more)
-    unfolding componentsOf onOutcome
-    turned zero l = absurd (omega (arith, some-left))
-    turned (suc t) l =
-        let e : suc t - 1 ≡ t = omega arith in
-        rw (o .reads-it, e, drop-drop n taken s)
-
-    written-is : sets store (fill + text) (written componentText (componentOf (drop taken s))) ≡ sets store (fill + text) (componentText (o .component))
-    unfolding written onOutcome
-    written-is = rw (o .reads-it)
-
-    -- the reader behind it
-    pub next : (rules′ store′ : List ℕ) → rules′ ≡ sets rules (place + numbers) (k ∷ (fill + text) ∷ a ∷ b ∷ [])
-        → store′ ≡ sets store (fill + text) (written componentText (componentOf (drop taken s)))
-        → Reading-on s rules₀ place store₀ fill rules′ store′ (taken + n) (count + 1) (numbers + componentWidth) (text + textLength k a b)
-    unfolding componentRow
-    next rules′ store′ p q =
-        let c = o .component in
-        let l : textLength k a b ≡ length (componentText c) = rw (o .kind, o .first, o .second) (text-told c) in
-        record {
-          turns = i .turns - 1;
-          enough = omega (arith, i .enough, some-left, z .some);
-          gathered =
-              rw l (gathered-next componentRow componentText (componentsFrom s) rules₀ place store₀ fill _ taken rules store count numbers text (i .gathered) n c _ rules′ store′
-              (turned (i .turns) (i .enough)) (p ∙ rw (o .kind, o .first, o .second)) (q ∙ written-is));
-          within = omega (arith, z .within, length-drop taken s, i .within);
-          counted = omega (arith, i .counted, z .some);
-          wide = omega (arith, i .wide);
-          long = omega (arith, z .text, i .sharp some-left);
-          sharp = λ h. omega (arith, z .sharp (omega (arith, length-drop taken s)), i .sharp some-left);
-        }
-
-  -- ---- what the reader of one component left
-  module _ (r : RowRoom 0 s rules₀ place) (q : TextRoom 4 s store₀ fill) {a : ComponentAnswer} {store₁ : List ℕ}
-      (e₁ : a ≡ componentAnswer (componentOf (take (length s - taken) (drop taken s))))
-      (e₂ : store₁ ≡ sets store (fill + text) (written componentText (componentOf (take (length s - taken) (drop taken s)))))
-      (e₃ : ComponentBounds (take (length s - taken) (drop taken s)) a) where
-    answered : a ≡ componentAnswer (componentOf (drop taken s))
-    answered = rw (← left-is) e₁
-
-    stored : store₁ ≡ sets store (fill + text) (written componentText (componentOf (drop taken s)))
-    stored = rw (← left-is) e₂
-
-    bounded : ComponentBounds (drop taken s) a
-    bounded = rw (← left-is) e₃
+    unwritten : written componentText found ≡ [] → store₁ ≡ store
+    unwritten w = answered .1 ∙ ap (sets store (fill + text)) w
 
     -- the store keeps its length
-    pub stored-long : length store₁ ≡ length store₀
-    stored-long = rw stored (length-sets store (fill + text) (written componentText (componentOf (drop taken s)))) ∙ store-long _ _ _ _ _ _ _ _ _ _ _ _ _ _ (i .gathered)
-
-    -- the rows keep theirs
-    pub rows-long : length rules ≡ length rules₀
-    rows-long = rules-long _ _ _ _ _ _ _ _ _ _ _ _ _ _ (i .gathered)
-
-    -- no component
-    module _ (told : a ≡ answer.NoComponent) where
-      none : componentOf (drop taken s) ≡ fails
-      none = fails-by _ (sym told ∙ answered)
-
-      same-store : store₁ ≡ store
-      unfolding written onOutcome
-      same-store = stored ∙ rw none
-
-      -- all that is left where no more reads
-      pub stop-left : (Reads taken count numbers text ≡ reading length (componentRows fill) componentTexts (componentsFrom s))
-          × ((rules ≡ sets rules₀ place (written (componentRows fill) (componentsFrom s)))
-          × ((store₁ ≡ sets store₀ fill (written componentTexts (componentsFrom s))) × Bounds componentWidth 0 s (Reads taken count numbers text)))
-      stop-left = (stop-answer none, (stop-rules none, (same-store ∙ stop-store none, stop-bounds none)))
-
-    -- a panic
-    module _ (p : ℕ) (told : a ≡ answer.Panic p) where
-      panic : componentOf (drop taken s) ≡ panics p
-      panic = panics-by _ p (sym told ∙ answered)
-
-      panic-store-same : store₁ ≡ store
-      unfolding written onOutcome
-      panic-store-same = stored ∙ rw panic
-
-      panic-inside : p ≤ length (drop taken s)
-      panic-inside = component-panic (drop taken s) p (subst (ComponentBounds (drop taken s)) told bounded)
-
-      -- the place is a number of 64 bits
-      pub panic-fits : taken + p < 2 ^ 64
-      panic-fits = omega (arith, panic-inside, length-drop taken s, i .within, q .bits)
-
-      -- all that is left where the crate panics: rows and texts are wiped
-      pub panic-left : {rules₂ store₂ : List ℕ} → rules₂ ≡ wiped place numbers rules → store₂ ≡ wiped fill text store₁
-          → (Panics (taken + p) ≡ reading length (componentRows fill) componentTexts (componentsFrom s))
-          × ((rules₂ ≡ sets rules₀ place (written (componentRows fill) (componentsFrom s)))
-          × ((store₂ ≡ sets store₀ fill (written componentTexts (componentsFrom s))) × Bounds componentWidth 0 s (Panics (taken + p))))
-      panic-left w v = (
-        panic-answered p panic panic-inside,
-        (
-          w ∙ panic-rows p panic panic-inside (r .zeros),
-          (v ∙ ap (wiped fill text) panic-store-same ∙ panic-texts p panic panic-inside (q .zeros), panic-bounds p panic panic-inside),
-        ),
-      )
+    pub texts-long : length store₁ ≡ length store → length store₁ ≡ length store₀
+    texts-long l = l ∙ store-long (i .gathered)
 
     -- one more
-    module _ (n k f g : ℕ) (told : a ≡ answer.Component n k f g) where
-      read : Read (componentOf (drop taken s)) n k f g
-      read = read-by _ n k f g (sym told ∙ answered)
+    module _ (told : a ≡ answer.NoComponent) where
+      none : found ≡ fails
+      none = fails-by found (sym told ∙ answered .0)
 
-      sized : ComponentSize (drop taken s) n k f g
-      sized = size-of (drop taken s) n k f g (omega (arith, q .bits, length-drop taken s)) (subst (ComponentBounds (drop taken s)) told bounded)
+      same : store₁ ≡ store
+      unfolding written onOutcome
+      same = unwritten (rw none)
 
-      -- its numbers fit a row
-      pub fits : ComponentFits f g (fill + text)
-      fits = component-fits n k f g read sized q
+      -- not even a first one
+      pub first-fails : taken ≡ 0 → Ends s rules₀ place store₀ fill Fails rules store₁
+      first-fails z =
+          let y = none-yet (i .gathered) (omega (arith, i .counted)) in
+          left-fails _ _ _ _ _ _ _ _ (first-none s (i .turns) taken (i .enough) (is-yes taken 0 z) none) (y .0) (same ∙ y .1)
 
-      -- the place of its row
-      pub row-there : place + numbers < 2 ^ 64
-      row-there = omega (arith, r .bits, i .wide, i .counted, i .within)
+      -- no more
+      pub stops : (taken ≡ 0 → ⊥) → Ends s rules₀ place store₀ fill (Reads taken count numbers text) rules store₁
+      unfolding componentRows componentTexts
+      stops n = rw same (all-read (i .gathered) 0 taken (later-none s (i .turns) taken (i .enough) (i .turns) (is-no taken 0 n) none) (omega arith))
+
+    -- one more
+    module _ {p : ℕ} (told : a ≡ answer.Panic p) where
+      panic : found ≡ panics p
+      panic = panics-by found p (sym told ∙ answered .0)
+
+      pub panic-within : taken + p ≤ length s
+      panic-within = omega (arith, where-panics (length (drop taken s)) _ found p panic (next-keeps (is taken 0) (drop taken s)), length-drop taken s, i .within)
+
+      panic-same : store₁ ≡ store
+      unfolding written onOutcome
+      panic-same = unwritten (rw panic)
+
+      pub panics-left : {y z : List ℕ} → y ≡ wiped place numbers rules → z ≡ wiped fill text store₁ → Ends s rules₀ place store₀ fill (Panics (taken + p)) y z
+      unfolding componentRows componentTexts
+      panics-left ey ez =
+          all-panics (i .gathered) (r .zeros) (q .zeros) ey (ez ∙ ap (wiped fill text) panic-same) p (taken + p)
+          (panics-at s (i .turns) taken (i .enough) (is taken 0) refl p panic (i .turns) (i .enough)) refl
+
+    -- one more
+    module _ {n k f g : ℕ} (told : a ≡ answer.Component n k f g) where
+      one : Read found n k f g
+      one = read-by found n k f g (sym told ∙ answered .0)
+
+      abbrev c : Component
+      c = one .component
+
+      keeps : Fits (drop taken s) n (componentText c) × Small c
+      keeps = where-read (length (drop taken s)) _ found n c (one .reads-it) (next-keeps (is taken 0) (drop taken s))
+
+      text-is : textLength k f g ≡ length (componentText c)
+      text-is = length-told c k f g (one .kind) (one .first) (one .second)
 
       -- it lies within the text
       pub taken-within : taken + n ≤ length s
-      taken-within = omega (arith, sized .within, length-drop taken s, i .within)
+      taken-within = omega (arith, keeps .0 .within-text, length-drop taken s, i .within)
 
       -- it takes a byte or more
       pub taken-more : taken < taken + n
-      taken-more = omega (arith, sized .some)
+      taken-more = omega (arith, keeps .0 .some)
 
       -- the texts stay short
-      pub text-short : text + textLength k f g ≤ length s + 4
-      text-short = omega (arith, sized .text, i .long, taken-within)
+      pub text-short : text + textLength k f g ≤ taken + n + 2
+      text-short = omega (arith, bound-two (keeps .0 .bound), i .sharp (omega (arith, taken-more, taken-within)), text-is)
 
-      -- its texts' length is a number of 64 bits
-      pub text-bits : textLength k f g < 2 ^ 64
-      text-bits = omega (arith, text-short, q .bits)
+      -- its numbers fit a row
+      pub fits : ComponentFits f g (fill + text)
+      fits =
+          let b = row-numbers (drop taken s) (omega (arith, q .bits, length-drop taken s)) n c (keeps .0) (keeps .1) in
+          record { first-fits = omega (arith, b .0, one .first); second-fits = omega (arith, b .1, one .second); fill-fits = omega (arith, q .bits, i .long, i .within) }
 
-      -- the numbers stay few
-      pub numbers-fit : numbers + componentWidth < 2 ^ 64
-      numbers-fit = omega (arith, r .bits, i .wide, i .counted, some-left n k f g read sized)
+      -- kept or not
+      module _ {kept : ℕ} (ek : kept ≡ pick (is taken 0) (pick (is k descendantKind) 0 1) 1) where
+        kept-is : kept ≡ length (keptOf (is taken 0) c)
+        kept-is = ek ∙ ap (λ (j : ℕ). pick (is taken 0) (pick (is j descendantKind) 0 1) 1) (one .kind) ∙ kept-count c 0 (is taken 0)
 
-      -- a turn: one component more is gathered
-      pub goes : {rules₁ : List ℕ} {t : ℕ} → rules₁ ≡ sets rules (place + numbers) (k ∷ (fill + text) ∷ f ∷ g ∷ []) → t ≡ textLength k f g
-          → Reading-on s rules₀ place store₀ fill rules₁ store₁ (taken + n) (count + 1) (numbers + componentWidth) (text + t)
-      goes {rules₁} {t} w e = rw e (next n k f g read sized rules₁ store₁ w stored)
+        few : (start d : Bool) → pick start (pick d 0 1) 1 ≤ 1
+        unfolding pick
+        few true true = omega arith
+        few true false = omega arith
+        few false d = omega arith
+
+        pub kept-few : kept ≤ 1
+        kept-few = rw ek (few (is taken 0) (is k descendantKind))
+
+        pub count-fits : count + kept ≤ taken + n
+        count-fits = omega (arith, i .counted, kept-few, taken-more)
+
+        -- the next turn
+        pub goes : {y : List ℕ} {t : ℕ} → y ≡ sets rules (place + numbers) (pick (is kept 0) [] (k ∷ (fill + text) ∷ f ∷ g ∷ [])) → t ≡ textLength k f g
+            → Reading-on s rules₀ place store₀ fill y store₁ (taken + n) (count + kept) (numbers + componentWidth * kept) (text + t)
+        unfolding written onOutcome componentRows
+        goes {y} {t} ey et =
+            let o = step s (i .turns) taken (i .enough) n c (keeps .0 .some) taken-within (is taken 0) refl (one .reads-it) in
+            let x = kept-text c 0 (is taken 0) in
+            record {
+              turns = o .others;
+              enough = o .suffice;
+              gathered =
+                  gathered-as (gathered-more (i .gathered) n (keptOf (is taken 0) c) (restOf s (o .others) (taken + n)) y store₁ (o .rest-is)
+                  (ey ∙ ap (sets rules (place + numbers)) (row-told c k f g kept (fill + text) (is taken 0) (one .kind) (one .first) (one .second) kept-is))
+                  (answered .1 ∙ texts-told found n c store (fill + text) (is taken 0) (one .reads-it)))
+                  refl (omega (arith, kept-is)) (omega (arith, kept-is, length-components (fill + text) (keptOf (is taken 0) c)))
+                  (omega (arith, et, text-is, ap length x));
+              within = taken-within;
+              counted = count-fits;
+              wide = omega (arith, i .wide);
+              long = omega (arith, text-short, et);
+              sharp = λ h. omega (arith, et, text-is, bound-short (keeps .0 .bound) (omega (arith, length-drop taken s, i .within)), i .sharp (omega (arith, taken-more, taken-within)));
+            }

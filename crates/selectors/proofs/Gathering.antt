@@ -11,10 +11,15 @@ use Rattle.combinators.proofs.Wiped.{sets-append}
 use Rattle.syntax.specs.Stream.{rowsMany, textsMany}
 use Rattle.syntax.proofs.Streams.{texts-append, rows-append}
 use Rattle.selectors.specs.Outcome.{Outcome, reads, fails, panics, onOutcome, behind}
-use Rattle.selectors.specs.Reading.{reading, written}
-use Rattle.selectors.specs.declared.readings.Reading.{Reading}
-use Rattle.selectors.specs.declared.readings.Reading.the-variants.{Reads, Fails, Panics}
+use Rattle.selectors.specs.declared.readings.Reading.the-variants.{Reads, Panics}
+use Rattle.selectors.specs.declared.readings.ManyReading.the-variants as many
+use Rattle.selectors.proofs.ReadingLaws.{Left, LeftMany, left-reads, left-many, left-panics, left-many-panics}
 use Rattle.combinators.proofs.ZeroLaws.{zeros-behind, zeros-back}
+
+-- a list without items
+no-items : {A : Type 0} (l : List A) → length l ≤ 0 → l ≡ []
+no-items [] h = refl
+no-items (a ∷ l) h = absurd (omega arith)
 
 module _ {A : Type 0} (w : ℕ → A → List ℕ) (x : A → List ℕ) where
   -- the rows of one thing are its row
@@ -66,92 +71,96 @@ module _ {A : Type 0} (w : ℕ → A → List ℕ) (x : A → List ℕ) where
         let e : k + (n + p) ≡ k + n + p = omega arith in
         rw e
 
-    module _ (rest : Outcome (List A)) (k : ℕ) (rules store : List ℕ) (count numbers text : ℕ)
-        (g : Gathered whole rest rules₀ place store₀ fill k rules store count numbers text) where
-      -- some things more, with their rows and texts
-      pub gathered-more : (n : ℕ) (xs : List A) (rest′ : Outcome (List A)) (rules′ store′ : List ℕ) → rest ≡ behind n rest′ (λ more. xs ++ more)
-          → rules′ ≡ sets rules (place + numbers) (rowsMany w x (fill + text) xs) → store′ ≡ sets store (fill + text) (textsMany x xs)
-          → Gathered whole rest′ rules₀ place store₀ fill (k + n) rules′ store′ (count + length xs) (numbers + length (rowsMany w x (fill + text) xs)) (text + length (textsMany x xs))
-      gathered-more n xs rest′ rules′ store′ e p q =
-          let d = g .done in
-          let rs = rowsMany w x fill d in
-          let ts = textsMany x d in
-          record {
-            done = d ++ xs;
-            whole-is = g .whole-is ∙ ap (λ (o : Outcome (List A)). behind k o (λ more. d ++ more)) e ∙ behind-next k n d xs rest′;
-            rules-are =
-                p ∙ rw (g .rules-are, g .numbers-are, g .text-is) (sym (sets-append rules₀ place rs (rowsMany w x (fill + length ts) xs)))
-                ∙ ap (sets rules₀ place) (sym (rows-append w x d xs fill));
-            store-is = q ∙ rw (g .store-is, g .text-is) (sym (sets-append store₀ fill ts (textsMany x xs))) ∙ ap (sets store₀ fill) (sym (texts-append w x d xs));
-            count-is = omega (arith, g .count-is, length-append d xs);
-            numbers-are =
-                rw (rows-append w x d xs fill, g .text-is) (omega (arith, g .numbers-are, length-append rs (rowsMany w x (fill + length ts) xs)));
-            text-is = rw (texts-append w x d xs) (omega (arith, g .text-is, length-append ts (textsMany x xs)));
-          }
+module _ {A : Type 0} {w : ℕ → A → List ℕ} {x : A → List ℕ} {whole : Outcome (List A)} {rules₀ : List ℕ} {place : ℕ} {store₀ : List ℕ} {fill : ℕ} {rest : Outcome (List A)} {k : ℕ} {rules store : List ℕ} {count numbers text : ℕ}
+    (g : Gathered w x whole rest rules₀ place store₀ fill k rules store count numbers text) where
+  -- some more
+  pub gathered-more : (n : ℕ) (xs : List A) (rest′ : Outcome (List A)) (rules′ store′ : List ℕ) → rest ≡ behind n rest′ (λ more. xs ++ more)
+      → rules′ ≡ sets rules (place + numbers) (rowsMany w x (fill + text) xs) → store′ ≡ sets store (fill + text) (textsMany x xs)
+      → Gathered w x whole rest′ rules₀ place store₀ fill (k + n) rules′ store′ (count + length xs) (numbers + length (rowsMany w x (fill + text) xs)) (text + length (textsMany x xs))
+  gathered-more n xs rest′ rules′ store′ e p q =
+      let d = g .done in
+      let rs = rowsMany w x fill d in
+      let ts = textsMany x d in
+      record {
+        done = d ++ xs;
+        whole-is = g .whole-is ∙ ap (λ (o : Outcome (List A)). behind k o (λ more. d ++ more)) e ∙ behind-next w x whole rules₀ place store₀ fill k n d xs rest′;
+        rules-are =
+            p ∙ rw (g .rules-are, g .numbers-are, g .text-is) (sym (sets-append rules₀ place rs (rowsMany w x (fill + length ts) xs)))
+            ∙ ap (sets rules₀ place) (sym (rows-append w x d xs fill));
+        store-is = q ∙ rw (g .store-is, g .text-is) (sym (sets-append store₀ fill ts (textsMany x xs))) ∙ ap (sets store₀ fill) (sym (texts-append w x d xs));
+        count-is = omega (arith, g .count-is, length-append d xs);
+        numbers-are =
+            rw (rows-append w x d xs fill, g .text-is) (omega (arith, g .numbers-are, length-append rs (rowsMany w x (fill + length ts) xs)));
+        text-is = rw (texts-append w x d xs) (omega (arith, g .text-is, length-append ts (textsMany x xs)));
+      }
 
-      -- one thing more, with its row and its text
-      pub gathered-next : (n : ℕ) (a : A) (rest′ : Outcome (List A)) (rules′ store′ : List ℕ) → rest ≡ behind n rest′ (λ more. a ∷ more)
-          → rules′ ≡ sets rules (place + numbers) (w (fill + text) a) → store′ ≡ sets store (fill + text) (x a)
-          → Gathered whole rest′ rules₀ place store₀ fill (k + n) rules′ store′ (count + 1) (numbers + length (w (fill + text) a)) (text + length (x a))
-      gathered-next n a rest′ rules′ store′ e p q =
-          let r = one-row (fill + text) a in
-          let t = one-text a in
-          rw (← r, ← t) (gathered-more n (a ∷ []) rest′ rules′ store′ e (p ∙ rw (← r)) (q ∙ rw (← t)))
+  -- one more
+  pub gathered-next : (n : ℕ) (a : A) (rest′ : Outcome (List A)) (rules′ store′ : List ℕ) → rest ≡ behind n rest′ (λ more. a ∷ more)
+      → rules′ ≡ sets rules (place + numbers) (w (fill + text) a) → store′ ≡ sets store (fill + text) (x a)
+      → Gathered w x whole rest′ rules₀ place store₀ fill (k + n) rules′ store′ (count + 1) (numbers + length (w (fill + text) a)) (text + length (x a))
+  gathered-next n a rest′ rules′ store′ e p q =
+      let r = one-row w x (fill + text) a in
+      let t = one-text w x a in
+      rw (← r, ← t) (gathered-more n (a ∷ []) rest′ rules′ store′ e (p ∙ rw (← r)) (q ∙ rw (← t)))
 
-      -- the stores are zero behind what was gathered
-      pub rules-zeros : Zeros rules₀ place → Zeros rules (place + numbers)
-      rules-zeros z = rw (g .rules-are, g .numbers-are) (zeros-behind rules₀ place z (rowsMany w x fill (g .done)))
+  -- the stores are zero behind what was gathered
+  pub rules-zeros : Zeros rules₀ place → Zeros rules (place + numbers)
+  rules-zeros z = rw (g .rules-are, g .numbers-are) (zeros-behind rules₀ place z (rowsMany w x fill (g .done)))
 
-      -- behind what is gathered the text store is zero
-      pub store-zeros : Zeros store₀ fill → Zeros store (fill + text)
-      store-zeros z = rw (g .store-is, g .text-is) (zeros-behind store₀ fill z (textsMany x (g .done)))
+  -- of texts
+  pub store-zeros : Zeros store₀ fill → Zeros store (fill + text)
+  store-zeros z = rw (g .store-is, g .text-is) (zeros-behind store₀ fill z (textsMany x (g .done)))
 
-      -- the stores keep their lengths
-      pub rules-long : length rules ≡ length rules₀
-      rules-long = rw (g .rules-are) (length-sets rules₀ place (rowsMany w x fill (g .done)))
+  -- the stores keep their lengths
+  pub rules-long : length rules ≡ length rules₀
+  rules-long = rw (g .rules-are) (length-sets rules₀ place (rowsMany w x fill (g .done)))
 
-      -- the text store is as long as it was
-      pub store-long : length store ≡ length store₀
-      store-long = rw (g .store-is) (length-sets store₀ fill (textsMany x (g .done)))
+  -- of texts
+  pub store-long : length store ≡ length store₀
+  store-long = rw (g .store-is) (length-sets store₀ fill (textsMany x (g .done)))
 
-      -- nothing more is read
-      module _ (n : ℕ) (e : rest ≡ reads n []) where
-        end-is : whole ≡ reads (k + n) (g .done)
-        unfolding behind onOutcome
-        end-is = g .whole-is ∙ rw (e, append-nil (g .done))
+  -- as long as there is none the stores are as they were
+  pub none-yet : count ≤ 0 → (rules ≡ rules₀) × (store ≡ store₀)
+  unfolding rowsMany textsMany
+  none-yet h =
+      let e : g .done ≡ [] = no-items (g .done) (omega (arith, g .count-is)) in
+      (g .rules-are ∙ rw e, g .store-is ∙ rw e)
 
-        -- where nothing is left the counts are the answer
-        pub end-answer : Reads (k + n) count numbers text ≡ reading length (rowsMany w x fill) (textsMany x) whole
-        unfolding reading onOutcome
-        end-answer = rw (end-is, g .count-is, g .numbers-are, g .text-is)
+  -- the same by other numbers
+  pub gathered-as : {k′ count′ numbers′ text′ : ℕ} → k ≡ k′ → count ≡ count′ → numbers ≡ numbers′ → text ≡ text′
+      → Gathered w x whole rest rules₀ place store₀ fill k′ rules store count′ numbers′ text′
+  gathered-as p q r s = rw (← p, ← q, ← r, ← s) g
 
-        -- and all rows are written
-        pub end-rules : rules ≡ sets rules₀ place (written (rowsMany w x fill) whole)
-        unfolding written onOutcome
-        end-rules = g .rules-are ∙ rw end-is
+  -- nothing more is read
+  end-is : (n : ℕ) → rest ≡ reads n [] → whole ≡ reads (k + n) (g .done)
+  unfolding behind onOutcome
+  end-is n e = g .whole-is ∙ rw (e, append-nil (g .done))
 
-        -- and all texts are
-        pub end-store : store ≡ sets store₀ fill (written (textsMany x) whole)
-        unfolding written onOutcome
-        end-store = g .store-is ∙ rw end-is
+  -- what is left then
+  pub all-read : (n m : ℕ) → rest ≡ reads n [] → m ≡ k + n
+      → Left length (rowsMany w x fill) (textsMany x) whole rules₀ place store₀ fill (Reads m count numbers text) rules store
+  all-read n m e h = left-reads length (rowsMany w x fill) (textsMany x) whole rules₀ place store₀ fill (end-is n e ∙ rw h) (g .count-is) (g .numbers-are) (g .text-is) (g .rules-are) (g .store-is)
 
-      -- the crate panics
-      module _ (p : ℕ) (e : rest ≡ panics p) where
-        panic-is : whole ≡ panics (k + p)
-        unfolding behind onOutcome
-        panic-is = g .whole-is ∙ rw e
+  pub many-read : (n m : ℕ) → rest ≡ reads n [] → m ≡ k + n
+      → LeftMany length (rowsMany w x fill) (textsMany x) whole rules₀ place store₀ fill (many.Reads m count numbers text) rules store
+  many-read n m e h = left-many length (rowsMany w x fill) (textsMany x) whole rules₀ place store₀ fill (end-is n e ∙ rw h) (g .count-is) (g .numbers-are) (g .text-is) (g .rules-are) (g .store-is)
 
-        -- where the crate panics the place counts from the start
-        pub panic-answer : Panics (k + p) ≡ reading length (rowsMany w x fill) (textsMany x) whole
-        unfolding reading onOutcome
-        panic-answer = rw panic-is
+  -- what was written is taken back
+  module _ (u : Zeros rules₀ place) (v : Zeros store₀ fill) {y z : List ℕ} (ey : y ≡ wiped place numbers rules) (ez : z ≡ wiped fill text store) where
+    rules-back : y ≡ rules₀
+    rules-back = ey ∙ rw (g .rules-are) (zeros-back rules₀ place u (rowsMany w x fill (g .done)) numbers (omega (arith, g .numbers-are)))
 
-        -- the rows, which are wiped
-        pub panic-rules : Zeros rules₀ place → wiped place numbers rules ≡ sets rules₀ place (written (rowsMany w x fill) whole)
-        unfolding written onOutcome
-        panic-rules z = rw (panic-is, g .rules-are) (zeros-back rules₀ place z (rowsMany w x fill (g .done)) numbers (omega (arith, g .numbers-are)))
+    store-back : z ≡ store₀
+    store-back = ez ∙ rw (g .store-is) (zeros-back store₀ fill v (textsMany x (g .done)) text (omega (arith, g .text-is)))
 
-        -- the texts, which are wiped
-        pub panic-store : Zeros store₀ fill → wiped fill text store ≡ sets store₀ fill (written (textsMany x) whole)
-        unfolding written onOutcome
-        panic-store z = rw (panic-is, g .store-is) (zeros-back store₀ fill z (textsMany x (g .done)) text (omega (arith, g .text-is)))
+    -- the crate panics
+    module _ (p m : ℕ) (e : rest ≡ panics p) (h : m ≡ k + p) where
+      panic-is : whole ≡ panics m
+      unfolding behind onOutcome
+      panic-is = g .whole-is ∙ rw (e, h)
+
+      pub all-panics : Left length (rowsMany w x fill) (textsMany x) whole rules₀ place store₀ fill (Panics m) y z
+      all-panics = left-panics length (rowsMany w x fill) (textsMany x) whole rules₀ place store₀ fill panic-is rules-back store-back
+
+      pub many-panics : LeftMany length (rowsMany w x fill) (textsMany x) whole rules₀ place store₀ fill (many.Panics m) y z
+      many-panics = left-many-panics length (rowsMany w x fill) (textsMany x) whole rules₀ place store₀ fill panic-is rules-back store-back

@@ -1,4 +1,6 @@
+pub mod AllLaws
 pub mod ReadingLaws
+pub mod Gathering
 pub mod NthNumbers
 pub mod NthLaws
 pub mod NthKeeps
@@ -7,15 +9,11 @@ pub mod AttrLaws
 pub mod PseudoLaws
 pub mod ComponentKeeps
 pub mod SimpleLaws
-pub mod Gathering
-pub mod ComponentSome
+pub mod ComponentEnds
+pub mod BodyLaws
+pub mod Blanks
+pub mod SelectorBounds
 pub mod ComponentTurns
 pub mod SelectorLaws
-pub mod FirstLaws
-pub mod BodyLaws
-pub mod Bodies
 pub mod Selecting
-pub mod SelectorTurns
 pub mod SelectorLists
-pub mod AllLaws
-pub mod SelectorBounds

@@ -1,14 +1,16 @@
 -- What an answer tells of the outcome that it stands for.
-use mathlib.Core.Path.{_≡_, refl, subst}
+use mathlib.Core.Path.{_≡_, refl, sym, _∙_}
 use mathlib.Core.List.{List}
-use Prim.Native.Nat.{ℕ, _+_, _*_, _≤_, _<_}
+use Prim.Native.Nat.{ℕ}
 use native.Mathlib.Omega.{arith}
 use lib.ListN.{length}
 use lib.Seq.{sets}
 use Rattle.selectors.specs.Outcome.{Outcome, reads, fails, panics, onOutcome}
-use Rattle.selectors.specs.Reading.{reading, written, Bounds, takenBy, countBy, numbersBy, textBy, placeBy}
+use Rattle.selectors.specs.Reading.{reading, manyReading, written}
 use Rattle.selectors.specs.declared.readings.Reading.{Reading}
 use Rattle.selectors.specs.declared.readings.Reading.the-variants.{Reads, Fails, Panics}
+use Rattle.selectors.specs.declared.readings.ManyReading.{ManyReading}
+use Rattle.selectors.specs.declared.readings.ManyReading.the-variants as many
 
 module _ {A : Type 0} (c : A → ℕ) (w : A → List ℕ) (x : A → List ℕ) where
   -- what was read, and its sizes
@@ -43,54 +45,102 @@ module _ {A : Type 0} (c : A → ℕ) (w : A → List ℕ) (x : A → List ℕ) 
       let h : p ≡ q = cc in
       rw h
 
--- what is written of it
-module _ {A : Type 0} (w : A → List ℕ) (l : List ℕ) (f : ℕ) where
-  pub sets-read : (o : Outcome A) (n : ℕ) (a : A) → o ≡ reads n a → sets l f (written w o) ≡ sets l f (w a)
+  -- of one that never fails
+  pub many-by : (o : Outcome A) (n count numbers text : ℕ) → (o ≡ fails → ⊥) → many.Reads n count numbers text ≡ manyReading c w x o → ReadAs o n count numbers text
+  unfolding manyReading onOutcome
+  many-by (reads m a) n count numbers text never e =
+      let q : n ≡ m = cc in
+      record { value = a; reads-it = rw q; counts = cc; rows = cc; texts = cc }
+  many-by fails n count numbers text never e = absurd (never refl)
+  many-by (panics p) n count numbers text never e = absurd (let z : _≡_ {A = ℕ} 0 1 = cc in omega arith)
+
+  pub many-panics-by : (o : Outcome A) (p : ℕ) → many.Panics p ≡ manyReading c w x o → o ≡ panics p
+  unfolding manyReading onOutcome
+  many-panics-by (reads m a) p e = absurd (let z : _≡_ {A = ℕ} 0 1 = cc in omega arith)
+  many-panics-by fails p e = absurd (let z : _≡_ {A = ℕ} 0 1 = cc in omega arith)
+  many-panics-by (panics q) p e =
+      let h : p ≡ q = cc in
+      rw h
+
+-- ---- what a reader leaves: its answer, the rows from a place on and the texts from a fill on
+abbrev pub Left : {A : Type 0} → (A → ℕ) → (A → List ℕ) → (A → List ℕ) → Outcome A → List ℕ → ℕ → List ℕ → ℕ → Reading → List ℕ → List ℕ → Type 0
+Left c w x o rules place store fill r y z = (r ≡ reading c w x o) × ((y ≡ sets rules place (written w o)) × (z ≡ sets store fill (written x o)))
+
+-- the same of one that never fails
+abbrev pub LeftMany : {A : Type 0} → (A → ℕ) → (A → List ℕ) → (A → List ℕ) → Outcome A → List ℕ → ℕ → List ℕ → ℕ → ManyReading → List ℕ → List ℕ → Type 0
+LeftMany c w x o rules place store fill r y z = (r ≡ manyReading c w x o) × ((y ≡ sets rules place (written w o)) × (z ≡ sets store fill (written x o)))
+
+-- what was read, its sizes and where it lies
+pub record Found {A : Type 0} (c : A → ℕ) (w x : A → List ℕ) (o : Outcome A) (rules : List ℕ) (place : ℕ) (store : List ℕ) (fill : ℕ) (y z : List ℕ) (n count numbers text : ℕ) : Type 0 where
+  pub value : A
+  pub reads-it : o ≡ reads n value
+  pub counts : count ≡ c value
+  pub rows : numbers ≡ length (w value)
+  pub texts : text ≡ length (x value)
+  pub rules-are : y ≡ sets rules place (w value)
+  pub store-is : z ≡ sets store fill (x value)
+
+module _ {A : Type 0} (c : A → ℕ) (w x : A → List ℕ) (o : Outcome A) (rules : List ℕ) (place : ℕ) (store : List ℕ) (fill : ℕ) {y z : List ℕ} where
+  -- ---- returns
+  -- something was read
+  pub left-reads : {n count numbers text : ℕ} {a : A} → o ≡ reads n a → count ≡ c a → numbers ≡ length (w a) → text ≡ length (x a)
+      → y ≡ sets rules place (w a) → z ≡ sets store fill (x a) → Left c w x o rules place store fill (Reads n count numbers text) y z
+  unfolding reading written onOutcome
+  left-reads e p q t ey ez = (rw (e, p, q, t), (ey ∙ rw e, ez ∙ rw e))
+
+  pub left-many : {n count numbers text : ℕ} {a : A} → o ≡ reads n a → count ≡ c a → numbers ≡ length (w a) → text ≡ length (x a)
+      → y ≡ sets rules place (w a) → z ≡ sets store fill (x a) → LeftMany c w x o rules place store fill (many.Reads n count numbers text) y z
+  unfolding manyReading written onOutcome
+  left-many e p q t ey ez = (rw (e, p, q, t), (ey ∙ rw e, ez ∙ rw e))
+
+  -- nothing was
+  pub left-fails : o ≡ fails → y ≡ rules → z ≡ store → Left c w x o rules place store fill Fails y z
+  unfolding reading written onOutcome
+  left-fails e ey ez = (rw e, (ey ∙ rw e, ez ∙ rw e))
+
+  -- the crate panics
+  pub left-panics : {p : ℕ} → o ≡ panics p → y ≡ rules → z ≡ store → Left c w x o rules place store fill (Panics p) y z
+  unfolding reading written onOutcome
+  left-panics e ey ez = (rw e, (ey ∙ rw e, ez ∙ rw e))
+
+  pub left-many-panics : {p : ℕ} → o ≡ panics p → y ≡ rules → z ≡ store → LeftMany c w x o rules place store fill (many.Panics p) y z
+  unfolding manyReading written onOutcome
+  left-many-panics e ey ez = (rw e, (ey ∙ rw e, ez ∙ rw e))
+
+  -- ---- what a caller is told
+  found-as : {n count numbers text : ℕ} → ReadAs c w x o n count numbers text → y ≡ sets rules place (written w o) → z ≡ sets store fill (written x o) → Found c w x o rules place store fill y z n count numbers text
   unfolding written onOutcome
-  sets-read o n a e = rw e
+  found-as a ey ez =
+      record { value = a .value; reads-it = a .reads-it; counts = a .counts; rows = a .rows; texts = a .texts; rules-are = ey ∙ rw (a .reads-it); store-is = ez ∙ rw (a .reads-it) }
 
-  pub sets-fails : (o : Outcome A) → o ≡ fails → sets l f (written w o) ≡ l
+  pub found : {r : Reading} {n count numbers text : ℕ} → Left c w x o rules place store fill r y z → r ≡ Reads n count numbers text → Found c w x o rules place store fill y z n count numbers text
+  found {r} {n} {count} {numbers} {text} l e = found-as (read-by c w x o n count numbers text (sym e ∙ l .0)) (l .1 .0) (l .1 .1)
+
+  pub found-many : {r : ManyReading} {n count numbers text : ℕ} → (o ≡ fails → ⊥) → LeftMany c w x o rules place store fill r y z → r ≡ many.Reads n count numbers text
+      → Found c w x o rules place store fill y z n count numbers text
+  found-many {r} {n} {count} {numbers} {text} never l e = found-as (many-by c w x o n count numbers text never (sym e ∙ l .0)) (l .1 .0) (l .1 .1)
+
+  -- nothing was read, and the stores are as they were
+  nothing-as : o ≡ fails → y ≡ sets rules place (written w o) → z ≡ sets store fill (written x o) → (y ≡ rules) × (z ≡ store)
   unfolding written onOutcome
-  sets-fails o e = rw e
+  nothing-as e ey ez = (ey ∙ rw e, ez ∙ rw e)
 
-  pub sets-panics : (o : Outcome A) (p : ℕ) → o ≡ panics p → sets l f (written w o) ≡ l
+  pub nothing : {r : Reading} → Left c w x o rules place store fill r y z → r ≡ Fails → (o ≡ fails) × ((y ≡ rules) × (z ≡ store))
+  nothing l e =
+      let h = fails-by c w x o (sym e ∙ l .0) in
+      (h, nothing-as h (l .1 .0) (l .1 .1))
+
+  -- the same where the crate panics
+  panicked-as : {p : ℕ} → o ≡ panics p → y ≡ sets rules place (written w o) → z ≡ sets store fill (written x o) → (y ≡ rules) × (z ≡ store)
   unfolding written onOutcome
-  sets-panics o p e = rw e
+  panicked-as e ey ez = (ey ∙ rw e, ez ∙ rw e)
 
--- an answer by its numbers
-pub same-reads : {a a′ b b′ c c′ d d′ : ℕ} → a ≡ a′ → b ≡ b′ → c ≡ c′ → d ≡ d′ → Reads a b c d ≡ Reads a′ b′ c′ d′
-same-reads p q r s = rw (p, q, r, s)
+  pub panicked : {r : Reading} {p : ℕ} → Left c w x o rules place store fill r y z → r ≡ Panics p → (o ≡ panics p) × ((y ≡ rules) × (z ≡ store))
+  panicked {r} {p} l e =
+      let h = panics-by c w x o p (sym e ∙ l .0) in
+      (h, panicked-as h (l .1 .0) (l .1 .1))
 
--- ---- bounds
--- of a reading that reads, by its numbers
-pub record Sizes (w e : ℕ) (s : List ℕ) (n count numbers text : ℕ) : Type 0 where
-  pub taken : n ≤ length s
-  pub counted : count ≤ n
-  pub wide : numbers ≤ w * n + e
-  pub long : text ≤ n + 2
-  pub sharp : n < length s → text ≤ n
-
-module _ {w e : ℕ} {s : List ℕ} where
-  pub sizes-of : {r : Reading} {n count numbers text : ℕ} → Bounds w e s r → r ≡ Reads n count numbers text → Sizes w e s n count numbers text
-  unfolding takenBy countBy numbersBy textBy
-  sizes-of k g =
-      let b = subst (λ (v : Reading). Bounds w e s v) g k in
-      record { taken = b .taken; counted = b .count; wide = b .numbers; long = b .text; sharp = b .sharp }
-
-  pub reads-bounds : {n count numbers text : ℕ} → Sizes w e s n count numbers text → Bounds w e s (Reads n count numbers text)
-  unfolding takenBy countBy numbersBy textBy placeBy
-  reads-bounds z = record { taken = z .taken; place = omega arith; count = z .counted; numbers = z .wide; text = z .long; sharp = z .sharp }
-
-  -- of one that does not read
-  pub fails-bounds : Bounds w e s Fails
-  unfolding takenBy countBy numbersBy textBy placeBy
-  fails-bounds = record { taken = omega arith; place = omega arith; count = omega arith; numbers = omega arith; text = omega arith; sharp = λ _. omega arith }
-
-  -- the place of a panic lies within the text
-  pub panics-within : {r : Reading} {p : ℕ} → Bounds w e s r → r ≡ Panics p → p ≤ length s
-  unfolding placeBy
-  panics-within k g = subst (λ (v : Reading). placeBy v ≤ length s) g (k .place)
-
-  pub panics-bounds : {p : ℕ} → p ≤ length s → Bounds w e s (Panics p)
-  unfolding takenBy countBy numbersBy textBy placeBy
-  panics-bounds h = record { taken = omega arith; place = h; count = omega arith; numbers = omega arith; text = omega arith; sharp = λ _. omega arith }
+  pub panicked-many : {r : ManyReading} {p : ℕ} → LeftMany c w x o rules place store fill r y z → r ≡ many.Panics p → (o ≡ panics p) × ((y ≡ rules) × (z ≡ store))
+  panicked-many {r} {p} l e =
+      let h = many-panics-by c w x o p (sym e ∙ l .0) in
+      (h, panicked-as h (l .1 .0) (l .1 .1))

@@ -7,54 +7,28 @@ use native.Mathlib.Omega.{arith}
 use lib.ListN.{length, getD, take, drop, length-drop, length-append, length-reverse}
 use lib.Seq.{sets, length-sets, getD-drop}
 use Rattle.combinators.specs.Choice.{pick, is}
-use Rattle.combinators.specs.Word.{startsWith}
 use Rattle.combinators.specs.Store.{wiped, Zeros}
 use Rattle.combinators.proofs.Lists.{rest}
 use Rattle.combinators.proofs.Rules.{pick-true, pick-false, is-yes, is-no}
 use Rattle.combinators.proofs.Wiped.{sets-append, sets-apart}
-use Rattle.combinators.proofs.Words.{starts-le}
-use Rattle.unicode.specs.Literal.{text}
 use Rattle.syntax.specs.RuleLayout.{componentWidth, componentKindAt, descendantKind, componentKind, componentText, componentRow, componentRows, componentTexts, selectorHead, pseudoNumber, selectorRow, selectorText}
-use Rattle.syntax.specs.Selector.{Component, PseudoElement, none, before, after, Selector}
+use Rattle.syntax.specs.Selector.{Component, PseudoElement, Selector}
 use Rattle.syntax.specs.Stream.{rowsMany, textsMany}
 use Rattle.syntax.proofs.RowSizes.{length-components, length-component}
 use Rattle.syntax.proofs.Streams.{sets-drop, texts-append, rows-append}
 use Rattle.selectors.specs.Outcome.{Outcome, reads, fails, panics, onOutcome, behind}
 use Rattle.selectors.specs.Selector.{bodyOf, isDescendant, withoutBlank, withoutFirst, pseudoOf, pseudoTaken, selectorOf}
 use Rattle.selectors.specs.Components.{startedOf, blankLast}
-use Rattle.selectors.specs.Reading.{reading, written, TextRoom, RowRoom, Bounds, Progress, takenBy, countBy, numbersBy, textBy, placeBy}
+use Rattle.selectors.specs.Reading.{TextRoom, RowRoom}
 use Rattle.selectors.specs.declared.readings.Reading.{Reading}
 use Rattle.selectors.specs.declared.readings.Reading.the-variants.{Reads, Fails, Panics}
 use Rattle.combinators.proofs.ZeroLaws.{zeros-later, zeros-behind, zeros-back}
-use Rattle.selectors.proofs.Gathering.{one-row, one-text}
-use Rattle.selectors.proofs.BodyLaws.{blank-last, both-ends, no-end}
-use Rattle.selectors.proofs.Bodies.{blank-told, blank-text}
-use Rattle.selectors.proofs.ReadingLaws.{ReadAs, read-by, fails-by, panics-by}
-
--- ---- the last of a list
-pub data Ended (ds : List Component) : Type 0 where
-  empty : ds ≡ [] → Ended ds
-  ends : (xs : List Component) (c : Component) → ds ≡ xs ++ c ∷ [] → Ended ds
-
-one-more : (d : Component) (ds : List Component) → Ended ds → Ended (d ∷ ds)
-one-more d ds (empty e) = ends [] d (ap (λ (cs : List Component). d ∷ cs) e)
-one-more d ds (ends xs c e) = ends (d ∷ xs) c (ap (λ (cs : List Component). d ∷ cs) e)
-
--- every list has a last one or none
-pub ended : (ds : List Component) → Ended ds
-ended [] = empty refl
-ended (d ∷ ds) = one-more d ds (ended ds)
-
--- ---- a blank at the end has no texts
-by-end : (xs : List Component) (c : Component) (b : Bool) → isDescendant c ≡ b → componentTexts (xs ++ pick b [] (c ∷ [])) ≡ componentTexts (xs ++ c ∷ [])
-unfolding pick componentTexts
-by-end xs c true e = rw (append-nil xs) (sym (texts-append componentRow componentText xs (c ∷ []) ∙ rw (one-text componentRow componentText c, blank-text c e) (append-nil (textsMany componentText xs))))
-by-end xs c false e = refl
-
--- dropping a blank at the end changes no texts
-pub end-texts : (ds : List Component) → Ended ds → componentTexts (withoutBlank ds) ≡ componentTexts ds
-end-texts ds (empty e) = rw e (ap componentTexts no-end)
-end-texts ds (ends xs c e) = rw e (ap componentTexts (blank-last xs c) ∙ by-end xs c (isDescendant c) refl)
+use Rattle.selectors.proofs.AllLaws.{where-read}
+use Rattle.selectors.proofs.Gathering.{one-row}
+use Rattle.selectors.proofs.BodyLaws.{blank-last, both-ends}
+use Rattle.selectors.proofs.Blanks.{blank-told, Ended, empty, ends, ended, end-texts}
+use Rattle.selectors.proofs.ReadingLaws.{Left, left-reads, left-fails, left-panics, Found, found, nothing, panicked}
+use Rattle.selectors.proofs.SelectorBounds.{ComponentsKeep, BodyKeeps, started-keeps, fewer, pseudo-within}
 
 -- ---- `drop_blank` on the rows of components
 module _ (rules₀ : List ℕ) (p fill : ℕ) (z : Zeros rules₀ p) where
@@ -143,18 +117,6 @@ module _ (rules₀ : List ℕ) (p fill : ℕ) (z : Zeros rules₀ p) where
   unfolding Dropped
   dropped-as ds rules₁ count d e h = rw (e, h) d
 
--- ---- pseudo elements
--- a pseudo element takes no more bytes than there are
-pseudo-le : (t : List ℕ) (b : Bool) → startsWith (text "::before") t ≡ b → (a : Bool) → startsWith (text "::after") t ≡ a → pseudoTaken (pseudoOf t) ≤ length t
-unfolding pseudoOf pseudoTaken pick
-pseudo-le t true e a h = rw e (starts-le (text "::before") t e)
-pseudo-le t false e true h = rw (e, h) (starts-le (text "::after") t h)
-pseudo-le t false e false h = rw (e, h) (omega arith)
-
--- a pseudo element lies within the text
-pub pseudo-few : (t : List ℕ) → pseudoTaken (pseudoOf t) ≤ length t
-pseudo-few t = pseudo-le t (startsWith (text "::before") t) refl (startsWith (text "::after") t) refl
-
 -- ---- the selector of components in reading order
 -- what a body without a blank at its start says of the body
 module _ (n : ℕ) (ds : List Component) where
@@ -218,111 +180,60 @@ module _ (t : List ℕ) where
         ap (λ (o : Outcome (List Component)). onOutcome o (λ m cs. reads (m + pseudoTaken (pseudoOf (drop m t))) (record { components = withoutBlank (reverse (withoutBlank cs)); pseudo = pseudoOf (drop m t) })) fails (λ p. panics p)) (body .is-read)
         ∙ ap (λ (cs : List Component). reads (n + pseudoTaken pseudo) (record { components = cs; pseudo = pseudo })) in-order
 
-two-more : (a b : ℕ) → a ≡ b → suc (suc a) ≡ 2 + b
+two-more : (a b : ℕ) → a ≡ b → selectorHead + b ≡ suc (suc a)
 two-more a b e = omega arith
 
 -- ---- what is left
-module _ {s rules₀ : List ℕ} {place : ℕ} {store₀ : List ℕ} {fill : ℕ} (r : RowRoom selectorHead s rules₀ place) (q : TextRoom 6 s store₀ fill) where
+module _ {s rules₀ : List ℕ} {place : ℕ} {store₀ : List ℕ} {fill : ℕ} (r : RowRoom selectorHead s rules₀ place) (q : TextRoom 4 s store₀ fill) where
   -- room for the components
   pub body-rows : RowRoom 0 s rules₀ (place + selectorHead)
   body-rows =
       record { zeros = zeros-later rules₀ place (r .zeros) selectorHead; for-rows = omega (arith, r .for-rows); bits = omega (arith, r .bits) }
 
-  module _ {b : Reading} {rules₁ store₁ : List ℕ} (e₁ : b ≡ reading length (componentRows fill) componentTexts (startedOf s))
-      (e₂ : rules₁ ≡ sets rules₀ (place + selectorHead) (written (componentRows fill) (startedOf s)))
-      (e₃ : store₁ ≡ sets store₀ fill (written componentTexts (startedOf s))) (e₄ : Bounds componentWidth 0 s b) where
-    -- the rows keep their length
-    pub rules-long : length rules₁ ≡ length rules₀
-    rules-long = rw e₂ (length-sets rules₀ (place + selectorHead) (written (componentRows fill) (startedOf s)))
+  -- what a return leaves
+  abbrev Ends : Reading → List ℕ → List ℕ → Type 0
+  Ends a y z = Left (λ x. 1) (selectorRow fill) selectorText (selectorOf s) rules₀ place store₀ fill a y z
 
-    -- the text store is as long as it was
-    pub store-long : length store₁ ≡ length store₀
-    store-long = rw e₃ (length-sets store₀ fill (written componentTexts (startedOf s)))
+  module _ {b : Reading} {rules₁ store₁ : List ℕ} (e : Left length (componentRows fill) componentTexts (startedOf s) rules₀ (place + selectorHead) store₀ fill b rules₁ store₁) where
+    -- no components read
+    pub fails-left : b ≡ Fails → Ends Fails rules₁ store₁
+    fails-left told =
+        let n = nothing _ _ _ _ _ _ _ _ e told in
+        left-fails _ _ _ _ _ _ _ _ (selector-fails s (n .0)) (n .1 .0) (n .1 .1)
 
-    module _ (told : b ≡ Fails) where
-      nothing : startedOf s ≡ fails
-      nothing = fails-by length (componentRows fill) componentTexts (startedOf s) (sym told ∙ e₁)
+    -- the crate panics
+    pub panics-left : {p : ℕ} → b ≡ Panics p → Ends (Panics p) rules₁ store₁
+    panics-left {p} told =
+        let n = panicked _ _ _ _ _ _ _ _ e told in
+        left-panics _ _ _ _ _ _ _ _ (selector-panics s p (n .0)) (n .1 .0) (n .1 .1)
 
-      -- what is left where no components read
-      pub fails-left : (Fails ≡ reading (λ x. 1) (selectorRow fill) selectorText (selectorOf s))
-          × ((rules₁ ≡ sets rules₀ place (written (selectorRow fill) (selectorOf s)))
-          × ((store₁ ≡ sets store₀ fill (written selectorText (selectorOf s))) × Bounds componentWidth selectorHead s Fails))
-      unfolding reading written onOutcome takenBy countBy numbersBy textBy placeBy
-      fails-left = (
-        rw (selector-fails s nothing),
-        (
-          e₂ ∙ rw (nothing, selector-fails s nothing),
-          (
-            e₃ ∙ rw (nothing, selector-fails s nothing),
-            record { taken = omega arith; place = omega arith; count = omega arith; numbers = omega arith; text = omega arith; sharp = λ _. omega arith },
-          ),
-        ),
-      )
+    module _ {n count numbers text′ : ℕ} (told : b ≡ Reads n count numbers text′) where
+      list : Found length (componentRows fill) componentTexts (startedOf s) rules₀ (place + selectorHead) store₀ fill rules₁ store₁ n count numbers text′
+      list = found _ _ _ _ _ _ _ _ e told
 
-    module _ (p : ℕ) (told : b ≡ Panics p) where
-      panic : startedOf s ≡ panics p
-      panic = panics-by length (componentRows fill) componentTexts (startedOf s) p (sym told ∙ e₁)
+      abbrev ds : List Component
+      ds = list .value
 
-      within : p ≤ length s
-      unfolding placeBy
-      within = subst (λ (x : Reading). placeBy x ≤ length s) told (e₄ .place)
-
-      -- or where the crate panics
-      pub panics-left : (Panics p ≡ reading (λ x. 1) (selectorRow fill) selectorText (selectorOf s))
-          × ((rules₁ ≡ sets rules₀ place (written (selectorRow fill) (selectorOf s)))
-          × ((store₁ ≡ sets store₀ fill (written selectorText (selectorOf s))) × Bounds componentWidth selectorHead s (Panics p)))
-      unfolding reading written onOutcome takenBy countBy numbersBy textBy placeBy
-      panics-left = (
-        rw (selector-panics s p panic),
-        (
-          e₂ ∙ rw (panic, selector-panics s p panic),
-          (
-            e₃ ∙ rw (panic, selector-panics s p panic),
-            record { taken = omega arith; place = within; count = omega arith; numbers = omega arith; text = omega arith; sharp = λ _. omega arith },
-          ),
-        ),
-      )
-
-    module _ (n count numbers text′ : ℕ) (told : b ≡ Reads n count numbers text′) where
-      list : ReadAs length (componentRows fill) componentTexts (startedOf s) n count numbers text′
-      list = read-by length (componentRows fill) componentTexts (startedOf s) n count numbers text′ (sym told ∙ e₁)
-
-      sizes : Bounds componentWidth 0 s (Reads n count numbers text′)
-      sizes = subst (Bounds componentWidth 0 s) told e₄
+      keeps : ComponentsKeep s n ds
+      keeps = where-read (length s) (BodyKeeps s) (startedOf s) n ds (list .reads-it) (started-keeps s) .keeps
 
       -- the components lie within the text
       pub n-within : n ≤ length s
-      unfolding takenBy
-      n-within = sizes .taken
-
-      -- they are no more than its bytes
-      pub count-few : count ≤ length s
-      unfolding takenBy countBy
-      count-few = omega (arith, sizes .count, sizes .taken)
+      n-within = keeps .within
 
       -- the place behind their rows
       pub rows-bits : place + selectorHead + componentWidth * count < 2 ^ 64
-      rows-bits = omega (arith, count-few, r .bits)
+      rows-bits = omega (arith, keeps .within, keeps .counted, list .counts, r .bits)
 
       -- without a blank at the end
       module _ {kept : ℕ} {rules₂ : List ℕ} (h₁ : kept ≡ pick (blankLast rules₁ (place + selectorHead) count) (count - 1) count)
           (h₂ : rules₂ ≡ pick (blankLast rules₁ (place + selectorHead) count) (wiped (place + selectorHead + componentWidth * (count - 1)) componentWidth rules₁) rules₁) where
-        abbrev ds : List Component
-        ds = list .value
-
-        rules-were : rules₁ ≡ sets rules₀ (place + selectorHead) (componentRows fill ds)
-        unfolding written onOutcome
-        rules-were = e₂ ∙ ap (λ (o : Outcome (List Component)). sets rules₀ (place + selectorHead) (written (componentRows fill) o)) (list .reads-it)
-
-        room : place + selectorHead + componentWidth * length ds ≤ length rules₀
-        room = omega (arith, count-few, list .counts, r .for-rows)
-
         without-it : (pick (blankLast rules₁ (place + selectorHead) count) (count - 1) count ≡ length (withoutBlank ds))
             × (pick (blankLast rules₁ (place + selectorHead) count) (wiped (place + selectorHead + componentWidth * (count - 1)) componentWidth rules₁) rules₁
             ≡ sets rules₀ (place + selectorHead) (componentRows fill (withoutBlank ds)))
         without-it =
             dropped-as rules₀ (place + selectorHead) fill (body-rows .zeros) ds rules₁ count
-            (dropped rules₀ (place + selectorHead) fill (body-rows .zeros) ds room (ended ds)) rules-were (list .counts)
+            (dropped rules₀ (place + selectorHead) fill (body-rows .zeros) ds (omega (arith, keeps .within, keeps .counted, r .for-rows)) (ended ds)) (list .rules-are) (list .counts)
 
         kept-is : kept ≡ length (withoutBlank ds)
         kept-is = h₁ ∙ without-it .0
@@ -330,20 +241,11 @@ module _ {s rules₀ : List ℕ} {place : ℕ} {store₀ : List ℕ} {fill : ℕ
         rules-are : rules₂ ≡ sets rules₀ (place + selectorHead) (componentRows fill (withoutBlank ds))
         rules-are = h₂ ∙ without-it .1
 
-        kept-few′ : (b′ : Bool) → pick b′ (count - 1) count ≤ count
-        unfolding pick
-        kept-few′ true = omega arith
-        kept-few′ false = omega arith
-
         -- no more are kept than were read
-        pub kept-few : kept ≤ count
-        kept-few = subst (λ (k : ℕ). k ≤ count) (sym h₁) (kept-few′ (blankLast rules₁ (place + selectorHead) count))
+        pub kept-few : kept ≤ length s
+        kept-few = omega (arith, kept-is, fewer ds, keeps .counted, keeps .within)
 
-        -- the rows keep their length
-        pub rules₂-long : length rules₂ ≡ length rules₀
-        rules₂-long = rw rules-are (length-sets rules₀ (place + selectorHead) (componentRows fill (withoutBlank ds)))
-
-        -- and with its pseudo element
+        -- with its pseudo element
         module _ {taken pseudo : ℕ}
             (i : (taken ≡ pseudoTaken (pseudoOf (take (length s - n) (drop n s)))) × (pseudo ≡ pseudoNumber (pseudoOf (take (length s - n) (drop n s))))) where
           taken-is : taken ≡ pseudoTaken (pseudoOf (drop n s))
@@ -354,72 +256,28 @@ module _ {s rules₀ : List ℕ} {place : ℕ} {store₀ : List ℕ} {fill : ℕ
 
           -- the selector lies within the text
           pub taken-few : n + taken ≤ length s
-          taken-few = omega (arith, taken-is, pseudo-few (drop n s), length-drop n s, n-within)
+          taken-few = omega (arith, taken-is, pseudo-within (drop n s), length-drop n s, n-within)
 
-          selector : Selector
+          abbrev selector : Selector
           selector = record { components = reverse (withoutBlank ds); pseudo = pseudoOf (drop n s) }
 
           reads-it : selectorOf s ≡ reads (n + taken) selector
-          unfolding selector
-          reads-it = selector-reads s n ds (list .reads-it) ∙ ap (λ (k : ℕ). reads (n + k) (record { components = reverse (withoutBlank ds); pseudo = pseudoOf (drop n s) })) (sym taken-is)
+          reads-it = selector-reads s n ds (list .reads-it) ∙ ap (λ (k : ℕ). reads (n + k) selector) (sym taken-is)
 
-          row-is : selectorRow fill selector ≡ kept ∷ pseudo ∷ componentRows fill (withoutBlank ds)
-          unfolding selectorRow selector
-          row-is =
-              ap (λ (cs : List Component). length (reverse (withoutBlank ds)) ∷ pseudoNumber (pseudoOf (drop n s)) ∷ componentRows fill cs) (reverse-reverse (withoutBlank ds))
-              ∙ ap (λ (k : ℕ). k ∷ pseudoNumber (pseudoOf (drop n s)) ∷ componentRows fill (withoutBlank ds)) (length-reverse (withoutBlank ds) ∙ sym kept-is)
-              ∙ ap (λ (p : ℕ). kept ∷ p ∷ componentRows fill (withoutBlank ds)) (sym pseudo-is)
+          row-is : kept ∷ pseudo ∷ componentRows fill (withoutBlank ds) ≡ selectorRow fill selector
+          unfolding selectorRow
+          row-is = rw (kept-is, pseudo-is, reverse-reverse (withoutBlank ds), length-reverse (withoutBlank ds))
 
           text-is : selectorText selector ≡ componentTexts ds
-          unfolding selectorText selector
+          unfolding selectorText
           text-is = ap componentTexts (reverse-reverse (withoutBlank ds)) ∙ end-texts ds (ended ds)
 
-          numbers-are : length (selectorRow fill selector) ≡ selectorHead + componentWidth * kept
-          numbers-are =
-              ap length row-is ∙ two-more (length (componentRows fill (withoutBlank ds))) (componentWidth * kept)
-              (length-components fill (withoutBlank ds) ∙ ap (λ (k : ℕ). componentWidth * k) (sym kept-is))
-
-          answered : Reads (n + taken) 1 (length (selectorRow fill selector)) (length (selectorText selector)) ≡ reading (λ x. 1) (selectorRow fill) selectorText (selectorOf s)
-          unfolding reading onOutcome
-          answered = rw reads-it
-
-          -- the counts of the components and of the pseudo element are the answer
-          pub reads-answer : Reads (n + taken) 1 (selectorHead + componentWidth * kept) text′ ≡ reading (λ x. 1) (selectorRow fill) selectorText (selectorOf s)
-          reads-answer =
-              ap (λ (x : ℕ). Reads (n + taken) 1 (selectorHead + componentWidth * kept) x) (list .texts ∙ ap length (sym text-is))
-              ∙ ap (λ (m : ℕ). Reads (n + taken) 1 m (length (selectorText selector))) (sym numbers-are) ∙ answered
-
-          row-written : sets rules₀ place (kept ∷ pseudo ∷ componentRows fill (withoutBlank ds)) ≡ sets rules₀ place (written (selectorRow fill) (selectorOf s))
-          unfolding written onOutcome
-          row-written = rw reads-it (ap (sets rules₀ place) (sym row-is))
-
-          text-written : sets store₀ fill (written componentTexts (startedOf s)) ≡ sets store₀ fill (written selectorText (selectorOf s))
-          unfolding written onOutcome
-          text-written = rw (reads-it, list .reads-it) (ap (sets store₀ fill) (sym text-is))
-
-          -- the rows: the head goes before the components
-          pub reads-rules : {rules₃ : List ℕ} → rules₃ ≡ sets rules₂ place (kept ∷ pseudo ∷ []) → rules₃ ≡ sets rules₀ place (written (selectorRow fill) (selectorOf s))
-          unfolding written onOutcome
-          reads-rules w =
-              w ∙ ap (λ (l : List ℕ). sets l place (kept ∷ pseudo ∷ [])) rules-are
+          -- the head goes before the components
+          pub reads-left : {rules₃ : List ℕ} → rules₃ ≡ sets rules₂ place (kept ∷ pseudo ∷ []) → Ends (Reads (n + taken) 1 (selectorHead + componentWidth * kept) text′) rules₃ store₁
+          reads-left w =
+              left-reads _ _ _ _ _ _ _ _ reads-it refl (two-more _ (componentWidth * kept) (length-components fill (withoutBlank ds) ∙ ap (λ (k : ℕ). componentWidth * k) (sym kept-is)) ∙ ap length row-is)
+              (list .texts ∙ ap length (sym text-is))
+              (w ∙ ap (λ (l : List ℕ). sets l place (kept ∷ pseudo ∷ [])) rules-are
               ∙ sets-apart rules₀ place (place + selectorHead) (kept ∷ pseudo ∷ []) (componentRows fill (withoutBlank ds)) (omega arith)
-              ∙ sym (sets-append rules₀ place (kept ∷ pseudo ∷ []) (componentRows fill (withoutBlank ds))) ∙ row-written
-
-          -- the text store holds the texts of the selector
-          pub reads-store : store₁ ≡ sets store₀ fill (written selectorText (selectorOf s))
-          unfolding written onOutcome
-          reads-store = e₃ ∙ text-written
-
-          -- the answer is within its bounds
-          pub reads-bounds : Progress b → Bounds componentWidth selectorHead s (Reads (n + taken) 1 (selectorHead + componentWidth * kept) text′)
-          unfolding takenBy countBy numbersBy textBy placeBy Progress
-          reads-bounds go =
-              let some : 1 ≤ n = subst Progress told go in
-              record {
-                taken = taken-few;
-                place = omega arith;
-                count = omega arith;
-                numbers = omega (arith, kept-few, sizes .count);
-                text = omega (arith, sizes .text);
-                sharp = λ h. omega (arith, sizes .sharp (omega arith));
-              }
+              ∙ sym (sets-append rules₀ place (kept ∷ pseudo ∷ []) (componentRows fill (withoutBlank ds))) ∙ ap (sets rules₀ place) row-is)
+              (list .store-is ∙ ap (sets store₀ fill) (sym text-is))

@@ -25,18 +25,17 @@ use Rattle.syntax.specs.RuleLayout.{componentWidth, componentText, componentTex
 use Rattle.syntax.specs.RuleSize.{sizes, selectorSize}
 use Rattle.syntax.specs.Selector.{Component, element, PseudoElement, Selector}
 use Rattle.syntax.specs.Stream.{textsMany}
-use Rattle.selectors.specs.Outcome.{Outcome, reads, fails, panics}
+use Rattle.selectors.specs.Outcome.{reads, fails}
 use Rattle.selectors.specs.Selector.{componentOf, componentsOf, componentsFrom, someOf, withElementOf, withoutElementOf, bodyOf, isDescendant, withoutBlank, withoutFirst, pseudoOf, pseudoTaken, selectorOf}
+use Rattle.selectors.specs.Components.{startedOf}
 use Rattle.selectors.specs.SelectorList.{moreSelectors, moreFrom, selectorsOf}
 use Rattle.selectors.proofs.AllLaws.{Where, where-behind, where-then, where-else}
-use Rattle.selectors.proofs.ComponentKeeps.{Small, ComponentKeeps, component-keeps}
-use Rattle.selectors.proofs.BodyLaws.{without-first}
-use Rattle.selectors.proofs.Bodies.{kept-texts}
-use Rattle.selectors.proofs.Selecting.{ended, end-texts}
+use Rattle.selectors.proofs.ComponentKeeps.{Small, component-keeps}
+use Rattle.selectors.proofs.Blanks.{ended, end-texts, first-texts}
 
 -- ---- components
 -- read from n bytes of s: within the text, a byte or more for each; their texts are no longer, but for two bytes at the end of s; the numbers
--- of an+b fit
+-- ---- selectors one behind the other: e numbers, and four for each byte taken
 pub record ComponentsKeep (s : List ℕ) (n : ℕ) (cs : List Component) : Type 0 where
   pub within : n ≤ length s
   pub counted : length cs ≤ n
@@ -70,21 +69,17 @@ next-component s n m c cs f h k =
     }
 
 -- as many as read
-components-keep : (l : ℕ) (s : List ℕ) → Where (ComponentsKeep s) (componentsOf l s)
+components-keep : (l : ℕ) (s : List ℕ) → Where (length s) (ComponentsKeep s) (componentsOf l s)
 unfolding componentsOf
 components-keep zero s = no-components s
 components-keep (suc l) s =
-    where-then (λ n c. Fits s n (componentText c) × Small c) (ComponentsKeep s) (componentOf s) _ (reads 0 []) _
-    (λ n c h. where-behind (ComponentsKeep (drop n s)) (ComponentsKeep s) n (componentsOf l (drop n s)) _ (λ m cs k. next-component s n m c cs (h .0) (h .1) k) (components-keep l (drop n s)))
-    (no-components s) (kept (componentOf s) (component-keeps s))
-  where
-    kept : (o : Outcome Component) → ComponentKeeps s o → Where (λ n c. Fits s n (componentText c) × Small c) o
-    kept (reads n c) h = h
-    kept fails h = tt
-    kept (panics p) h = tt
+    where-then (length s) (length s) (λ n c. Fits s n (componentText c) × Small c) (ComponentsKeep s) (componentOf s) _ (reads 0 []) _
+    (λ n c h. where-behind (length (drop n s)) (length s) (ComponentsKeep (drop n s)) (ComponentsKeep s) n (componentsOf l (drop n s)) _
+    (λ m cs k. next-component s n m c cs (h .0) (h .1) k) (omega (arith, h .0 .within-text, length-drop n s)) (components-keep l (drop n s)))
+    (no-components s) (λ p h. h) (component-keeps s)
 
 -- of a whole text
-pub components-from : (s : List ℕ) → Where (ComponentsKeep s) (componentsFrom s)
+components-from : (s : List ℕ) → Where (length s) (ComponentsKeep s) (componentsFrom s)
 unfolding componentsFrom
 components-from s = components-keep (length s) s
 
@@ -99,35 +94,36 @@ unfolding componentText
 element-text name = refl
 
 -- a type selector, and components behind it
-with-element : (s : List ℕ) → Where (BodyKeeps s) (withElementOf s)
+with-element : (s : List ℕ) → Where (length s) (BodyKeeps s) (withElementOf s)
 unfolding withElementOf
 with-element s =
-    on-holds (Where (BodyKeeps s)) (identOf s) _ _
+    on-holds (Where (length s) (BodyKeeps s)) (identOf s) _ _
     (λ n name e. let f = ident-fits s n name e in
-    where-behind (ComponentsKeep (drop n s)) (BodyKeeps s) n (componentsFrom (drop n s)) _
-    (λ m cs k. record { some = omega (arith, f .some); keeps = next-component s n m (element name) cs (subst (Fits s n) (sym (element-text name)) f) tt k }) (components-from (drop n s)))
+    where-behind (length (drop n s)) (length s) (ComponentsKeep (drop n s)) (BodyKeeps s) n (componentsFrom (drop n s)) _
+    (λ m cs k. record { some = omega (arith, f .some); keeps = next-component s n m (element name) cs (subst (Fits s n) (sym (element-text name)) f) tt k })
+    (omega (arith, f .within-text, length-drop n s)) (components-from (drop n s)))
     (λ _. tt)
 
 -- one component or more
-without-element : (s : List ℕ) → Where (BodyKeeps s) (withoutElementOf s)
+without-element : (s : List ℕ) → Where (length s) (BodyKeeps s) (withoutElementOf s)
 unfolding withoutElementOf someOf
 without-element s =
-    where-then (ComponentsKeep s) (BodyKeeps s) (componentsFrom s) _ fails _
-    (λ n cs k. pick-holds (Where (BodyKeeps s)) (is (length cs) 0) _ _ (λ _. tt) (λ e. record { some = some-taken n (length cs) (is-false (length cs) 0 e) (k .counted); keeps = k }))
-    tt (components-from s)
+    where-then (length s) (length s) (ComponentsKeep s) (BodyKeeps s) (componentsFrom s) _ fails _
+    (λ n cs k. pick-holds (Where (length s) (BodyKeeps s)) (is (length cs) 0) _ _ (λ _. tt) (λ e. record { some = some-taken n (length cs) (is-false (length cs) 0 e) (k .counted); keeps = k }))
+    tt (λ p h. h) (components-from s)
   where
     some-taken : (n c : ℕ) → (c ≡ 0 → ⊥) → c ≤ n → 1 ≤ n
     some-taken n zero h i = absurd (h refl)
     some-taken n (suc c) h i = omega arith
 
 -- the components of a selector, with a type selector or without, keep to the bounds
-body-keeps : (s : List ℕ) → Where (BodyKeeps s) (bodyOf s)
+body-keeps : (s : List ℕ) → Where (length s) (BodyKeeps s) (bodyOf s)
 unfolding bodyOf
-body-keeps s = where-else (BodyKeeps s) _ _ (with-element s) (without-element s)
+body-keeps s = where-else (length s) (BodyKeeps s) _ _ (with-element s) (without-element s)
 
 -- ---- a blank dropped at either end
 -- leaves no more components
-fewer : (cs : List Component) → length (withoutBlank cs) ≤ length cs
+pub fewer : (cs : List Component) → length (withoutBlank cs) ≤ length cs
 unfolding withoutBlank
 fewer [] = omega arith
 fewer (c ∷ []) = pick-holds (λ (l : List Component). length l ≤ 1) (isDescendant c) _ _ (λ _. omega arith) (λ _. omega arith)
@@ -140,23 +136,31 @@ all-fewer P [] h = tt
 all-fewer P (c ∷ []) h = pick-holds (All P) (isDescendant c) _ _ (λ _. tt) (λ _. h)
 all-fewer P (c ∷ d ∷ cs) h = (h .0, all-fewer P (d ∷ cs) (h .1))
 
--- there is none to drop
-no-first : componentTexts (withoutFirst []) ≡ componentTexts []
-unfolding withoutFirst withoutBlank
-no-first = refl
+-- without a blank at the start
+first-keeps : (s : List ℕ) (n : ℕ) (cs : List Component) → BodyKeeps s n cs → BodyKeeps s (0 + n) (withoutFirst cs)
+unfolding withoutFirst
+first-keeps s n cs b =
+    let k = b .keeps in
+    let t = ap length (first-texts cs) in
+    record {
+      some = omega (arith, b .some);
+      keeps =
+          record {
+            within = omega (arith, k .within);
+            counted = omega (arith, k .counted, length-reverse cs, fewer (reverse cs), length-reverse (withoutBlank (reverse cs)));
+            long = omega (arith, k .long);
+            sharp = λ g. omega (arith, k .sharp (omega arith));
+            empty = λ g. omega (arith, k .empty (omega arith));
+            small = all-reverse Small (withoutBlank (reverse cs)) (all-fewer Small (reverse cs) (all-reverse Small cs (k .small)));
+          };
+    }
 
--- the texts of one component and of more
-texts-cons : (c : Component) (cs : List Component) → componentTexts (c ∷ cs) ≡ componentText c ++ componentTexts cs
-unfolding componentTexts textsMany
-texts-cons c cs = refl
+-- as the code reads it
+pub started-keeps : (s : List ℕ) → Where (length s) (BodyKeeps s) (startedOf s)
+unfolding startedOf
+started-keeps s = where-behind (length s) (length s) (BodyKeeps s) (BodyKeeps s) 0 (bodyOf s) withoutFirst (first-keeps s) (omega arith) (body-keeps s)
 
--- a blank at the start has no texts
-first-texts : (cs : List Component) → componentTexts (withoutFirst cs) ≡ componentTexts cs
-first-texts [] = no-first
-first-texts (c ∷ cs) = ap componentTexts (without-first c cs) ∙ kept-texts c 0 cs ∙ sym (texts-cons c cs)
-
--- ---- a selector
--- what a selector keeps to: a byte or more, no more components than bytes, texts no longer than what it takes but for two bytes
+-- ---- selectors one behind the other: e numbers, and four for each byte taken
 pub record SelectorKeeps (s : List ℕ) (n : ℕ) (x : Selector) : Type 0 where
   pub some : 1 ≤ n
   pub within : n ≤ length s
@@ -166,7 +170,7 @@ pub record SelectorKeeps (s : List ℕ) (n : ℕ) (x : Selector) : Type 0 where
   pub small : All Small (x .components)
 
 -- the pseudo element lies within the text
-pseudo-within : (s : List ℕ) → pseudoTaken (pseudoOf s) ≤ length s
+pub pseudo-within : (s : List ℕ) → pseudoTaken (pseudoOf s) ≤ length s
 unfolding pseudoOf pseudoTaken
 pseudo-within s =
     pick-holds (λ (p : PseudoElement). pseudoTaken p ≤ length s) (startsWith (text "::before") s) _ _ (λ e. starts-le (text "::before") s e)
@@ -205,11 +209,11 @@ module _ (cs : List Component) (p : PseudoElement) where
       }
 
 -- every selector that reads
-pub selector-keeps : (s : List ℕ) → Where (SelectorKeeps s) (selectorOf s)
+pub selector-keeps : (s : List ℕ) → Where (length s) (SelectorKeeps s) (selectorOf s)
 unfolding selectorOf
 selector-keeps s =
-    where-then (BodyKeeps s) (SelectorKeeps s) (bodyOf s) _ fails _
-    (λ n cs b. made-keeps cs (pseudoOf (drop n s)) s n (pseudoTaken (pseudoOf (drop n s))) b (pseudo-within (drop n s))) tt (body-keeps s)
+    where-then (length s) (length s) (BodyKeeps s) (SelectorKeeps s) (bodyOf s) _ fails _
+    (λ n cs b. made-keeps cs (pseudoOf (drop n s)) s n (pseudoTaken (pseudoOf (drop n s))) b (pseudo-within (drop n s))) tt (λ p h. h) (body-keeps s)
 
 -- ---- selectors one behind the other: e numbers, and four for each byte taken
 pub record SelectorsKeep (e : ℕ) (s : List ℕ) (n : ℕ) (xs : List Selector) : Type 0 where
@@ -254,24 +258,24 @@ first-selector s n m x xs f k =
     rw z at (next-selector selectorHead s 0 n m x xs (omega arith) (omega arith) f (rw z k))
 
 -- behind a first one
-more-keep : (l : ℕ) (s : List ℕ) → Where (SelectorsKeep 0 s) (moreSelectors l s)
+more-keep : (l : ℕ) (s : List ℕ) → Where (length s) (SelectorsKeep 0 s) (moreSelectors l s)
 unfolding moreSelectors
 more-keep zero s = no-selectors 0 s
 more-keep (suc l) s =
     let w = 1 + skipWhitespace (drop 1 s) in
-    pick-holds (Where (SelectorsKeep 0 s)) (is (getD s 0 0) ascii.comma) _ _
+    pick-holds (Where (length s) (SelectorsKeep 0 s)) (is (getD s 0 0) ascii.comma) _ _
     (λ e. let h : w ≤ length s = omega (arith, byte-there s 0 ascii.comma (omega arith) e, skip-le (drop 1 s), length-drop 1 s) in
-    where-then (SelectorKeeps (drop w s)) (SelectorsKeep 0 s) (selectorOf (drop w s)) _ (reads 0 []) _
-    (λ n x f. where-behind (SelectorsKeep 0 (drop (w + n) s)) (SelectorsKeep 0 s) (w + n) (moreSelectors l (drop (w + n) s)) _
-    (λ m xs k. next-selector 0 s w n m x xs h (omega arith) f k) (more-keep l (drop (w + n) s)))
-    (no-selectors 0 s) (selector-keeps (drop w s)))
+    where-then (length (drop w s)) (length s) (SelectorKeeps (drop w s)) (SelectorsKeep 0 s) (selectorOf (drop w s)) _ (reads 0 []) _
+    (λ n x f. where-behind (length (drop (w + n) s)) (length s) (SelectorsKeep 0 (drop (w + n) s)) (SelectorsKeep 0 s) (w + n) (moreSelectors l (drop (w + n) s)) _
+    (λ m xs k. next-selector 0 s w n m x xs h (omega arith) f k) (omega (arith, h, f .within, length-drop w s, length-drop (w + n) s)) (more-keep l (drop (w + n) s)))
+    (no-selectors 0 s) (λ p i. omega (arith, h, length-drop w s)) (selector-keeps (drop w s)))
     (λ _. no-selectors 0 s)
 
 -- a list of selectors keeps to the bounds
-pub selectors-keep : (s : List ℕ) → Where (SelectorsKeep selectorHead s) (selectorsOf s)
+pub selectors-keep : (s : List ℕ) → Where (length s) (SelectorsKeep selectorHead s) (selectorsOf s)
 unfolding selectorsOf moreFrom
 selectors-keep s =
-    where-then (SelectorKeeps s) (SelectorsKeep selectorHead s) (selectorOf s) _ (reads 0 []) _
-    (λ n x f. where-behind (SelectorsKeep 0 (drop n s)) (SelectorsKeep selectorHead s) n (moreSelectors (length (drop n s)) (drop n s)) _
-    (λ m xs k. first-selector s n m x xs f k) (more-keep (length (drop n s)) (drop n s)))
-    (no-selectors selectorHead s) (selector-keeps s)
+    where-then (length s) (length s) (SelectorKeeps s) (SelectorsKeep selectorHead s) (selectorOf s) _ (reads 0 []) _
+    (λ n x f. where-behind (length (drop n s)) (length s) (SelectorsKeep 0 (drop n s)) (SelectorsKeep selectorHead s) n (moreSelectors (length (drop n s)) (drop n s)) _
+    (λ m xs k. first-selector s n m x xs f k) (omega (arith, f .within, length-drop n s)) (more-keep (length (drop n s)) (drop n s)))
+    (no-selectors selectorHead s) (λ p h. h) (selector-keeps s)

@@ -31,16 +31,20 @@ text-both k a b n = pick-false _ _ _ _ (is-no k nthKind n) refl
 pub text-fits : (k a b m : ℕ) → (k ≡ nthKind → ⊥) → textLength k a b < m → a + b < m
 text-fits k a b m n h = subst (λ (t : ℕ). t < m) (sym (text-both k a b n)) h
 
--- ---- `kept_first`
--- a blank at the start is not kept
-pub kept-none : (k : ℕ) → k ≡ descendantKind → _≡_ {A = ℕ} 0 (pick (is k descendantKind) 0 1)
-kept-none k e = pick-true _ _ _ _ (is-yes k descendantKind e) refl
+-- ---- `drop_blank`
+module _ (start k : ℕ) where
+  -- a blank at the start is not kept
+  pub kept-none : start ≡ 0 → k ≡ descendantKind → _≡_ {A = ℕ} 0 (pick (is start 0) (pick (is k descendantKind) 0 1) 1)
+  kept-none s e = pick-true _ _ _ _ (is-yes start 0 s) (pick-true _ _ _ _ (is-yes k descendantKind e) refl)
 
--- any other component is
-pub kept-one : (k : ℕ) → (k ≡ descendantKind → ⊥) → _≡_ {A = ℕ} 1 (pick (is k descendantKind) 0 1)
-kept-one k n = pick-false _ _ _ _ (is-no k descendantKind n) refl
+  -- others are
+  pub kept-first : start ≡ 0 → (k ≡ descendantKind → ⊥) → _≡_ {A = ℕ} 1 (pick (is start 0) (pick (is k descendantKind) 0 1) 1)
+  kept-first s n = pick-true _ _ _ _ (is-yes start 0 s) (pick-false _ _ _ _ (is-no k descendantKind n) refl)
 
--- ---- `put_first`
+  -- behind the start all are
+  pub kept-later : (start ≡ 0 → ⊥) → _≡_ {A = ℕ} 1 (pick (is start 0) (pick (is k descendantKind) 0 1) 1)
+  kept-later n = pick-false _ _ _ _ (is-no start 0 n) refl
+
 -- what is not kept is not written
 pub put-none : (kept : ℕ) (row rules : List ℕ) (place : ℕ) → kept ≡ 0 → rules ≡ sets rules place (pick (is kept 0) [] row)
 put-none kept row rules place e = ap (sets rules place) (pick-true _ _ _ _ (is-yes kept 0 e) refl)

@@ -1,265 +1,262 @@
 -- Cases of `parse_selectors`: a first selector, and those behind it.
-use mathlib.Core.Path.{_≡_, refl, ap, sym, _∙_}
-use mathlib.Core.List.{List, [], _∷_, _++_, append-nil}
-use mathlib.Core.Logic.{⊎-elim}
-use Prim.Native.Nat.{ℕ, _+_, _-_, _*_, _^_, _≤_, _<_}
+use mathlib.Core.Path.{_≡_, refl, ap, sym, subst, _∙_}
+use mathlib.Core.Bool.{Bool, true, false}
+use mathlib.Core.List.{List, [], _∷_}
+use Prim.Native.Nat.{ℕ, zero, suc, _+_, _-_, _*_, _^_, _≤_, _<_}
+use native.Mathlib.Nat.{zero-add}
 use native.Mathlib.Omega.{arith}
-use lib.ListN.{length, take, drop, length-drop}
-use lib.Seq.{sets}
+use lib.ListN.{length, take, drop, getD, length-drop}
+use lib.Seq.{sets, drop-drop}
+use Rattle.combinators.specs.Ascii as ascii
+use Rattle.combinators.specs.Choice.{pick, is}
 use Rattle.combinators.specs.Store.{wiped}
-use Rattle.combinators.proofs.Lists.{rest, nil-of}
-use Rattle.combinators.proofs.Rules.{lt-or-ge}
+use Rattle.combinators.proofs.Lists.{rest, first, byte-there}
+use Rattle.combinators.proofs.Rules.{pick-holds}
+use Rattle.lexer.specs.Whitespace.{skipWhitespace}
 use Rattle.syntax.specs.RuleLayout.{componentWidth, selectorHead, selectorRow, selectorText, selectorRows, selectorTexts}
-use Rattle.syntax.specs.Stream.{rowsMany, textsMany}
-use Rattle.selectors.specs.Outcome.{reads, fails, panics, onOutcome, behind}
+use Rattle.syntax.specs.RuleSize.{selectorSize}
+use Rattle.syntax.specs.Selector.{Selector}
+use Rattle.syntax.proofs.RowSizes.{length-selector}
+use Rattle.selectors.specs.Outcome.{Outcome, reads, fails, panics, onOutcome, behind}
 use Rattle.selectors.specs.Selector.{selectorOf}
 use Rattle.selectors.specs.SelectorList.{moreSelectors, moreFrom, selectorsOf}
-use Rattle.selectors.specs.Reading.{reading, written, TextRoom, RowRoom, Bounds}
+use Rattle.selectors.specs.Reading.{TextRoom, RowRoom}
 use Rattle.selectors.specs.declared.readings.Reading.{Reading}
 use Rattle.selectors.specs.declared.readings.Reading.the-variants.{Reads, Fails, Panics}
-use Rattle.combinators.proofs.ZeroLaws.{zeros-back}
-use Rattle.selectors.proofs.Gathering.{Gathered, gathered-more, rules-zeros, store-zeros, rules-long, store-long, end-answer, end-rules, end-store, panic-answer, panic-rules, panic-store}
-use Rattle.selectors.proofs.ReadingLaws.{ReadAs, read-by, fails-by, panics-by, sets-read, sets-fails, sets-panics, same-reads, Sizes, sizes-of, reads-bounds, fails-bounds, panics-within, panics-bounds}
+use Rattle.selectors.specs.declared.readings.ManyReading.{ManyReading}
+use Rattle.selectors.specs.declared.readings.ManyReading.the-variants as many
+use Rattle.selectors.proofs.AllLaws.{where-read, where-panics, reads-no, behind-never, then-never}
+use Rattle.selectors.proofs.Gathering.{Gathered, gathered-none, gathered-next, gathered-as, rules-zeros, store-zeros, rules-long, store-long, many-read, many-panics}
+use Rattle.selectors.proofs.ReadingLaws.{Left, LeftMany, Found, found, nothing, panicked}
+use Rattle.selectors.proofs.SelectorBounds.{SelectorKeeps, selector-keeps}
 
--- what a return leaves, and its bounds
-abbrev pub Selected : List ℕ → List ℕ → ℕ → List ℕ → ℕ → Reading → List ℕ → List ℕ → Type 0
-Selected s rules place store fill r y z =
-    (r ≡ reading length (selectorRows fill) selectorTexts (selectorsOf s))
-    × ((y ≡ sets rules place (written (selectorRows fill) (selectorsOf s)))
-    × ((z ≡ sets store fill (written selectorTexts (selectorsOf s))) × Bounds componentWidth selectorHead s r))
+-- ---- what is still to be read where the next selector may start at `next`, `gap` bytes behind the last; behind one of n bytes there are `turns n`
+-- turns or fewer
+unfoldable nextOf : List ℕ → (ℕ → ℕ) → ℕ → ℕ → Outcome (List Selector)
+nextOf s turns gap next =
+    onOutcome (selectorOf (drop next s)) (λ n x. behind (gap + n) (moreSelectors (turns n) (drop (next + n) s)) (λ xs. x ∷ xs)) (reads 0 []) (λ p. panics (gap + p))
 
--- behind the end of a text there is no selector
-nothing-more : moreFrom [] ≡ reads 0 []
-unfolding moreFrom moreSelectors
-nothing-more = refl
+-- at the start
+first-by : (o : Outcome Selector) (f : ℕ → Outcome (List Selector))
+    → onOutcome o (λ n x. behind n (f n) (λ xs. x ∷ xs)) (reads 0 []) (λ p. panics p)
+    ≡ onOutcome o (λ n x. behind (0 + n) (f (0 + n)) (λ xs. x ∷ xs)) (reads 0 []) (λ p. panics (0 + p))
+unfolding onOutcome
+first-by (reads n x) f = rw (zero-add n)
+first-by fails f = refl
+first-by (panics p) f = rw (zero-add p)
 
-module _ {s rules₀ : List ℕ} {place : ℕ} {store₀ : List ℕ} {fill : ℕ} (u : RowRoom selectorHead s rules₀ place) (v : TextRoom 10 s store₀ fill) where
-  -- room for the first
-  pub first-texts : TextRoom 6 s store₀ fill
-  first-texts = record { zeros = v .zeros; for-texts = omega (arith, v .for-texts); bits = omega (arith, v .bits) }
+first-is : (s : List ℕ) → selectorsOf s ≡ nextOf s (λ n. length (drop (0 + n) s)) 0 0
+unfolding selectorsOf moreFrom nextOf
+first-is s = first-by (selectorOf s) (λ n. moreSelectors (length (drop n s)) (drop n s))
 
-  module _ {r : Reading} {y z : List ℕ} (er : r ≡ reading (λ _. 1) (selectorRow fill) selectorText (selectorOf s))
-      (ey : y ≡ sets rules₀ place (written (selectorRow fill) (selectorOf s))) (ez : z ≡ sets store₀ fill (written selectorText (selectorOf s)))
-      (k : Bounds componentWidth selectorHead s r) where
-    -- no selector
-    module _ (g : r ≡ Fails) where
-      none-is : selectorOf s ≡ fails
-      none-is = fails-by (λ _. 1) (selectorRow fill) selectorText (selectorOf s) (sym g ∙ er)
+-- behind a ','
+module _ (s : List ℕ) (taken : ℕ) {b : Bool} (eb : b ≡ is (getD s taken 0) ascii.comma) where
+  none-follows : b ≡ false → (t : ℕ) → moreSelectors t (drop taken s) ≡ reads 0 []
+  unfolding moreSelectors pick
+  none-follows f zero = refl
+  none-follows f (suc t) = rw (first s taken, sym eb ∙ f)
 
-      pub none : Selected s rules₀ place store₀ fill (Reads 0 0 0 0) y z
-      unfolding selectorsOf selectorRows selectorTexts reading written onOutcome rowsMany textsMany
-      none = (
-        rw none-is refl,
-        (
-          rw none-is (ey ∙ sets-fails (selectorRow fill) rules₀ place (selectorOf s) none-is),
-          (
-            rw none-is (ez ∙ sets-fails selectorText store₀ fill (selectorOf s) none-is),
-            reads-bounds (record { taken = omega arith; counted = omega arith; wide = omega arith; long = omega arith; sharp = λ _. omega arith }),
-          ),
-        ),
-      )
+  comma-there : b ≡ true → taken < length s
+  comma-there f = byte-there s taken ascii.comma (omega arith) (sym eb ∙ f)
 
-    -- the crate panics in the first
-    module _ {p : ℕ} (g : r ≡ Panics p) where
-      panic-is : selectorOf s ≡ panics p
-      panic-is = panics-by (λ _. 1) (selectorRow fill) selectorText (selectorOf s) p (sym g ∙ er)
+  module _ (f : b ≡ true) {next : ℕ} (en : next ≡ taken + 1 + skipWhitespace (drop (taken + 1) s)) where
+    gap : ℕ
+    gap = 1 + skipWhitespace (drop 1 (drop taken s))
 
-      pub first-panics : Selected s rules₀ place store₀ fill (Panics p) y z
-      unfolding selectorsOf reading written onOutcome
-      first-panics = (
-        rw panic-is refl,
-        (
-          rw panic-is (ey ∙ sets-panics (selectorRow fill) rules₀ place (selectorOf s) p panic-is),
-          (
-            rw panic-is (ez ∙ sets-panics selectorText store₀ fill (selectorOf s) p panic-is),
-            panics-bounds (panics-within k g),
-          ),
-        ),
-      )
+    gap-is : next ≡ taken + gap
+    unfolding gap
+    gap-is =
+        let e : skipWhitespace (drop 1 (drop taken s)) ≡ skipWhitespace (drop (taken + 1) s) = ap skipWhitespace (drop-drop 1 taken s) in
+        omega (arith, en, e)
+
+    by-next : (g t : ℕ) → next ≡ taken + g → (o : Outcome Selector)
+        → onOutcome o (λ n x. behind (g + n) (moreSelectors t (drop (g + n) (drop taken s))) (λ xs. x ∷ xs)) (reads 0 []) (λ p. panics (g + p))
+        ≡ onOutcome o (λ n x. behind (g + n) (moreSelectors t (drop (next + n) s)) (λ xs. x ∷ xs)) (reads 0 []) (λ p. panics (g + p))
+    unfolding onOutcome
+    by-next g t e (reads n x) =
+        let q : taken + (g + n) ≡ next + n = omega (arith, e) in
+        rw (drop-drop (g + n) taken s, q)
+    by-next g t e fails = refl
+    by-next g t e (panics p) = refl
+
+    by-gap : (g t : ℕ) → next ≡ taken + g
+        → onOutcome (selectorOf (drop g (drop taken s))) (λ n x. behind (g + n) (moreSelectors t (drop (g + n) (drop taken s))) (λ xs. x ∷ xs)) (reads 0 []) (λ p. panics (g + p))
+        ≡ nextOf s (λ _. t) g next
+    unfolding nextOf
+    by-gap g t e = by-next g t e (selectorOf (drop g (drop taken s))) ∙ ap
+        (λ (l : List ℕ). onOutcome (selectorOf l) (λ n x. behind (g + n) (moreSelectors t (drop (next + n) s)) (λ xs. x ∷ xs)) (reads 0 []) (λ p. panics (g + p)))
+        (drop-drop g taken s ∙ ap (λ (k : ℕ). drop k s) (sym e))
+
+    one-follows : (t : ℕ) → length s ≤ taken + t → moreSelectors t (drop taken s) ≡ nextOf s (λ _. t - 1) gap next
+    unfolding moreSelectors pick gap
+    one-follows zero l = absurd (omega (arith, comma-there f))
+    one-follows (suc t) l =
+        let d : suc t - 1 ≡ t = omega arith in
+        rw (first s taken, sym eb ∙ f, d) (by-gap gap t gap-is)
+
+-- ---- the reader, where the next selector may start
+pub record Reading-on (s rules₀ : List ℕ) (place : ℕ) (store₀ : List ℕ) (fill : ℕ) (rules store : List ℕ) (taken count numbers text next : ℕ) : Type 0 where
+  turns : ℕ → ℕ
+  enough : (n : ℕ) → length s ≤ next + n + turns n
+  gap : ℕ
+  next-is : next ≡ taken + gap
+  gathered : Gathered selectorRow selectorText (selectorsOf s) (nextOf s turns gap next) rules₀ place store₀ fill taken rules store count numbers text
+  pub within : next ≤ length s
+  pub counted : count ≤ next
+  pub wide : numbers ≤ componentWidth * next
+  pub long : text ≤ next
+
+-- before the first
+pub begin : (s rules : List ℕ) (place : ℕ) (store : List ℕ) (fill : ℕ) → Reading-on s rules place store fill rules store 0 0 0 0 0
+begin s rules place store fill =
+    record {
+      turns = λ n. length (drop (0 + n) s);
+      enough = λ n. omega (arith, length-drop (0 + n) s);
+      gap = 0;
+      next-is = refl;
+      gathered =
+          subst (λ (o : Outcome (List Selector)). Gathered selectorRow selectorText (selectorsOf s) o rules place store fill 0 rules store 0 0 0) (first-is s)
+          (gathered-none selectorRow selectorText (selectorsOf s) rules place store fill);
+      within = omega arith;
+      counted = omega arith;
+      wide = omega arith;
+      long = omega arith;
+    }
+
+-- what a return leaves
+abbrev pub Ends : List ℕ → List ℕ → ℕ → List ℕ → ℕ → ManyReading → List ℕ → List ℕ → Type 0
+Ends s rules place store fill r y z = LeftMany length (selectorRows fill) selectorTexts (selectorsOf s) rules place store fill r y z
+
+module _ {s rules₀ : List ℕ} {place : ℕ} {store₀ : List ℕ} {fill : ℕ} {rules store : List ℕ} {taken count numbers text next : ℕ}
+    (i : Reading-on s rules₀ place store₀ fill rules store taken count numbers text next) (u : RowRoom selectorHead s rules₀ place) (v : TextRoom 4 s store₀ fill) where
+  -- the rest as the code lends it
+  abbrev lent : List ℕ
+  lent = take (length s - next) (drop next s)
+
+  lent-is : lent ≡ drop next s
+  lent-is = rest s next
+
+  lent-long : length lent ≡ length s - next
+  lent-long = ap length lent-is ∙ length-drop next s
+
+  -- room for the next
+  pub next-rows : RowRoom selectorHead lent rules (place + numbers)
+  next-rows =
+      record {
+        zeros = rules-zeros (i .gathered) (u .zeros);
+        for-rows = omega (arith, u .for-rows, i .wide, i .within, lent-long, rules-long (i .gathered));
+        bits = omega (arith, u .bits, i .wide, i .within, lent-long);
+      }
+
+  pub next-texts : TextRoom 4 lent store (fill + text)
+  next-texts =
+      record {
+        zeros = store-zeros (i .gathered) (v .zeros);
+        for-texts = omega (arith, v .for-texts, i .long, i .within, lent-long, store-long (i .gathered));
+        bits = omega (arith, v .bits, i .long, i .within, lent-long);
+      }
+
+  pub place-fits : place + numbers < 2 ^ 64
+  place-fits = omega (arith, u .bits, i .wide, i .within)
+
+  pub fill-fits : fill + text < 2 ^ 64
+  fill-fits = omega (arith, v .bits, i .long, i .within)
+
+  -- the stores keep their lengths
+  pub rules-kept : length rules ≡ length rules₀
+  rules-kept = rules-long (i .gathered)
+
+  pub store-kept : length store ≡ length store₀
+  store-kept = store-long (i .gathered)
+
+  module _ {r : Reading} {y z : List ℕ} (e : Left (λ _. 1) (selectorRow (fill + text)) selectorText (selectorOf lent) rules (place + numbers) store (fill + text) r y z) where
+    -- no selector follows
+    pub no-selector : r ≡ Fails → Ends s rules₀ place store₀ fill (many.Reads taken count numbers text) y z
+    unfolding nextOf onOutcome selectorRows selectorTexts
+    no-selector g =
+        let n = nothing _ _ _ _ _ _ _ _ e g in
+        rw (n .1 .0, n .1 .1) (many-read (i .gathered) 0 taken (rw (← lent-is, n .0)) (omega arith))
 
     -- a first
-    module _ {n o row text : ℕ} (g : r ≡ Reads n o row text) where
-      read : ReadAs (λ _. 1) (selectorRow fill) selectorText (selectorOf s) n o row text
-      read = read-by (λ _. 1) (selectorRow fill) selectorText (selectorOf s) n o row text (sym g ∙ er)
+    module _ {p : ℕ} (g : r ≡ Panics p) where
+      pub panic-within : next + p ≤ length s
+      panic-within = omega (arith, where-panics (length lent) _ (selectorOf lent) p (panicked _ _ _ _ _ _ _ _ e g .0) (selector-keeps lent), lent-long, i .within)
 
-      sizes : Sizes componentWidth selectorHead s n o row text
-      sizes = sizes-of k g
+      pub panics-left : {y′ z′ : List ℕ} → y′ ≡ wiped place numbers y → z′ ≡ wiped fill text z → Ends s rules₀ place store₀ fill (many.Panics (next + p)) y′ z′
+      unfolding nextOf onOutcome selectorRows selectorTexts
+      panics-left ey ez =
+          let n = panicked _ _ _ _ _ _ _ _ e g in
+          many-panics (i .gathered) (u .zeros) (v .zeros) (ey ∙ ap (wiped place numbers) (n .1 .0)) (ez ∙ ap (wiped fill text) (n .1 .1))
+          (i .gap + p) (next + p) (rw (← lent-is, n .0)) (omega (arith, i .next-is))
 
-      pub first-fits : n ≤ length s
-      first-fits = sizes .taken
+    -- a first
+    module _ {n o row more : ℕ} (g : r ≡ Reads n o row more) where
+      one : Found (λ _. 1) (selectorRow (fill + text)) selectorText (selectorOf lent) rules (place + numbers) store (fill + text) y z n o row more
+      one = found _ _ _ _ _ _ _ _ e g
 
-      first-some : 1 ≤ n
-      first-some = omega (arith, sizes .counted, read .counts)
+      keeps : SelectorKeeps lent n (one .value)
+      keeps = where-read (length lent) (SelectorKeeps lent) (selectorOf lent) n (one .value) (one .reads-it) (selector-keeps lent)
 
-      -- the rest as the code lends it
-      abbrev lent : List ℕ
-      lent = take (length s - n) (drop n s)
+      pub taken-within : next + n ≤ length s
+      taken-within = omega (arith, keeps .within, lent-long, i .within)
 
-      lent-is : lent ≡ drop n s
-      lent-is = rest s n
+      pub count-few : count + 1 ≤ next + n
+      count-few = omega (arith, i .counted, keeps .some)
 
-      lent-long : length lent ≡ length s - n
-      lent-long = ap length lent-is ∙ length-drop n s
+      pub numbers-few : numbers + row ≤ componentWidth * (next + n) + selectorHead
+      unfolding selectorSize
+      numbers-few = omega (arith, i .wide, one .rows, length-selector (fill + text) (one .value), keeps .counted)
 
-      first-whole : selectorsOf s ≡ behind n (moreFrom lent) (λ more. (read .value ∷ []) ++ more)
-      unfolding selectorsOf onOutcome
-      first-whole = rw (read .reads-it, lent-is)
+      pub text-few : text + more ≤ next + n + 2
+      text-few = omega (arith, i .long, one .texts, keeps .long)
 
-      gathered : Gathered selectorRow selectorText (selectorsOf s) (moreFrom lent) rules₀ place store₀ fill n y z 1 row text
-      unfolding rowsMany textsMany
-      gathered =
-          let x = read .value in
-          let a = append-nil (selectorRow fill x) in
-          let b = append-nil (selectorText x) in
-          record {
-            done = x ∷ [];
-            whole-is = first-whole;
-            rules-are = ey ∙ sets-read (selectorRow fill) rules₀ place (selectorOf s) n x (read .reads-it) ∙ ap (sets rules₀ place) (sym a);
-            store-is = ez ∙ sets-read selectorText store₀ fill (selectorOf s) n x (read .reads-it) ∙ ap (sets store₀ fill) (sym b);
-            count-is = refl;
-            numbers-are = read .rows ∙ ap length (sym a);
-            text-is = read .texts ∙ ap length (sym b);
-          }
+      read-on : Gathered selectorRow selectorText (selectorsOf s) (moreSelectors (i .turns n) (drop (next + n) s)) rules₀ place store₀ fill (next + n) y z (count + 1) (numbers + row) (text + more)
+      unfolding nextOf onOutcome
+      read-on =
+          gathered-as (gathered-next (i .gathered) (i .gap + n) (one .value) _ y z (rw (← lent-is, one .reads-it)) (one .rules-are) (one .store-is))
+          (omega (arith, i .next-is)) refl (omega (arith, one .rows)) (omega (arith, one .texts))
 
-      -- there is room for the selectors behind the first
-      pub place-fits : place + row < 2 ^ 64
-      place-fits = omega (arith, u .bits, sizes .wide, first-fits)
+      module _ {b : Bool} (eb : b ≡ is (getD s (next + n) 0) ascii.comma) where
+        -- no ',' follows
+        pub no-comma : b ≡ false → Ends s rules₀ place store₀ fill (many.Reads (next + n) (count + 1) (numbers + row) (text + more)) y z
+        unfolding selectorRows selectorTexts
+        no-comma f = many-read read-on 0 (next + n) (none-follows s (next + n) eb f (i .turns n)) (omega arith)
 
-      pub fill-fits : fill + text < 2 ^ 64
-      fill-fits = omega (arith, v .bits, sizes .long, first-fits)
-
-      pub more-rows : RowRoom 0 lent y (place + row)
-      more-rows =
-          let l = rules-long _ _ _ _ _ _ _ _ _ _ _ _ _ _ gathered in
-          record {
-            zeros = rules-zeros _ _ _ _ _ _ _ _ _ _ _ _ _ _ gathered (u .zeros);
-            for-rows = omega (arith, u .for-rows, sizes .wide, first-fits, lent-long, l);
-            bits = omega (arith, u .bits, sizes .wide, first-fits, lent-long);
-          }
-
-      pub more-texts : TextRoom 8 lent z (fill + text)
-      more-texts =
-          let l = store-long _ _ _ _ _ _ _ _ _ _ _ _ _ _ gathered in
-          record {
-            zeros = store-zeros _ _ _ _ _ _ _ _ _ _ _ _ _ _ gathered (v .zeros);
-            for-texts = omega (arith, v .for-texts, sizes .long, first-fits, lent-long, l);
-            bits = omega (arith, v .bits, sizes .long, first-fits, lent-long);
-          }
-
-      module _ {q : Reading} {y′ z′ : List ℕ} (eq : q ≡ reading length (selectorRows (fill + text)) selectorTexts (moreFrom lent))
-          (ey′ : y′ ≡ sets y (place + row) (written (selectorRows (fill + text)) (moreFrom lent)))
-          (ez′ : z′ ≡ sets z (fill + text) (written selectorTexts (moreFrom lent))) (kq : Bounds componentWidth 0 lent q) where
-        -- the others do not read
-        module _ (h : q ≡ Fails) where
-          no-more : moreFrom lent ≡ fails
-          no-more = fails-by length (selectorRows (fill + text)) selectorTexts (moreFrom lent) (sym h ∙ eq)
-
-          whole-fails : selectorsOf s ≡ fails
-          unfolding behind onOutcome
-          whole-fails = first-whole ∙ rw no-more
-
-          pub more-fails : {y″ z″ : List ℕ} → y″ ≡ wiped place row y′ → z″ ≡ wiped fill text z′ → Selected s rules₀ place store₀ fill Fails y″ z″
-          unfolding reading written onOutcome
-          more-fails a b =
-              let x = read .value in (
-                rw whole-fails refl,
-                (
-                  rw whole-fails
-                      (a ∙ ap (wiped place row) (ey′ ∙ sets-fails (selectorRows (fill + text)) y (place + row) (moreFrom lent) no-more ∙ ey
-                      ∙ sets-read (selectorRow fill) rules₀ place (selectorOf s) n x (read .reads-it))
-                      ∙ zeros-back rules₀ place (u .zeros) (selectorRow fill x) row (omega (arith, read .rows))),
-                  (
-                    rw whole-fails
-                        (b ∙ ap (wiped fill text) (ez′ ∙ sets-fails selectorTexts z (fill + text) (moreFrom lent) no-more ∙ ez
-                        ∙ sets-read selectorText store₀ fill (selectorOf s) n x (read .reads-it))
-                        ∙ zeros-back store₀ fill (v .zeros) (selectorText x) text (omega (arith, read .texts))),
-                    fails-bounds,
-                  ),
-                ),
-              )
-
-        -- the crate panics in the others
-        module _ {p : ℕ} (h : q ≡ Panics p) where
-          more-panic : moreFrom lent ≡ panics p
-          more-panic = panics-by length (selectorRows (fill + text)) selectorTexts (moreFrom lent) p (sym h ∙ eq)
-
-          pub panic-fits : n + p ≤ length s
-          panic-fits = omega (arith, panics-within kq h, lent-long, first-fits)
-
-          pub more-panics : {y″ z″ : List ℕ} → y″ ≡ wiped place row y′ → z″ ≡ wiped fill text z′ → Selected s rules₀ place store₀ fill (Panics (n + p)) y″ z″
-          unfolding selectorRows selectorTexts
-          more-panics a b = (
-            panic-answer _ _ _ _ _ _ _ _ _ _ _ _ _ _ gathered p more-panic,
-            (
-              a ∙ ap (wiped place row) (ey′ ∙ sets-panics (selectorRows (fill + text)) y (place + row) (moreFrom lent) p more-panic)
-                  ∙ panic-rules _ _ _ _ _ _ _ _ _ _ _ _ _ _ gathered p more-panic (u .zeros),
-              (
-                b ∙ ap (wiped fill text) (ez′ ∙ sets-panics selectorTexts z (fill + text) (moreFrom lent) p more-panic)
-                    ∙ panic-store _ _ _ _ _ _ _ _ _ _ _ _ _ _ gathered p more-panic (v .zeros),
-                panics-bounds panic-fits,
-              ),
-            ),
-          )
+        -- one does
+        pub comma-within : b ≡ true → next + n < length s
+        comma-within f = comma-there s (next + n) eb f
 
         -- all of them
-        module _ {m count numbers more : ℕ} (h : q ≡ Reads m count numbers more) where
-          others : ReadAs length (selectorRows (fill + text)) selectorTexts (moreFrom lent) m count numbers more
-          others = read-by length (selectorRows (fill + text)) selectorTexts (moreFrom lent) m count numbers more (sym h ∙ eq)
+        module _ (f : b ≡ true) {next′ : ℕ} (en : next′ ≡ next + n + 1 + skipWhitespace (drop (next + n + 1) s)) (l : next′ ≤ length s) where
+          pub later : next < next′
+          later = omega (arith, en)
 
-          more-sizes : Sizes componentWidth 0 lent m count numbers more
-          more-sizes = sizes-of kq h
+          pub goes : Reading-on s rules₀ place store₀ fill y z (next + n) (count + 1) (numbers + row) (text + more) next′
+          goes =
+              let there = comma-there s (next + n) eb f in
+              let many-turns = i .enough n in
+              record {
+                turns = λ _. i .turns n - 1;
+                enough = λ m. omega (arith, many-turns, there, en);
+                gap = gap s (next + n) eb f en;
+                next-is = gap-is s (next + n) eb f en;
+                gathered =
+                    subst (λ (q : Outcome (List Selector)). Gathered selectorRow selectorText (selectorsOf s) q rules₀ place store₀ fill (next + n) y z (count + 1) (numbers + row) (text + more))
+                    (one-follows s (next + n) eb f en (i .turns n) many-turns) read-on;
+                within = l;
+                counted = omega (arith, count-few, en);
+                wide = omega (arith, numbers-few, en);
+                long = omega (arith, i .long, one .texts, keeps .sharp (omega (arith, there, lent-long)), en);
+              }
 
-          -- at the end of the text the others have no text
-          no-text : length s ≤ n → more ≡ 0
-          unfolding reading onOutcome selectorTexts textsMany
-          no-text l =
-              let e : lent ≡ [] = nil-of lent (omega (arith, lent-long)) in
-              let w : Reads m count numbers more ≡ reading length (selectorRows (fill + text)) selectorTexts (reads 0 []) = sym h ∙ eq ∙ ap (λ (t : List ℕ). reading length (selectorRows (fill + text)) selectorTexts (moreFrom t)) e ∙ ap (reading length (selectorRows (fill + text)) selectorTexts) nothing-more in
-              cc
+-- ---- reading selectors never fails
+more-never : (l : ℕ) (t : List ℕ) → moreSelectors l t ≡ fails → ⊥
+unfolding moreSelectors
+more-never zero t e = reads-no e
+more-never (suc l) t e =
+    pick-holds (λ (o : Outcome (List Selector)). o ≡ fails → ⊥) (is (getD t 0 0) ascii.comma) _ _
+    (λ _. then-never (selectorOf (drop (1 + skipWhitespace (drop 1 t)) t)) _ (reads 0 []) _ (λ n x. behind-never _ _ _ (more-never l _)) reads-no) (λ _. reads-no) e
 
-          pub all-taken : n + m ≤ length s
-          all-taken = omega (arith, more-sizes .taken, lent-long, first-fits)
-
-          pub all-count : count + 1 ≤ n + m
-          all-count = omega (arith, more-sizes .counted, first-some)
-
-          pub all-numbers : row + numbers ≤ componentWidth * (n + m) + selectorHead
-          all-numbers = omega (arith, sizes .wide, more-sizes .wide)
-
-          pub all-text : text + more ≤ n + m + 2
-          all-text =
-              ⊎-elim
-              (λ l. omega (arith, sizes .sharp l, more-sizes .long))
-              (λ l. omega (arith, sizes .long, no-text l))
-              (lt-or-ge n (length s))
-
-          others-whole : moreFrom lent ≡ behind m (reads 0 []) (λ xs. others .value ++ xs)
-          unfolding behind onOutcome
-          others-whole =
-              let e : m + 0 ≡ m = omega arith in
-              others .reads-it ∙ rw (e, append-nil (others .value))
-
-          pub all : Selected s rules₀ place store₀ fill (Reads (n + m) (count + 1) (row + numbers) (text + more)) y′ z′
-          unfolding selectorRows selectorTexts
-          all =
-              let xs = others .value in
-              let a = gathered-more selectorRow selectorText (selectorsOf s) rules₀ place store₀ fill (moreFrom lent) n y z 1 row text gathered m xs (reads 0 []) y′ z′ others-whole
-              (ey′ ∙ sets-read (selectorRows (fill + text)) y (place + row) (moreFrom lent) m xs (others .reads-it))
-              (ez′ ∙ sets-read selectorTexts z (fill + text) (moreFrom lent) m xs (others .reads-it)) in (
-                same-reads (omega arith) (omega (arith, others .counts)) (ap (λ (j : ℕ). row + j) (others .rows)) (ap (λ (j : ℕ). text + j) (others .texts))
-                    ∙ end-answer _ _ _ _ _ _ _ _ _ _ _ _ _ _ a 0 refl,
-                (
-                  end-rules _ _ _ _ _ _ _ _ _ _ _ _ _ _ a 0 refl,
-                  (
-                    end-store _ _ _ _ _ _ _ _ _ _ _ _ _ _ a 0 refl,
-                    reads-bounds
-                        (record {
-                          taken = all-taken;
-                          counted = all-count;
-                          wide = all-numbers;
-                          long = all-text;
-                          sharp = λ l. omega (arith, sizes .sharp (omega arith), more-sizes .sharp (omega (arith, lent-long)));
-                        }),
-                  ),
-                ),
-              )
+pub selectors-never : (t : List ℕ) → selectorsOf t ≡ fails → ⊥
+unfolding selectorsOf moreFrom
+selectors-never t e = then-never (selectorOf t) _ (reads 0 []) _ (λ n x. behind-never n _ _ (more-never _ (drop n t))) reads-no e

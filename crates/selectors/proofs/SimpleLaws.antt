@@ -6,21 +6,22 @@ use native.Mathlib.Omega.{arith}
 use types.Run.{OneOf, miss}
 use denote.Enum.Declared.{tagOf}
 use lib.Seq.{sets}
-use Rattle.combinators.proofs.Rules.{pick-holds}
+use Rattle.combinators.specs.Choice.{pick, is}
+use Rattle.combinators.proofs.Rules.{pick-holds, is-yes, is-no}
 use Rattle.lexer.specs.Name.{identOf}
 use Rattle.syntax.specs.Selector as syntax
 use Rattle.syntax.specs.Selector.{child, star, descendant, element}
 use Rattle.syntax.specs.RuleLayout.{componentText}
 use Rattle.selectors.specs.Outcome.{Outcome, reads, fails, panics, onOutcome, parsed, orElse}
 use Rattle.selectors.specs.Selector.{classOf, attrOf, hashOf, pseudoClassOf, marked, blankOf, componentOf}
+use Rattle.selectors.specs.Components.{firstOf, nextOf}
 use Rattle.selectors.specs.Reading.{written}
-use Rattle.selectors.specs.ComponentAnswer.{componentAnswer, markOf, namedOf, ComponentBounds}
+use Rattle.selectors.specs.ComponentAnswer.{componentAnswer, markOf, namedOf}
 use Rattle.selectors.specs.declared.components.ComponentAnswer.{ComponentAnswer}
 use Rattle.selectors.specs.declared.components.ComponentAnswer.the-variants.{Component, NoComponent}
 use Rattle.selectors.proofs.components.ComponentAnswer.{the-type}
 use Rattle.selectors.proofs.ComponentLaws.{Left, or-fails, or-assoc}
 use Rattle.selectors.proofs.PseudoLaws.{none-textless, pseudo-textless}
-use Rattle.selectors.proofs.ComponentKeeps.{component-bounds}
 
 -- the variants of an answer that reads or panics
 abbrev some : List ℕ
@@ -175,14 +176,31 @@ module _ (s st : List ℕ) (fill : ℕ) (r : ComponentAnswer) (er : r ≡ compon
   mark-left = (er, sym (ap (sets st fill) (mark-textless s)))
 
   -- the return where one of the three was read
-  pub simple-mark : OneOf some (tagOf the-type r) → (r ≡ componentAnswer (componentOf s)) × ((st ≡ sets st fill (written componentText (componentOf s))) × ComponentBounds s r)
-  simple-mark h =
-      let w : Left (componentOf s) st fill r st = rw (← component-is s) (left-first _ _ st fill r st mark-left h) in
-      (w .0, (w .1, component-bounds s r (w .0)))
+  pub simple-mark : OneOf some (tagOf the-type r) → Left (componentOf s) st fill r st
+  simple-mark h = rw (← component-is s) (left-first _ _ st fill r st mark-left h)
 
   -- none: what stands behind it
-  pub simple-named : r ≡ NoComponent → (x : ComponentAnswer) (z : List ℕ) → Left (namedOf s) st fill x z
-      → (x ≡ componentAnswer (componentOf s)) × ((z ≡ sets st fill (written componentText (componentOf s))) × ComponentBounds s x)
-  simple-named h x z v =
-      let w : Left (componentOf s) st fill x z = rw (← component-is s) (left-second _ _ st fill (tried _ st fill r st mark-left h .0) x z v) in
-      (w .0, (w .1, component-bounds s x (w .0)))
+  pub simple-named : r ≡ NoComponent → (x : ComponentAnswer) (z : List ℕ) → Left (namedOf s) st fill x z → Left (componentOf s) st fill x z
+  simple-named h x z v = rw (← component-is s) (left-second _ _ st fill (tried _ st fill r st mark-left h .0) x z v)
+
+-- ---- the returns of `parse_next`
+module _ (start : ℕ) (s st : List ℕ) (fill : ℕ) where
+  -- behind others
+  pub next-any : (start ≡ 0 → ⊥) → (x : ComponentAnswer) (z : List ℕ) → Left (componentOf s) st fill x z → Left (nextOf (is start 0) s) st fill x z
+  unfolding nextOf pick
+  next-any n x z v = rw (is-no start 0 n) v
+
+  module _ (h : start ≡ 0) (r : ComponentAnswer) (z : List ℕ) (w : Left (parsed 0 (identOf s) element) st fill r z) where
+    -- a type selector
+    pub next-element : OneOf some (tagOf the-type r) → Left (nextOf (is start 0) s) st fill r z
+    unfolding nextOf firstOf pick
+    next-element k = rw (is-yes start 0 h) (left-first _ _ st fill r z w k)
+
+    -- none: any component
+    module _ (e : r ≡ NoComponent) where
+      pub next-same : z ≡ st
+      next-same = tried _ st fill r z w e .1
+
+      pub next-other : (x : ComponentAnswer) (y : List ℕ) → Left (componentOf s) z fill x y → Left (nextOf (is start 0) s) st fill x y
+      unfolding nextOf firstOf pick
+      next-other x y v = rw (is-yes start 0 h) (left-second _ _ st fill (tried _ st fill r z w e .0) x y (rw next-same at v))

@@ -1,5 +1,5 @@
 -- Components of selectors as the code answers them: the columns of a component's row, and its text in the store.
-use Prim.Native.Nat.{ℕ, _+_, _≤_}
+use Prim.Native.Nat.{ℕ, _+_}
 use mathlib.Core.List.{List, []}
 use mathlib.Core.Path.{_≡_, refl}
 use lib.Dec.{leb}
@@ -9,7 +9,7 @@ use Rattle.combinators.specs.Ascii as ascii
 use Rattle.combinators.specs.Choice.{pick, is}
 use Rattle.combinators.specs.Parsed as parsed
 use Rattle.combinators.specs.Parsed.{Parsed, ok, err, onParsed}
-use Rattle.combinators.specs.Store.{wiped, most}
+use Rattle.combinators.specs.Store.{wiped}
 use Rattle.combinators.specs.Word.{sameText}
 use Rattle.unicode.specs.Literal.{text}
 use Rattle.unicode.specs.Utf8.{utf8}
@@ -19,14 +19,11 @@ use Rattle.lexer.specs.declared.names.Name.{Name}
 use Rattle.lexer.specs.declared.names.Name.the-variants.{Text, NoName}
 use Rattle.syntax.specs.Selector as syntax
 use Rattle.syntax.specs.Selector.{child, star}
-use Rattle.syntax.specs.RuleLayout.{nthKind, classKind, attributeEqualKind, componentKind, componentFirst, componentSecond, componentText}
-use Rattle.values.specs.Layout.{slack}
+use Rattle.syntax.specs.RuleLayout.{classKind, attributeEqualKind, componentKind, componentFirst, componentSecond, componentText}
 use Rattle.selectors.specs.Outcome as outcome
 use Rattle.selectors.specs.Outcome.{Outcome, reads, panics, onOutcome, orElse}
 use Rattle.selectors.specs.Selector.{quotedOf, marked, blankOf, classOf, attrOf, hashOf, pseudoClassOf}
 use Rattle.selectors.specs.Reading.{written}
-use Rattle.selectors.specs.Components.{textLength}
-use Rattle.selectors.specs.NthAnswer.{greatestSigned}
 use Rattle.selectors.specs.declared.components.ComponentAnswer.{ComponentAnswer}
 use Rattle.selectors.specs.declared.components.ComponentAnswer.the-variants.{Component, NoComponent, Panic}
 
@@ -97,40 +94,3 @@ equalAnswer o name = onOutcome o (λ n v. Component n attributeEqualKind name (l
 -- the store: the value stands behind the name, or the name is wiped
 unfoldable pub equalStore : Outcome (List ℕ) → ℕ → ℕ → List ℕ → List ℕ
 equalStore o name fill store = onOutcome o (λ n v. sets store (fill + name) v) (wiped fill name store) (λ p. wiped fill name store)
-
--- ---- bounds
-
--- where an answer stops reading
-unfoldable pub componentPlace : ComponentAnswer → ℕ
-componentPlace (Component taken kind first second) = taken
-componentPlace NoComponent = 0
-componentPlace (Panic p) = p
-
--- the bytes that it takes at least
-unfoldable pub leastTaken : ComponentAnswer → ℕ
-leastTaken (Component taken kind first second) = 1
-leastTaken NoComponent = 0
-leastTaken (Panic p) = 0
-
--- the bytes of its texts: none where the numbers are a and b of an+b
-unfoldable pub textLengthBy : ComponentAnswer → ℕ
-textLengthBy (Component taken kind first second) = textLength kind first second
-textLengthBy NoComponent = 0
-textLengthBy (Panic p) = 0
-
-unfoldable pub firstNumber : ComponentAnswer → ℕ
-firstNumber (Component taken kind first second) = first
-firstNumber NoComponent = 0
-firstNumber (Panic p) = 0
-
-unfoldable pub secondNumber : ComponentAnswer → ℕ
-secondNumber (Component taken kind first second) = second
-secondNumber NoComponent = 0
-secondNumber (Panic p) = 0
-
-pub record ComponentBounds (s : List ℕ) (r : ComponentAnswer) : Type 0 where
-  pub some : leastTaken r ≤ componentPlace r
-  pub place : componentPlace r ≤ length s
-  pub text : textLengthBy r ≤ componentPlace r + slack s (componentPlace r)
-  pub first : firstNumber r ≤ most (length s + 2) greatestSigned
-  pub second : secondNumber r ≤ most (length s + 2) greatestSigned

@@ -29,7 +29,7 @@ ghost use Rattle.selectors.specs.Outcome.{parsed};
 ghost use Rattle.selectors.specs.Selector.{classOf, hashOf, pseudoClassOf, componentOf};
 ghost use Rattle.selectors.specs.Reading.{written};
 ghost use Rattle.syntax.specs.RuleLayout.{componentText};
-ghost use Rattle.selectors.specs.ComponentAnswer.{componentAnswer, markOf, namedOf, markTaken, nthChildName, ComponentBounds};
+ghost use Rattle.selectors.specs.ComponentAnswer.{componentAnswer, markOf, namedOf, markTaken, nthChildName};
 ghost use Rattle.selectors.specs.Stores.{Clean};
 
 // The bytes taken and the columns of a component's row: its kind and two numbers; or the byte where the crate panics.
@@ -238,7 +238,6 @@ pub fn parse_simple_selector_component(s: &[u8], store: &mut [u8], fill: usize) 
     requires { ⌜ Clean (length (now s)) fill (now store) ⌝ }
     ensures { λ r. ⌜ r ≡ componentAnswer (componentOf (now (s .entry))) ⌝ }
     ensures { λ _. ⌜ now (store .exit) ≡ sets (now (store .entry)) fill (written componentText (componentOf (now (s .entry)))) ⌝ }
-    ensures { λ r. ⌜ ComponentBounds (now (s .entry)) r ⌝ }
 {
     let mark = parse_mark(s);
     let ComponentAnswer::NoComponent = mark else {

@@ -4,9 +4,9 @@ use crate::components::ComponentAnswer;
 use crate::components::parse_element;
 use crate::components::parse_simple_selector_component;
 use crate::readings::Reading;
+use crate::readings::take_back;
 use combinators::bytes::starts_with;
 use combinators::stores::number_at;
-use combinators::stores::wipe_bytes;
 use combinators::stores::wipe_numbers;
 use syntax::rows::COMPONENT_KIND;
 use syntax::rows::COMPONENT_WIDTH;
@@ -27,11 +27,11 @@ ghost use Rattle.combinators.specs.Choice.{pick, is};
 ghost use Rattle.combinators.specs.Store.{wiped};
 ghost use Rattle.syntax.specs.RuleLayout.{componentWidth, descendantKind, componentText, componentRows, componentTexts, selectorHead, selectorRow, selectorText, pseudoNumber};
 ghost use Rattle.syntax.specs.Writing.{ComponentFits};
-ghost use Rattle.selectors.specs.Selector.{componentsFrom, selectorOf, pseudoOf, pseudoTaken};
-ghost use Rattle.selectors.specs.ComponentAnswer.{componentAnswer, ComponentBounds};
-ghost use Rattle.selectors.specs.Components.{textLength, firstOf, startedOf, blankLast};
+ghost use Rattle.selectors.specs.Selector.{selectorOf, pseudoOf, pseudoTaken};
+ghost use Rattle.selectors.specs.ComponentAnswer.{componentAnswer};
+ghost use Rattle.selectors.specs.Components.{textLength, nextOf, startedOf, blankLast};
 ghost use Rattle.selectors.specs.Stores.{Clean};
-ghost use Rattle.selectors.specs.Reading.{reading, written, TextRoom, RowRoom, Bounds, Progress};
+ghost use Rattle.selectors.specs.Reading.{reading, written, TextRoom, RowRoom};
 
 // The pseudo elements, as they are written.
 const BEFORE: [u8; 8] = *b"::before";
@@ -55,99 +55,37 @@ fn text_length(kind: u32, first: usize, second: usize) -> usize
     first + second
 }
 
-// Reads components as long as they read; their rows stand in reading order.
-pub fn parse_components(
-    s: &[u8],
-    rules: &mut [u32],
-    place: usize,
-    store: &mut [u8],
-    fill: usize,
-) -> Reading
-    requires { ⌜ RowRoom 0 (now s) (now rules) place ⌝ }
-    requires { ⌜ TextRoom 4 (now s) (now store) fill ⌝ }
-    ensures { λ r. ⌜ r ≡ reading length (componentRows fill) componentTexts (componentsFrom (now (s .entry))) ⌝ }
-    ensures { λ _. ⌜ now (rules .exit) ≡ sets (now (rules .entry)) place (written (componentRows fill) (componentsFrom (now (s .entry)))) ⌝ }
-    ensures { λ _. ⌜ now (store .exit) ≡ sets (now (store .entry)) fill (written componentTexts (componentsFrom (now (s .entry)))) ⌝ }
-    ensures { λ r. ⌜ Bounds componentWidth 0 (now (s .entry)) r ⌝ }
-{
-    let mut taken = 0;
-    let mut count = 0;
-    let mut numbers = 0;
-    let mut text = 0;
-    loop {
-        let at = fill + text;
-        match parse_simple_selector_component(&s[taken..], store, at) {
-            ComponentAnswer::Component {
-                taken: n,
-                kind,
-                first,
-                second,
-            } => {
-                put_component(kind, first, second, at, rules, place + numbers);
-                taken += n;
-                count += 1;
-                numbers += COMPONENT_WIDTH;
-                text += text_length(kind, first, second);
-            }
-            ComponentAnswer::NoComponent => {
-                return Reading::Reads {
-                    taken,
-                    count,
-                    numbers,
-                    text,
-                };
-            }
-            ComponentAnswer::Panic(p) => {
-                wipe_numbers(rules, place, numbers);
-                wipe_bytes(store, fill, text);
-                return Reading::Panics(taken + p);
-            }
-        }
-    }
-}
-
-// The first component: a type selector where there is one, or else any.
-fn parse_first(s: &[u8], store: &mut [u8], fill: usize) -> ComponentAnswer
+// The next component, `start` bytes from the start of a selector: there a type selector if there is one, or else any.
+fn parse_next(s: &[u8], start: usize, store: &mut [u8], fill: usize) -> ComponentAnswer
     requires { ⌜ Clean (length (now s)) fill (now store) ⌝ }
-    ensures { λ r. ⌜ r ≡ componentAnswer (firstOf (now (s .entry))) ⌝ }
-    ensures { λ _. ⌜ now (store .exit) ≡ sets (now (store .entry)) fill (written componentText (firstOf (now (s .entry)))) ⌝ }
-    ensures { λ r. ⌜ ComponentBounds (now (s .entry)) r ⌝ }
+    ensures { λ r. ⌜ r ≡ componentAnswer (nextOf (is start 0) (now (s .entry))) ⌝ }
+    ensures { λ _. ⌜ now (store .exit) ≡ sets (now (store .entry)) fill (written componentText (nextOf (is start 0) (now (s .entry)))) ⌝ }
 {
-    match parse_element(s, store, fill) {
-        ComponentAnswer::Component {
-            taken: n,
-            kind,
-            first,
-            second,
-        } => {
-            return ComponentAnswer::Component {
-                taken: n,
-                kind,
-                first,
-                second,
-            };
-        }
-        ComponentAnswer::Panic(p) => {
-            return ComponentAnswer::Panic(p);
-        }
-        ComponentAnswer::NoComponent => {
-            return parse_simple_selector_component(s, store, fill);
-        }
+    if start == 0 {
+        let element = parse_element(s, store, fill);
+        let ComponentAnswer::NoComponent = element else {
+            return element;
+        };
+        return parse_simple_selector_component(s, store, fill);
     }
+    parse_simple_selector_component(s, store, fill)
 }
 
-// Whether a component of a kind is kept where it stands first: a blank is dropped.
-fn kept_first(kind: u32) -> usize
-    ensures { λ r. ⌜ r ≡ pick (is kind descendantKind) 0 1 ⌝ }
+// How many rows a component of a kind has, `start` bytes from the start of a selector: there a blank is dropped.
+fn kept_of(start: usize, kind: u32) -> usize
+    ensures { λ r. ⌜ r ≡ pick (is start 0) (pick (is kind descendantKind) 0 1) 1 ⌝ }
 {
-    if kind == DESCENDANT {
-        return 0;
+    if start == 0 {
+        if kind == DESCENDANT {
+            return 0;
+        }
+        return 1;
     }
     1
 }
 
-// Puts down the row of the first component where it is kept.
-fn put_first(
+// Puts down the row of a component where it is kept.
+fn put_kept(
     kept: usize,
     kind: u32,
     first: usize,
@@ -165,55 +103,49 @@ fn put_first(
     put_component(kind, first, second, fill, rules, place);
 }
 
-// Reads the components of a selector, `parse_selector_with_element` or else `parse_selector_without_element`, without a blank at the start.
+// Reads the components of a selector as long as they read, `parse_selector_with_element` or else `parse_selector_without_element`, without a blank
+// at the start; their rows stand in reading order.
 fn parse_body(s: &[u8], rules: &mut [u32], place: usize, store: &mut [u8], fill: usize) -> Reading
     requires { ⌜ RowRoom 0 (now s) (now rules) place ⌝ }
-    requires { ⌜ TextRoom 6 (now s) (now store) fill ⌝ }
+    requires { ⌜ TextRoom 4 (now s) (now store) fill ⌝ }
     ensures { λ r. ⌜ r ≡ reading length (componentRows fill) componentTexts (startedOf (now (s .entry))) ⌝ }
     ensures { λ _. ⌜ now (rules .exit) ≡ sets (now (rules .entry)) place (written (componentRows fill) (startedOf (now (s .entry)))) ⌝ }
     ensures { λ _. ⌜ now (store .exit) ≡ sets (now (store .entry)) fill (written componentTexts (startedOf (now (s .entry)))) ⌝ }
-    ensures { λ r. ⌜ Bounds componentWidth 0 (now (s .entry)) r ⌝ }
-    ensures { λ r. ⌜ Progress r ⌝ }
 {
-    match parse_first(s, store, fill) {
-        ComponentAnswer::NoComponent => {
-            return Reading::Fails;
-        }
-        ComponentAnswer::Panic(p) => {
-            return Reading::Panics(p);
-        }
-        ComponentAnswer::Component {
-            taken: n,
-            kind,
-            first,
-            second,
-        } => {
-            let text = text_length(kind, first, second);
-            let kept = kept_first(kind);
-            let row = COMPONENT_WIDTH * kept;
-            match parse_components(&s[n..], rules, place + row, store, fill + text) {
-                Reading::Fails => {
-                    wipe_bytes(store, fill, text);
+    let mut taken = 0;
+    let mut count = 0;
+    let mut numbers = 0;
+    let mut text = 0;
+    loop {
+        let at = fill + text;
+        match parse_next(&s[taken..], taken, store, at) {
+            ComponentAnswer::Component {
+                taken: n,
+                kind,
+                first,
+                second,
+            } => {
+                let kept = kept_of(taken, kind);
+                put_kept(kept, kind, first, second, at, rules, place + numbers);
+                taken += n;
+                count += kept;
+                numbers += COMPONENT_WIDTH * kept;
+                text += text_length(kind, first, second);
+            }
+            ComponentAnswer::NoComponent => {
+                if taken == 0 {
                     return Reading::Fails;
                 }
-                Reading::Panics(p) => {
-                    wipe_bytes(store, fill, text);
-                    return Reading::Panics(n + p);
-                }
-                Reading::Reads {
-                    taken: m,
+                return Reading::Reads {
+                    taken,
                     count,
                     numbers,
-                    text: more,
-                } => {
-                    put_first(kept, kind, first, second, fill, rules, place);
-                    return Reading::Reads {
-                        taken: n + m,
-                        count: kept + count,
-                        numbers: row + numbers,
-                        text: text + more,
-                    };
-                }
+                    text,
+                };
+            }
+            ComponentAnswer::Panic(p) => {
+                take_back(rules, place, numbers, store, fill, text);
+                return Reading::Panics(taken + p);
             }
         }
     }
@@ -267,11 +199,10 @@ pub fn parse_selector(
     fill: usize,
 ) -> Reading
     requires { ⌜ RowRoom selectorHead (now s) (now rules) place ⌝ }
-    requires { ⌜ TextRoom 6 (now s) (now store) fill ⌝ }
+    requires { ⌜ TextRoom 4 (now s) (now store) fill ⌝ }
     ensures { λ r. ⌜ r ≡ reading (λ x. 1) (selectorRow fill) selectorText (selectorOf (now (s .entry))) ⌝ }
     ensures { λ _. ⌜ now (rules .exit) ≡ sets (now (rules .entry)) place (written (selectorRow fill) (selectorOf (now (s .entry)))) ⌝ }
     ensures { λ _. ⌜ now (store .exit) ≡ sets (now (store .entry)) fill (written selectorText (selectorOf (now (s .entry)))) ⌝ }
-    ensures { λ r. ⌜ Bounds componentWidth selectorHead (now (s .entry)) r ⌝ }
 {
     match parse_body(s, rules, place + SELECTOR_HEAD, store, fill) {
         Reading::Fails => {

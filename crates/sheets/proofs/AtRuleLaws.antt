@@ -29,11 +29,10 @@ use Rattle.values.proofs.Unmarked.{brackets-wiped}
 use Rattle.lexer.proofs.NameAnswers.{NameRead, named-from, unnamed-from}
 use Rattle.selectors.specs.Outcome.{reads, fails, onOutcome}
 use Rattle.sheets.specs.Sheet.{spaced, statementEnd, atRuleOf}
-use Rattle.sheets.specs.Rules.{WorkRoom, ruleWidth, EndBounds}
-use Rattle.selectors.specs.Reading.{reading, Bounds, Progress, takenBy, placeBy, countBy, numbersBy, textBy}
+use Rattle.sheets.specs.Rules.{WorkRoom}
+use Rattle.selectors.specs.Reading.{reading}
 use Rattle.selectors.specs.declared.readings.Reading.{Reading}
 use Rattle.selectors.specs.declared.readings.Reading.the-variants.{Reads, Fails, Panics}
-use Rattle.selectors.proofs.ReadingLaws.{fails-bounds, panics-bounds}
 use Rattle.combinators.proofs.ZeroLaws.{zeros-back}
 
 -- ---- what the answer of `parse_to_end_of_statement` says
@@ -146,7 +145,7 @@ module _ (s : List ℕ) (n : ℕ) (tokens brackets store : List ℕ) (fill : ℕ
 
     -- what the function ensures
     abbrev pub Ended : Reading → List ℕ → List ℕ → List ℕ → Type 0
-    Ended r x′ b′ z′ = (r ≡ reading length (ruleRows fill) ruleTexts (statementEnd s n)) × ((x′ ≡ tokens) × ((b′ ≡ brackets) × ((z′ ≡ store) × EndBounds s n r)))
+    Ended r x′ b′ z′ = (r ≡ reading length (ruleRows fill) ruleTexts (statementEnd s n)) × ((x′ ≡ tokens) × ((b′ ≡ brackets) × (z′ ≡ store)))
 
     -- a statement
     module _ {m k t : ℕ} (ea : a ≡ answer.Statement m k t) where
@@ -160,12 +159,10 @@ module _ (s : List ℕ) (n : ℕ) (tokens brackets store : List ℕ) (fill : ℕ
 
       -- all is as before, and nothing is kept of it
       pub some-ended : {x′ b′ z′ : List ℕ} → x′ ≡ wiped 0 (tokenWidth * k) x → b′ ≡ wiped 0 k b → z′ ≡ wiped fill t z → Ended (Reads (n + m) 0 0 0) x′ b′ z′
-      unfolding reading onOutcome statementEnd pick ruleRows ruleTexts rowsMany textsMany EndBounds
+      unfolding reading onOutcome statementEnd pick ruleRows ruleTexts rowsMany textsMany
       some-ended ex eb ez =
-          let q = said ea in (
-            rw (q .balanced, q .taken),
-            (tokens-back q ex, (brackets-back q eb, (store-back q ez, (omega arith, end-within q, refl, refl, refl)))),
-          )
+          let q = said ea in
+          (rw (q .balanced, q .taken), (tokens-back q ex, (brackets-back q eb, store-back q ez)))
 
     -- a bracket is wrong
     module _ {m k t : ℕ} (ea : a ≡ answer.Unbalanced m k t) where
@@ -175,40 +172,26 @@ module _ (s : List ℕ) (n : ℕ) (tokens brackets store : List ℕ) (fill : ℕ
 
       -- all is as before, and it does not read
       pub none-ended : {x′ b′ z′ : List ℕ} → x′ ≡ wiped 0 (tokenWidth * k) x → b′ ≡ wiped 0 k b → z′ ≡ wiped fill t z → Ended Fails x′ b′ z′
-      unfolding reading onOutcome statementEnd pick EndBounds
+      unfolding reading onOutcome statementEnd pick
       none-ended ex eb ez =
           let q = unsaid ea in
-          (rw (q .balanced), (tokens-back q ex, (brackets-back q eb, (store-back q ez, tt))))
+          (rw (q .balanced), (tokens-back q ex, (brackets-back q eb, store-back q ez)))
 
 -- ---- `parse_at_rule`
--- bounds of an answer that says nothing
-end-bounds : (s : List ℕ) (n : ℕ) → 1 ≤ n → (r : Reading) → EndBounds s n r → Bounds ruleWidth 0 s r × Progress r
-unfolding EndBounds takenBy placeBy countBy numbersBy textBy Progress
-end-bounds s n h (Reads e c m x) b = (
-  record {
-    taken = b .1;
-    place = omega arith;
-    count = omega (arith, b .2);
-    numbers = omega (arith, b .3);
-    text = omega (arith, b .4);
-    sharp = λ _. omega (arith, b .4);
-  },
-  omega (arith, b .0),
-)
-end-bounds s n h Fails b = (fails-bounds, tt)
-end-bounds s n h (Panics p) b = (panics-bounds b, tt)
-
 module _ (s tokens brackets store : List ℕ) (fill : ℕ) (o : WorkRoom s tokens brackets store fill) where
   -- what the function ensures
   abbrev pub Told : Reading → List ℕ → List ℕ → List ℕ → Type 0
-  Told r x b z = (r ≡ reading length (ruleRows fill) ruleTexts (atRuleOf s))
-      × ((x ≡ tokens) × ((b ≡ brackets) × ((z ≡ store) × (Bounds ruleWidth 0 s r × Progress r))))
+  Told r x b z = (r ≡ reading length (ruleRows fill) ruleTexts (atRuleOf s)) × ((x ≡ tokens) × ((b ≡ brackets) × (z ≡ store)))
+
+  -- of the end of its statement
+  abbrev Told-end : ℕ → List ℕ → Reading → List ℕ → List ℕ → List ℕ → Type 0
+  Told-end n z′ r x b z = (r ≡ reading length (ruleRows fill) ruleTexts (statementEnd s n)) × ((x ≡ tokens) × ((b ≡ brackets) × (z ≡ z′)))
 
   module _ {a : ℕ} (ea : a ≡ skipWhitespace s) {t : Bool} (et : t ≡ is (getD s a 0) ascii.commercialAt) where
     -- without `@` nothing is read
     pub at-missing : t ≡ false → Told Fails tokens brackets store
-    unfolding atRuleOf reading onOutcome pick Progress
-    at-missing f = (rw (← ea, ← et, f), (refl, (refl, (refl, (fails-bounds, tt)))))
+    unfolding atRuleOf reading onOutcome pick
+    at-missing f = (rw (← ea, ← et, f), (refl, (refl, refl)))
 
     module _ (f : t ≡ true) where
       -- '@' is within the text
@@ -229,11 +212,11 @@ module _ (s tokens brackets store : List ℕ) (fill : ℕ) (o : WorkRoom s token
         module _ {x : Name} (ex : x ≡ nameAnswer (identOf behind-at)) {z : List ℕ} (ez : z ≡ sets store fill (nameText (identOf behind-at))) where
           -- without a name behind `@` nothing is read
           pub name-missing : x ≡ name.NoName → Told Fails tokens brackets z
-          unfolding reading onOutcome onParsed nameText Progress
+          unfolding reading onOutcome onParsed nameText
           name-missing q =
               let p = unnamed-from (identOf behind-at) (sym q ∙ ex) in
               let u = ap identOf (sym (rest s i)) ∙ p in
-              (rw (rule-is, u), (refl, (refl, (ez ∙ rw p, (fails-bounds, tt)))))
+              (rw (rule-is, u), (refl, (refl, ez ∙ rw p)))
 
           module _ {n m : ℕ} (q : x ≡ name.Text n m) where
             -- the name that was read, with its bytes
@@ -265,8 +248,6 @@ module _ (s tokens brackets store : List ℕ) (fill : ℕ) (o : WorkRoom s token
               name-room = rw name-wiped o
 
               -- and all to the end of the statement
-              pub name-told : {r : Reading} {x₂ b₂ z₂ : List ℕ} → r ≡ reading length (ruleRows fill) ruleTexts (statementEnd s (i + n)) → x₂ ≡ tokens → b₂ ≡ brackets → z₂ ≡ z′
-                  → EndBounds s (i + n) r → Told r x₂ b₂ z₂
+              pub name-told : {r : Reading} {x₂ b₂ z₂ : List ℕ} → Told-end (i + n) z′ r x₂ b₂ z₂ → Told r x₂ b₂ z₂
               unfolding onParsed
-              name-told {r} er ex₂ eb₂ ez₂ b =
-                  (er ∙ rw (rule-is, named .reads), (ex₂, (eb₂, (ez₂ ∙ name-wiped, end-bounds s (i + n) (omega (arith, name-fits .some)) r b))))
+              name-told e = (e .0 ∙ rw (rule-is, named .reads), (e .1 .0, (e .1 .1 .0, e .1 .1 .1 ∙ name-wiped)))

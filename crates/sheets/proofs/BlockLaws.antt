@@ -22,13 +22,13 @@ use Rattle.declarations.specs.declared.rules.RulesRead.{RulesRead}
 use Rattle.declarations.proofs.StyleAttribute.{bounded}
 use Rattle.selectors.specs.Outcome.{reads, fails, onOutcome, behind}
 use Rattle.sheets.specs.Sheet.{spaced, beforeEnd, blockOf}
-use Rattle.sheets.specs.Rules.{blockAt, BlockRoom, BlockBounds}
+use Rattle.sheets.specs.Rules.{blockAt, BlockRoom}
 use Rattle.selectors.specs.Reading.{reading, written}
 use Rattle.selectors.specs.declared.readings.Reading.{Reading}
 use Rattle.selectors.specs.declared.readings.Reading.the-variants.{Reads, Fails}
 use Rattle.combinators.proofs.ZeroLaws.{zeros-back}
 
--- ---- `past_semicolon`, `before_end`
+-- ---- `parse_block`
 module _ (s : List ℕ) (e : ℕ) (h : e ≤ length s) {t : Bool} (et : t ≡ is (getD s e 0) ascii.semicolon) where
   -- a ';' is within the text
   pub semicolon-there : t ≡ true → e < length s
@@ -84,12 +84,6 @@ kept-starts at d (x ∷ ds) =
     let e : at + d + x .start ≡ at + (d + x .start) = omega arith in
     rw (named-same (x .decl), e, kept-starts at d ds)
 
--- texts do not depend on the start
-kept-texts : (at : ℕ) (ds : List Declaration) → declarationTexts (map (kept true at) ds) ≡ declarationTexts (map (kept true 0) ds)
-unfolding declarationTexts textsMany kept declarationText
-kept-texts at [] = refl
-kept-texts at (d ∷ ds) = rw (kept-texts at ds)
-
 -- ---- `parse_block`
 module _ (s : List ℕ) (n at : ℕ) (rules : List ℕ) (place : ℕ) (tokens brackets store : List ℕ) (fill : ℕ)
     (o : BlockRoom s n at rules place tokens brackets store fill) where
@@ -97,12 +91,12 @@ module _ (s : List ℕ) (n at : ℕ) (rules : List ℕ) (place : ℕ) (tokens br
   abbrev pub Blocked : Reading → List ℕ → List ℕ → List ℕ → List ℕ → Type 0
   Blocked r y x b z = (r ≡ reading length (declarationRows fill) declarationTexts (blockAt at s n))
       × ((y ≡ sets rules place (written (declarationRows fill) (blockAt at s n)))
-      × ((x ≡ tokens) × ((b ≡ brackets) × ((z ≡ sets store fill (written declarationTexts (blockAt at s n))) × BlockBounds s n r))))
+      × ((x ≡ tokens) × ((b ≡ brackets) × (z ≡ sets store fill (written declarationTexts (blockAt at s n))))))
 
   -- where it does not read
   failed : blockOf s n ≡ fails → {y x b z : List ℕ} → y ≡ rules → x ≡ tokens → b ≡ brackets → z ≡ store → Blocked Fails y x b z
-  unfolding blockAt behind reading written onOutcome BlockBounds
-  failed e ey ex eb ez = (rw e, (ey ∙ rw e, (ex, (eb, (ez ∙ rw e, tt)))))
+  unfolding blockAt behind reading written onOutcome
+  failed e ey ex eb ez = (rw e, (ey ∙ rw e, (ex, (eb, ez ∙ rw e))))
 
   module _ {w : ℕ} (ew : w ≡ n + skipWhitespace (drop n s)) {t : Bool} (et : t ≡ is (getD s w 0) ascii.leftCurlyBracket) where
     -- without an opening brace there is no block
@@ -121,7 +115,7 @@ module _ (s : List ℕ) (n at : ℕ) (rules : List ℕ) (place : ℕ) (tokens br
         abbrev lent : List ℕ
         lent = take (length s - d) (drop d s)
 
-        -- the declarations that the lent text means
+        -- the declarations, by where they start in the whole text
         abbrev found : Rules
         found = declarationsOf (drop d s)
 
@@ -190,19 +184,8 @@ module _ (s : List ℕ) (n at : ℕ) (rules : List ℕ) (place : ℕ) (tokens br
           pub numbers-fit : declarationWidth * r .count < 2 ^ 64
           numbers-fit = omega (arith, count-le, taken-within, o .start-bits)
 
-          -- their texts do not depend on where they start
-          texts-same : declarationTexts ds ≡ declarationTexts (rulesOf true 0 found)
-          unfolding rulesOf
-          texts-same = ap declarationTexts (sym (kept-starts at d (found .declarations))) ∙ kept-texts (at + d) (found .declarations)
-
-          -- texts are no longer than what was taken, where the text goes on
-          text-le : d + r .taken < length s → r .text ≤ r .taken
-          text-le l =
-              let k = bounded true (drop d s) in
-              omega (arith, text-is, ap length texts-same, taken-is, k .sharp (omega (arith, taken-is, length-drop d s)))
-
           -- behind them, at g, '}' or not
-          module _ {g : ℕ} (eg : g ≡ beforeEnd s (d + r .taken)) (hg : d + r .taken ≤ g) {u : Bool} (eu : u ≡ is (getD s g 0) ascii.rightCurlyBracket) where
+          module _ {g : ℕ} (eg : g ≡ beforeEnd s (d + r .taken)) {u : Bool} (eu : u ≡ is (getD s g 0) ascii.rightCurlyBracket) where
             -- the place where '}' should stand
             end-at : g ≡ beforeEnd s (d + found .taken)
             end-at = eg ∙ ap (λ k. beforeEnd s (d + k)) taken-is
@@ -222,7 +205,7 @@ module _ (s : List ℕ) (n at : ℕ) (rules : List ℕ) (place : ℕ) (tokens br
               pub end-there : g < length s
               end-there = byte-there s g ascii.rightCurlyBracket (omega arith) (sym eu ∙ v)
 
-              module _ {i : ℕ} (ei : i ≡ g + 1 + skipWhitespace (drop (g + 1) s)) (hi : i ≤ length s) where
+              module _ {i : ℕ} (ei : i ≡ g + 1 + skipWhitespace (drop (g + 1) s)) where
                 -- with both braces the block reads as its declarations
                 block-is : blockAt at s n ≡ reads i ds
                 unfolding blockAt blockOf behind onOutcome spaced pick
@@ -232,25 +215,5 @@ module _ (s : List ℕ) (n at : ℕ) (rules : List ℕ) (place : ℕ) (tokens br
 
                 -- and its rows and texts are left
                 pub block-read : Blocked (Reads i (r .count) (declarationWidth * r .count) (r .text)) y x b z
-                unfolding reading written onOutcome BlockBounds
-                block-read = (
-                  rw (block-is, length-declarations fill ds, count-is, text-is),
-                  (
-                    rules-are ∙ rw block-is,
-                    (
-                      tokens-are,
-                      (
-                        brackets-are,
-                        (
-                          store-is ∙ rw block-is,
-                          record {
-                            within = hi;
-                            counted = omega (arith, ew, ed, ei, hg, count-le);
-                            wide = refl;
-                            short = omega (arith, ew, ed, ei, hg, text-le (omega (arith, end-there)));
-                          },
-                        ),
-                      ),
-                    ),
-                  ),
-                )
+                unfolding reading written onOutcome
+                block-read = (rw (block-is, length-declarations fill ds, count-is, text-is), (rules-are ∙ rw block-is, (tokens-are, (brackets-are, store-is ∙ rw block-is))))

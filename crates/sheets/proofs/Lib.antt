@@ -1,9 +1,9 @@
 pub mod BlockLaws
+pub mod SheetBounds
 pub mod RuleSetLaws
 pub mod AtRuleLaws
 pub mod StatementLaws
 pub mod StatementTurns
 pub mod SheetLaws
-pub mod SheetBounds
 pub mod NthRange
 pub mod SheetBack

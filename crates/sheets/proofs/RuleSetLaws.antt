@@ -1,7 +1,7 @@
 -- A rule: its selectors, its block, and the head of its row, which is written last.
-use mathlib.Core.Path.{_≡_, refl, sym, ap, _∙_, subst}
+use mathlib.Core.Path.{_≡_, refl, sym, ap, _∙_}
 use mathlib.Core.List.{List, [], _∷_, _++_, map}
-use Prim.Native.Nat.{ℕ, _+_, _-_, _^_, _≤_, _<_}
+use Prim.Native.Nat.{ℕ, _+_, _-_, _*_, _^_, _≤_, _<_}
 use native.Mathlib.Omega.{arith}
 use lib.ListN.{length, take, drop, length-drop, length-append}
 use lib.Seq.{sets, length-sets}
@@ -14,16 +14,23 @@ use Rattle.syntax.specs.Layout.{declarationRows, declarationTexts}
 use Rattle.syntax.specs.RuleLayout.{componentWidth, selectorHead, selectorRows, selectorTexts, ruleHead, ruleRow, ruleText}
 use Rattle.syntax.specs.Selector.{Selector, RuleSet}
 use Rattle.syntax.specs.Writing.{RuleHeadFits}
+use Rattle.syntax.proofs.RowSizes.{length-selectors, length-declarations}
 use Rattle.syntax.proofs.Writes.{rule-left}
 use Rattle.declarations.specs.Rules.{startsAt}
 use Rattle.selectors.specs.Outcome.{Outcome, reads, fails, panics, onOutcome, behind}
 use Rattle.selectors.specs.SelectorList.{selectorsOf}
 use Rattle.sheets.specs.Sheet.{blockOf, rulesetOf, movedBy}
-use Rattle.sheets.specs.Rules.{blockAt, BlockRoom, BlockBounds, BlockSize, RuleRoom, ruleWidth}
-use Rattle.selectors.specs.Reading.{reading, written, TextRoom, RowRoom, Bounds}
+use Rattle.sheets.specs.Rules.{blockAt, BlockRoom, RuleRoom}
+use Rattle.selectors.specs.Reading.{reading, written, TextRoom, RowRoom}
 use Rattle.selectors.specs.declared.readings.Reading.{Reading}
 use Rattle.selectors.specs.declared.readings.Reading.the-variants.{Reads, Fails, Panics}
-use Rattle.selectors.proofs.ReadingLaws.{ReadAs, read-by, fails-by, panics-by, sets-read, sets-fails, sets-panics, Sizes, sizes-of, reads-bounds, fails-bounds, panics-within, panics-bounds}
+use Rattle.selectors.specs.declared.readings.ManyReading.{ManyReading}
+use Rattle.selectors.specs.declared.readings.ManyReading.the-variants as many
+use Rattle.selectors.proofs.AllLaws.{where-read, where-panics}
+use Rattle.selectors.proofs.ReadingLaws.{Left, LeftMany, left-reads, left-fails, left-panics, Found, found, found-many, nothing, panicked, panicked-many}
+use Rattle.selectors.proofs.SelectorBounds.{SelectorsKeep, selectors-keep}
+use Rattle.selectors.proofs.SelectorLists.{selectors-never}
+use Rattle.sheets.proofs.SheetBounds.{BlockKeeps, block-at-keeps}
 use Rattle.combinators.proofs.ZeroLaws.{zeros-later, zeros-behind, zeros-back}
 
 -- what is stored behind something
@@ -69,19 +76,11 @@ module _ (s : List ℕ) (at : ℕ) (rules : List ℕ) (place : ℕ) (tokens brac
   -- what the function ensures
   abbrev pub Ruled : Reading → List ℕ → List ℕ → List ℕ → List ℕ → Type 0
   Ruled r y x b z = (r ≡ reading (λ _. 1) (ruleRow fill) ruleText meant)
-      × ((y ≡ sets rules place (written (ruleRow fill) meant))
-      × ((x ≡ tokens) × ((b ≡ brackets) × ((z ≡ sets store fill (written ruleText meant)) × Bounds ruleWidth 0 s r))))
+      × ((y ≡ sets rules place (written (ruleRow fill) meant)) × ((x ≡ tokens) × ((b ≡ brackets) × (z ≡ sets store fill (written ruleText meant)))))
 
-  module _ {y x b z : List ℕ} (ey : y ≡ rules) (ex : x ≡ tokens) (eb : b ≡ brackets) (ez : z ≡ store) where
-    -- where it does not read
-    rule-fails : meant ≡ fails → Ruled Fails y x b z
-    unfolding reading written onOutcome
-    rule-fails e = (rw e, (ey ∙ rw e, (ex, (eb, (ez ∙ rw e, fails-bounds)))))
-
-    -- where the crate panics
-    rule-panics : (p : ℕ) → p ≤ length s → meant ≡ panics p → Ruled (Panics p) y x b z
-    unfolding reading written onOutcome
-    rule-panics p h e = (rw e, (ey ∙ rw e, (ex, (eb, (ez ∙ rw e, panics-bounds h)))))
+  -- by what is left of rows and texts
+  ruled : {r : Reading} {y x b z : List ℕ} → Left (λ _. 1) (ruleRow fill) ruleText meant rules place store fill r y z → x ≡ tokens → b ≡ brackets → Ruled r y x b z
+  ruled l ex eb = (l .0, (l .1 .0, (ex, (eb, l .1 .1))))
 
   module _ {w : ℕ} (ew : w ≡ skipWhitespace s) (hw : w ≤ length s) where
     -- the rest as the code lends it
@@ -103,7 +102,7 @@ module _ (s : List ℕ) (at : ℕ) (rules : List ℕ) (place : ℕ) (tokens brac
         }
 
     -- and for their texts
-    pub texts-room : TextRoom 10 lent store fill
+    pub texts-room : TextRoom 4 lent store fill
     texts-room =
         let l = lent-long in
         record { zeros = o .work .store-zeros; for-texts = omega (arith, o .work .for-texts); bits = omega (arith, o .work .text-bits) }
@@ -118,91 +117,71 @@ module _ (s : List ℕ) (at : ℕ) (rules : List ℕ) (place : ℕ) (tokens brac
     ruleset-is = rw (← ew)
 
     -- what `parse_selectors` left
-    module _ {r : Reading} {y z : List ℕ} (er : r ≡ reading length (selectorRows fill) selectorTexts (selectorsOf lent))
-        (ey : y ≡ sets rules (place + ruleHead) (written (selectorRows fill) (selectorsOf lent)))
-        (ez : z ≡ sets store fill (written selectorTexts (selectorsOf lent))) (b : Bounds componentWidth selectorHead lent r) where
+    module _ {r : ManyReading} {y z : List ℕ} (e : LeftMany length (selectorRows fill) selectorTexts (selectorsOf lent) rules (place + ruleHead) store fill r y z) where
       -- the answer, by their meaning
-      said : r ≡ reading length (selectorRows fill) selectorTexts list
-      said = er ∙ ap (λ l. reading length (selectorRows fill) selectorTexts (selectorsOf l)) (rest s w)
-
-      -- the store of rules holds their rows
-      rules-are : y ≡ sets rules (place + ruleHead) (written (selectorRows fill) list)
-      rules-are = ey ∙ ap (λ l. sets rules (place + ruleHead) (written (selectorRows fill) (selectorsOf l))) (rest s w)
-
-      -- the text store holds their texts
-      store-is : z ≡ sets store fill (written selectorTexts list)
-      store-is = ez ∙ ap (λ l. sets store fill (written selectorTexts (selectorsOf l))) (rest s w)
-
-      -- without selectors there is no rule
-      pub list-fails : r ≡ Fails → Ruled Fails y tokens brackets z
-      unfolding behind onOutcome
-      list-fails h =
-          let e = fails-by length (selectorRows fill) selectorTexts list (sym h ∙ said) in
-          rule-fails (rules-are ∙ sets-fails (selectorRows fill) rules (place + ruleHead) list e) refl refl (store-is ∙ sets-fails selectorTexts store fill list e) (rw (ruleset-is, e))
+      said : LeftMany length (selectorRows fill) selectorTexts list rules (place + ruleHead) store fill r y z
+      said = rw (← rest s w) e
 
       -- the crate panics at them
-      module _ {p : ℕ} (h : r ≡ Panics p) where
+      module _ {p : ℕ} (h : r ≡ many.Panics p) where
         -- a panic in them lies within the text
         pub list-place : w + p ≤ length s
-        list-place = omega (arith, panics-within b h, lent-long)
+        list-place = omega (arith, where-panics (length (drop w s)) _ list p (panicked-many _ _ _ _ _ _ _ _ said h .0) (selectors-keep (drop w s)), length-drop w s)
 
         -- so it panics in the rule
         pub list-panics : Ruled (Panics (w + p)) y tokens brackets z
         unfolding behind onOutcome
         list-panics =
-            let e = panics-by length (selectorRows fill) selectorTexts list p (sym h ∙ said) in
+            let n = panicked-many _ _ _ _ _ _ _ _ said h in
             let k : 0 + (w + p) ≡ w + p = omega arith in
-            rule-panics (rules-are ∙ sets-panics (selectorRows fill) rules (place + ruleHead) list p e) refl refl (store-is ∙ sets-panics selectorTexts store fill list p e) (w + p) list-place
-            (rw (ruleset-is, e, k))
+            ruled (left-panics _ _ _ _ _ _ _ _ (rw (ruleset-is, n .0, k)) (n .1 .0) (n .1 .1)) refl refl
 
       -- they read
-      module _ {n count numbers text : ℕ} (h : r ≡ Reads n count numbers text) where
+      module _ {n count numbers text : ℕ} (h : r ≡ many.Reads n count numbers text) where
         -- the selectors that were read, with their counts
-        got : ReadAs length (selectorRows fill) selectorTexts list n count numbers text
-        got = read-by length (selectorRows fill) selectorTexts list n count numbers text (sym h ∙ said)
+        got : Found length (selectorRows fill) selectorTexts list rules (place + ruleHead) store fill y z n count numbers text
+        got = found-many _ _ _ _ _ _ _ _ (selectors-never (drop w s)) said h
 
-        -- the selectors
+        -- the declarations that the text behind them means
         abbrev ss : List Selector
         ss = got .value
 
         -- how much there is of them
-        sizes : Sizes componentWidth selectorHead lent n count numbers text
-        sizes = sizes-of b h
+        keeps : SelectorsKeep selectorHead (drop w s) n ss
+        keeps = where-read (length (drop w s)) (SelectorsKeep selectorHead (drop w s)) list n ss (got .reads-it) (selectors-keep (drop w s))
+
+        wide : numbers ≤ componentWidth * n + selectorHead
+        wide = omega (arith, got .rows, length-selectors fill ss, keeps .wide)
+
+        long : text ≤ n + 2
+        long = omega (arith, got .texts, keeps .long)
 
         -- they end within the text
         pub list-end : w + n ≤ length s
-        list-end = omega (arith, sizes .taken, lent-long)
-
-        -- their rows are written
-        list-rules : y ≡ sets rules (place + ruleHead) (selectorRows fill ss)
-        list-rules = rules-are ∙ sets-read (selectorRows fill) rules (place + ruleHead) list n ss (got .reads-it)
-
-        -- so are their texts
-        list-store : z ≡ sets store fill (selectorTexts ss)
-        list-store = store-is ∙ sets-read selectorTexts store fill list n ss (got .reads-it)
+        list-end = omega (arith, keeps .within, length-drop w s)
 
         -- the place behind their rows fits
         pub row-fits : place + ruleHead + numbers < 2 ^ 64
-        row-fits = omega (arith, sizes .wide, list-end, o .for-rules, o .row-bits)
+        row-fits = omega (arith, wide, list-end, o .for-rules, o .row-bits)
 
         -- so does the one behind their texts
         pub fill-fits : fill + text < 2 ^ 64
-        fill-fits = omega (arith, sizes .long, list-end, o .work .text-bits)
+        fill-fits = omega (arith, long, list-end, o .work .text-bits)
 
         -- room for the block
         pub block-room : BlockRoom s (w + n) at y (place + ruleHead + numbers) tokens brackets z (fill + text)
         block-room =
-            let ly : length y ≡ length rules = ap length list-rules ∙ length-sets rules (place + ruleHead) (selectorRows fill ss) in
-            let lz : length z ≡ length store = ap length list-store ∙ length-sets store fill (selectorTexts ss) in
+            let ly : length y ≡ length rules = ap length (got .rules-are) ∙ length-sets rules (place + ruleHead) (selectorRows fill ss) in
+            let lz : length z ≡ length store = ap length (got .store-is) ∙ length-sets store fill (selectorTexts ss) in
             let k = list-end in
-            let m = sizes .wide in
-            let t = sizes .long in
+            let m = wide in
+            let t = long in
             record {
               within = k;
-              rules-zeros = zeros-past y rules (place + ruleHead) numbers (selectorRows fill ss) list-rules (got .rows) (zeros-later rules place (o .rules-zeros) ruleHead);
+              rules-zeros = zeros-past y rules (place + ruleHead) numbers (selectorRows fill ss) (got .rules-are) (got .rows) (zeros-later rules place (o .rules-zeros) ruleHead);
               tokens-zeros = o .work .tokens-zeros;
               brackets-zeros = o .work .brackets-zeros;
-              store-zeros = zeros-past z store fill text (selectorTexts ss) list-store (got .texts) (o .work .store-zeros);
+              store-zeros = zeros-past z store fill text (selectorTexts ss) (got .store-is) (got .texts) (o .work .store-zeros);
               for-rules = omega (arith, o .for-rules);
               row-bits = omega (arith, o .row-bits);
               for-tokens = o .work .for-tokens;
@@ -223,74 +202,74 @@ module _ (s : List ℕ) (at : ℕ) (rules : List ℕ) (place : ℕ) (tokens brac
             ap (λ (q : Outcome RuleSet). behind 0 q (movedBy at)) (ruleset-is ∙ rw (got .reads-it)) ∙ moved-block at w ss (blockOf s (w + n))
 
         -- what `parse_block` left
-        module _ {q : Reading} {y₂ x₂ b₂ z₂ : List ℕ} (eq : q ≡ reading length (declarationRows (fill + text)) declarationTexts block)
-            (ey₂ : y₂ ≡ sets y (place + ruleHead + numbers) (written (declarationRows (fill + text)) block)) (ex₂ : x₂ ≡ tokens) (eb₂ : b₂ ≡ brackets)
-            (ez₂ : z₂ ≡ sets z (fill + text) (written declarationTexts block)) (bb : BlockBounds s (w + n) q) where
-          -- the selectors wiped again, where nothing was written behind them
+        module _ {q : Reading} {y₂ x₂ b₂ z₂ : List ℕ} (e₂ : (q ≡ reading length (declarationRows (fill + text)) declarationTexts block)
+            × ((y₂ ≡ sets y (place + ruleHead + numbers) (written (declarationRows (fill + text)) block))
+            × ((x₂ ≡ tokens) × ((b₂ ≡ brackets) × (z₂ ≡ sets z (fill + text) (written declarationTexts block)))))) where
+          -- of rows and texts
+          left₂ : Left length (declarationRows (fill + text)) declarationTexts block y (place + ruleHead + numbers) z (fill + text) q y₂ z₂
+          left₂ = (e₂ .0, (e₂ .1 .0, e₂ .1 .1 .1 .1))
+
+          -- the selectors are taken back, where nothing was written behind them
           rules-back : y₂ ≡ y → {y₃ : List ℕ} → y₃ ≡ wiped (place + ruleHead) numbers y₂ → y₃ ≡ rules
           rules-back e p =
-              p ∙ ap (wiped (place + ruleHead) numbers) (e ∙ list-rules)
+              p ∙ ap (wiped (place + ruleHead) numbers) (e ∙ got .rules-are)
               ∙ zeros-back rules (place + ruleHead) (zeros-later rules place (o .rules-zeros) ruleHead) (selectorRows fill ss) numbers (omega (arith, got .rows))
 
           -- once the texts are wiped the text store is as it was
           store-back : z₂ ≡ z → {z₃ : List ℕ} → z₃ ≡ wiped fill text z₂ → z₃ ≡ store
           store-back e p =
-              p ∙ ap (wiped fill text) (e ∙ list-store) ∙ zeros-back store fill (o .work .store-zeros) (selectorTexts ss) text (omega (arith, got .texts))
+              p ∙ ap (wiped fill text) (e ∙ got .store-is) ∙ zeros-back store fill (o .work .store-zeros) (selectorTexts ss) text (omega (arith, got .texts))
 
           -- without a block there is no rule, and what the selectors left is wiped
           pub block-fails : q ≡ Fails → {y₃ z₃ : List ℕ} → y₃ ≡ wiped (place + ruleHead) numbers y₂ → z₃ ≡ wiped fill text z₂ → Ruled Fails y₃ x₂ b₂ z₃
           unfolding behind onOutcome
           block-fails hq ey₃ ez₃ =
-              let e = fails-by length (declarationRows (fill + text)) declarationTexts block (sym hq ∙ eq) in
-              rule-fails (rules-back (ey₂ ∙ sets-fails (declarationRows (fill + text)) y (place + ruleHead + numbers) block e) ey₃) ex₂ eb₂
-              (store-back (ez₂ ∙ sets-fails declarationTexts z (fill + text) block e) ez₃) (meant-is ∙ rw e)
+              let n = nothing _ _ _ _ _ _ _ _ left₂ hq in
+              ruled (left-fails _ _ _ _ _ _ _ _ (meant-is ∙ rw (n .0)) (rules-back (n .1 .0) ey₃) (store-back (n .1 .1) ez₃)) (e₂ .1 .1 .0) (e₂ .1 .1 .1 .0)
 
           -- the crate panics in it
           pub block-panics : {p : ℕ} → q ≡ Panics p → {y₃ z₃ : List ℕ} → y₃ ≡ wiped (place + ruleHead) numbers y₂ → z₃ ≡ wiped fill text z₂ → Ruled (Panics p) y₃ x₂ b₂ z₃
-          unfolding behind onOutcome BlockBounds
+          unfolding behind onOutcome
           block-panics {p} hq ey₃ ez₃ =
-              let e = panics-by length (declarationRows (fill + text)) declarationTexts block p (sym hq ∙ eq) in
-              let c : BlockBounds s (w + n) (Panics p) = subst (BlockBounds s (w + n)) hq bb in
+              let n = panicked _ _ _ _ _ _ _ _ left₂ hq in
               let k : 0 + p ≡ p = omega arith in
-              rule-panics (rules-back (ey₂ ∙ sets-panics (declarationRows (fill + text)) y (place + ruleHead + numbers) block p e) ey₃) ex₂ eb₂
-              (store-back (ez₂ ∙ sets-panics declarationTexts z (fill + text) block p e) ez₃) p c (meant-is ∙ rw (e, k))
+              ruled (left-panics _ _ _ _ _ _ _ _ (meant-is ∙ rw (n .0, k)) (rules-back (n .1 .0) ey₃) (store-back (n .1 .1) ez₃)) (e₂ .1 .1 .0) (e₂ .1 .1 .1 .0)
 
           -- it reads
           module _ {end declarations more kept : ℕ} (hq : q ≡ Reads end declarations more kept) where
             -- the declarations that were read, with their counts
-            got₂ : ReadAs length (declarationRows (fill + text)) declarationTexts block end declarations more kept
-            got₂ = read-by length (declarationRows (fill + text)) declarationTexts block end declarations more kept (sym hq ∙ eq)
+            got₂ : Found length (declarationRows (fill + text)) declarationTexts block y (place + ruleHead + numbers) z (fill + text) y₂ z₂ end declarations more kept
+            got₂ = found _ _ _ _ _ _ _ _ left₂ hq
 
-            -- the declarations
+            -- what stands behind it
             abbrev ds : List Declaration
             ds = got₂ .value
 
             -- how much there is of it
-            size : BlockSize s (w + n) end declarations more kept
-            unfolding BlockBounds
-            size = subst (BlockBounds s (w + n)) hq bb
+            size : BlockKeeps s (w + n) end ds
+            size = where-read (length s) (BlockKeeps s (w + n)) block end ds (got₂ .reads-it) (block-at-keeps at s (w + n))
 
             -- the numbers of the head fit their places
             pub head-fits : RuleHeadFits (at + w) count declarations
             head-fits =
                 let k = size .counted in
                 let l = size .within in
-                let c = sizes .counted in
+                let c = keeps .counted in
                 record {
                   start-fits = omega (arith, o .start-bits);
-                  selectors-fit = omega (arith, o .start-bits);
-                  declarations-fit = omega (arith, o .start-bits);
+                  selectors-fit = omega (arith, got .counts, o .start-bits);
+                  declarations-fit = omega (arith, got₂ .counts, o .start-bits);
                 }
 
             -- the numbers of the row fit
             pub numbers-fit : ruleHead + numbers + more < 2 ^ 64
-            numbers-fit = omega (arith, sizes .wide, size .wide, size .counted, size .within, o .start-bits)
+            numbers-fit = omega (arith, wide, got₂ .rows, length-declarations (fill + text) ds, size .counted, size .within, o .start-bits)
 
             -- so do the bytes of its texts
             pub texts-fit : text + kept < 2 ^ 64
-            texts-fit = omega (arith, sizes .long, size .short, size .within, o .start-bits)
+            texts-fit = omega (arith, long, got₂ .texts, size .short, size .within, o .start-bits)
 
-            -- the rule of both
+            -- what stands behind it
             abbrev rule : RuleSet
             rule = ruleAt (at + w) ss ds
 
@@ -317,8 +296,7 @@ module _ (s : List ℕ) (at : ℕ) (rules : List ℕ) (place : ℕ) (tokens brac
             -- what stands behind the head is written
             body-written : y₂ ≡ sets rules (place + ruleHead) body
             body-written =
-                ey₂ ∙ sets-read (declarationRows (fill + text)) y (place + ruleHead + numbers) block end ds (got₂ .reads-it)
-                ∙ stored-behind y rules (place + ruleHead) numbers (selectorRows fill ss) list-rules (got .rows) (declarationRows (fill + text) ds)
+                got₂ .rules-are ∙ stored-behind y rules (place + ruleHead) numbers (selectorRows fill ss) (got .rules-are) (got .rows) (declarationRows (fill + text) ds)
 
             -- with its head written last the rule's row is whole
             row-written : {y₃ : List ℕ} → y₃ ≡ sets y₂ place head → y₃ ≡ sets rules place (ruleRow fill rule)
@@ -328,8 +306,7 @@ module _ (s : List ℕ) (at : ℕ) (rules : List ℕ) (place : ℕ) (tokens brac
             -- its texts lie in the store
             text-written : z₂ ≡ sets store fill (ruleText rule)
             text-written =
-                ez₂ ∙ sets-read declarationTexts z (fill + text) block end ds (got₂ .reads-it)
-                ∙ stored-behind z store fill text (selectorTexts ss) list-store (got .texts) (declarationTexts ds)
+                got₂ .store-is ∙ stored-behind z store fill text (selectorTexts ss) (got .store-is) (got .texts) (declarationTexts ds)
                 ∙ ap (sets store fill) text-is
 
             -- how long the row is
@@ -340,26 +317,6 @@ module _ (s : List ℕ) (at : ℕ) (rules : List ℕ) (place : ℕ) (tokens brac
             text-long : length (ruleText rule) ≡ text + kept
             text-long = ap length (sym text-is) ∙ omega (arith, length-append (selectorTexts ss) (declarationTexts ds), got .texts, got₂ .texts)
 
-            -- the bounds of a rule
-            rule-bounds : Bounds ruleWidth 0 s (Reads end 1 (ruleHead + numbers + more) (text + kept))
-            rule-bounds =
-                let k = size .counted in
-                let m = size .wide in
-                let t = size .short in
-                let l = sizes .long in
-                reads-bounds
-                (record {
-                  taken = size .within;
-                  counted = omega arith;
-                  wide = omega (arith, sizes .wide);
-                  long = omega arith;
-                  sharp = λ _. omega arith;
-                })
-
             -- all that is left of it
             pub rule-read : {y₃ : List ℕ} → y₃ ≡ sets y₂ place head → Ruled (Reads end 1 (ruleHead + numbers + more) (text + kept)) y₃ x₂ b₂ z₂
-            unfolding reading written onOutcome
-            rule-read p = (
-              rw (rule-is, row-long, text-long),
-              (row-written p ∙ rw rule-is, (ex₂, (eb₂, (text-written ∙ rw rule-is, rule-bounds)))),
-            )
+            rule-read p = ruled (left-reads _ _ _ _ _ _ _ _ rule-is refl (sym row-long) (sym text-long) (row-written p) text-written) (e₂ .1 .1 .0) (e₂ .1 .1 .1 .0)

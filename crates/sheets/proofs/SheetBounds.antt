@@ -1,9 +1,10 @@
 -- How much the rules of a sheet can hold, over the definition of its meaning: where reading stopped bounds their number, the numbers of their
 -- rows and the bytes of their texts; the numbers of an+b and all colours fit.
-use mathlib.Core.Path.{_≡_, refl, ap, sym, _∙_}
+use mathlib.Core.Path.{_≡_, refl, ap, sym, subst, _∙_}
 use mathlib.Core.Bool.{true}
 use mathlib.Core.List.{List, [], _∷_, _++_, map}
 use Prim.Native.Nat.{ℕ, zero, suc, _+_, _*_, _≤_, _<_}
+use native.Mathlib.Nat.{zero-add}
 use native.Mathlib.Omega.{arith}
 use lib.ListN.{length, getD, drop, length-append, length-drop, length-map}
 use Rattle.combinators.specs.Ascii as ascii
@@ -16,7 +17,7 @@ use Rattle.lexer.specs.Name.{identOf}
 use Rattle.lexer.specs.Whitespace.{skipWhitespace}
 use Rattle.lexer.proofs.IdentBounds.{ident-fits}
 use Rattle.lexer.proofs.TokenBounds.{on-holds}
-use Rattle.lexer.proofs.Comments.{skip-from-le}
+use Rattle.lexer.proofs.Comments.{skip-le, skip-from-le}
 use Rattle.syntax.specs.Declaration.{Declaration}
 use Rattle.syntax.specs.Layout.{declarationText, declarationTexts}
 use Rattle.syntax.specs.RuleLayout.{selectorHead, selectorTexts, ruleRow, ruleText, ruleRows, ruleTexts}
@@ -32,9 +33,9 @@ use Rattle.declarations.specs.Leaving.{kept, rulesOf}
 use Rattle.declarations.specs.Rules.{Rules, startsAt, declarationsOf}
 use Rattle.declarations.proofs.StyleAttribute.{bounded}
 use Rattle.selectors.specs.Outcome.{reads, fails}
-use Rattle.sheets.specs.Rules.{ruleWidth}
+use Rattle.sheets.specs.Rules.{blockAt, ruleWidth}
 use Rattle.selectors.specs.SelectorList.{selectorsOf}
-use Rattle.sheets.specs.Sheet.{spaced, beforeEnd, blockOf, rulesetOf, statementEnd, atRuleOf, statementsOf, movedBy, sheetFrom, sheetOf}
+use Rattle.sheets.specs.Sheet.{spaced, beforeEnd, blockOf, rulesetOf, statementEnd, atRuleOf, statementsOf, movedBy, movedTo, sheetFrom, sheetOf}
 use Rattle.selectors.proofs.AllLaws.{sizes-append, sizes-map, texts-map, Where, where-read, where-behind, where-then, where-else}
 use Rattle.sheets.proofs.BlockLaws.{named-same, end-behind}
 use Rattle.selectors.proofs.ComponentKeeps.{Small}
@@ -114,13 +115,29 @@ module _ (s : List ℕ) (n : ℕ) where
       }
 
   -- every block that reads
-  pub block-keeps : Where (BlockKeeps s n) (blockOf s n)
+  pub block-keeps : Where (length s) (BlockKeeps s n) (blockOf s n)
   unfolding blockOf
   block-keeps =
-      pick-holds (Where (BlockKeeps s n)) (is (getD s opens 0) ascii.leftCurlyBracket) _ _
-      (λ e. pick-holds (Where (BlockKeeps s n)) (is (getD s closes 0) ascii.rightCurlyBracket) _ _
+      pick-holds (Where (length s) (BlockKeeps s n)) (is (getD s opens 0) ascii.leftCurlyBracket) _ _
+      (λ e. pick-holds (Where (length s) (BlockKeeps s n)) (is (getD s closes 0) ascii.rightCurlyBracket) _ _
       (λ g. braced (byte-there s opens ascii.leftCurlyBracket (omega arith) e) (byte-there s closes ascii.rightCurlyBracket (omega arith) g)) (λ _. tt))
       (λ _. tt)
+
+-- by where it starts in the whole text
+pub block-at-keeps : (at : ℕ) (s : List ℕ) (n : ℕ) → Where (length s) (BlockKeeps s n) (blockAt at s n)
+unfolding blockAt
+block-at-keeps at s n =
+    where-behind (length s) (length s) (BlockKeeps s n) (BlockKeeps s n) 0 (blockOf s n) (map (startsAt at))
+    (λ stop ds k. let e = length-map ds (startsAt at) in
+    let t = ap length (starts-texts at ds) in
+    record {
+      begun = k .begun;
+      within = omega (arith, k .within);
+      counted = omega (arith, k .counted);
+      short = omega (arith, k .short);
+      fit = starts-fit at ds (k .fit);
+    })
+    (omega arith) (block-keeps s n)
 
 -- ---- rules
 -- the numbers of an+b of a rule's selectors fit
@@ -159,13 +176,14 @@ one-rule s n stop xs ds h k =
     }
 
 -- every rule that reads
-rule-keeps : (s : List ℕ) → Where (λ n r. RulesKeep s (0 + n) (r ∷ [])) (rulesetOf s)
+rule-keeps : (s : List ℕ) → Where (length s) (λ n r. RulesKeep s (0 + n) (r ∷ [])) (rulesetOf s)
 unfolding rulesetOf
 rule-keeps s =
     let w = skipWhitespace s in
-    where-then (SelectorsKeep selectorHead (drop w s)) (λ n r. RulesKeep s (0 + n) (r ∷ [])) (selectorsOf (drop w s)) _ fails _
-    (λ n xs h. where-behind (BlockKeeps s (w + n)) (λ m r. RulesKeep s (0 + m) (r ∷ [])) 0 (blockOf s (w + n)) _ (λ stop ds k. one-rule s n stop xs ds h k) (block-keeps s (w + n)))
-    tt (selectors-keep (drop w s))
+    where-then (length (drop w s)) (length s) (SelectorsKeep selectorHead (drop w s)) (λ n r. RulesKeep s (0 + n) (r ∷ [])) (selectorsOf (drop w s)) _ fails _
+    (λ n xs h. where-behind (length s) (length s) (BlockKeeps s (w + n)) (λ m r. RulesKeep s (0 + m) (r ∷ [])) 0 (blockOf s (w + n)) _ (λ stop ds k. one-rule s n stop xs ds h k)
+    (omega arith) (block-keeps s (w + n)))
+    tt (λ p h. omega (arith, skip-le s, length-drop w s)) (selectors-keep (drop w s))
 
 -- ---- at-rules, of which nothing is kept
 no-rules : (s : List ℕ) (n : ℕ) → 1 ≤ n → n ≤ length s → RulesKeep s n []
@@ -174,29 +192,30 @@ no-rules s n h i =
     record { within = i; some = h; counted = omega arith; wide = omega arith; long = omega arith; small = tt; fit = tt }
 
 -- the end of a statement
-end-keeps : (s : List ℕ) (n : ℕ) → 1 ≤ n → n ≤ length s → Where (RulesKeep s) (statementEnd s n)
+end-keeps : (s : List ℕ) (n : ℕ) → 1 ≤ n → n ≤ length s → Where (length s) (RulesKeep s) (statementEnd s n)
 unfolding statementEnd
 end-keeps s n h i =
-    pick-holds (Where (RulesKeep s)) _ _ _
+    pick-holds (Where (length s) (RulesKeep s)) _ _ _
     (λ _. no-rules s _ (omega arith) (omega (arith, statement-sized true (drop n s) .within, length-drop n s))) (λ _. tt)
 
 -- every at-rule that reads
-at-rule-keeps : (s : List ℕ) → Where (RulesKeep s) (atRuleOf s)
+pub at-rule-keeps : (s : List ℕ) → Where (length s) (RulesKeep s) (atRuleOf s)
 unfolding atRuleOf spaced
 at-rule-keeps s =
     let a = skipWhitespace s in
     let i = a + 1 + skipWhitespace (drop (a + 1) s) in
-    pick-holds (Where (RulesKeep s)) _ _ _
+    pick-holds (Where (length s) (RulesKeep s)) _ _ _
     (λ e. let h : i ≤ length s = skip-from-le s (a + 1) (omega (arith, byte-there s a ascii.commercialAt (omega arith) e)) in
-    on-holds (Where (RulesKeep s)) (identOf (drop i s)) _ _
+    on-holds (Where (length s) (RulesKeep s)) (identOf (drop i s)) _ _
     (λ n name g. let f = ident-fits (drop i s) n name g in end-keeps s (i + n) (omega arith) (omega (arith, f .within-text, length-drop i s))) (λ _. tt))
     (λ _. tt)
 
 -- ---- every statement that reads
-pub statements-keep : (s : List ℕ) → Where (RulesKeep s) (statementsOf s)
+pub statements-keep : (s : List ℕ) → Where (length s) (RulesKeep s) (statementsOf s)
 unfolding statementsOf
 statements-keep s =
-    where-else (RulesKeep s) _ _ (where-behind (λ n r. RulesKeep s (0 + n) (r ∷ [])) (RulesKeep s) 0 (rulesetOf s) _ (λ n r k. k) (rule-keeps s)) (at-rule-keeps s)
+    where-else (length s) (RulesKeep s) _ _
+    (where-behind (length s) (length s) (λ n r. RulesKeep s (0 + n) (r ∷ [])) (RulesKeep s) 0 (rulesetOf s) _ (λ n r k. k) (omega arith) (rule-keeps s)) (at-rule-keeps s)
 
 -- ---- rules moved to a byte
 -- their rows are as long
@@ -262,15 +281,22 @@ from-next at s n stop rs more h k =
       fit = all-append (λ r. DeclarationsFit (r .declarations)) rs more (h .fit) (k .fit);
     }
 
+-- statements where they stand
+pub moved-keeps : (at : ℕ) (s : List ℕ) → Where (length s) (RulesKeep s) (movedTo at (statementsOf s))
+unfolding movedTo
+moved-keeps at s =
+    where-behind (length s) (length s) (RulesKeep s) (RulesKeep s) 0 (statementsOf s) (map (movedBy at))
+    (λ n rs k. subst (λ (m : ℕ). RulesKeep s m (map (movedBy at) rs)) (sym (zero-add n)) (moved-keep at s n rs k)) (omega arith) (statements-keep s)
+
 -- as many as read
-from-keeps : (l : ℕ) (s : List ℕ) (at : ℕ) → Where (FromKeeps at (length s)) (sheetFrom l s at)
+from-keeps : (l : ℕ) (s : List ℕ) (at : ℕ) → Where (at + length s) (FromKeeps at (length s)) (sheetFrom l s at)
 unfolding sheetFrom
 from-keeps zero s at = from-none at (length s)
 from-keeps (suc l) s at =
-    where-then (RulesKeep s) (FromKeeps at (length s)) (statementsOf s) _ (reads at []) _
-    (λ n rs h. where-behind (FromKeeps (at + n) (length (drop n s))) (FromKeeps at (length s)) 0 (sheetFrom l (drop n s) (at + n)) _
-    (λ stop more k. from-next at s n stop (map (movedBy at) rs) more (moved-keep at s n rs h) k) (from-keeps l (drop n s) (at + n)))
-    (from-none at (length s)) (statements-keep s)
+    where-then (length s) (at + length s) (RulesKeep s) (FromKeeps at (length s)) (statementsOf s) _ (reads at []) _
+    (λ n rs h. where-behind (at + n + length (drop n s)) (at + length s) (FromKeeps (at + n) (length (drop n s))) (FromKeeps at (length s)) 0 (sheetFrom l (drop n s) (at + n)) _
+    (λ stop more k. from-next at s n stop (map (movedBy at) rs) more (moved-keep at s n rs h) k) (omega (arith, h .within, length-drop n s)) (from-keeps l (drop n s) (at + n)))
+    (from-none at (length s)) (λ p h. omega arith) (statements-keep s)
 
 -- the rules of a sheet of which `stop` bytes were read: no more than that many, eight numbers for each byte, texts no longer than what was read
 pub record SheetKeeps (s : List ℕ) (stop : ℕ) (rs : List RuleSet) : Type 0 where
@@ -285,7 +311,7 @@ pub record SheetKeeps (s : List ℕ) (stop : ℕ) (rs : List RuleSet) : Type 0 w
 pub sheet-keeps : (s : List ℕ) (stop : ℕ) (rs : List RuleSet) → sheetOf s ≡ reads stop rs → SheetKeeps s stop rs
 unfolding sheetOf
 sheet-keeps s stop rs e =
-    let k = where-read (FromKeeps 0 (length s)) (sheetFrom (length s) s 0) stop rs e (from-keeps (length s) s 0) in
+    let k = where-read (0 + length s) (FromKeeps 0 (length s)) (sheetFrom (length s) s 0) stop rs e (from-keeps (length s) s 0) in
     record {
       within = omega (arith, k .within);
       counted = omega (arith, k .counted);

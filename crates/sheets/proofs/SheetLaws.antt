@@ -18,11 +18,13 @@ use Rattle.syntax.specs.RuleLayout.{ruleRows, ruleTexts}
 use Rattle.syntax.specs.Selector.{RuleSet}
 use Rattle.selectors.specs.Outcome.{Outcome, reads, fails, panics, onOutcome, behind}
 use Rattle.sheets.specs.Sheet.{statementsOf, movedBy, sheetFrom, sheetOf}
-use Rattle.selectors.specs.Reading.{reading, written, Bounds, numbersBy, textBy}
+use Rattle.selectors.specs.Reading.{manyReading, written}
 use Rattle.sheets.specs.Rules.{ruleWidth, SheetRoom}
 use Rattle.sheets.specs.SheetAnswer.{sheetLimit, numbersOf, SheetLeft, padded, sheetNumbers, sheetLeft, unchanged, readSheet, SheetLent}
-use Rattle.selectors.specs.declared.readings.Reading.{Reading}
-use Rattle.selectors.specs.declared.readings.Reading.the-variants.{Reads, Fails, Panics}
+use Rattle.selectors.specs.declared.readings.ManyReading.{ManyReading}
+use Rattle.selectors.specs.declared.readings.ManyReading.the-variants as many
+use Rattle.selectors.proofs.AllLaws.{reads-no, behind-never, then-never}
+use Rattle.sheets.proofs.SheetBounds.{sheet-keeps}
 use Rattle.sheets.specs.declared.answers.SheetNumbers.{SheetNumbers}
 use Rattle.sheets.specs.declared.sheet.SheetAnswer.the-variants.{Sheet, TooLong, ShortStore, NotUtf8, Panic}
 use Rattle.combinators.proofs.ZeroLaws.{zeros-all}
@@ -56,37 +58,20 @@ stored xs l h =
     ∙ ap (λ (k : ℕ). xs ++ drop k (replicate n 0)) (zero-add (length xs)) ∙ ap (λ (r : List ℕ). xs ++ r) (drop-zeros (length xs) n)
 
 -- ---- reading a sheet for which the stores suffice
--- the numbers of an answer are those of what is written
-numbers-are : {A : Type 0} (c : A → ℕ) (w x : A → List ℕ) (o : Outcome A) → numbersBy (reading c w x o) ≡ length (written w o)
-unfolding numbersBy reading written onOutcome
-numbers-are c w x (reads n a) = refl
-numbers-are c w x fails = refl
-numbers-are c w x (panics p) = refl
-
-text-is : {A : Type 0} (c : A → ℕ) (w x : A → List ℕ) (o : Outcome A) → textBy (reading c w x o) ≡ length (written x o)
-unfolding textBy reading written onOutcome
-text-is c w x (reads n a) = refl
-text-is c w x fails = refl
-text-is c w x (panics p) = refl
-
 -- an answer with rules says the counts of the rules that were read
-answer-reads : (o : Outcome (List RuleSet)) (stop count numbers bytes : ℕ) → Reads stop count numbers bytes ≡ reading length (ruleRows 0) ruleTexts o
+answer-reads : (o : Outcome (List RuleSet)) (stop count numbers bytes : ℕ) → many.Reads stop count numbers bytes ≡ manyReading length (ruleRows 0) ruleTexts o
     → numbersOf (Sheet count stop numbers bytes) ≡ sheetNumbers o
-unfolding reading sheetNumbers numbersOf onOutcome
+unfolding manyReading sheetNumbers numbersOf onOutcome
 answer-reads (reads n rs) stop count numbers bytes e =
     let same : Sheet count stop numbers bytes ≡ Sheet (length rs) n (length (ruleRows 0 rs)) (length (ruleTexts rs)) = cc in
     ap numbersOf same
-answer-reads fails stop count numbers bytes e = absurd (let z : _≡_ {A = ℕ} 0 1 = cc in omega arith)
+answer-reads fails stop count numbers bytes e =
+    let same : Sheet count stop numbers bytes ≡ Sheet 0 0 0 0 = cc in
+    ap numbersOf same
 answer-reads (panics p) stop count numbers bytes e = absurd (let z : _≡_ {A = ℕ} 0 1 = cc in omega arith)
 
-answer-fails : (o : Outcome (List RuleSet)) → Fails ≡ reading length (ruleRows 0) ruleTexts o → numbersOf (Sheet 0 0 0 0) ≡ sheetNumbers o
-unfolding reading sheetNumbers numbersOf onOutcome
-answer-fails (reads n rs) e = absurd (let z : _≡_ {A = ℕ} 0 1 = cc in omega arith)
-answer-fails fails e = refl
-answer-fails (panics p) e = absurd (let z : _≡_ {A = ℕ} 0 1 = cc in omega arith)
-
-answer-panics : (o : Outcome (List RuleSet)) (p : ℕ) → Panics p ≡ reading length (ruleRows 0) ruleTexts o → numbersOf (Panic p) ≡ sheetNumbers o
-unfolding reading sheetNumbers numbersOf onOutcome
+answer-panics : (o : Outcome (List RuleSet)) (p : ℕ) → many.Panics p ≡ manyReading length (ruleRows 0) ruleTexts o → numbersOf (Panic p) ≡ sheetNumbers o
+unfolding manyReading sheetNumbers numbersOf onOutcome
 answer-panics (reads n rs) p e = absurd (let z : _≡_ {A = ℕ} 0 1 = cc in omega arith)
 answer-panics fails p e = absurd (let z : _≡_ {A = ℕ} 0 1 = cc in omega arith)
 answer-panics (panics q) p e = let same : Panic p ≡ Panic q = cc in ap numbersOf same
@@ -124,18 +109,22 @@ module _ {s rules tokens brackets texts : List ℕ} (o : SheetLent s rules token
             };
       })
 
-  module _ {r : Reading} {y′ x′ b′ z′ : List ℕ} (er : r ≡ reading length (ruleRows 0) ruleTexts (sheetOf s))
-      (ey : y′ ≡ sets y 0 (written (ruleRows 0) (sheetOf s))) (ex : x′ ≡ x) (eb : b′ ≡ b) (ez : z′ ≡ sets z 0 (written ruleTexts (sheetOf s)))
-      (k : Bounds ruleWidth 0 s r) where
+  module _ {r : ManyReading} {y′ x′ b′ z′ : List ℕ} (er : r ≡ manyReading length (ruleRows 0) ruleTexts (sheetOf s))
+      (ey : y′ ≡ sets y 0 (written (ruleRows 0) (sheetOf s))) (ex : x′ ≡ x) (eb : b′ ≡ b) (ez : z′ ≡ sets z 0 (written ruleTexts (sheetOf s))) where
+    -- what was read has room
+    fits-by : (q : Outcome (List RuleSet)) → sheetOf s ≡ q → (length (written (ruleRows 0) q) ≤ length rules) × (length (written ruleTexts q) ≤ length texts)
+    unfolding written onOutcome
+    fits-by (reads n rs) e =
+        let k = sheet-keeps s n rs e in
+        (omega (arith, k .wide, k .within, o .least .for-rules), omega (arith, k .long, k .within, o .least .for-texts))
+    fits-by fails e = (omega arith, omega arith)
+    fits-by (panics p) e = (omega arith, omega arith)
+
     rows-fit : length (written (ruleRows 0) (sheetOf s)) ≤ length rules
-    rows-fit =
-        let e : numbersBy r ≡ length (written (ruleRows 0) (sheetOf s)) = ap numbersBy er ∙ numbers-are length (ruleRows 0) ruleTexts (sheetOf s) in
-        omega (arith, e, k .numbers, k .taken, o .least .for-rules)
+    rows-fit = fits-by (sheetOf s) refl .0
 
     texts-fit : length (written ruleTexts (sheetOf s)) ≤ length texts
-    texts-fit =
-        let e : textBy r ≡ length (written ruleTexts (sheetOf s)) = ap textBy er ∙ text-is length (ruleRows 0) ruleTexts (sheetOf s) in
-        omega (arith, e, k .text, k .taken, o .least .for-texts)
+    texts-fit = fits-by (sheetOf s) refl .1
 
     left : (a : SheetNumbers) → a ≡ sheetNumbers (sheetOf s)
         → _≡_ {A = SheetLeft} (record { answer = a; rules = y′; tokens = x′; brackets = b′; texts = z′ }) (sheetLeft s rules tokens brackets texts)
@@ -145,15 +134,11 @@ module _ {s rules tokens brackets texts : List ℕ} (o : SheetLent s rules token
         (ex ∙ cx ∙ all-cleared tokens) (eb ∙ cb ∙ all-cleared brackets)
         (ez ∙ ap (λ (l : List ℕ). sets l 0 (written ruleTexts (sheetOf s))) cz ∙ stored (written ruleTexts (sheetOf s)) texts texts-fit)
 
-    pub sheet-read : {stop count numbers bytes : ℕ} → r ≡ Reads stop count numbers bytes
+    pub sheet-read : {stop count numbers bytes : ℕ} → r ≡ many.Reads stop count numbers bytes
         → _≡_ {A = SheetLeft} (record { answer = numbersOf (Sheet count stop numbers bytes); rules = y′; tokens = x′; brackets = b′; texts = z′ }) (sheetLeft s rules tokens brackets texts)
     sheet-read {stop} {count} {numbers} {bytes} g = left (numbersOf (Sheet count stop numbers bytes)) (answer-reads (sheetOf s) stop count numbers bytes (sym g ∙ er))
 
-    pub sheet-fails : r ≡ Fails
-        → _≡_ {A = SheetLeft} (record { answer = numbersOf (Sheet 0 0 0 0); rules = y′; tokens = x′; brackets = b′; texts = z′ }) (sheetLeft s rules tokens brackets texts)
-    sheet-fails g = left (numbersOf (Sheet 0 0 0 0)) (answer-fails (sheetOf s) (sym g ∙ er))
-
-    pub sheet-panics : {p : ℕ} → r ≡ Panics p
+    pub sheet-panics : {p : ℕ} → r ≡ many.Panics p
         → _≡_ {A = SheetLeft} (record { answer = numbersOf (Panic p); rules = y′; tokens = x′; brackets = b′; texts = z′ }) (sheetLeft s rules tokens brackets texts)
     sheet-panics {p} g = left (numbersOf (Panic p)) (answer-panics (sheetOf s) p (sym g ∙ er))
 
@@ -184,31 +169,12 @@ module _ (s rules tokens brackets texts : List ℕ) where
         read f p = pick-false _ _ _ _ (le-ltb sheetLimit (length s) h) (pick-true _ _ _ _ (sym et ∙ e) (pick-true _ _ _ _ (sym ev ∙ f) p))
 
 -- ---- reading a sheet never fails
-abbrev Accepted : Outcome (List RuleSet) → Type 0
-Accepted (reads n rs) = Unit
-Accepted fails = ⊥
-Accepted (panics p) = Unit
-
--- rules read before others leave accepted what is
-behind-accepted : (o : Outcome (List RuleSet)) (rs : List RuleSet) → Accepted o → Accepted (behind 0 o (λ more. rs ++ more))
-unfolding behind onOutcome
-behind-accepted (reads n more) rs h = tt
-behind-accepted fails rs h = h
-behind-accepted (panics p) rs h = tt
-
--- a statement, and the sheet behind it
-turn-accepted : (o : Outcome (List RuleSet)) (at : ℕ) (g : ℕ → Outcome (List RuleSet)) → ((n : ℕ) → Accepted (g n))
-    → Accepted (onOutcome o (λ n rs. behind 0 (g n) (λ more. map (movedBy at) rs ++ more)) (reads at []) (λ p. panics (at + p)))
-unfolding onOutcome
-turn-accepted (reads n rs) at g h = behind-accepted (g n) (map (movedBy at) rs) (h n)
-turn-accepted fails at g h = tt
-turn-accepted (panics p) at g h = tt
-
-never-fails : (t : ℕ) (s : List ℕ) (at : ℕ) → Accepted (sheetFrom t s at)
+never-fails : (t : ℕ) (s : List ℕ) (at : ℕ) → sheetFrom t s at ≡ fails → ⊥
 unfolding sheetFrom
-never-fails zero s at = tt
-never-fails (suc t) s at = turn-accepted (statementsOf s) at (λ n. sheetFrom t (drop n s) (at + n)) (λ n. never-fails t (drop n s) (at + n))
+never-fails zero s at e = reads-no e
+never-fails (suc t) s at e =
+    then-never (statementsOf s) _ (reads at []) _ (λ n rs. behind-never 0 (sheetFrom t (drop n s) (at + n)) _ (never-fails t (drop n s) (at + n))) reads-no e
 
 pub sheet-never-fails : (s : List ℕ) → sheetOf s ≡ fails → ⊥
 unfolding sheetOf
-sheet-never-fails s e = subst Accepted e (never-fails (length s) s 0)
+sheet-never-fails s e = never-fails (length s) s 0 e

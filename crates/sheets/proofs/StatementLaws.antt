@@ -12,11 +12,11 @@ use Rattle.syntax.specs.Selector.{RuleSet}
 use Rattle.syntax.specs.Stream.{rowsMany, textsMany}
 use Rattle.selectors.specs.Outcome.{Outcome, reads, fails, panics, onOutcome, behind, orElse}
 use Rattle.sheets.specs.Sheet.{rulesetOf, statementEnd, atRuleOf, statementsOf, movedBy, movedTo}
-use Rattle.sheets.specs.Rules.{WorkRoom, RuleRoom, ruleWidth}
-use Rattle.selectors.specs.Reading.{reading, written, Bounds, Progress}
+use Rattle.sheets.specs.Rules.{WorkRoom, RuleRoom}
+use Rattle.selectors.specs.Reading.{reading, written}
 use Rattle.selectors.specs.declared.readings.Reading.{Reading}
 use Rattle.selectors.specs.declared.readings.Reading.the-variants.{Reads, Fails, Panics}
-use Rattle.selectors.proofs.ReadingLaws.{read-by, fails-by, panics-by, sets-read, sets-fails, sets-panics, same-reads, sizes-of, reads-bounds, panics-within, panics-bounds}
+use Rattle.selectors.proofs.ReadingLaws.{Left, left-reads, left-panics, found, nothing, panicked}
 
 -- ---- an at-rule says nothing, wherever it stands
 record Nothing (at fill : ℕ) (o : Outcome (List RuleSet)) : Type 0 where
@@ -50,7 +50,7 @@ module _ (at fill : ℕ) where
 
 -- ---- a rule, or else what stands behind it
 module _ (at : ℕ) (k : Outcome (List RuleSet)) where
-  -- a rule, or else what another reading gives, both at their place in the text
+  -- that of a rule
   abbrev either-of : Outcome RuleSet → Outcome (List RuleSet)
   either-of o = behind 0 (orElse (behind 0 o (λ r. r ∷ [])) k) (map (movedBy at))
 
@@ -94,7 +94,7 @@ one-text r = sym (append-nil (ruleText r))
 
 -- ---- `parse_statement`
 module _ (s : List ℕ) (at : ℕ) (rules : List ℕ) (place : ℕ) (tokens brackets store : List ℕ) (fill : ℕ) (o : RuleRoom s at rules place tokens brackets store fill) where
-  -- the statement that the text means
+  -- that of a rule
   abbrev meant : Outcome (List RuleSet)
   meant = movedTo at (statementsOf s)
 
@@ -102,80 +102,61 @@ module _ (s : List ℕ) (at : ℕ) (rules : List ℕ) (place : ℕ) (tokens brac
   abbrev pub Stated : Reading → List ℕ → List ℕ → List ℕ → List ℕ → Type 0
   Stated r y x b z = (r ≡ reading length (ruleRows fill) ruleTexts meant)
       × ((y ≡ sets rules place (written (ruleRows fill) meant))
-      × ((x ≡ tokens) × ((b ≡ brackets) × ((z ≡ sets store fill (written ruleTexts meant)) × (Bounds ruleWidth 0 s r × Progress r)))))
+      × ((x ≡ tokens) × ((b ≡ brackets) × (z ≡ sets store fill (written ruleTexts meant)))))
+
+  -- by what is left of rows and texts
+  stated : {r : Reading} {y x b z : List ℕ} → Left length (ruleRows fill) ruleTexts meant rules place store fill r y z → x ≡ tokens → b ≡ brackets → Stated r y x b z
+  stated l ex eb = (l .0, (l .1 .0, (ex, (eb, l .1 .1))))
 
   -- that of a rule
   abbrev first : Outcome RuleSet
   first = behind 0 (rulesetOf s) (movedBy at)
 
   -- what `parse_ruleset` left
-  module _ {r : Reading} {y x b z : List ℕ} (er : r ≡ reading (λ _. 1) (ruleRow fill) ruleText first) (ey : y ≡ sets rules place (written (ruleRow fill) first))
-      (ex : x ≡ tokens) (eb : b ≡ brackets) (ez : z ≡ sets store fill (written ruleText first)) (h : Bounds ruleWidth 0 s r) where
+  module _ {r : Reading} {y x b z : List ℕ} (e : (r ≡ reading (λ _. 1) (ruleRow fill) ruleText first)
+      × ((y ≡ sets rules place (written (ruleRow fill) first)) × ((x ≡ tokens) × ((b ≡ brackets) × (z ≡ sets store fill (written ruleText first)))))) where
+    -- of rows and texts
+    left : Left (λ _. 1) (ruleRow fill) ruleText first rules place store fill r y z
+    left = (e .0, (e .1 .0, e .1 .1 .1 .1))
+
     -- the return where a rule was read
     pub rule-stated : {n count numbers text : ℕ} → r ≡ Reads n count numbers text → Stated (Reads n count numbers text) y x b z
-    unfolding movedTo statementsOf reading written onOutcome Progress
-    rule-stated {n} {count} {numbers} {text} e =
-        let g = read-by (λ _. 1) (ruleRow fill) ruleText first n count numbers text (sym e ∙ er) in
+    unfolding movedTo statementsOf
+    rule-stated {n} h =
+        let g = found _ _ _ _ _ _ _ _ left h in
         let a = g .value in
-        let m = either-reads at (atRuleOf s) (rulesetOf s) n a (g .reads-it) in
-        let q = sizes-of h e in (
-          same-reads refl (g .counts) (g .rows ∙ ap length (one-rule fill a)) (g .texts ∙ ap length (one-text a)) ∙ rw m,
-          (
-            ey ∙ sets-read (ruleRow fill) rules place first n a (g .reads-it) ∙ rw (m, ← one-rule fill a),
-            (
-              ex,
-              (
-                eb,
-                (ez ∙ sets-read ruleText store fill first n a (g .reads-it) ∙ rw (m, ← one-text a), (reads-bounds q, omega (arith, g .counts, q .counted))),
-              ),
-            ),
-          ),
-        )
+        stated (left-reads _ _ _ _ _ _ _ _ (either-reads at (atRuleOf s) (rulesetOf s) n a (g .reads-it)) (g .counts) (g .rows ∙ ap length (one-rule fill a)) (g .texts ∙ ap length (one-text a))
+        (g .rules-are ∙ ap (sets rules place) (one-rule fill a)) (g .store-is ∙ ap (sets store fill) (one-text a))) (e .1 .1 .0) (e .1 .1 .1 .0)
 
     -- the return where the crate panics
     pub panic-stated : {p : ℕ} → r ≡ Panics p → Stated (Panics p) y x b z
-    unfolding movedTo statementsOf reading written onOutcome Progress
-    panic-stated {p} e =
-        let g = panics-by (λ _. 1) (ruleRow fill) ruleText first p (sym e ∙ er) in
-        let m = either-panics at (atRuleOf s) (rulesetOf s) p g in
-        let q : Bounds ruleWidth 0 s (Panics p) = panics-bounds (panics-within h e) in (
-          rw m,
-          (
-            ey ∙ sets-panics (ruleRow fill) rules place first p g ∙ rw m,
-            (ex, (eb, (ez ∙ sets-panics ruleText store fill first p g ∙ rw m, (q, tt)))),
-          ),
-        )
+    unfolding movedTo statementsOf
+    panic-stated {p} h =
+        let g = panicked _ _ _ _ _ _ _ _ left h in
+        stated (left-panics _ _ _ _ _ _ _ _ (either-panics at (atRuleOf s) (rulesetOf s) p (g .0)) (g .1 .0) (g .1 .1)) (e .1 .1 .0) (e .1 .1 .1 .0)
 
     -- no rule
-    module _ (e : r ≡ Fails) where
-      -- it does not read
-      none : first ≡ fails
-      none = fails-by (λ _. 1) (ruleRow fill) ruleText first (sym e ∙ er)
-
-      -- nothing is left in the store
-      store-same : z ≡ store
-      store-same = ez ∙ sets-fails ruleText store fill first none
+    module _ (h : r ≡ Fails) where
+      -- it does not read, and the stores are as they were
+      none : (first ≡ fails) × ((y ≡ rules) × (z ≡ store))
+      none = nothing _ _ _ _ _ _ _ _ left h
 
       -- so an at-rule has room
       pub at-room : WorkRoom s x b z fill
-      at-room = rw (ex, eb, store-same) (o .work)
+      at-room = rw (e .1 .1 .0, e .1 .1 .1 .0, none .1 .1) (o .work)
 
-      -- the at-rule keeps nothing
-      nothing : Nothing at fill (atRuleOf s)
-      nothing = at-rule-nothing at fill s
+      -- it says nothing
+      silent : Nothing at fill (atRuleOf s)
+      silent = at-rule-nothing at fill s
 
       -- the meaning is that of the at-rule
       meant-is : meant ≡ atRuleOf s
       unfolding movedTo statementsOf
-      meant-is = either-second at (atRuleOf s) (rulesetOf s) none ∙ nothing .stays
+      meant-is = either-second at (atRuleOf s) (rulesetOf s) (none .0) ∙ silent .stays
 
       -- so what `parse_at_rule` says
-      pub at-stated : {r₂ : Reading} {x₂ b₂ z₂ : List ℕ} → r₂ ≡ reading length (ruleRows fill) ruleTexts (atRuleOf s) → x₂ ≡ x → b₂ ≡ b → z₂ ≡ z → Bounds ruleWidth 0 s r₂
-          → Progress r₂ → Stated r₂ y x₂ b₂ z₂
-      at-stated er₂ ex₂ eb₂ ez₂ h₂ p = (
-        er₂ ∙ rw meant-is,
-        (
-          ey ∙ sets-fails (ruleRow fill) rules place first none ∙ rw (meant-is, nothing .rows),
-          (ex₂ ∙ ex, (eb₂ ∙ eb, (ez₂ ∙ store-same ∙ rw (meant-is, nothing .texts), (h₂, p)))),
-        ),
+      pub at-stated : {r₂ : Reading} {x₂ b₂ z₂ : List ℕ} → (r₂ ≡ reading length (ruleRows fill) ruleTexts (atRuleOf s)) × ((x₂ ≡ x) × ((b₂ ≡ b) × (z₂ ≡ z))) → Stated r₂ y x₂ b₂ z₂
+      at-stated e₂ = (
+        e₂ .0 ∙ rw meant-is,
+        (none .1 .0 ∙ rw (meant-is, silent .rows), (e₂ .1 .0 ∙ e .1 .1 .0, (e₂ .1 .1 .0 ∙ e .1 .1 .1 .0, e₂ .1 .1 .1 ∙ none .1 .1 ∙ rw (meant-is, silent .texts)))),
       )

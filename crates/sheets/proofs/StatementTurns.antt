@@ -17,16 +17,22 @@ use Rattle.lexer.specs.Name as name
 use Rattle.lexer.specs.Whitespace.{skipWhitespace, whitespaceItem, isWhitespace, commentOf}
 use Rattle.syntax.specs.RuleLayout.{ruleRow, ruleText, ruleRows, ruleTexts}
 use Rattle.syntax.specs.Selector.{RuleSet}
+use Rattle.syntax.specs.Stream.{rowsMany}
+use Rattle.syntax.proofs.RowSizes.{length-rules}
 use Rattle.selectors.specs.Outcome.{Outcome, reads, fails, panics, onOutcome, behind, orElse}
 use Rattle.selectors.specs.Selector as selector
 use Rattle.selectors.specs.SelectorList.{selectorsOf}
 use Rattle.sheets.specs.Sheet.{spaced, blockOf, rulesetOf, atRuleOf, statementsOf, movedBy, movedTo, sheetFrom, sheetOf}
-use Rattle.selectors.specs.Reading.{reading, written, Bounds, Progress}
+use Rattle.selectors.specs.Reading.{reading, manyReading, written}
 use Rattle.sheets.specs.Rules.{ruleWidth, RuleRoom, SheetRoom}
 use Rattle.selectors.specs.declared.readings.Reading.{Reading}
 use Rattle.selectors.specs.declared.readings.Reading.the-variants.{Reads, Fails, Panics}
-use Rattle.selectors.proofs.Gathering.{Gathered, gathered-none, gathered-more, rules-zeros, store-zeros, rules-long, store-long, end-answer, end-rules, end-store, panic-answer, panic-rules, panic-store}
-use Rattle.selectors.proofs.ReadingLaws.{ReadAs, read-by, fails-by, panics-by, sets-read, sets-fails, sets-panics, Sizes, sizes-of, reads-bounds, panics-within, panics-bounds}
+use Rattle.selectors.specs.declared.readings.ManyReading.{ManyReading}
+use Rattle.selectors.specs.declared.readings.ManyReading.the-variants as many
+use Rattle.selectors.proofs.AllLaws.{where-read, where-panics}
+use Rattle.selectors.proofs.Gathering.{Gathered, gathered-none, gathered-more, gathered-as, rules-zeros, store-zeros, rules-long, store-long, many-read, many-panics}
+use Rattle.selectors.proofs.ReadingLaws.{Left, LeftMany, Found, found, nothing, panicked}
+use Rattle.sheets.proofs.SheetBounds.{RulesKeep, moved-keeps}
 
 -- ---- no statement at the end of a text
 no-name : name.identOf [] ≡ err
@@ -99,16 +105,15 @@ module _ (s : List ℕ) (at : ℕ) where
 
 -- ---- the reader, where so many bytes were taken
 pub record Reading-on (s rules₀ tokens₀ brackets₀ store₀ rules tokens brackets store : List ℕ) (taken count numbers text : ℕ) : Type 0 where
-  pub turns : ℕ
-  pub enough : length s ≤ taken + turns
-  pub gathered : Gathered ruleRow ruleText (sheetOf s) (sheetFrom turns (drop taken s) taken) rules₀ 0 store₀ 0 0 rules store count numbers text
+  turns : ℕ
+  enough : length s ≤ taken + turns
+  gathered : Gathered ruleRow ruleText (sheetOf s) (sheetFrom turns (drop taken s) taken) rules₀ 0 store₀ 0 0 rules store count numbers text
   pub tokens-kept : tokens ≡ tokens₀
   pub brackets-kept : brackets ≡ brackets₀
   pub within : taken ≤ length s
   pub counted : count ≤ taken
   pub wide : numbers ≤ ruleWidth * taken
-  pub long : text ≤ taken + 2
-  pub sharp : taken < length s → text ≤ taken
+  pub long : text ≤ taken
 
 -- before the first statement nothing is gathered
 pub begin : (s rules tokens brackets store : List ℕ) → Reading-on s rules tokens brackets store rules tokens brackets store 0 0 0 0
@@ -124,24 +129,22 @@ begin s rules tokens brackets store =
       counted = omega arith;
       wide = omega arith;
       long = omega arith;
-      sharp = λ _. omega arith;
     }
 
--- what a return leaves, and its bounds
-abbrev pub Ends : List ℕ → List ℕ → List ℕ → List ℕ → List ℕ → Reading → List ℕ → List ℕ → List ℕ → List ℕ → Type 0
+-- what a return leaves
+abbrev pub Ends : List ℕ → List ℕ → List ℕ → List ℕ → List ℕ → ManyReading → List ℕ → List ℕ → List ℕ → List ℕ → Type 0
 Ends s rules tokens brackets store r y x b z =
-    (r ≡ reading length (ruleRows 0) ruleTexts (sheetOf s))
-    × ((y ≡ sets rules 0 (written (ruleRows 0) (sheetOf s)))
-    × ((x ≡ tokens) × ((b ≡ brackets) × ((z ≡ sets store 0 (written ruleTexts (sheetOf s))) × Bounds ruleWidth 0 s r))))
+    (r ≡ manyReading length (ruleRows 0) ruleTexts (sheetOf s))
+    × ((y ≡ sets rules 0 (written (ruleRows 0) (sheetOf s))) × ((x ≡ tokens) × ((b ≡ brackets) × (z ≡ sets store 0 (written ruleTexts (sheetOf s))))))
 
 module _ {s rules₀ tokens₀ brackets₀ store₀ rules tokens brackets store : List ℕ} {taken count numbers text : ℕ}
     (i : Reading-on s rules₀ tokens₀ brackets₀ store₀ rules tokens brackets store taken count numbers text) where
   -- the stores keep their lengths
   pub rules-kept : length rules ≡ length rules₀
-  rules-kept = rules-long _ _ _ _ _ _ _ _ _ _ _ _ _ _ (i .gathered)
+  rules-kept = rules-long (i .gathered)
 
   pub store-kept : length store ≡ length store₀
-  store-kept = store-long _ _ _ _ _ _ _ _ _ _ _ _ _ _ (i .gathered)
+  store-kept = store-long (i .gathered)
 
   pub tokens-long : length tokens ≡ length tokens₀
   tokens-long = ap length (i .tokens-kept)
@@ -150,32 +153,17 @@ module _ {s rules₀ tokens₀ brackets₀ store₀ rules tokens brackets store 
   brackets-long = ap length (i .brackets-kept)
 
   -- no more is read: all were
-  all-read : sheetFrom (i .turns) (drop taken s) taken ≡ reads taken [] → {y x b z : List ℕ} → y ≡ rules → x ≡ tokens → b ≡ brackets → z ≡ store
-      → Ends s rules₀ tokens₀ brackets₀ store₀ (Reads taken count numbers text) y x b z
+  all-read : sheetFrom (i .turns) (drop taken s) taken ≡ reads taken []
+      → LeftMany length (ruleRows 0) ruleTexts (sheetOf s) rules₀ 0 store₀ 0 (many.Reads taken count numbers text) rules store
   unfolding ruleRows ruleTexts
-  all-read e ey ex eb ez =
-      let q : 0 + taken ≡ taken = omega arith in (
-        ap (λ (n : ℕ). Reads n count numbers text) (sym q) ∙ end-answer _ _ _ _ _ _ _ _ _ _ _ _ _ _ (i .gathered) taken e,
-        (
-          ey ∙ end-rules _ _ _ _ _ _ _ _ _ _ _ _ _ _ (i .gathered) taken e,
-          (
-            ex ∙ i .tokens-kept,
-            (
-              eb ∙ i .brackets-kept,
-              (
-                ez ∙ end-store _ _ _ _ _ _ _ _ _ _ _ _ _ _ (i .gathered) taken e,
-                reads-bounds (record { taken = i .within; counted = i .counted; wide = omega (arith, i .wide); long = i .long; sharp = i .sharp }),
-              ),
-            ),
-          ),
-        ),
-      )
+  all-read e = many-read (i .gathered) taken taken e (omega arith)
 
   -- the end of the text
-  pub at-end : length s ≤ taken → Ends s rules₀ tokens₀ brackets₀ store₀ (Reads taken count numbers text) rules tokens brackets store
+  pub at-end : length s ≤ taken → Ends s rules₀ tokens₀ brackets₀ store₀ (many.Reads taken count numbers text) rules tokens brackets store
   at-end l =
       let e : drop taken s ≡ [] = nil-of (drop taken s) (omega (arith, length-drop taken s)) in
-      all-read (rw e (no-sheet (i .turns) taken)) refl refl refl refl
+      let a = all-read (rw e (no-sheet (i .turns) taken)) in
+      (a .0, (a .1 .0, (i .tokens-kept, (i .brackets-kept, a .1 .1))))
 
   module _ (l : taken < length s) (o : SheetRoom s rules₀ tokens₀ brackets₀ store₀) where
     -- the rest as the code lends it
@@ -195,9 +183,9 @@ module _ {s rules₀ tokens₀ brackets₀ store₀ rules tokens brackets store 
     pub next-room : RuleRoom lent taken rules numbers tokens brackets store text
     next-room =
         let w = o .work in
-        let h = i .sharp l in
+        let h = i .long in
         record {
-          rules-zeros = subst (Zeros rules) (zero-add numbers) (rules-zeros _ _ _ _ _ _ _ _ _ _ _ _ _ _ (i .gathered) (o .rules-zeros));
+          rules-zeros = subst (Zeros rules) (zero-add numbers) (rules-zeros (i .gathered) (o .rules-zeros));
           for-rules = omega (arith, o .for-rules, i .wide, lent-long, rules-kept);
           row-bits = omega (arith, o .row-bits, rules-kept);
           start-bits = omega (arith, w .text-bits, lent-long);
@@ -205,7 +193,7 @@ module _ {s rules₀ tokens₀ brackets₀ store₀ rules tokens brackets store 
               record {
                 tokens-zeros = rw (i .tokens-kept) (w .tokens-zeros);
                 brackets-zeros = rw (i .brackets-kept) (w .brackets-zeros);
-                store-zeros = subst (Zeros store) (zero-add text) (store-zeros _ _ _ _ _ _ _ _ _ _ _ _ _ _ (i .gathered) (w .store-zeros));
+                store-zeros = subst (Zeros store) (zero-add text) (store-zeros (i .gathered) (w .store-zeros));
                 for-tokens = omega (arith, w .for-tokens, lent-long, tokens-long);
                 for-brackets = omega (arith, w .for-brackets, lent-long, brackets-long);
                 for-texts = omega (arith, w .for-texts, h, lent-long, store-kept);
@@ -216,104 +204,82 @@ module _ {s rules₀ tokens₀ brackets₀ store₀ rules tokens brackets store 
     abbrev statements : Outcome (List RuleSet)
     statements = movedTo taken (statementsOf lent)
 
-    next-gathered : {y z : List ℕ} {n more row kept : ℕ} (rs : List RuleSet) → statements ≡ reads n rs → more ≡ length rs → row ≡ length (ruleRows text rs)
-        → kept ≡ length (ruleTexts rs) → y ≡ sets rules numbers (written (ruleRows text) statements) → z ≡ sets store text (written ruleTexts statements)
-        → Gathered ruleRow ruleText (sheetOf s) (sheetFrom (i .turns - 1) (drop (taken + n) s) (taken + n)) rules₀ 0 store₀ 0 0 y z (count + more) (numbers + row) (text + kept)
-    unfolding ruleRows ruleTexts
-    next-gathered {y} {z} {n} rs h a b c ey ez =
-        let e : drop n lent ≡ drop (taken + n) s = ap (drop n) lent-is ∙ drop-drop n taken s in
-        rw (a, b, c)
-        (subst (λ (f : ℕ). Gathered ruleRow ruleText (sheetOf s) (sheetFrom (i .turns - 1) (drop (taken + n) s) (taken + n)) rules₀ 0 store₀ 0 0 y z (count + length rs) (numbers + length (ruleRows f rs)) (text + length (ruleTexts rs)))
-        (zero-add text)
-        (gathered-more ruleRow ruleText (sheetOf s) rules₀ 0 store₀ 0 (sheetFrom (i .turns) (drop taken s) taken) 0 rules store count numbers text (i .gathered) 0 rs
-        (sheetFrom (i .turns - 1) (drop (taken + n) s) (taken + n)) y z
-        (ap (λ (t : List ℕ). sheetFrom (i .turns) t taken) (sym lent-is) ∙ turn-reads lent taken n rs h (i .turns) some-turns ∙ rw e refl)
-        (rw (zero-add numbers, zero-add text) (ey ∙ sets-read (ruleRows text) rules numbers statements n rs h))
-        (rw (zero-add text) (ez ∙ sets-read ruleTexts store text statements n rs h))))
+    -- what `parse_statement` left
+    module _ {r : Reading} {y x b z : List ℕ} (e : (r ≡ reading length (ruleRows text) ruleTexts statements)
+        × ((y ≡ sets rules numbers (written (ruleRows text) statements)) × ((x ≡ tokens) × ((b ≡ brackets) × (z ≡ sets store text (written ruleTexts statements)))))) where
+      -- of rows and texts
+      left : Left length (ruleRows text) ruleTexts statements rules numbers store text r y z
+      left = (e .0, (e .1 .0, e .1 .1 .1 .1))
 
-    module _ {r : Reading} {y x b z : List ℕ} (er : r ≡ reading length (ruleRows text) ruleTexts statements)
-        (ey : y ≡ sets rules numbers (written (ruleRows text) statements)) (ex : x ≡ tokens) (eb : b ≡ brackets)
-        (ez : z ≡ sets store text (written ruleTexts statements)) (k : Bounds ruleWidth 0 lent r) where
+      tokens-same : x ≡ tokens₀
+      tokens-same = e .1 .1 .0 ∙ i .tokens-kept
+
+      brackets-same : b ≡ brackets₀
+      brackets-same = e .1 .1 .1 .0 ∙ i .brackets-kept
+
       -- no statement follows
-      module _ (g : r ≡ Fails) where
-        none-is : statements ≡ fails
-        none-is = fails-by length (ruleRows text) ruleTexts statements (sym g ∙ er)
-
-        pub no-more : Ends s rules₀ tokens₀ brackets₀ store₀ (Reads taken count numbers text) y x b z
-        no-more =
-            all-read (ap (λ (t : List ℕ). sheetFrom (i .turns) t taken) (sym lent-is) ∙ turn-fails lent taken none-is (i .turns))
-            (ey ∙ sets-fails (ruleRows text) rules numbers statements none-is) ex eb (ez ∙ sets-fails ruleTexts store text statements none-is)
+      pub no-more : r ≡ Fails → Ends s rules₀ tokens₀ brackets₀ store₀ (many.Reads taken count numbers text) y x b z
+      no-more g =
+          let n = nothing _ _ _ _ _ _ _ _ left g in
+          let a = all-read (ap (λ (t : List ℕ). sheetFrom (i .turns) t taken) (sym lent-is) ∙ turn-fails lent taken (n .0) (i .turns)) in
+          (a .0, (n .1 .0 ∙ a .1 .0, (tokens-same, (brackets-same, n .1 .1 ∙ a .1 .1))))
 
       -- the crate panics
       module _ {p : ℕ} (g : r ≡ Panics p) where
-        panic-is : statements ≡ panics p
-        panic-is = panics-by length (ruleRows text) ruleTexts statements p (sym g ∙ er)
-
         pub panic-fits : taken + p ≤ length s
-        panic-fits = omega (arith, panics-within k g, lent-long, i .within)
+        panic-fits = omega (arith, where-panics (length lent) _ statements p (panicked _ _ _ _ _ _ _ _ left g .0) (moved-keeps taken lent), lent-long, i .within)
 
-        pub panicked : {y′ z′ : List ℕ} → y′ ≡ wiped 0 numbers y → z′ ≡ wiped 0 text z
-            → Ends s rules₀ tokens₀ brackets₀ store₀ (Panics (taken + p)) y′ x b z′
+        pub panics-left : {y′ z′ : List ℕ} → y′ ≡ wiped 0 numbers y → z′ ≡ wiped 0 text z → Ends s rules₀ tokens₀ brackets₀ store₀ (many.Panics (taken + p)) y′ x b z′
         unfolding ruleRows ruleTexts
-        panicked ey′ ez′ =
-            let e : 0 + (taken + p) ≡ taken + p = omega arith in
-            let h = ap (λ (t : List ℕ). sheetFrom (i .turns) t taken) (sym lent-is) ∙ turn-panics lent taken p panic-is (i .turns) some-turns in (
-              ap (λ (n : ℕ). Panics n) (sym e) ∙ panic-answer _ _ _ _ _ _ _ _ _ _ _ _ _ _ (i .gathered) (taken + p) h,
-              (
-                ey′ ∙ ap (wiped 0 numbers) (ey ∙ sets-panics (ruleRows text) rules numbers statements p panic-is)
-                    ∙ panic-rules _ _ _ _ _ _ _ _ _ _ _ _ _ _ (i .gathered) (taken + p) h (o .rules-zeros),
-                (
-                  ex ∙ i .tokens-kept,
-                  (
-                    eb ∙ i .brackets-kept,
-                    (
-                      ez′ ∙ ap (wiped 0 text) (ez ∙ sets-panics ruleTexts store text statements p panic-is)
-                          ∙ panic-store _ _ _ _ _ _ _ _ _ _ _ _ _ _ (i .gathered) (taken + p) h (o .work .store-zeros),
-                      panics-bounds panic-fits,
-                    ),
-                  ),
-                ),
-              ),
-            )
+        panics-left ey ez =
+            let n = panicked _ _ _ _ _ _ _ _ left g in
+            let h = ap (λ (t : List ℕ). sheetFrom (i .turns) t taken) (sym lent-is) ∙ turn-panics lent taken p (n .0) (i .turns) some-turns in
+            let a = many-panics (i .gathered) (o .rules-zeros) (o .work .store-zeros) (ey ∙ ap (wiped 0 numbers) (n .1 .0)) (ez ∙ ap (wiped 0 text) (n .1 .1)) (taken + p) (taken + p) h (omega arith) in
+            (a .0, (a .1 .0, (tokens-same, (brackets-same, a .1 .1))))
 
       -- the next
-      module _ {n more row kept : ℕ} (g : r ≡ Reads n more row kept) (some : Progress r) where
-        read : ReadAs length (ruleRows text) ruleTexts statements n more row kept
-        read = read-by length (ruleRows text) ruleTexts statements n more row kept (sym g ∙ er)
+      module _ {n more row kept : ℕ} (g : r ≡ Reads n more row kept) where
+        got : Found length (ruleRows text) ruleTexts statements rules numbers store text y z n more row kept
+        got = found _ _ _ _ _ _ _ _ left g
 
-        sizes : Sizes ruleWidth 0 lent n more row kept
-        sizes = sizes-of k g
+        keeps : RulesKeep lent n (got .value)
+        keeps = where-read (length lent) (RulesKeep lent) statements n (got .value) (got .reads-it) (moved-keeps taken lent)
 
         pub next-later : 1 ≤ n
-        unfolding Progress
-        next-later = subst (λ (v : Reading). Progress v) g some
+        next-later = keeps .some
 
         pub next-fits : taken + n ≤ length s
-        next-fits = omega (arith, sizes .taken, lent-long, i .within)
+        next-fits = omega (arith, keeps .within, lent-long, i .within)
 
         pub next-count : count + more ≤ taken + n
-        next-count = omega (arith, i .counted, sizes .counted)
+        next-count = omega (arith, i .counted, got .counts, keeps .counted)
 
         pub next-numbers : numbers + row ≤ ruleWidth * (taken + n)
-        next-numbers = omega (arith, i .wide, sizes .wide)
+        next-numbers = omega (arith, i .wide, got .rows, length-rules text (got .value), keeps .wide)
 
-        pub next-text : text + kept ≤ taken + n + 2
-        next-text =
-            let h = i .sharp l in
-            omega (arith, h, sizes .long)
+        pub next-text : text + kept ≤ taken + n
+        next-text = omega (arith, i .long, got .texts, keeps .long)
+
+        next-gathered : Gathered ruleRow ruleText (sheetOf s) (sheetFrom (i .turns - 1) (drop (taken + n) s) (taken + n)) rules₀ 0 store₀ 0 0 y z (count + more) (numbers + row) (text + kept)
+        unfolding ruleRows ruleTexts
+        next-gathered =
+            let rs = got .value in
+            let q : drop n lent ≡ drop (taken + n) s = ap (drop n) lent-is ∙ drop-drop n taken s in
+            gathered-as (gathered-more (i .gathered) 0 rs (sheetFrom (i .turns - 1) (drop (taken + n) s) (taken + n)) y z
+            (ap (λ (t : List ℕ). sheetFrom (i .turns) t taken) (sym lent-is) ∙ turn-reads lent taken n rs (got .reads-it) (i .turns) some-turns ∙ rw q refl)
+            (rw (zero-add numbers, zero-add text) (got .rules-are)) (rw (zero-add text) (got .store-is)))
+            refl (omega (arith, got .counts)) (omega (arith, got .rows, ap (λ (f : ℕ). length (rowsMany ruleRow ruleText f rs)) (zero-add text))) (omega (arith, got .texts))
 
         pub goes : Reading-on s rules₀ tokens₀ brackets₀ store₀ y x b z (taken + n) (count + more) (numbers + row) (text + kept)
         goes =
-            let h = i .sharp l in
             record {
               turns = i .turns - 1;
               enough = omega (arith, i .enough, next-later);
-              gathered = next-gathered (read .value) (read .reads-it) (read .counts) (read .rows) (read .texts) ey ez;
-              tokens-kept = ex ∙ i .tokens-kept;
-              brackets-kept = eb ∙ i .brackets-kept;
+              gathered = next-gathered;
+              tokens-kept = tokens-same;
+              brackets-kept = brackets-same;
               within = next-fits;
               counted = next-count;
               wide = next-numbers;
               long = next-text;
-              sharp = λ q. omega (arith, h, sizes .sharp (omega (arith, lent-long)));
             }

@@ -10,8 +10,6 @@ use Rattle.declarations.specs.Rules.{startsAt}
 use Rattle.selectors.specs.Outcome.{Outcome, behind}
 use Rattle.sheets.specs.Sheet.{blockOf}
 use Rattle.combinators.specs.Store.{Zeros}
-use Rattle.selectors.specs.declared.readings.Reading.{Reading}
-use Rattle.selectors.specs.declared.readings.Reading.the-variants.{Reads, Fails, Panics}
 
 -- ---- the declarations of a rule whose text starts at a byte
 unfoldable pub blockAt : ℕ → List ℕ → ℕ → Outcome (List Declaration)
@@ -61,21 +59,3 @@ pub record SheetRoom (s rules tokens brackets store : List ℕ) : Type 0 where
   pub for-rules : ruleWidth * length s + ruleWidth ≤ length rules
   pub row-bits : length rules < 2 ^ 64
   pub work : WorkRoom s tokens brackets store 0
-
--- ---- bounds of a block whose selectors end at n: two braces, a byte or more for each declaration, and its texts
-pub record BlockSize (s : List ℕ) (n stop count numbers text : ℕ) : Type 0 where
-  pub within : stop ≤ length s
-  pub counted : n + 2 + count ≤ stop
-  pub wide : numbers ≡ declarationWidth * count
-  pub short : n + 2 + text ≤ stop
-
-unfoldable pub BlockBounds : List ℕ → ℕ → Reading → Type 0
-BlockBounds s n (Reads taken count numbers text) = BlockSize s n taken count numbers text
-BlockBounds s n Fails = Unit
-BlockBounds s n (Panics p) = p ≤ length s
-
--- of a statement that goes on at n: nothing is kept of it
-unfoldable pub EndBounds : List ℕ → ℕ → Reading → Type 0
-EndBounds s n (Reads taken count numbers text) = (n ≤ taken) × (taken ≤ length s) × (count ≡ 0) × (numbers ≡ 0) × (text ≡ 0)
-EndBounds s n Fails = Unit
-EndBounds s n (Panics p) = p ≤ length s

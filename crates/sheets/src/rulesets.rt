@@ -1,12 +1,12 @@
 // Rules: `parse_ruleset`. The row of a rule goes to `rules` from `place` on, its texts to `store` from `fill` on. All stores are zero where
 // something may be written, and stay so where nothing is read.
 use combinators::bytes::byte_is;
-use combinators::stores::wipe_bytes;
-use combinators::stores::wipe_numbers;
 use declarations::rules::parse_rules;
 use lexer::whitespace::skip_from;
 use lexer::whitespace::skip_optional_whitespace;
+use selectors::readings::ManyReading;
 use selectors::readings::Reading;
+use selectors::readings::take_back;
 use selectors::selector_lists::parse_selectors;
 use syntax::rows::DECLARATION_WIDTH;
 use syntax::rows::RULE_HEAD;
@@ -21,8 +21,8 @@ ghost use Rattle.syntax.specs.Layout.{declarationRows, declarationTexts};
 ghost use Rattle.syntax.specs.RuleLayout.{ruleRow, ruleText};
 ghost use Rattle.selectors.specs.Outcome.{behind};
 ghost use Rattle.sheets.specs.Sheet.{beforeEnd, rulesetOf, movedBy};
-ghost use Rattle.sheets.specs.Rules.{blockAt, BlockRoom, RuleRoom, ruleWidth, BlockBounds};
-ghost use Rattle.selectors.specs.Reading.{reading, written, Bounds};
+ghost use Rattle.sheets.specs.Rules.{blockAt, BlockRoom, RuleRoom};
+ghost use Rattle.selectors.specs.Reading.{reading, written};
 
 // The place behind a ';' at `e`, or `e` where there is none.
 fn past_semicolon(s: &[u8], e: usize) -> usize
@@ -64,7 +64,6 @@ fn parse_block(
     ensures { λ _. ⌜ now (tokens .exit) ≡ now (tokens .entry) ⌝ }
     ensures { λ _. ⌜ now (brackets .exit) ≡ now (brackets .entry) ⌝ }
     ensures { λ _. ⌜ now (store .exit) ≡ sets (now (store .entry)) fill (written declarationTexts (blockAt at (now (s .entry)) n)) ⌝ }
-    ensures { λ r. ⌜ BlockBounds (now (s .entry)) n r ⌝ }
 {
     let o = skip_from(s, n);
     if byte_is(s, o, b'{') {
@@ -90,8 +89,7 @@ fn parse_block(
                 text: read.text,
             };
         }
-        wipe_numbers(rules, place, numbers);
-        wipe_bytes(store, fill, read.text);
+        take_back(rules, place, numbers, store, fill, read.text);
         return Reading::Fails;
     }
     Reading::Fails
@@ -114,17 +112,13 @@ pub fn parse_ruleset(
     ensures { λ _. ⌜ now (tokens .exit) ≡ now (tokens .entry) ⌝ }
     ensures { λ _. ⌜ now (brackets .exit) ≡ now (brackets .entry) ⌝ }
     ensures { λ _. ⌜ now (store .exit) ≡ sets (now (store .entry)) fill (written ruleText (behind 0 (rulesetOf (now (s .entry))) (movedBy at))) ⌝ }
-    ensures { λ r. ⌜ Bounds ruleWidth 0 (now (s .entry)) r ⌝ }
 {
     let w = skip_optional_whitespace(s);
     match parse_selectors(&s[w..], rules, place + RULE_HEAD, store, fill) {
-        Reading::Fails => {
-            return Reading::Fails;
-        }
-        Reading::Panics(p) => {
+        ManyReading::Panics(p) => {
             return Reading::Panics(w + p);
         }
-        Reading::Reads {
+        ManyReading::Reads {
             taken: n,
             count: selectors,
             numbers,
@@ -157,13 +151,11 @@ pub fn parse_ruleset(
                     };
                 }
                 Reading::Fails => {
-                    wipe_numbers(rules, place + RULE_HEAD, numbers);
-                    wipe_bytes(store, fill, text);
+                    take_back(rules, place + RULE_HEAD, numbers, store, fill, text);
                     return Reading::Fails;
                 }
                 Reading::Panics(p) => {
-                    wipe_numbers(rules, place + RULE_HEAD, numbers);
-                    wipe_bytes(store, fill, text);
+                    take_back(rules, place + RULE_HEAD, numbers, store, fill, text);
                     return Reading::Panics(p);
                 }
             }

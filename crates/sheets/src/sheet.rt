@@ -4,7 +4,7 @@ use crate::statements::parse_stylesheet;
 use combinators::least::stores_suffice;
 use combinators::stores::clear_bytes;
 use combinators::stores::clear_numbers;
-use selectors::readings::Reading;
+use selectors::readings::ManyReading;
 use unicode::utf8::is_valid;
 ghost use mathlib.Core.Path.{_≡_};
 ghost use Rattle.combinators.specs.Store.{cleared};
@@ -54,7 +54,7 @@ fn read_text(
 {
     clear_stores(rules, tokens, brackets, texts);
     match parse_stylesheet(s, rules, tokens, brackets, texts) {
-        Reading::Reads {
+        ManyReading::Reads {
             taken: stop,
             count,
             numbers,
@@ -67,15 +67,7 @@ fn read_text(
                 bytes,
             };
         }
-        Reading::Fails => {
-            return SheetAnswer::Sheet {
-                count: 0,
-                stop: 0,
-                numbers: 0,
-                bytes: 0,
-            };
-        }
-        Reading::Panics(p) => {
+        ManyReading::Panics(p) => {
             return SheetAnswer::Panic(p);
         }
     }

@@ -1,16 +1,16 @@
 // Statements: `parse_statement`, a rule or an at-rule; and `parse_stylesheet`, statements as long as they read.
 use crate::at_rules::parse_at_rule;
 use crate::rulesets::parse_ruleset;
-use combinators::stores::wipe_bytes;
-use combinators::stores::wipe_numbers;
+use selectors::readings::ManyReading;
 use selectors::readings::Reading;
+use selectors::readings::take_back;
 ghost use mathlib.Core.Path.{_≡_};
 ghost use lib.ListN.{length};
 ghost use lib.Seq.{sets};
 ghost use Rattle.syntax.specs.RuleLayout.{ruleRows, ruleTexts};
 ghost use Rattle.sheets.specs.Sheet.{statementsOf, movedTo, sheetOf};
-ghost use Rattle.sheets.specs.Rules.{RuleRoom, SheetRoom, ruleWidth};
-ghost use Rattle.selectors.specs.Reading.{reading, written, Bounds, Progress};
+ghost use Rattle.sheets.specs.Rules.{RuleRoom, SheetRoom};
+ghost use Rattle.selectors.specs.Reading.{reading, manyReading, written};
 
 // Reads a rule, or else an at-rule; `s` starts at the byte `at` of the text.
 pub fn parse_statement(
@@ -29,8 +29,6 @@ pub fn parse_statement(
     ensures { λ _. ⌜ now (tokens .exit) ≡ now (tokens .entry) ⌝ }
     ensures { λ _. ⌜ now (brackets .exit) ≡ now (brackets .entry) ⌝ }
     ensures { λ _. ⌜ now (store .exit) ≡ sets (now (store .entry)) fill (written ruleTexts (movedTo at (statementsOf (now (s .entry))))) ⌝ }
-    ensures { λ r. ⌜ Bounds ruleWidth 0 (now (s .entry)) r ⌝ }
-    ensures { λ r. ⌜ Progress r ⌝ }
 {
     match parse_ruleset(s, at, rules, place, tokens, brackets, store, fill) {
         Reading::Reads {
@@ -62,14 +60,13 @@ pub fn parse_stylesheet(
     tokens: &mut [u32],
     brackets: &mut [u8],
     store: &mut [u8],
-) -> Reading
+) -> ManyReading
     requires { ⌜ SheetRoom (now s) (now rules) (now tokens) (now brackets) (now store) ⌝ }
-    ensures { λ r. ⌜ r ≡ reading length (ruleRows 0) ruleTexts (sheetOf (now (s .entry))) ⌝ }
+    ensures { λ r. ⌜ r ≡ manyReading length (ruleRows 0) ruleTexts (sheetOf (now (s .entry))) ⌝ }
     ensures { λ _. ⌜ now (rules .exit) ≡ sets (now (rules .entry)) 0 (written (ruleRows 0) (sheetOf (now (s .entry)))) ⌝ }
     ensures { λ _. ⌜ now (tokens .exit) ≡ now (tokens .entry) ⌝ }
     ensures { λ _. ⌜ now (brackets .exit) ≡ now (brackets .entry) ⌝ }
     ensures { λ _. ⌜ now (store .exit) ≡ sets (now (store .entry)) 0 (written ruleTexts (sheetOf (now (s .entry)))) ⌝ }
-    ensures { λ r. ⌜ Bounds ruleWidth 0 (now (s .entry)) r ⌝ }
 {
     let mut taken = 0;
     let mut count = 0;
@@ -98,7 +95,7 @@ pub fn parse_stylesheet(
                 text += kept;
             }
             Reading::Fails => {
-                return Reading::Reads {
+                return ManyReading::Reads {
                     taken,
                     count,
                     numbers,
@@ -106,13 +103,12 @@ pub fn parse_stylesheet(
                 };
             }
             Reading::Panics(p) => {
-                wipe_numbers(rules, 0, numbers);
-                wipe_bytes(store, 0, text);
-                return Reading::Panics(taken + p);
+                take_back(rules, 0, numbers, store, 0, text);
+                return ManyReading::Panics(taken + p);
             }
         }
     }
-    Reading::Reads {
+    ManyReading::Reads {
         taken,
         count,
         numbers,

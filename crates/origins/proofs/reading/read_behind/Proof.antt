@@ -44,10 +44,10 @@ same-length-4 : tie.Need-same-length-4
 same-length-4 c = search needs
 
 returns : tie.Need-returns
-returns c = let q = c .before .before .before .before .before .before .before .before .before .before .before in laws.rules-read (q .before .before .before .before .before .before .before .before .before .before .pre) (q .parse-stylesheet .ensures .0) (q .parse-stylesheet .ensures .1 .0) (q .parse-stylesheet .ensures .1 .1 .0) (q .parse-stylesheet .ensures .1 .1 .1 .0) (q .parse-stylesheet .ensures .1 .1 .1 .1 .0) (q .parse-stylesheet .ensures .1 .1 .1 .1 .1) (c .before .count .given .1)
+returns c = let q = c .before .before .before .before .before .before .before .before .before .before .before in laws.rules-read (q .before .before .before .before .before .before .before .before .before .before .pre) (q .parse-stylesheet .ensures .0) (q .parse-stylesheet .ensures .1 .0) (q .parse-stylesheet .ensures .1 .1 .0) (q .parse-stylesheet .ensures .1 .1 .1 .0) (q .parse-stylesheet .ensures .1 .1 .1 .1) (c .before .count .given .1)
 
-enum-told : tie.Need-enum-told
-enum-told c = search needs
+enum-known-p : tie.Need-enum-known-p
+enum-known-p c = search needs
 
 same-length-5 : tie.Need-same-length-5
 same-length-5 c = search needs
@@ -62,25 +62,7 @@ same-length-8 : tie.Need-same-length-8
 same-length-8 c = search needs
 
 returns-2 : tie.Need-returns-2
-returns-2 c = let q = c .before .before .before .before .before .before .before .before .before .before in laws.rules-fail (q .before .before .before .before .before .before .before .before .before .before .pre) (q .parse-stylesheet .ensures .0) (q .parse-stylesheet .ensures .1 .0) (q .parse-stylesheet .ensures .1 .1 .0) (q .parse-stylesheet .ensures .1 .1 .1 .0) (q .parse-stylesheet .ensures .1 .1 .1 .1 .0) (q .parse-stylesheet .ensures .1 .1 .1 .1 .1) (c .enum-told .given .1)
-
-enum-known-p : tie.Need-enum-known-p
-enum-known-p c = search needs
-
-same-length-9 : tie.Need-same-length-9
-same-length-9 c = search needs
-
-same-length-10 : tie.Need-same-length-10
-same-length-10 c = search needs
-
-same-length-11 : tie.Need-same-length-11
-same-length-11 c = search needs
-
-same-length-12 : tie.Need-same-length-12
-same-length-12 c = search needs
-
-returns-3 : tie.Need-returns-3
-returns-3 c = let q = c .before .before .before .before .before .before .before .before .before .before .before in laws.rules-panic (q .before .before .before .before .before .before .before .before .before .before .pre) (q .parse-stylesheet .ensures .0) (q .parse-stylesheet .ensures .1 .0) (q .parse-stylesheet .ensures .1 .1 .0) (q .parse-stylesheet .ensures .1 .1 .1 .0) (q .parse-stylesheet .ensures .1 .1 .1 .1 .0) (q .parse-stylesheet .ensures .1 .1 .1 .1 .1) (c .before .p .given .1)
+returns-2 c = let q = c .before .before .before .before .before .before .before .before .before .before .before in laws.rules-panic (q .before .before .before .before .before .before .before .before .before .before .pre) (q .parse-stylesheet .ensures .0) (q .parse-stylesheet .ensures .1 .0) (q .parse-stylesheet .ensures .1 .1 .0) (q .parse-stylesheet .ensures .1 .1 .1 .0) (q .parse-stylesheet .ensures .1 .1 .1 .1) (c .before .p .given .1)
 
 pub read-behind-spec : {M : Type 1} → statement M
 read-behind-spec =
@@ -100,15 +82,9 @@ read-behind-spec =
     same-length-3
     same-length-4
     returns
-    enum-told
+    enum-known-p
     same-length-5
     same-length-6
     same-length-7
     same-length-8
-    returns-2
-    enum-known-p
-    same-length-9
-    same-length-10
-    same-length-11
-    same-length-12
-    returns-3)
+    returns-2)

@@ -1,233 +1,210 @@
--- A first selector and those behind it, or none; the counts add up.
+-- What was read and what is still to be read make up the whole at each turn (`Reading-on`); each return is the law of its case.
 use mathlib.Core.Path.{_∙_}
 use native.Mathlib.Omega.{arith}
+use Prim.Native.Nat.{_-_}
+use lib.ListN.{length}
 use Rattle.selectors.proofs.SelectorLists as laws
 use borrow.Author.Needs.{needs}
 use Rattle.selectors.proofs.selector_lists.parse_selectors.Statement.{statement}
 use Rattle.selectors.proofs.selector_lists.parse_selectors.Tie as tie
 
+abbrev Inv-loop : tie.InvT-loop
+Inv-loop s rules₀ place store₀ fill taken₀ count₀ numbers₀ text₀ next₀ rules store taken count numbers text next =
+    laws.Reading-on s rules₀ place store₀ fill rules store taken count numbers text next
+
+abbrev μ-loop : tie.MeasureT-loop
+μ-loop s rules₀ place store₀ fill taken₀ count₀ numbers₀ text₀ next₀ rules store taken count numbers text next = length s - next
+
+-- the arguments and what is asked for
+abbrev start-of : tie.At-loop Inv-loop μ-loop → tie.Start Inv-loop μ-loop
+start-of q = q .before .before .before .before
+
+-- the turn in which a selector was looked for
+abbrev loop-of : tie.After-parse-selector Inv-loop μ-loop → tie.At-loop Inv-loop μ-loop
+loop-of p = p .before .before .before .before
+
 -- the arguments and what is asked for; the first selector, and what was known when the others were read
-abbrev start-of : tie.After-parse-selector → tie.Start
-start-of p = p .before .before .before .before .before .before
+abbrev met-of : tie.After-n Inv-loop μ-loop → tie.After-parse-selector Inv-loop μ-loop
+met-of n = n .before .before .before .before .before .before
 
-abbrev first-of : tie.After-known-told2 → tie.After-parse-selector
-first-of k = k .before .before .before .before .before .before .before
+loop-holds : tie.Need-loop-holds Inv-loop μ-loop
+loop-holds c = laws.begin _ _ _ _ _
 
-abbrev known-of : tie.After-more-selectors → tie.After-known-told2
-known-of m = m .before .before .before .before
+sub-parse-selector : tie.Need-sub-parse-selector Inv-loop μ-loop
+sub-parse-selector c = omega (arith, c .loop .inv .within)
 
-parse-selector-requires : tie.Need-parse-selector-requires
-parse-selector-requires c κs = let S = c .before .before .before .before .before in (S .pre .0, laws.first-texts (S .pre .0) (S .pre .1))
+part-parse-selector-start : tie.Need-part-parse-selector-start Inv-loop μ-loop
+part-parse-selector-start c = omega (arith, c .loop .inv .within)
 
-enum-told : tie.Need-enum-told
+part-parse-selector-end : tie.Need-part-parse-selector-end Inv-loop μ-loop
+part-parse-selector-end c = search needs
+
+add-parse-selector : tie.Need-add-parse-selector Inv-loop μ-loop
+add-parse-selector c = let q = c .before .before in omega (arith, laws.place-fits (q .loop .inv) (start-of q .pre .0) (start-of q .pre .1))
+
+add-parse-selector-2 : tie.Need-add-parse-selector-2 Inv-loop μ-loop
+add-parse-selector-2 c = let q = c .before .before .before in omega (arith, laws.fill-fits (q .loop .inv) (start-of q .pre .0) (start-of q .pre .1))
+
+parse-selector-requires : tie.Need-parse-selector-requires Inv-loop μ-loop
+parse-selector-requires c κs = let q = c .before .before .before in (laws.next-rows (q .loop .inv) (start-of q .pre .0) (start-of q .pre .1), laws.next-texts (q .loop .inv) (start-of q .pre .0) (start-of q .pre .1))
+
+enum-told : tie.Need-enum-told Inv-loop μ-loop
 enum-told c = search needs
 
-same-length : tie.Need-same-length
-same-length c = c .before .before .before .before .before .before .parse-selector .kept .1 .0
+same-length : tie.Need-same-length Inv-loop μ-loop
+same-length c = let p = c .before .before .before .before .before .before in
+    let q = loop-of p in
+    p .parse-selector .kept .1 .0 ∙ laws.rules-kept (q .loop .inv) (start-of q .pre .0) (start-of q .pre .1)
 
-same-length-2 : tie.Need-same-length-2
-same-length-2 c = c .before .before .before .before .before .before .parse-selector .kept .1 .1 .1 .0
+same-length-2 : tie.Need-same-length-2 Inv-loop μ-loop
+same-length-2 c = let p = c .before .before .before .before .before .before in
+    let q = loop-of p in
+    p .parse-selector .kept .1 .1 .1 .0 ∙ laws.store-kept (q .loop .inv) (start-of q .pre .0) (start-of q .pre .1)
 
-returns : tie.Need-returns
+returns : tie.Need-returns Inv-loop μ-loop
 returns c = let p = c .before .before .before .before .before .before in
-    let S = start-of p in
-    laws.none (S .pre .0) (S .pre .1) (p .parse-selector .ensures .0) (p .parse-selector .ensures .1 .0) (p .parse-selector .ensures .1 .1 .0) (p .parse-selector .ensures .1 .1 .1) (c .enum-told .given .1)
+    let q = loop-of p in
+    laws.no-selector (q .loop .inv) (start-of q .pre .0) (start-of q .pre .1) (p .parse-selector .ensures) (c .enum-told .given .1)
 
-enum-known-p : tie.Need-enum-known-p
+enum-known-p : tie.Need-enum-known-p Inv-loop μ-loop
 enum-known-p c = search needs
 
-same-length-3 : tie.Need-same-length-3
-same-length-3 c = c .before .before .before .before .before .before .before .parse-selector .kept .1 .0
+take-back-requires : tie.Need-take-back-requires Inv-loop μ-loop
+take-back-requires c κs = search needs
 
-same-length-4 : tie.Need-same-length-4
-same-length-4 c = c .before .before .before .before .before .before .before .parse-selector .kept .1 .1 .1 .0
+add-t31 : tie.Need-add-t31 Inv-loop μ-loop
+add-t31 c = let t = c .before .before .before .before in
+    let n = t .before .before .before .before in
+    let p = n .before .before .before .before .before .before in
+    let q = loop-of p in
+    omega (arith, start-of q .pre .0 .bits, laws.panic-within (q .loop .inv) (start-of q .pre .0) (start-of q .pre .1) (p .parse-selector .ensures) (n .p .given .1))
 
-returns-2 : tie.Need-returns-2
-returns-2 c = let p = c .before .before .before .before .before .before .before in
-    let S = start-of p in
-    laws.first-panics (S .pre .0) (S .pre .1) (p .parse-selector .ensures .0) (p .parse-selector .ensures .1 .0) (p .parse-selector .ensures .1 .1 .0) (p .parse-selector .ensures .1 .1 .1) (c .before .p .given .1)
+same-length-3 : tie.Need-same-length-3 Inv-loop μ-loop
+same-length-3 c = let t = c .before .before .before .before in
+    let n = t .before .before .before .before in
+    let p = n .before .before .before .before .before .before in
+    let q = loop-of p in
+    t .take-back .kept .0 ∙ p .parse-selector .kept .1 .0 ∙ laws.rules-kept (q .loop .inv) (start-of q .pre .0) (start-of q .pre .1)
 
-enum-known-n : tie.Need-enum-known-n
+same-length-4 : tie.Need-same-length-4 Inv-loop μ-loop
+same-length-4 c = let t = c .before .before .before .before in
+    let n = t .before .before .before .before in
+    let p = n .before .before .before .before .before .before in
+    let q = loop-of p in
+    t .take-back .kept .1 .1 .1 .0 ∙ p .parse-selector .kept .1 .1 .1 .0 ∙ laws.store-kept (q .loop .inv) (start-of q .pre .0) (start-of q .pre .1)
+
+returns-2 : tie.Need-returns-2 Inv-loop μ-loop
+returns-2 c = let t = c .before .before .before .before in
+    let n = t .before .before .before .before in
+    let p = n .before .before .before .before .before .before in
+    let q = loop-of p in
+    laws.panics-left (q .loop .inv) (start-of q .pre .0) (start-of q .pre .1) (p .parse-selector .ensures) (n .p .given .1) (t .take-back .ensures .0) (t .take-back .ensures .1)
+
+enum-known-n : tie.Need-enum-known-n Inv-loop μ-loop
 enum-known-n c = search needs
 
-sub-more-selectors : tie.Need-sub-more-selectors
-sub-more-selectors c = let k = c in
-    let p = first-of k in
-    let S = start-of p in
-    laws.first-fits (S .pre .0) (S .pre .1) (p .parse-selector .ensures .0) (p .parse-selector .ensures .1 .0) (p .parse-selector .ensures .1 .1 .0) (p .parse-selector .ensures .1 .1 .1) (k .before .n .given .1)
+add-taken : tie.Need-add-taken Inv-loop μ-loop
+add-taken c = let n = c .before in
+    let p = met-of n in
+    let q = loop-of p in
+    omega (arith, start-of q .pre .0 .bits, laws.taken-within (q .loop .inv) (start-of q .pre .0) (start-of q .pre .1) (p .parse-selector .ensures) (n .n .given .1))
 
-part-more-selectors-start : tie.Need-part-more-selectors-start
-part-more-selectors-start c = let k = c in
-    let p = first-of k in
-    let S = start-of p in
-    laws.first-fits (S .pre .0) (S .pre .1) (p .parse-selector .ensures .0) (p .parse-selector .ensures .1 .0) (p .parse-selector .ensures .1 .1 .0) (p .parse-selector .ensures .1 .1 .1) (k .before .n .given .1)
+add-count : tie.Need-add-count Inv-loop μ-loop
+add-count c = let n = c .before in
+    let p = met-of n in
+    let q = loop-of p in
+    omega (arith, start-of q .pre .0 .bits, laws.taken-within (q .loop .inv) (start-of q .pre .0) (start-of q .pre .1) (p .parse-selector .ensures) (n .n .given .1), laws.count-few (q .loop .inv) (start-of q .pre .0) (start-of q .pre .1) (p .parse-selector .ensures) (n .n .given .1))
 
-part-more-selectors-end : tie.Need-part-more-selectors-end
-part-more-selectors-end c = search needs
+add-numbers : tie.Need-add-numbers Inv-loop μ-loop
+add-numbers c = let n = c .before in
+    let p = met-of n in
+    let q = loop-of p in
+    omega (arith, start-of q .pre .0 .bits, laws.taken-within (q .loop .inv) (start-of q .pre .0) (start-of q .pre .1) (p .parse-selector .ensures) (n .n .given .1), laws.numbers-few (q .loop .inv) (start-of q .pre .0) (start-of q .pre .1) (p .parse-selector .ensures) (n .n .given .1))
 
-add-more-selectors : tie.Need-add-more-selectors
-add-more-selectors c = let k = c .before .before in
-    let p = first-of k in
-    let S = start-of p in
-    omega (arith, laws.place-fits (S .pre .0) (S .pre .1) (p .parse-selector .ensures .0) (p .parse-selector .ensures .1 .0) (p .parse-selector .ensures .1 .1 .0) (p .parse-selector .ensures .1 .1 .1) (k .before .n .given .1))
+add-text : tie.Need-add-text Inv-loop μ-loop
+add-text c = let n = c .before in
+    let p = met-of n in
+    let q = loop-of p in
+    omega (arith, start-of q .pre .1 .bits, laws.taken-within (q .loop .inv) (start-of q .pre .0) (start-of q .pre .1) (p .parse-selector .ensures) (n .n .given .1), laws.text-few (q .loop .inv) (start-of q .pre .0) (start-of q .pre .1) (p .parse-selector .ensures) (n .n .given .1))
 
-add-more-selectors-2 : tie.Need-add-more-selectors-2
-add-more-selectors-2 c = let k = c .before .before .before in
-    let p = first-of k in
-    let S = start-of p in
-    omega (arith, laws.fill-fits (S .pre .0) (S .pre .1) (p .parse-selector .ensures .0) (p .parse-selector .ensures .1 .0) (p .parse-selector .ensures .1 .1 .0) (p .parse-selector .ensures .1 .1 .1) (k .before .n .given .1))
+byte-is-requires : tie.Need-byte-is-requires Inv-loop μ-loop
+byte-is-requires c κs = search needs
 
-more-selectors-requires : tie.Need-more-selectors-requires
-more-selectors-requires c κs = let k = c .before .before .before in
-    let p = first-of k in
-    let S = start-of p in
-    (laws.more-rows (S .pre .0) (S .pre .1) (p .parse-selector .ensures .0) (p .parse-selector .ensures .1 .0) (p .parse-selector .ensures .1 .1 .0) (p .parse-selector .ensures .1 .1 .1) (k .before .n .given .1), laws.more-texts (S .pre .0) (S .pre .1) (p .parse-selector .ensures .0) (p .parse-selector .ensures .1 .0) (p .parse-selector .ensures .1 .1 .0) (p .parse-selector .ensures .1 .1 .1) (k .before .n .given .1))
+add-skip-from : tie.Need-add-skip-from Inv-loop μ-loop
+add-skip-from c = let n = c .before .before .before in
+    let p = met-of n in
+    let q = loop-of p in
+    omega (arith, start-of q .pre .0 .bits, laws.comma-within (q .loop .inv) (start-of q .pre .0) (start-of q .pre .1) (p .parse-selector .ensures) (n .n .given .1) (c .before .byte-is .ensures) (c .if1 .taken))
 
-enum-told-2 : tie.Need-enum-told-2
-enum-told-2 c = search needs
+skip-from-requires : tie.Need-skip-from-requires Inv-loop μ-loop
+skip-from-requires c κs = let n = c .before .before .before in
+    let p = met-of n in
+    let q = loop-of p in
+    omega (arith, laws.comma-within (q .loop .inv) (start-of q .pre .0) (start-of q .pre .1) (p .parse-selector .ensures) (n .n .given .1) (c .before .byte-is .ensures) (c .if1 .taken))
 
-wipe-numbers-requires : tie.Need-wipe-numbers-requires
-wipe-numbers-requires c κs = search needs
+loop-less : tie.Need-loop-less Inv-loop μ-loop
+loop-less c = let n = c .before .before .before .before in
+    let p = met-of n in
+    let q = loop-of p in
+    omega (arith, c .skip-from .ensures .1, laws.later (q .loop .inv) (start-of q .pre .0) (start-of q .pre .1) (p .parse-selector .ensures) (n .n .given .1) (c .before .before .byte-is .ensures) (c .before .if1 .taken) (c .skip-from .ensures .0) (c .skip-from .ensures .1))
 
-wipe-bytes-requires : tie.Need-wipe-bytes-requires
-wipe-bytes-requires c κs = search needs
+loop-again : tie.Need-loop-again Inv-loop μ-loop
+loop-again c = let n = c .before .before .before .before in
+    let p = met-of n in
+    let q = loop-of p in
+    laws.goes (q .loop .inv) (start-of q .pre .0) (start-of q .pre .1) (p .parse-selector .ensures) (n .n .given .1) (c .before .before .byte-is .ensures) (c .before .if1 .taken) (c .skip-from .ensures .0) (c .skip-from .ensures .1)
 
-same-length-5 : tie.Need-same-length-5
-same-length-5 c = let m = c .before .before .before .before .before .before .before .before .before .before .before .before .before .before in
-    let p = first-of (known-of m) in
-    c .before .before .before .before .before .before .wipe-numbers .kept .0 ∙ m .more-selectors .kept .1 .0 ∙ p .parse-selector .kept .1 .0
+same-length-5 : tie.Need-same-length-5 Inv-loop μ-loop
+same-length-5 c = let n = c .before .before .before in
+    let p = met-of n in
+    let q = loop-of p in
+    p .parse-selector .kept .1 .0 ∙ laws.rules-kept (q .loop .inv) (start-of q .pre .0) (start-of q .pre .1)
 
-same-length-6 : tie.Need-same-length-6
-same-length-6 c = let m = c .before .before .before .before .before .before .before .before .before .before .before .before .before .before in
-    let p = first-of (known-of m) in
-    c .before .before .wipe-bytes .kept .0 ∙ m .more-selectors .kept .1 .1 .1 .0 ∙ p .parse-selector .kept .1 .1 .1 .0
+same-length-6 : tie.Need-same-length-6 Inv-loop μ-loop
+same-length-6 c = let n = c .before .before .before in
+    let p = met-of n in
+    let q = loop-of p in
+    p .parse-selector .kept .1 .1 .1 .0 ∙ laws.store-kept (q .loop .inv) (start-of q .pre .0) (start-of q .pre .1)
 
-returns-3 : tie.Need-returns-3
-returns-3 c = let m = c .before .before .before .before .before .before .before .before .before .before .before .before .before .before in
-    let k = known-of m in
-    let p = first-of k in
-    let S = start-of p in
-    laws.more-fails (S .pre .0) (S .pre .1) (p .parse-selector .ensures .0) (p .parse-selector .ensures .1 .0) (p .parse-selector .ensures .1 .1 .0) (p .parse-selector .ensures .1 .1 .1) (k .before .n .given .1) (m .more-selectors .ensures .0) (m .more-selectors .ensures .1 .0) (m .more-selectors .ensures .1 .1 .0) (m .more-selectors .ensures .1 .1 .1) (c .before .before .before .before .before .before .before .before .enum-told2 .given .1) (c .before .before .before .before .before .before .wipe-numbers .ensures) (c .before .before .wipe-bytes .ensures)
-
-enum-known-p-2 : tie.Need-enum-known-p-2
-enum-known-p-2 c = search needs
-
-wipe-numbers-requires-2 : tie.Need-wipe-numbers-requires-2
-wipe-numbers-requires-2 c κs = search needs
-
-wipe-bytes-requires-2 : tie.Need-wipe-bytes-requires-2
-wipe-bytes-requires-2 c κs = search needs
-
-add-t41 : tie.Need-add-t41
-add-t41 c = let m = c .before .before .before .before .before .before .before .before .before .before .before .before .before .before .before in
-    let k = known-of m in
-    let p = first-of k in
-    let S = start-of p in
-    omega (arith, S .pre .0 .bits, laws.panic-fits (S .pre .0) (S .pre .1) (p .parse-selector .ensures .0) (p .parse-selector .ensures .1 .0) (p .parse-selector .ensures .1 .1 .0) (p .parse-selector .ensures .1 .1 .1) (k .before .n .given .1) (m .more-selectors .ensures .0) (m .more-selectors .ensures .1 .0) (m .more-selectors .ensures .1 .1 .0) (m .more-selectors .ensures .1 .1 .1) (c .before .before .before .before .before .before .before .before .before .p2 .given .1))
-
-same-length-7 : tie.Need-same-length-7
-same-length-7 c = let m = c .before .before .before .before .before .before .before .before .before .before .before .before .before .before .before in
-    let p = first-of (known-of m) in
-    c .before .before .before .before .before .before .wipe-numbers2 .kept .0 ∙ m .more-selectors .kept .1 .0 ∙ p .parse-selector .kept .1 .0
-
-same-length-8 : tie.Need-same-length-8
-same-length-8 c = let m = c .before .before .before .before .before .before .before .before .before .before .before .before .before .before .before in
-    let p = first-of (known-of m) in
-    c .before .before .wipe-bytes2 .kept .0 ∙ m .more-selectors .kept .1 .1 .1 .0 ∙ p .parse-selector .kept .1 .1 .1 .0
-
-returns-4 : tie.Need-returns-4
-returns-4 c = let m = c .before .before .before .before .before .before .before .before .before .before .before .before .before .before .before in
-    let k = known-of m in
-    let p = first-of k in
-    let S = start-of p in
-    laws.more-panics (S .pre .0) (S .pre .1) (p .parse-selector .ensures .0) (p .parse-selector .ensures .1 .0) (p .parse-selector .ensures .1 .1 .0) (p .parse-selector .ensures .1 .1 .1) (k .before .n .given .1) (m .more-selectors .ensures .0) (m .more-selectors .ensures .1 .0) (m .more-selectors .ensures .1 .1 .0) (m .more-selectors .ensures .1 .1 .1) (c .before .before .before .before .before .before .before .before .before .p2 .given .1) (c .before .before .before .before .before .before .wipe-numbers2 .ensures) (c .before .before .wipe-bytes2 .ensures)
-
-enum-known-m : tie.Need-enum-known-m
-enum-known-m c = search needs
-
-add-t42 : tie.Need-add-t42
-add-t42 c = let m = c .before .before .before .before .before .before .before in
-    let k = known-of m in
-    let p = first-of k in
-    let S = start-of p in
-    omega (arith, S .pre .0 .bits, laws.all-taken (S .pre .0) (S .pre .1) (p .parse-selector .ensures .0) (p .parse-selector .ensures .1 .0) (p .parse-selector .ensures .1 .1 .0) (p .parse-selector .ensures .1 .1 .1) (k .before .n .given .1) (m .more-selectors .ensures .0) (m .more-selectors .ensures .1 .0) (m .more-selectors .ensures .1 .1 .0) (m .more-selectors .ensures .1 .1 .1) (c .before .m .given .1))
-
-add-t43 : tie.Need-add-t43
-add-t43 c = let m = c .before .before .before .before .before .before .before in
-    let k = known-of m in
-    let p = first-of k in
-    let S = start-of p in
-    omega (arith, S .pre .0 .bits, laws.all-taken (S .pre .0) (S .pre .1) (p .parse-selector .ensures .0) (p .parse-selector .ensures .1 .0) (p .parse-selector .ensures .1 .1 .0) (p .parse-selector .ensures .1 .1 .1) (k .before .n .given .1) (m .more-selectors .ensures .0) (m .more-selectors .ensures .1 .0) (m .more-selectors .ensures .1 .1 .0) (m .more-selectors .ensures .1 .1 .1) (c .before .m .given .1), laws.all-count (S .pre .0) (S .pre .1) (p .parse-selector .ensures .0) (p .parse-selector .ensures .1 .0) (p .parse-selector .ensures .1 .1 .0) (p .parse-selector .ensures .1 .1 .1) (k .before .n .given .1) (m .more-selectors .ensures .0) (m .more-selectors .ensures .1 .0) (m .more-selectors .ensures .1 .1 .0) (m .more-selectors .ensures .1 .1 .1) (c .before .m .given .1))
-
-add-t44 : tie.Need-add-t44
-add-t44 c = let m = c .before .before .before .before .before .before .before in
-    let k = known-of m in
-    let p = first-of k in
-    let S = start-of p in
-    omega (arith, S .pre .0 .bits, laws.all-taken (S .pre .0) (S .pre .1) (p .parse-selector .ensures .0) (p .parse-selector .ensures .1 .0) (p .parse-selector .ensures .1 .1 .0) (p .parse-selector .ensures .1 .1 .1) (k .before .n .given .1) (m .more-selectors .ensures .0) (m .more-selectors .ensures .1 .0) (m .more-selectors .ensures .1 .1 .0) (m .more-selectors .ensures .1 .1 .1) (c .before .m .given .1), laws.all-numbers (S .pre .0) (S .pre .1) (p .parse-selector .ensures .0) (p .parse-selector .ensures .1 .0) (p .parse-selector .ensures .1 .1 .0) (p .parse-selector .ensures .1 .1 .1) (k .before .n .given .1) (m .more-selectors .ensures .0) (m .more-selectors .ensures .1 .0) (m .more-selectors .ensures .1 .1 .0) (m .more-selectors .ensures .1 .1 .1) (c .before .m .given .1))
-
-add-t45 : tie.Need-add-t45
-add-t45 c = let m = c .before .before .before .before .before .before .before in
-    let k = known-of m in
-    let p = first-of k in
-    let S = start-of p in
-    omega (arith, S .pre .0 .bits, laws.all-taken (S .pre .0) (S .pre .1) (p .parse-selector .ensures .0) (p .parse-selector .ensures .1 .0) (p .parse-selector .ensures .1 .1 .0) (p .parse-selector .ensures .1 .1 .1) (k .before .n .given .1) (m .more-selectors .ensures .0) (m .more-selectors .ensures .1 .0) (m .more-selectors .ensures .1 .1 .0) (m .more-selectors .ensures .1 .1 .1) (c .before .m .given .1), laws.all-text (S .pre .0) (S .pre .1) (p .parse-selector .ensures .0) (p .parse-selector .ensures .1 .0) (p .parse-selector .ensures .1 .1 .0) (p .parse-selector .ensures .1 .1 .1) (k .before .n .given .1) (m .more-selectors .ensures .0) (m .more-selectors .ensures .1 .0) (m .more-selectors .ensures .1 .1 .0) (m .more-selectors .ensures .1 .1 .1) (c .before .m .given .1))
-
-same-length-9 : tie.Need-same-length-9
-same-length-9 c = let m = c .before .before .before .before .before .before .before in
-    let p = first-of (known-of m) in
-    m .more-selectors .kept .1 .0 ∙ p .parse-selector .kept .1 .0
-
-same-length-10 : tie.Need-same-length-10
-same-length-10 c = let m = c .before .before .before .before .before .before .before in
-    let p = first-of (known-of m) in
-    m .more-selectors .kept .1 .1 .1 .0 ∙ p .parse-selector .kept .1 .1 .1 .0
-
-returns-5 : tie.Need-returns-5
-returns-5 c = let m = c .before .before .before .before .before .before .before in
-    let k = known-of m in
-    let p = first-of k in
-    let S = start-of p in
-    laws.all (S .pre .0) (S .pre .1) (p .parse-selector .ensures .0) (p .parse-selector .ensures .1 .0) (p .parse-selector .ensures .1 .1 .0) (p .parse-selector .ensures .1 .1 .1) (k .before .n .given .1) (m .more-selectors .ensures .0) (m .more-selectors .ensures .1 .0) (m .more-selectors .ensures .1 .1 .0) (m .more-selectors .ensures .1 .1 .1) (c .before .m .given .1)
+returns-3 : tie.Need-returns-3 Inv-loop μ-loop
+returns-3 c = let n = c .before .before .before in
+    let p = met-of n in
+    let q = loop-of p in
+    laws.no-comma (q .loop .inv) (start-of q .pre .0) (start-of q .pre .1) (p .parse-selector .ensures) (n .n .given .1) (c .before .byte-is .ensures) (c .if1 .left)
 
 pub parse-selectors-spec : {M : Type 1} → statement M
 parse-selectors-spec =
     tie.close
     (tie.spec
+    Inv-loop
+    μ-loop
+    loop-holds
+    sub-parse-selector
+    part-parse-selector-start
+    part-parse-selector-end
+    add-parse-selector
+    add-parse-selector-2
     parse-selector-requires
     enum-told
     same-length
     same-length-2
     returns
     enum-known-p
+    take-back-requires
+    add-t31
     same-length-3
     same-length-4
     returns-2
     enum-known-n
-    sub-more-selectors
-    part-more-selectors-start
-    part-more-selectors-end
-    add-more-selectors
-    add-more-selectors-2
-    more-selectors-requires
-    enum-told-2
-    wipe-numbers-requires
-    wipe-bytes-requires
+    add-taken
+    add-count
+    add-numbers
+    add-text
+    byte-is-requires
+    add-skip-from
+    skip-from-requires
+    loop-less
+    loop-again
     same-length-5
     same-length-6
-    returns-3
-    enum-known-p-2
-    wipe-numbers-requires-2
-    wipe-bytes-requires-2
-    add-t41
-    same-length-7
-    same-length-8
-    returns-4
-    enum-known-m
-    add-t42
-    add-t43
-    add-t44
-    add-t45
-    same-length-9
-    same-length-10
-    returns-5)
+    returns-3)

@@ -1,4 +1,4 @@
--- The components are read behind the place of the head, a blank at their end is dropped, and the head is written last.
+-- The components as `parse_body` leaves them, without a blank at the end and behind the head: the row of the selector.
 use mathlib.Core.Path.{_∙_}
 use native.Mathlib.Omega.{arith}
 use Rattle.selectors.proofs.Selecting as laws
@@ -30,30 +30,30 @@ enum-told c = search needs
 
 same-length : tie.Need-same-length
 same-length c = let p = c .before .before .before .before .before .before in
-    laws.rules-long (start-of p .pre .0) (start-of p .pre .1) (p .parse-body .ensures .0) (p .parse-body .ensures .1 .0) (p .parse-body .ensures .1 .1 .0) (p .parse-body .ensures .1 .1 .1 .0)
+    p .parse-body .kept .1 .0
 
 same-length-2 : tie.Need-same-length-2
 same-length-2 c = let p = c .before .before .before .before .before .before in
-    laws.store-long (start-of p .pre .0) (start-of p .pre .1) (p .parse-body .ensures .0) (p .parse-body .ensures .1 .0) (p .parse-body .ensures .1 .1 .0) (p .parse-body .ensures .1 .1 .1 .0)
+    p .parse-body .kept .1 .1 .1 .0
 
 returns : tie.Need-returns
 returns c = let p = c .before .before .before .before .before .before in
-    laws.fails-left (start-of p .pre .0) (start-of p .pre .1) (p .parse-body .ensures .0) (p .parse-body .ensures .1 .0) (p .parse-body .ensures .1 .1 .0) (p .parse-body .ensures .1 .1 .1 .0) (c .enum-told .given .1)
+    laws.fails-left (start-of p .pre .0) (start-of p .pre .1) (p .parse-body .ensures) (c .enum-told .given .1)
 
 enum-known-p : tie.Need-enum-known-p
 enum-known-p c = search needs
 
 same-length-3 : tie.Need-same-length-3
 same-length-3 c = let p = c .before .before .before .before .before .before .before in
-    laws.rules-long (start-of p .pre .0) (start-of p .pre .1) (p .parse-body .ensures .0) (p .parse-body .ensures .1 .0) (p .parse-body .ensures .1 .1 .0) (p .parse-body .ensures .1 .1 .1 .0)
+    p .parse-body .kept .1 .0
 
 same-length-4 : tie.Need-same-length-4
 same-length-4 c = let p = c .before .before .before .before .before .before .before in
-    laws.store-long (start-of p .pre .0) (start-of p .pre .1) (p .parse-body .ensures .0) (p .parse-body .ensures .1 .0) (p .parse-body .ensures .1 .1 .0) (p .parse-body .ensures .1 .1 .1 .0)
+    p .parse-body .kept .1 .1 .1 .0
 
 returns-2 : tie.Need-returns-2
 returns-2 c = let p = c .before .before .before .before .before .before .before in
-    laws.panics-left (start-of p .pre .0) (start-of p .pre .1) (p .parse-body .ensures .0) (p .parse-body .ensures .1 .0) (p .parse-body .ensures .1 .1 .0) (p .parse-body .ensures .1 .1 .1 .0) _ (c .before .p .given .1)
+    laws.panics-left (start-of p .pre .0) (start-of p .pre .1) (p .parse-body .ensures) (c .before .p .given .1)
 
 enum-known-n : tie.Need-enum-known-n
 enum-known-n c = search needs
@@ -66,17 +66,17 @@ add-drop-blank c = let n = c .before .before in
 drop-blank-requires : tie.Need-drop-blank-requires
 drop-blank-requires c κs = let n = c .before .before in
     let p = met-of n in
-    laws.rows-bits (start-of p .pre .0) (start-of p .pre .1) (p .parse-body .ensures .0) (p .parse-body .ensures .1 .0) (p .parse-body .ensures .1 .1 .0) (p .parse-body .ensures .1 .1 .1 .0) _ _ _ _ (n .n .given .1)
+    laws.rows-bits (start-of p .pre .0) (start-of p .pre .1) (p .parse-body .ensures) (n .n .given .1)
 
 sub-parse-pseudo-element : tie.Need-sub-parse-pseudo-element
 sub-parse-pseudo-element c = let n = c .before .before .before .before .before in
     let p = met-of n in
-    omega (arith, laws.n-within (start-of p .pre .0) (start-of p .pre .1) (p .parse-body .ensures .0) (p .parse-body .ensures .1 .0) (p .parse-body .ensures .1 .1 .0) (p .parse-body .ensures .1 .1 .1 .0) _ _ _ _ (n .n .given .1))
+    omega (arith, laws.n-within (start-of p .pre .0) (start-of p .pre .1) (p .parse-body .ensures) (n .n .given .1))
 
 part-parse-pseudo-element-start : tie.Need-part-parse-pseudo-element-start
 part-parse-pseudo-element-start c = let n = c .before .before .before .before .before in
     let p = met-of n in
-    omega (arith, laws.n-within (start-of p .pre .0) (start-of p .pre .1) (p .parse-body .ensures .0) (p .parse-body .ensures .1 .0) (p .parse-body .ensures .1 .1 .0) (p .parse-body .ensures .1 .1 .1 .0) _ _ _ _ (n .n .given .1))
+    omega (arith, laws.n-within (start-of p .pre .0) (start-of p .pre .1) (p .parse-body .ensures) (n .n .given .1))
 
 part-parse-pseudo-element-end : tie.Need-part-parse-pseudo-element-end
 part-parse-pseudo-element-end c = search needs
@@ -88,44 +88,43 @@ put-selector-head-requires : tie.Need-put-selector-head-requires
 put-selector-head-requires c κs = let d = c .before .before .before .before .before in
     let n = read-of d in
     let p = met-of n in
-    omega (arith, laws.kept-few (start-of p .pre .0) (start-of p .pre .1) (p .parse-body .ensures .0) (p .parse-body .ensures .1 .0) (p .parse-body .ensures .1 .1 .0) (p .parse-body .ensures .1 .1 .1 .0) _ _ _ _ (n .n .given .1) (d .drop-blank .ensures .0) (d .drop-blank .ensures .1), laws.count-few (start-of p .pre .0) (start-of p .pre .1) (p .parse-body .ensures .0) (p .parse-body .ensures .1 .0) (p .parse-body .ensures .1 .1 .0) (p .parse-body .ensures .1 .1 .1 .0) _ _ _ _ (n .n .given .1), start-of p .pre .1 .bits)
+    omega (arith, laws.kept-few (start-of p .pre .0) (start-of p .pre .1) (p .parse-body .ensures) (n .n .given .1) (d .drop-blank .ensures .0) (d .drop-blank .ensures .1), start-of p .pre .1 .bits)
 
 add-t20 : tie.Need-add-t20
 add-t20 c = let d = c .before .before .before .before .before .before .before .before .before in
     let n = read-of d in
     let p = met-of n in
-    omega (arith, start-of p .pre .1 .bits, laws.taken-few (start-of p .pre .0) (start-of p .pre .1) (p .parse-body .ensures .0) (p .parse-body .ensures .1 .0) (p .parse-body .ensures .1 .1 .0) (p .parse-body .ensures .1 .1 .1 .0) _ _ _ _ (n .n .given .1) (d .drop-blank .ensures .0) (d .drop-blank .ensures .1) (c .before .before .before .before .before .parse-pseudo-element .ensures))
+    omega (arith, start-of p .pre .1 .bits, laws.taken-few (start-of p .pre .0) (start-of p .pre .1) (p .parse-body .ensures) (n .n .given .1) (d .drop-blank .ensures .0) (d .drop-blank .ensures .1) (c .before .before .before .before .before .parse-pseudo-element .ensures))
 
 mul-t27 : tie.Need-mul-t27
 mul-t27 c = let d = c .before .before .before .before .before .before .before .before .before in
     let n = read-of d in
     let p = met-of n in
-    omega (arith, laws.kept-few (start-of p .pre .0) (start-of p .pre .1) (p .parse-body .ensures .0) (p .parse-body .ensures .1 .0) (p .parse-body .ensures .1 .1 .0) (p .parse-body .ensures .1 .1 .1 .0) _ _ _ _ (n .n .given .1) (d .drop-blank .ensures .0) (d .drop-blank .ensures .1), laws.count-few (start-of p .pre .0) (start-of p .pre .1) (p .parse-body .ensures .0) (p .parse-body .ensures .1 .0) (p .parse-body .ensures .1 .1 .0) (p .parse-body .ensures .1 .1 .1 .0) _ _ _ _ (n .n .given .1), start-of p .pre .1 .bits)
+    omega (arith, laws.kept-few (start-of p .pre .0) (start-of p .pre .1) (p .parse-body .ensures) (n .n .given .1) (d .drop-blank .ensures .0) (d .drop-blank .ensures .1), start-of p .pre .1 .bits)
 
 add-t28 : tie.Need-add-t28
 add-t28 c = let d = c .before .before .before .before .before .before .before .before .before in
     let n = read-of d in
     let p = met-of n in
-    omega (arith, laws.kept-few (start-of p .pre .0) (start-of p .pre .1) (p .parse-body .ensures .0) (p .parse-body .ensures .1 .0) (p .parse-body .ensures .1 .1 .0) (p .parse-body .ensures .1 .1 .1 .0) _ _ _ _ (n .n .given .1) (d .drop-blank .ensures .0) (d .drop-blank .ensures .1), laws.count-few (start-of p .pre .0) (start-of p .pre .1) (p .parse-body .ensures .0) (p .parse-body .ensures .1 .0) (p .parse-body .ensures .1 .1 .0) (p .parse-body .ensures .1 .1 .1 .0) _ _ _ _ (n .n .given .1), start-of p .pre .1 .bits)
+    omega (arith, laws.kept-few (start-of p .pre .0) (start-of p .pre .1) (p .parse-body .ensures) (n .n .given .1) (d .drop-blank .ensures .0) (d .drop-blank .ensures .1), start-of p .pre .1 .bits)
 
 same-length-5 : tie.Need-same-length-5
 same-length-5 c = let d = c .before .before .before .before .before .before .before .before .before in
     let n = read-of d in
     let p = met-of n in
-    c .before .before .before .put-selector-head .kept .1 .1 .0 ∙ laws.rules₂-long (start-of p .pre .0) (start-of p .pre .1) (p .parse-body .ensures .0) (p .parse-body .ensures .1 .0) (p .parse-body .ensures .1 .1 .0) (p .parse-body .ensures .1 .1 .1 .0) _ _ _ _ (n .n .given .1) (d .drop-blank .ensures .0) (d .drop-blank .ensures .1)
+    c .before .before .before .put-selector-head .kept .1 .1 .0 ∙ d .drop-blank .kept .0 ∙ p .parse-body .kept .1 .0
 
 same-length-6 : tie.Need-same-length-6
 same-length-6 c = let d = c .before .before .before .before .before .before .before .before .before in
     let n = read-of d in
     let p = met-of n in
-    laws.store-long (start-of p .pre .0) (start-of p .pre .1) (p .parse-body .ensures .0) (p .parse-body .ensures .1 .0) (p .parse-body .ensures .1 .1 .0) (p .parse-body .ensures .1 .1 .1 .0)
+    p .parse-body .kept .1 .1 .1 .0
 
 returns-3 : tie.Need-returns-3
 returns-3 c = let d = c .before .before .before .before .before .before .before .before .before in
     let n = read-of d in
     let p = met-of n in
-    let i = c .before .before .before .before .before .parse-pseudo-element .ensures in
-    (laws.reads-answer (start-of p .pre .0) (start-of p .pre .1) (p .parse-body .ensures .0) (p .parse-body .ensures .1 .0) (p .parse-body .ensures .1 .1 .0) (p .parse-body .ensures .1 .1 .1 .0) _ _ _ _ (n .n .given .1) (d .drop-blank .ensures .0) (d .drop-blank .ensures .1) i, (laws.reads-rules (start-of p .pre .0) (start-of p .pre .1) (p .parse-body .ensures .0) (p .parse-body .ensures .1 .0) (p .parse-body .ensures .1 .1 .0) (p .parse-body .ensures .1 .1 .1 .0) _ _ _ _ (n .n .given .1) (d .drop-blank .ensures .0) (d .drop-blank .ensures .1) i (c .before .before .before .put-selector-head .ensures), (laws.reads-store (start-of p .pre .0) (start-of p .pre .1) (p .parse-body .ensures .0) (p .parse-body .ensures .1 .0) (p .parse-body .ensures .1 .1 .0) (p .parse-body .ensures .1 .1 .1 .0) _ _ _ _ (n .n .given .1) (d .drop-blank .ensures .0) (d .drop-blank .ensures .1) i, laws.reads-bounds (start-of p .pre .0) (start-of p .pre .1) (p .parse-body .ensures .0) (p .parse-body .ensures .1 .0) (p .parse-body .ensures .1 .1 .0) (p .parse-body .ensures .1 .1 .1 .0) _ _ _ _ (n .n .given .1) (d .drop-blank .ensures .0) (d .drop-blank .ensures .1) i (p .parse-body .ensures .1 .1 .1 .1))))
+    laws.reads-left (start-of p .pre .0) (start-of p .pre .1) (p .parse-body .ensures) (n .n .given .1) (d .drop-blank .ensures .0) (d .drop-blank .ensures .1) (c .before .before .before .before .before .parse-pseudo-element .ensures) (c .before .before .before .put-selector-head .ensures)
 
 pub parse-selector-spec : {M : Type 1} → statement M
 parse-selector-spec =

@@ -57,7 +57,7 @@ same-length-3 c = search needs
 
 returns : tie.Need-returns
 returns c = let S = c .before .before .before .before .before .before .before .before .before .before .before .before .before .before .before .before .before .before .before .before .before .before .before .before .before .before .before .before .before .before in let A = c .before .before .before .before .before .before .before .before .before .before .before .before .before .before .before .before .before .before .before .before .before .before .before .before .before in let B = c .before .before .before .before .before .before .before .before .before .before .before .before .before .before .before .before .before .before .before .before .before .before .before .before in let T = c .before .before .before .before .before .before .before .before .before .before .before .before .before .before .before .before .before .before .before .before .before .before .before in let W = c .before .before .before .before .before .before .before .before .before .before .before .before .before .before .before .before .before .before .before .before .before .before in let P = c .before .before .before .before .before .before .before .before .before .before .before .before .before .before .before .before .before .before .before in let N = c .before .before .before .before .before .before .before .before .before .before .before .before .before .before .before in let Z = c .before .before .before .before .before .before .before .before .before .before .before .before in let E = c .before .before .before .before .before .before in
-    laws.name-told (S .args .s .now) (S .args .tokens .now) (S .args .brackets .now) (S .args .store .now) (S .args .fill) (S .pre) (A .skip-optional-whitespace .ensures .0) (B .byte-is .ensures) (T .if1 .taken) (W .skip-from .ensures .0) (W .skip-from .ensures .1) (P .parse-ident .ensures .0) (P .parse-ident .ensures .1) (N .n .given .1) (Z .wipe-bytes .ensures) (E .parse-statement-end .ensures .0) (E .parse-statement-end .ensures .1 .0) (E .parse-statement-end .ensures .1 .1 .0) (E .parse-statement-end .ensures .1 .1 .1 .0) (E .parse-statement-end .ensures .1 .1 .1 .1)
+    laws.name-told (S .args .s .now) (S .args .tokens .now) (S .args .brackets .now) (S .args .store .now) (S .args .fill) (S .pre) (A .skip-optional-whitespace .ensures .0) (B .byte-is .ensures) (T .if1 .taken) (W .skip-from .ensures .0) (W .skip-from .ensures .1) (P .parse-ident .ensures .0) (P .parse-ident .ensures .1) (N .n .given .1) (Z .wipe-bytes .ensures) (E .parse-statement-end .ensures)
 
 enum-told : tie.Need-enum-told
 enum-told c = search needs

@@ -1,4 +1,4 @@
--- Both braces with declarations between them; without the second the rows and texts are wiped.
+-- Each return by the tests on the way: no brace, no end, or the block as `parse_rules` left it.
 use native.Mathlib.Omega.{arith}
 use Rattle.sheets.proofs.BlockLaws as laws
 use borrow.Author.Needs.{needs}
@@ -50,11 +50,11 @@ byte-is-requires-2 c κs = search needs
 
 add-skip-from-2 : tie.Need-add-skip-from-2
 add-skip-from-2 c = let S = c .before .before .before .before .before .before .before .before .before .before .before .before .before .before .before .before .before .before .before .before .before .before .before .before .before .before .before .before in
-    omega (arith, laws.end-there (S .args .s .now) (S .args .n) (S .args .at) (S .args .rules .now) (S .args .place) (S .args .tokens .now) (S .args .brackets .now) (S .args .store .now) (S .args .fill) (S .pre) (c .before .before .before .before .before .before .before .before .before .before .before .before .before .before .before .before .before .before .before .before .before .before .skip-from .ensures .0) (c .before .before .before .before .before .before .before .before .before .before .before .before .before .before .before .before .before .before .before .before .before .byte-is .ensures) (c .before .before .before .before .before .before .before .before .before .before .before .before .before .before .before .before .before .before .before .before .if1 .taken) (c .before .before .before .before .before .before .before .before .before .before .before .before .before .before .before .before .before .before .before .skip-from2 .ensures .0) (c .before .before .before .before .before .before .before .before .before .before .before .before .before .before .before .before .before .before .before .skip-from2 .ensures .1) (c .before .before .before .before .before .before .before .before .before .before .before .before .before .parse-rules .ensures) (c .before .before .before-end .ensures .0) (c .before .before .before-end .ensures .1 .1) (c .before .byte-is2 .ensures) (c .if2 .taken))
+    omega (arith, laws.end-there (S .args .s .now) (S .args .n) (S .args .at) (S .args .rules .now) (S .args .place) (S .args .tokens .now) (S .args .brackets .now) (S .args .store .now) (S .args .fill) (S .pre) (c .before .before .before .before .before .before .before .before .before .before .before .before .before .before .before .before .before .before .before .before .before .before .skip-from .ensures .0) (c .before .before .before .before .before .before .before .before .before .before .before .before .before .before .before .before .before .before .before .before .before .byte-is .ensures) (c .before .before .before .before .before .before .before .before .before .before .before .before .before .before .before .before .before .before .before .before .if1 .taken) (c .before .before .before .before .before .before .before .before .before .before .before .before .before .before .before .before .before .before .before .skip-from2 .ensures .0) (c .before .before .before .before .before .before .before .before .before .before .before .before .before .before .before .before .before .before .before .skip-from2 .ensures .1) (c .before .before .before .before .before .before .before .before .before .before .before .before .before .parse-rules .ensures) (c .before .before .before-end .ensures .0) (c .before .byte-is2 .ensures) (c .if2 .taken))
 
 skip-from-requires-3 : tie.Need-skip-from-requires-3
 skip-from-requires-3 c κs = let S = c .before .before .before .before .before .before .before .before .before .before .before .before .before .before .before .before .before .before .before .before .before .before .before .before .before .before .before .before in
-    omega (arith, laws.end-there (S .args .s .now) (S .args .n) (S .args .at) (S .args .rules .now) (S .args .place) (S .args .tokens .now) (S .args .brackets .now) (S .args .store .now) (S .args .fill) (S .pre) (c .before .before .before .before .before .before .before .before .before .before .before .before .before .before .before .before .before .before .before .before .before .before .skip-from .ensures .0) (c .before .before .before .before .before .before .before .before .before .before .before .before .before .before .before .before .before .before .before .before .before .byte-is .ensures) (c .before .before .before .before .before .before .before .before .before .before .before .before .before .before .before .before .before .before .before .before .if1 .taken) (c .before .before .before .before .before .before .before .before .before .before .before .before .before .before .before .before .before .before .before .skip-from2 .ensures .0) (c .before .before .before .before .before .before .before .before .before .before .before .before .before .before .before .before .before .before .before .skip-from2 .ensures .1) (c .before .before .before .before .before .before .before .before .before .before .before .before .before .parse-rules .ensures) (c .before .before .before-end .ensures .0) (c .before .before .before-end .ensures .1 .1) (c .before .byte-is2 .ensures) (c .if2 .taken))
+    omega (arith, laws.end-there (S .args .s .now) (S .args .n) (S .args .at) (S .args .rules .now) (S .args .place) (S .args .tokens .now) (S .args .brackets .now) (S .args .store .now) (S .args .fill) (S .pre) (c .before .before .before .before .before .before .before .before .before .before .before .before .before .before .before .before .before .before .before .before .before .before .skip-from .ensures .0) (c .before .before .before .before .before .before .before .before .before .before .before .before .before .before .before .before .before .before .before .before .before .byte-is .ensures) (c .before .before .before .before .before .before .before .before .before .before .before .before .before .before .before .before .before .before .before .before .if1 .taken) (c .before .before .before .before .before .before .before .before .before .before .before .before .before .before .before .before .before .before .before .skip-from2 .ensures .0) (c .before .before .before .before .before .before .before .before .before .before .before .before .before .before .before .before .before .before .before .skip-from2 .ensures .1) (c .before .before .before .before .before .before .before .before .before .before .before .before .before .parse-rules .ensures) (c .before .before .before-end .ensures .0) (c .before .byte-is2 .ensures) (c .if2 .taken))
 
 same-length : tie.Need-same-length
 same-length c = search needs
@@ -70,13 +70,10 @@ same-length-4 c = search needs
 
 returns : tie.Need-returns
 returns c = let S = c .before .before .before .before .before .before .before .before .before .before .before .before .before .before .before .before .before .before .before .before .before .before .before .before .before .before .before .before .before in
-    laws.block-read (S .args .s .now) (S .args .n) (S .args .at) (S .args .rules .now) (S .args .place) (S .args .tokens .now) (S .args .brackets .now) (S .args .store .now) (S .args .fill) (S .pre) (c .before .before .before .before .before .before .before .before .before .before .before .before .before .before .before .before .before .before .before .before .before .before .before .skip-from .ensures .0) (c .before .before .before .before .before .before .before .before .before .before .before .before .before .before .before .before .before .before .before .before .before .before .byte-is .ensures) (c .before .before .before .before .before .before .before .before .before .before .before .before .before .before .before .before .before .before .before .before .before .if1 .taken) (c .before .before .before .before .before .before .before .before .before .before .before .before .before .before .before .before .before .before .before .before .skip-from2 .ensures .0) (c .before .before .before .before .before .before .before .before .before .before .before .before .before .before .before .before .before .before .before .before .skip-from2 .ensures .1) (c .before .before .before .before .before .before .before .before .before .before .before .before .before .before .parse-rules .ensures) (c .before .before .before .before-end .ensures .0) (c .before .before .before .before-end .ensures .1 .1) (c .before .before .byte-is2 .ensures) (c .before .if2 .taken) (c .skip-from3 .ensures .0) (c .skip-from3 .ensures .1)
+    laws.block-read (S .args .s .now) (S .args .n) (S .args .at) (S .args .rules .now) (S .args .place) (S .args .tokens .now) (S .args .brackets .now) (S .args .store .now) (S .args .fill) (S .pre) (c .before .before .before .before .before .before .before .before .before .before .before .before .before .before .before .before .before .before .before .before .before .before .before .skip-from .ensures .0) (c .before .before .before .before .before .before .before .before .before .before .before .before .before .before .before .before .before .before .before .before .before .before .byte-is .ensures) (c .before .before .before .before .before .before .before .before .before .before .before .before .before .before .before .before .before .before .before .before .before .if1 .taken) (c .before .before .before .before .before .before .before .before .before .before .before .before .before .before .before .before .before .before .before .before .skip-from2 .ensures .0) (c .before .before .before .before .before .before .before .before .before .before .before .before .before .before .before .before .before .before .before .before .skip-from2 .ensures .1) (c .before .before .before .before .before .before .before .before .before .before .before .before .before .before .parse-rules .ensures) (c .before .before .before .before-end .ensures .0) (c .before .before .byte-is2 .ensures) (c .before .if2 .taken) (c .skip-from3 .ensures .0)
 
-wipe-numbers-requires : tie.Need-wipe-numbers-requires
-wipe-numbers-requires c κs = search needs
-
-wipe-bytes-requires : tie.Need-wipe-bytes-requires
-wipe-bytes-requires c κs = search needs
+take-back-requires : tie.Need-take-back-requires
+take-back-requires c κs = search needs
 
 same-length-5 : tie.Need-same-length-5
 same-length-5 c = search needs
@@ -91,8 +88,8 @@ same-length-8 : tie.Need-same-length-8
 same-length-8 c = search needs
 
 returns-2 : tie.Need-returns-2
-returns-2 c = let S = c .before .before .before .before .before .before .before .before .before .before .before .before .before .before .before .before .before .before .before .before .before .before .before .before .before .before .before .before .before .before .before .before .before .before .before .before in
-    laws.end-missing (S .args .s .now) (S .args .n) (S .args .at) (S .args .rules .now) (S .args .place) (S .args .tokens .now) (S .args .brackets .now) (S .args .store .now) (S .args .fill) (S .pre) (c .before .before .before .before .before .before .before .before .before .before .before .before .before .before .before .before .before .before .before .before .before .before .before .before .before .before .before .before .before .before .skip-from .ensures .0) (c .before .before .before .before .before .before .before .before .before .before .before .before .before .before .before .before .before .before .before .before .before .before .before .before .before .before .before .before .before .byte-is .ensures) (c .before .before .before .before .before .before .before .before .before .before .before .before .before .before .before .before .before .before .before .before .before .before .before .before .before .before .before .before .if1 .taken) (c .before .before .before .before .before .before .before .before .before .before .before .before .before .before .before .before .before .before .before .before .before .before .before .before .before .before .before .skip-from2 .ensures .0) (c .before .before .before .before .before .before .before .before .before .before .before .before .before .before .before .before .before .before .before .before .before .before .before .before .before .before .before .skip-from2 .ensures .1) (c .before .before .before .before .before .before .before .before .before .before .before .before .before .before .before .before .before .before .before .before .before .parse-rules .ensures) (c .before .before .before .before .before .before .before .before .before .before .before-end .ensures .0) (c .before .before .before .before .before .before .before .before .before .before .before-end .ensures .1 .1) (c .before .before .before .before .before .before .before .before .before .byte-is2 .ensures) (c .before .before .before .before .before .before .before .before .if2 .left) (c .before .before .before .before .before .before .wipe-numbers .ensures) (c .before .before .wipe-bytes .ensures)
+returns-2 c = let S = c .before .before .before .before .before .before .before .before .before .before .before .before .before .before .before .before .before .before .before .before .before .before .before .before .before .before .before .before .before .before .before .before .before .before .before in
+    laws.end-missing (S .args .s .now) (S .args .n) (S .args .at) (S .args .rules .now) (S .args .place) (S .args .tokens .now) (S .args .brackets .now) (S .args .store .now) (S .args .fill) (S .pre) (c .before .before .before .before .before .before .before .before .before .before .before .before .before .before .before .before .before .before .before .before .before .before .before .before .before .before .before .before .before .skip-from .ensures .0) (c .before .before .before .before .before .before .before .before .before .before .before .before .before .before .before .before .before .before .before .before .before .before .before .before .before .before .before .before .byte-is .ensures) (c .before .before .before .before .before .before .before .before .before .before .before .before .before .before .before .before .before .before .before .before .before .before .before .before .before .before .before .if1 .taken) (c .before .before .before .before .before .before .before .before .before .before .before .before .before .before .before .before .before .before .before .before .before .before .before .before .before .before .skip-from2 .ensures .0) (c .before .before .before .before .before .before .before .before .before .before .before .before .before .before .before .before .before .before .before .before .before .before .before .before .before .before .skip-from2 .ensures .1) (c .before .before .before .before .before .before .before .before .before .before .before .before .before .before .before .before .before .before .before .before .parse-rules .ensures) (c .before .before .before .before .before .before .before .before .before .before-end .ensures .0) (c .before .before .before .before .before .before .before .before .byte-is2 .ensures) (c .before .before .before .before .before .before .before .if2 .left) (c .before .before .before .before .take-back .ensures .0) (c .before .before .before .before .take-back .ensures .1)
 
 returns-3 : tie.Need-returns-3
 returns-3 c = let S = c .before .before .before .before .before .before .before .before in
@@ -122,8 +119,7 @@ parse-block-spec =
     same-length-3
     same-length-4
     returns
-    wipe-numbers-requires
-    wipe-bytes-requires
+    take-back-requires
     same-length-5
     same-length-6
     same-length-7

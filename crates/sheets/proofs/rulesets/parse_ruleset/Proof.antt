@@ -1,4 +1,4 @@
--- Selectors and a block are read behind the place of the head, which is written last; where one fails what the other left is wiped.
+-- The selectors, then the block: each return is the law of what the two readers answered.
 use native.Mathlib.Omega.{arith}
 use Rattle.sheets.proofs.RuleSetLaws as laws
 use borrow.Author.Needs.{needs}
@@ -25,8 +25,14 @@ parse-selectors-requires c κs = let S = c .before .before .before .before .befo
     let W = c .before .before .before in
     (laws.rows-room (S .args .s .now) (S .args .at) (S .args .rules .now) (S .args .place) (S .args .tokens .now) (S .args .brackets .now) (S .args .store .now) (S .args .fill) (S .pre) (W .skip-optional-whitespace .ensures .0) (W .skip-optional-whitespace .ensures .1), laws.texts-room (S .args .s .now) (S .args .at) (S .args .rules .now) (S .args .place) (S .args .tokens .now) (S .args .brackets .now) (S .args .store .now) (S .args .fill) (S .pre) (W .skip-optional-whitespace .ensures .0) (W .skip-optional-whitespace .ensures .1))
 
-enum-told : tie.Need-enum-told
-enum-told c = search needs
+enum-known-p : tie.Need-enum-known-p
+enum-known-p c = search needs
+
+add-t31 : tie.Need-add-t31
+add-t31 c = let S = c .before .before .before .before .before .before .before .before .before .before .before .before .before .before .before .before .before in
+    let W = c .before .before .before .before .before .before .before .before .before .before .before in
+    let P = c .before .before .before .before .before .before .before in
+    omega (arith, laws.list-place (S .args .s .now) (S .args .at) (S .args .rules .now) (S .args .place) (S .args .tokens .now) (S .args .brackets .now) (S .args .store .now) (S .args .fill) (S .pre) (W .skip-optional-whitespace .ensures .0) (W .skip-optional-whitespace .ensures .1) (P .parse-selectors .ensures) (c .before .p .given .1))
 
 same-length : tie.Need-same-length
 same-length c = search needs
@@ -35,31 +41,10 @@ same-length-2 : tie.Need-same-length-2
 same-length-2 c = search needs
 
 returns : tie.Need-returns
-returns c = let S = c .before .before .before .before .before .before .before .before .before .before .before .before .before .before .before .before in
-    let W = c .before .before .before .before .before .before .before .before .before .before in
-    let P = c .before .before .before .before .before .before in
-    laws.list-fails (S .args .s .now) (S .args .at) (S .args .rules .now) (S .args .place) (S .args .tokens .now) (S .args .brackets .now) (S .args .store .now) (S .args .fill) (S .pre) (W .skip-optional-whitespace .ensures .0) (W .skip-optional-whitespace .ensures .1) (P .parse-selectors .ensures .0) (P .parse-selectors .ensures .1 .0) (P .parse-selectors .ensures .1 .1 .0) (P .parse-selectors .ensures .1 .1 .1) (c .enum-told .given .1)
-
-enum-known-p : tie.Need-enum-known-p
-enum-known-p c = search needs
-
-add-t31 : tie.Need-add-t31
-add-t31 c = let S = c .before .before .before .before .before .before .before .before .before .before .before .before .before .before .before .before .before in
+returns c = let S = c .before .before .before .before .before .before .before .before .before .before .before .before .before .before .before .before .before in
     let W = c .before .before .before .before .before .before .before .before .before .before .before in
     let P = c .before .before .before .before .before .before .before in
-    omega (arith, laws.list-place (S .args .s .now) (S .args .at) (S .args .rules .now) (S .args .place) (S .args .tokens .now) (S .args .brackets .now) (S .args .store .now) (S .args .fill) (S .pre) (W .skip-optional-whitespace .ensures .0) (W .skip-optional-whitespace .ensures .1) (P .parse-selectors .ensures .0) (P .parse-selectors .ensures .1 .0) (P .parse-selectors .ensures .1 .1 .0) (P .parse-selectors .ensures .1 .1 .1) (c .before .p .given .1))
-
-same-length-3 : tie.Need-same-length-3
-same-length-3 c = search needs
-
-same-length-4 : tie.Need-same-length-4
-same-length-4 c = search needs
-
-returns-2 : tie.Need-returns-2
-returns-2 c = let S = c .before .before .before .before .before .before .before .before .before .before .before .before .before .before .before .before .before in
-    let W = c .before .before .before .before .before .before .before .before .before .before .before in
-    let P = c .before .before .before .before .before .before .before in
-    laws.list-panics (S .args .s .now) (S .args .at) (S .args .rules .now) (S .args .place) (S .args .tokens .now) (S .args .brackets .now) (S .args .store .now) (S .args .fill) (S .pre) (W .skip-optional-whitespace .ensures .0) (W .skip-optional-whitespace .ensures .1) (P .parse-selectors .ensures .0) (P .parse-selectors .ensures .1 .0) (P .parse-selectors .ensures .1 .1 .0) (P .parse-selectors .ensures .1 .1 .1) (c .before .p .given .1)
+    laws.list-panics (S .args .s .now) (S .args .at) (S .args .rules .now) (S .args .place) (S .args .tokens .now) (S .args .brackets .now) (S .args .store .now) (S .args .fill) (S .pre) (W .skip-optional-whitespace .ensures .0) (W .skip-optional-whitespace .ensures .1) (P .parse-selectors .ensures) (c .before .p .given .1)
 
 enum-known-n : tie.Need-enum-known-n
 enum-known-n c = search needs
@@ -72,28 +57,28 @@ add-behind-2 c = let S = c .before .before .before .before .before .before .befo
     let W = c .before .before .before .before .before .before .before .before .before .before .before in
     let P = c .before .before .before .before .before .before .before in
     let N = c .before in
-    omega (arith, laws.row-fits (S .args .s .now) (S .args .at) (S .args .rules .now) (S .args .place) (S .args .tokens .now) (S .args .brackets .now) (S .args .store .now) (S .args .fill) (S .pre) (W .skip-optional-whitespace .ensures .0) (W .skip-optional-whitespace .ensures .1) (P .parse-selectors .ensures .0) (P .parse-selectors .ensures .1 .0) (P .parse-selectors .ensures .1 .1 .0) (P .parse-selectors .ensures .1 .1 .1) (N .n .given .1))
+    omega (arith, laws.row-fits (S .args .s .now) (S .args .at) (S .args .rules .now) (S .args .place) (S .args .tokens .now) (S .args .brackets .now) (S .args .store .now) (S .args .fill) (S .pre) (W .skip-optional-whitespace .ensures .0) (W .skip-optional-whitespace .ensures .1) (P .parse-selectors .ensures) (N .n .given .1))
 
 add-parse-block : tie.Need-add-parse-block
 add-parse-block c = let S = c .before .before .before .before .before .before .before .before .before .before .before .before .before .before .before .before .before in
     let W = c .before .before .before .before .before .before .before .before .before .before .before in
     let P = c .before .before .before .before .before .before .before in
     let N = c .before in
-    omega (arith, laws.list-end (S .args .s .now) (S .args .at) (S .args .rules .now) (S .args .place) (S .args .tokens .now) (S .args .brackets .now) (S .args .store .now) (S .args .fill) (S .pre) (W .skip-optional-whitespace .ensures .0) (W .skip-optional-whitespace .ensures .1) (P .parse-selectors .ensures .0) (P .parse-selectors .ensures .1 .0) (P .parse-selectors .ensures .1 .1 .0) (P .parse-selectors .ensures .1 .1 .1) (N .n .given .1))
+    omega (arith, laws.list-end (S .args .s .now) (S .args .at) (S .args .rules .now) (S .args .place) (S .args .tokens .now) (S .args .brackets .now) (S .args .store .now) (S .args .fill) (S .pre) (W .skip-optional-whitespace .ensures .0) (W .skip-optional-whitespace .ensures .1) (P .parse-selectors .ensures) (N .n .given .1))
 
 add-parse-block-2 : tie.Need-add-parse-block-2
 add-parse-block-2 c = let S = c .before .before .before .before .before .before .before .before .before .before .before .before .before .before .before .before .before .before .before .before .before in
     let W = c .before .before .before .before .before .before .before .before .before .before .before .before .before .before .before in
     let P = c .before .before .before .before .before .before .before .before .before .before .before in
     let N = c .before .before .before .before .before in
-    omega (arith, laws.fill-fits (S .args .s .now) (S .args .at) (S .args .rules .now) (S .args .place) (S .args .tokens .now) (S .args .brackets .now) (S .args .store .now) (S .args .fill) (S .pre) (W .skip-optional-whitespace .ensures .0) (W .skip-optional-whitespace .ensures .1) (P .parse-selectors .ensures .0) (P .parse-selectors .ensures .1 .0) (P .parse-selectors .ensures .1 .1 .0) (P .parse-selectors .ensures .1 .1 .1) (N .n .given .1))
+    omega (arith, laws.fill-fits (S .args .s .now) (S .args .at) (S .args .rules .now) (S .args .place) (S .args .tokens .now) (S .args .brackets .now) (S .args .store .now) (S .args .fill) (S .pre) (W .skip-optional-whitespace .ensures .0) (W .skip-optional-whitespace .ensures .1) (P .parse-selectors .ensures) (N .n .given .1))
 
 parse-block-requires : tie.Need-parse-block-requires
 parse-block-requires c κs = let S = c .before .before .before .before .before .before .before .before .before .before .before .before .before .before .before .before .before .before .before .before .before in
     let W = c .before .before .before .before .before .before .before .before .before .before .before .before .before .before .before in
     let P = c .before .before .before .before .before .before .before .before .before .before .before in
     let N = c .before .before .before .before .before in
-    laws.block-room (S .args .s .now) (S .args .at) (S .args .rules .now) (S .args .place) (S .args .tokens .now) (S .args .brackets .now) (S .args .store .now) (S .args .fill) (S .pre) (W .skip-optional-whitespace .ensures .0) (W .skip-optional-whitespace .ensures .1) (P .parse-selectors .ensures .0) (P .parse-selectors .ensures .1 .0) (P .parse-selectors .ensures .1 .1 .0) (P .parse-selectors .ensures .1 .1 .1) (N .n .given .1)
+    laws.block-room (S .args .s .now) (S .args .at) (S .args .rules .now) (S .args .place) (S .args .tokens .now) (S .args .brackets .now) (S .args .store .now) (S .args .fill) (S .pre) (W .skip-optional-whitespace .ensures .0) (W .skip-optional-whitespace .ensures .1) (P .parse-selectors .ensures) (N .n .given .1)
 
 enum-known-end : tie.Need-enum-known-end
 enum-known-end c = search needs
@@ -104,7 +89,7 @@ add-put-rule-head c = let S = c .before .before .before .before .before .before 
     let P = c .before .before .before .before .before .before .before .before .before .before .before .before .before .before .before .before .before .before .before .before .before .before .before in
     let N = c .before .before .before .before .before .before .before .before .before .before .before .before .before .before .before .before .before in
     let B = c .before .before .before .before .before .before .before .before .before .before .before in
-    omega (arith, laws.head-fits (S .args .s .now) (S .args .at) (S .args .rules .now) (S .args .place) (S .args .tokens .now) (S .args .brackets .now) (S .args .store .now) (S .args .fill) (S .pre) (W .skip-optional-whitespace .ensures .0) (W .skip-optional-whitespace .ensures .1) (P .parse-selectors .ensures .0) (P .parse-selectors .ensures .1 .0) (P .parse-selectors .ensures .1 .1 .0) (P .parse-selectors .ensures .1 .1 .1) (N .n .given .1) (B .parse-block .ensures .0) (B .parse-block .ensures .1 .0) (B .parse-block .ensures .1 .1 .0) (B .parse-block .ensures .1 .1 .1 .0) (B .parse-block .ensures .1 .1 .1 .1 .0) (B .parse-block .ensures .1 .1 .1 .1 .1) (c .before .end .given .1) .start-fits)
+    omega (arith, laws.head-fits (S .args .s .now) (S .args .at) (S .args .rules .now) (S .args .place) (S .args .tokens .now) (S .args .brackets .now) (S .args .store .now) (S .args .fill) (S .pre) (W .skip-optional-whitespace .ensures .0) (W .skip-optional-whitespace .ensures .1) (P .parse-selectors .ensures) (N .n .given .1) (B .parse-block .ensures) (c .before .end .given .1) .start-fits)
 
 put-rule-head-requires : tie.Need-put-rule-head-requires
 put-rule-head-requires c κs = let S = c .before .before .before .before .before .before .before .before .before .before .before .before .before .before .before .before .before .before .before .before .before .before .before .before .before .before .before .before .before .before .before .before .before .before in
@@ -112,7 +97,7 @@ put-rule-head-requires c κs = let S = c .before .before .before .before .before
     let P = c .before .before .before .before .before .before .before .before .before .before .before .before .before .before .before .before .before .before .before .before .before .before .before .before in
     let N = c .before .before .before .before .before .before .before .before .before .before .before .before .before .before .before .before .before .before in
     let B = c .before .before .before .before .before .before .before .before .before .before .before .before in
-    laws.head-fits (S .args .s .now) (S .args .at) (S .args .rules .now) (S .args .place) (S .args .tokens .now) (S .args .brackets .now) (S .args .store .now) (S .args .fill) (S .pre) (W .skip-optional-whitespace .ensures .0) (W .skip-optional-whitespace .ensures .1) (P .parse-selectors .ensures .0) (P .parse-selectors .ensures .1 .0) (P .parse-selectors .ensures .1 .1 .0) (P .parse-selectors .ensures .1 .1 .1) (N .n .given .1) (B .parse-block .ensures .0) (B .parse-block .ensures .1 .0) (B .parse-block .ensures .1 .1 .0) (B .parse-block .ensures .1 .1 .1 .0) (B .parse-block .ensures .1 .1 .1 .1 .0) (B .parse-block .ensures .1 .1 .1 .1 .1) (c .before .before .end .given .1)
+    laws.head-fits (S .args .s .now) (S .args .at) (S .args .rules .now) (S .args .place) (S .args .tokens .now) (S .args .brackets .now) (S .args .store .now) (S .args .fill) (S .pre) (W .skip-optional-whitespace .ensures .0) (W .skip-optional-whitespace .ensures .1) (P .parse-selectors .ensures) (N .n .given .1) (B .parse-block .ensures) (c .before .before .end .given .1)
 
 add-t44 : tie.Need-add-t44
 add-t44 c = let S = c .before .before .before .before .before .before .before .before .before .before .before .before .before .before .before .before .before .before .before .before .before .before .before .before .before .before .before .before .before .before .before .before .before .before .before .before .before in
@@ -120,7 +105,7 @@ add-t44 c = let S = c .before .before .before .before .before .before .before .b
     let P = c .before .before .before .before .before .before .before .before .before .before .before .before .before .before .before .before .before .before .before .before .before .before .before .before .before .before .before in
     let N = c .before .before .before .before .before .before .before .before .before .before .before .before .before .before .before .before .before .before .before .before .before in
     let B = c .before .before .before .before .before .before .before .before .before .before .before .before .before .before .before in
-    omega (arith, laws.numbers-fit (S .args .s .now) (S .args .at) (S .args .rules .now) (S .args .place) (S .args .tokens .now) (S .args .brackets .now) (S .args .store .now) (S .args .fill) (S .pre) (W .skip-optional-whitespace .ensures .0) (W .skip-optional-whitespace .ensures .1) (P .parse-selectors .ensures .0) (P .parse-selectors .ensures .1 .0) (P .parse-selectors .ensures .1 .1 .0) (P .parse-selectors .ensures .1 .1 .1) (N .n .given .1) (B .parse-block .ensures .0) (B .parse-block .ensures .1 .0) (B .parse-block .ensures .1 .1 .0) (B .parse-block .ensures .1 .1 .1 .0) (B .parse-block .ensures .1 .1 .1 .1 .0) (B .parse-block .ensures .1 .1 .1 .1 .1) (c .before .before .before .before .before .end .given .1))
+    omega (arith, laws.numbers-fit (S .args .s .now) (S .args .at) (S .args .rules .now) (S .args .place) (S .args .tokens .now) (S .args .brackets .now) (S .args .store .now) (S .args .fill) (S .pre) (W .skip-optional-whitespace .ensures .0) (W .skip-optional-whitespace .ensures .1) (P .parse-selectors .ensures) (N .n .given .1) (B .parse-block .ensures) (c .before .before .before .before .before .end .given .1))
 
 add-t47 : tie.Need-add-t47
 add-t47 c = let S = c .before .before .before .before .before .before .before .before .before .before .before .before .before .before .before .before .before .before .before .before .before .before .before .before .before .before .before .before .before .before .before .before .before .before .before .before .before in
@@ -128,7 +113,7 @@ add-t47 c = let S = c .before .before .before .before .before .before .before .b
     let P = c .before .before .before .before .before .before .before .before .before .before .before .before .before .before .before .before .before .before .before .before .before .before .before .before .before .before .before in
     let N = c .before .before .before .before .before .before .before .before .before .before .before .before .before .before .before .before .before .before .before .before .before in
     let B = c .before .before .before .before .before .before .before .before .before .before .before .before .before .before .before in
-    omega (arith, laws.numbers-fit (S .args .s .now) (S .args .at) (S .args .rules .now) (S .args .place) (S .args .tokens .now) (S .args .brackets .now) (S .args .store .now) (S .args .fill) (S .pre) (W .skip-optional-whitespace .ensures .0) (W .skip-optional-whitespace .ensures .1) (P .parse-selectors .ensures .0) (P .parse-selectors .ensures .1 .0) (P .parse-selectors .ensures .1 .1 .0) (P .parse-selectors .ensures .1 .1 .1) (N .n .given .1) (B .parse-block .ensures .0) (B .parse-block .ensures .1 .0) (B .parse-block .ensures .1 .1 .0) (B .parse-block .ensures .1 .1 .1 .0) (B .parse-block .ensures .1 .1 .1 .1 .0) (B .parse-block .ensures .1 .1 .1 .1 .1) (c .before .before .before .before .before .end .given .1))
+    omega (arith, laws.numbers-fit (S .args .s .now) (S .args .at) (S .args .rules .now) (S .args .place) (S .args .tokens .now) (S .args .brackets .now) (S .args .store .now) (S .args .fill) (S .pre) (W .skip-optional-whitespace .ensures .0) (W .skip-optional-whitespace .ensures .1) (P .parse-selectors .ensures) (N .n .given .1) (B .parse-block .ensures) (c .before .before .before .before .before .end .given .1))
 
 add-t48 : tie.Need-add-t48
 add-t48 c = let S = c .before .before .before .before .before .before .before .before .before .before .before .before .before .before .before .before .before .before .before .before .before .before .before .before .before .before .before .before .before .before .before .before .before .before .before .before .before in
@@ -136,7 +121,13 @@ add-t48 c = let S = c .before .before .before .before .before .before .before .b
     let P = c .before .before .before .before .before .before .before .before .before .before .before .before .before .before .before .before .before .before .before .before .before .before .before .before .before .before .before in
     let N = c .before .before .before .before .before .before .before .before .before .before .before .before .before .before .before .before .before .before .before .before .before in
     let B = c .before .before .before .before .before .before .before .before .before .before .before .before .before .before .before in
-    omega (arith, laws.texts-fit (S .args .s .now) (S .args .at) (S .args .rules .now) (S .args .place) (S .args .tokens .now) (S .args .brackets .now) (S .args .store .now) (S .args .fill) (S .pre) (W .skip-optional-whitespace .ensures .0) (W .skip-optional-whitespace .ensures .1) (P .parse-selectors .ensures .0) (P .parse-selectors .ensures .1 .0) (P .parse-selectors .ensures .1 .1 .0) (P .parse-selectors .ensures .1 .1 .1) (N .n .given .1) (B .parse-block .ensures .0) (B .parse-block .ensures .1 .0) (B .parse-block .ensures .1 .1 .0) (B .parse-block .ensures .1 .1 .1 .0) (B .parse-block .ensures .1 .1 .1 .1 .0) (B .parse-block .ensures .1 .1 .1 .1 .1) (c .before .before .before .before .before .end .given .1))
+    omega (arith, laws.texts-fit (S .args .s .now) (S .args .at) (S .args .rules .now) (S .args .place) (S .args .tokens .now) (S .args .brackets .now) (S .args .store .now) (S .args .fill) (S .pre) (W .skip-optional-whitespace .ensures .0) (W .skip-optional-whitespace .ensures .1) (P .parse-selectors .ensures) (N .n .given .1) (B .parse-block .ensures) (c .before .before .before .before .before .end .given .1))
+
+same-length-3 : tie.Need-same-length-3
+same-length-3 c = search needs
+
+same-length-4 : tie.Need-same-length-4
+same-length-4 c = search needs
 
 same-length-5 : tie.Need-same-length-5
 same-length-5 c = search needs
@@ -144,33 +135,30 @@ same-length-5 c = search needs
 same-length-6 : tie.Need-same-length-6
 same-length-6 c = search needs
 
+returns-2 : tie.Need-returns-2
+returns-2 c = let S = c .before .before .before .before .before .before .before .before .before .before .before .before .before .before .before .before .before .before .before .before .before .before .before .before .before .before .before .before .before .before .before .before .before .before .before .before .before in
+    let W = c .before .before .before .before .before .before .before .before .before .before .before .before .before .before .before .before .before .before .before .before .before .before .before .before .before .before .before .before .before .before .before in
+    let P = c .before .before .before .before .before .before .before .before .before .before .before .before .before .before .before .before .before .before .before .before .before .before .before .before .before .before .before in
+    let N = c .before .before .before .before .before .before .before .before .before .before .before .before .before .before .before .before .before .before .before .before .before in
+    let B = c .before .before .before .before .before .before .before .before .before .before .before .before .before .before .before in
+    laws.rule-read (S .args .s .now) (S .args .at) (S .args .rules .now) (S .args .place) (S .args .tokens .now) (S .args .brackets .now) (S .args .store .now) (S .args .fill) (S .pre) (W .skip-optional-whitespace .ensures .0) (W .skip-optional-whitespace .ensures .1) (P .parse-selectors .ensures) (N .n .given .1) (B .parse-block .ensures) (c .before .before .before .before .before .end .given .1) (c .before .before .put-rule-head .ensures)
+
+enum-told : tie.Need-enum-told
+enum-told c = search needs
+
+add-take-back : tie.Need-add-take-back
+add-take-back c = let S = c .before .before .before .before .before .before .before .before .before .before .before .before .before .before .before .before .before .before .before .before .before .before .before .before .before .before .before .before .before .before .before .before .before in
+    let W = c .before .before .before .before .before .before .before .before .before .before .before .before .before .before .before .before .before .before .before .before .before .before .before .before .before .before .before in
+    omega (arith, laws.rows-room (S .args .s .now) (S .args .at) (S .args .rules .now) (S .args .place) (S .args .tokens .now) (S .args .brackets .now) (S .args .store .now) (S .args .fill) (S .pre) (W .skip-optional-whitespace .ensures .0) (W .skip-optional-whitespace .ensures .1) .bits)
+
+take-back-requires : tie.Need-take-back-requires
+take-back-requires c κs = search needs
+
 same-length-7 : tie.Need-same-length-7
 same-length-7 c = search needs
 
 same-length-8 : tie.Need-same-length-8
 same-length-8 c = search needs
-
-returns-3 : tie.Need-returns-3
-returns-3 c = let S = c .before .before .before .before .before .before .before .before .before .before .before .before .before .before .before .before .before .before .before .before .before .before .before .before .before .before .before .before .before .before .before .before .before .before .before .before .before in
-    let W = c .before .before .before .before .before .before .before .before .before .before .before .before .before .before .before .before .before .before .before .before .before .before .before .before .before .before .before .before .before .before .before in
-    let P = c .before .before .before .before .before .before .before .before .before .before .before .before .before .before .before .before .before .before .before .before .before .before .before .before .before .before .before in
-    let N = c .before .before .before .before .before .before .before .before .before .before .before .before .before .before .before .before .before .before .before .before .before in
-    let B = c .before .before .before .before .before .before .before .before .before .before .before .before .before .before .before in
-    laws.rule-read (S .args .s .now) (S .args .at) (S .args .rules .now) (S .args .place) (S .args .tokens .now) (S .args .brackets .now) (S .args .store .now) (S .args .fill) (S .pre) (W .skip-optional-whitespace .ensures .0) (W .skip-optional-whitespace .ensures .1) (P .parse-selectors .ensures .0) (P .parse-selectors .ensures .1 .0) (P .parse-selectors .ensures .1 .1 .0) (P .parse-selectors .ensures .1 .1 .1) (N .n .given .1) (B .parse-block .ensures .0) (B .parse-block .ensures .1 .0) (B .parse-block .ensures .1 .1 .0) (B .parse-block .ensures .1 .1 .1 .0) (B .parse-block .ensures .1 .1 .1 .1 .0) (B .parse-block .ensures .1 .1 .1 .1 .1) (c .before .before .before .before .before .end .given .1) (c .before .before .put-rule-head .ensures)
-
-enum-told-2 : tie.Need-enum-told-2
-enum-told-2 c = search needs
-
-add-wipe-numbers : tie.Need-add-wipe-numbers
-add-wipe-numbers c = let S = c .before .before .before .before .before .before .before .before .before .before .before .before .before .before .before .before .before .before .before .before .before .before .before .before .before .before .before .before .before .before .before .before .before in
-    let W = c .before .before .before .before .before .before .before .before .before .before .before .before .before .before .before .before .before .before .before .before .before .before .before .before .before .before .before in
-    omega (arith, laws.rows-room (S .args .s .now) (S .args .at) (S .args .rules .now) (S .args .place) (S .args .tokens .now) (S .args .brackets .now) (S .args .store .now) (S .args .fill) (S .pre) (W .skip-optional-whitespace .ensures .0) (W .skip-optional-whitespace .ensures .1) .bits)
-
-wipe-numbers-requires : tie.Need-wipe-numbers-requires
-wipe-numbers-requires c κs = search needs
-
-wipe-bytes-requires : tie.Need-wipe-bytes-requires
-wipe-bytes-requires c κs = search needs
 
 same-length-9 : tie.Need-same-length-9
 same-length-9 c = search needs
@@ -178,33 +166,30 @@ same-length-9 c = search needs
 same-length-10 : tie.Need-same-length-10
 same-length-10 c = search needs
 
+returns-3 : tie.Need-returns-3
+returns-3 c = let S = c .before .before .before .before .before .before .before .before .before .before .before .before .before .before .before .before .before .before .before .before .before .before .before .before .before .before .before .before .before .before .before .before .before .before .before .before .before .before .before in
+    let W = c .before .before .before .before .before .before .before .before .before .before .before .before .before .before .before .before .before .before .before .before .before .before .before .before .before .before .before .before .before .before .before .before .before in
+    let P = c .before .before .before .before .before .before .before .before .before .before .before .before .before .before .before .before .before .before .before .before .before .before .before .before .before .before .before .before .before in
+    let N = c .before .before .before .before .before .before .before .before .before .before .before .before .before .before .before .before .before .before .before .before .before .before .before in
+    let B = c .before .before .before .before .before .before .before .before .before .before .before .before .before .before .before .before .before in
+    laws.block-fails (S .args .s .now) (S .args .at) (S .args .rules .now) (S .args .place) (S .args .tokens .now) (S .args .brackets .now) (S .args .store .now) (S .args .fill) (S .pre) (W .skip-optional-whitespace .ensures .0) (W .skip-optional-whitespace .ensures .1) (P .parse-selectors .ensures) (N .n .given .1) (B .parse-block .ensures) (c .before .before .before .before .before .before .before .enum-told .given .1) (c .before .before .before .before .take-back .ensures .0) (c .before .before .before .before .take-back .ensures .1)
+
+enum-known-p-2 : tie.Need-enum-known-p-2
+enum-known-p-2 c = search needs
+
+add-take-back-2 : tie.Need-add-take-back-2
+add-take-back-2 c = let S = c .before .before .before .before .before .before .before .before .before .before .before .before .before .before .before .before .before .before .before .before .before .before .before .before .before .before .before .before .before .before .before .before .before .before in
+    let W = c .before .before .before .before .before .before .before .before .before .before .before .before .before .before .before .before .before .before .before .before .before .before .before .before .before .before .before .before in
+    omega (arith, laws.rows-room (S .args .s .now) (S .args .at) (S .args .rules .now) (S .args .place) (S .args .tokens .now) (S .args .brackets .now) (S .args .store .now) (S .args .fill) (S .pre) (W .skip-optional-whitespace .ensures .0) (W .skip-optional-whitespace .ensures .1) .bits)
+
+take-back-requires-2 : tie.Need-take-back-requires-2
+take-back-requires-2 c κs = search needs
+
 same-length-11 : tie.Need-same-length-11
 same-length-11 c = search needs
 
 same-length-12 : tie.Need-same-length-12
 same-length-12 c = search needs
-
-returns-4 : tie.Need-returns-4
-returns-4 c = let S = c .before .before .before .before .before .before .before .before .before .before .before .before .before .before .before .before .before .before .before .before .before .before .before .before .before .before .before .before .before .before .before .before .before .before .before .before .before .before .before .before in
-    let W = c .before .before .before .before .before .before .before .before .before .before .before .before .before .before .before .before .before .before .before .before .before .before .before .before .before .before .before .before .before .before .before .before .before .before in
-    let P = c .before .before .before .before .before .before .before .before .before .before .before .before .before .before .before .before .before .before .before .before .before .before .before .before .before .before .before .before .before .before in
-    let N = c .before .before .before .before .before .before .before .before .before .before .before .before .before .before .before .before .before .before .before .before .before .before .before .before in
-    let B = c .before .before .before .before .before .before .before .before .before .before .before .before .before .before .before .before .before .before in
-    laws.block-fails (S .args .s .now) (S .args .at) (S .args .rules .now) (S .args .place) (S .args .tokens .now) (S .args .brackets .now) (S .args .store .now) (S .args .fill) (S .pre) (W .skip-optional-whitespace .ensures .0) (W .skip-optional-whitespace .ensures .1) (P .parse-selectors .ensures .0) (P .parse-selectors .ensures .1 .0) (P .parse-selectors .ensures .1 .1 .0) (P .parse-selectors .ensures .1 .1 .1) (N .n .given .1) (B .parse-block .ensures .0) (B .parse-block .ensures .1 .0) (B .parse-block .ensures .1 .1 .0) (B .parse-block .ensures .1 .1 .1 .0) (B .parse-block .ensures .1 .1 .1 .1 .0) (B .parse-block .ensures .1 .1 .1 .1 .1) (c .before .before .before .before .before .before .before .before .enum-told2 .given .1) (c .before .before .before .before .before .before .wipe-numbers .ensures) (c .before .before .wipe-bytes .ensures)
-
-enum-known-p-2 : tie.Need-enum-known-p-2
-enum-known-p-2 c = search needs
-
-add-wipe-numbers-2 : tie.Need-add-wipe-numbers-2
-add-wipe-numbers-2 c = let S = c .before .before .before .before .before .before .before .before .before .before .before .before .before .before .before .before .before .before .before .before .before .before .before .before .before .before .before .before .before .before .before .before .before .before in
-    let W = c .before .before .before .before .before .before .before .before .before .before .before .before .before .before .before .before .before .before .before .before .before .before .before .before .before .before .before .before in
-    omega (arith, laws.rows-room (S .args .s .now) (S .args .at) (S .args .rules .now) (S .args .place) (S .args .tokens .now) (S .args .brackets .now) (S .args .store .now) (S .args .fill) (S .pre) (W .skip-optional-whitespace .ensures .0) (W .skip-optional-whitespace .ensures .1) .bits)
-
-wipe-numbers-requires-2 : tie.Need-wipe-numbers-requires-2
-wipe-numbers-requires-2 c κs = search needs
-
-wipe-bytes-requires-2 : tie.Need-wipe-bytes-requires-2
-wipe-bytes-requires-2 c κs = search needs
 
 same-length-13 : tie.Need-same-length-13
 same-length-13 c = search needs
@@ -212,19 +197,13 @@ same-length-13 c = search needs
 same-length-14 : tie.Need-same-length-14
 same-length-14 c = search needs
 
-same-length-15 : tie.Need-same-length-15
-same-length-15 c = search needs
-
-same-length-16 : tie.Need-same-length-16
-same-length-16 c = search needs
-
-returns-5 : tie.Need-returns-5
-returns-5 c = let S = c .before .before .before .before .before .before .before .before .before .before .before .before .before .before .before .before .before .before .before .before .before .before .before .before .before .before .before .before .before .before .before .before .before .before .before .before .before .before .before .before .before in
-    let W = c .before .before .before .before .before .before .before .before .before .before .before .before .before .before .before .before .before .before .before .before .before .before .before .before .before .before .before .before .before .before .before .before .before .before .before in
-    let P = c .before .before .before .before .before .before .before .before .before .before .before .before .before .before .before .before .before .before .before .before .before .before .before .before .before .before .before .before .before .before .before in
-    let N = c .before .before .before .before .before .before .before .before .before .before .before .before .before .before .before .before .before .before .before .before .before .before .before .before .before in
-    let B = c .before .before .before .before .before .before .before .before .before .before .before .before .before .before .before .before .before .before .before in
-    laws.block-panics (S .args .s .now) (S .args .at) (S .args .rules .now) (S .args .place) (S .args .tokens .now) (S .args .brackets .now) (S .args .store .now) (S .args .fill) (S .pre) (W .skip-optional-whitespace .ensures .0) (W .skip-optional-whitespace .ensures .1) (P .parse-selectors .ensures .0) (P .parse-selectors .ensures .1 .0) (P .parse-selectors .ensures .1 .1 .0) (P .parse-selectors .ensures .1 .1 .1) (N .n .given .1) (B .parse-block .ensures .0) (B .parse-block .ensures .1 .0) (B .parse-block .ensures .1 .1 .0) (B .parse-block .ensures .1 .1 .1 .0) (B .parse-block .ensures .1 .1 .1 .1 .0) (B .parse-block .ensures .1 .1 .1 .1 .1) (c .before .before .before .before .before .before .before .before .before .p2 .given .1) (c .before .before .before .before .before .before .wipe-numbers2 .ensures) (c .before .before .wipe-bytes2 .ensures)
+returns-4 : tie.Need-returns-4
+returns-4 c = let S = c .before .before .before .before .before .before .before .before .before .before .before .before .before .before .before .before .before .before .before .before .before .before .before .before .before .before .before .before .before .before .before .before .before .before .before .before .before .before .before .before in
+    let W = c .before .before .before .before .before .before .before .before .before .before .before .before .before .before .before .before .before .before .before .before .before .before .before .before .before .before .before .before .before .before .before .before .before .before in
+    let P = c .before .before .before .before .before .before .before .before .before .before .before .before .before .before .before .before .before .before .before .before .before .before .before .before .before .before .before .before .before .before in
+    let N = c .before .before .before .before .before .before .before .before .before .before .before .before .before .before .before .before .before .before .before .before .before .before .before .before in
+    let B = c .before .before .before .before .before .before .before .before .before .before .before .before .before .before .before .before .before .before in
+    laws.block-panics (S .args .s .now) (S .args .at) (S .args .rules .now) (S .args .place) (S .args .tokens .now) (S .args .brackets .now) (S .args .store .now) (S .args .fill) (S .pre) (W .skip-optional-whitespace .ensures .0) (W .skip-optional-whitespace .ensures .1) (P .parse-selectors .ensures) (N .n .given .1) (B .parse-block .ensures) (c .before .before .before .before .before .before .before .before .p2 .given .1) (c .before .before .before .before .take-back2 .ensures .0) (c .before .before .before .before .take-back2 .ensures .1)
 
 pub parse-ruleset-spec : {M : Type 1} → statement M
 parse-ruleset-spec =
@@ -236,15 +215,11 @@ parse-ruleset-spec =
     part-parse-selectors-end
     add-parse-selectors
     parse-selectors-requires
-    enum-told
+    enum-known-p
+    add-t31
     same-length
     same-length-2
     returns
-    enum-known-p
-    add-t31
-    same-length-3
-    same-length-4
-    returns-2
     enum-known-n
     add-behind
     add-behind-2
@@ -257,26 +232,24 @@ parse-ruleset-spec =
     add-t44
     add-t47
     add-t48
+    same-length-3
+    same-length-4
     same-length-5
     same-length-6
+    returns-2
+    enum-told
+    add-take-back
+    take-back-requires
     same-length-7
     same-length-8
-    returns-3
-    enum-told-2
-    add-wipe-numbers
-    wipe-numbers-requires
-    wipe-bytes-requires
     same-length-9
     same-length-10
+    returns-3
+    enum-known-p-2
+    add-take-back-2
+    take-back-requires-2
     same-length-11
     same-length-12
-    returns-4
-    enum-known-p-2
-    add-wipe-numbers-2
-    wipe-numbers-requires-2
-    wipe-bytes-requires-2
     same-length-13
     same-length-14
-    same-length-15
-    same-length-16
-    returns-5)
+    returns-4)

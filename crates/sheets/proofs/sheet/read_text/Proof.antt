@@ -1,4 +1,4 @@
--- The stores are cleared, so that they are zero whatever they held; the answer is that of the reader.
+-- The stores are cleared, so that the sheet has room and what is left of it is the definition.
 use Rattle.sheets.proofs.SheetLaws as laws
 use borrow.Author.Needs.{needs}
 use Rattle.sheets.proofs.sheet.read_text.Statement.{statement}
@@ -31,10 +31,10 @@ returns : tie.Need-returns
 returns c = let q = c .before .before .before .before .before .before .before .before .before .before .before in
     let m = q .before .before .before .before .before .before .before .before .before .before .before .before .before in
     let S = m .before .before .before .before .before .before .before .before .before .before in
-    laws.sheet-read (S .pre) (m .clear-stores .ensures .0) (m .clear-stores .ensures .1 .0) (m .clear-stores .ensures .1 .1 .0) (m .clear-stores .ensures .1 .1 .1) (q .parse-stylesheet .ensures .0) (q .parse-stylesheet .ensures .1 .0) (q .parse-stylesheet .ensures .1 .1 .0) (q .parse-stylesheet .ensures .1 .1 .1 .0) (q .parse-stylesheet .ensures .1 .1 .1 .1 .0) (q .parse-stylesheet .ensures .1 .1 .1 .1 .1) (c .before .stop .given .1)
+    laws.sheet-read (S .pre) (m .clear-stores .ensures .0) (m .clear-stores .ensures .1 .0) (m .clear-stores .ensures .1 .1 .0) (m .clear-stores .ensures .1 .1 .1) (q .parse-stylesheet .ensures .0) (q .parse-stylesheet .ensures .1 .0) (q .parse-stylesheet .ensures .1 .1 .0) (q .parse-stylesheet .ensures .1 .1 .1 .0) (q .parse-stylesheet .ensures .1 .1 .1 .1) (c .before .stop .given .1)
 
-enum-told : tie.Need-enum-told
-enum-told c = search needs
+enum-known-p : tie.Need-enum-known-p
+enum-known-p c = search needs
 
 same-length-5 : tie.Need-same-length-5
 same-length-5 c = search needs
@@ -49,31 +49,10 @@ same-length-8 : tie.Need-same-length-8
 same-length-8 c = search needs
 
 returns-2 : tie.Need-returns-2
-returns-2 c = let q = c .before .before .before .before .before .before .before .before .before .before in
+returns-2 c = let q = c .before .before .before .before .before .before .before .before .before .before .before in
     let m = q .before .before .before .before .before .before .before .before .before .before .before .before .before in
     let S = m .before .before .before .before .before .before .before .before .before .before in
-    laws.sheet-fails (S .pre) (m .clear-stores .ensures .0) (m .clear-stores .ensures .1 .0) (m .clear-stores .ensures .1 .1 .0) (m .clear-stores .ensures .1 .1 .1) (q .parse-stylesheet .ensures .0) (q .parse-stylesheet .ensures .1 .0) (q .parse-stylesheet .ensures .1 .1 .0) (q .parse-stylesheet .ensures .1 .1 .1 .0) (q .parse-stylesheet .ensures .1 .1 .1 .1 .0) (q .parse-stylesheet .ensures .1 .1 .1 .1 .1) (c .enum-told .given .1)
-
-enum-known-p : tie.Need-enum-known-p
-enum-known-p c = search needs
-
-same-length-9 : tie.Need-same-length-9
-same-length-9 c = search needs
-
-same-length-10 : tie.Need-same-length-10
-same-length-10 c = search needs
-
-same-length-11 : tie.Need-same-length-11
-same-length-11 c = search needs
-
-same-length-12 : tie.Need-same-length-12
-same-length-12 c = search needs
-
-returns-3 : tie.Need-returns-3
-returns-3 c = let q = c .before .before .before .before .before .before .before .before .before .before .before in
-    let m = q .before .before .before .before .before .before .before .before .before .before .before .before .before in
-    let S = m .before .before .before .before .before .before .before .before .before .before in
-    laws.sheet-panics (S .pre) (m .clear-stores .ensures .0) (m .clear-stores .ensures .1 .0) (m .clear-stores .ensures .1 .1 .0) (m .clear-stores .ensures .1 .1 .1) (q .parse-stylesheet .ensures .0) (q .parse-stylesheet .ensures .1 .0) (q .parse-stylesheet .ensures .1 .1 .0) (q .parse-stylesheet .ensures .1 .1 .1 .0) (q .parse-stylesheet .ensures .1 .1 .1 .1 .0) (q .parse-stylesheet .ensures .1 .1 .1 .1 .1) (c .before .p .given .1)
+    laws.sheet-panics (S .pre) (m .clear-stores .ensures .0) (m .clear-stores .ensures .1 .0) (m .clear-stores .ensures .1 .1 .0) (m .clear-stores .ensures .1 .1 .1) (q .parse-stylesheet .ensures .0) (q .parse-stylesheet .ensures .1 .0) (q .parse-stylesheet .ensures .1 .1 .0) (q .parse-stylesheet .ensures .1 .1 .1 .0) (q .parse-stylesheet .ensures .1 .1 .1 .1) (c .before .p .given .1)
 
 pub read-text-spec : {M : Type 1} → statement M
 read-text-spec =
@@ -87,15 +66,9 @@ read-text-spec =
     same-length-3
     same-length-4
     returns
-    enum-told
+    enum-known-p
     same-length-5
     same-length-6
     same-length-7
     same-length-8
-    returns-2
-    enum-known-p
-    same-length-9
-    same-length-10
-    same-length-11
-    same-length-12
-    returns-3)
+    returns-2)

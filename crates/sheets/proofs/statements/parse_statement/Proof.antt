@@ -25,7 +25,7 @@ same-length-4 c = search needs
 returns : tie.Need-returns
 returns c = let S = c .before .before .before .before .before .before .before .before .before .before .before .before .before .before .before .before .before .before .before .before .before in
     let R = c .before .before .before .before .before .before .before .before .before .before .before in
-    laws.rule-stated (S .args .s .now) (S .args .at) (S .args .rules .now) (S .args .place) (S .args .tokens .now) (S .args .brackets .now) (S .args .store .now) (S .args .fill) (S .pre) (R .parse-ruleset .ensures .0) (R .parse-ruleset .ensures .1 .0) (R .parse-ruleset .ensures .1 .1 .0) (R .parse-ruleset .ensures .1 .1 .1 .0) (R .parse-ruleset .ensures .1 .1 .1 .1 .0) (R .parse-ruleset .ensures .1 .1 .1 .1 .1) (c .before .n .given .1)
+    laws.rule-stated (S .args .s .now) (S .args .at) (S .args .rules .now) (S .args .place) (S .args .tokens .now) (S .args .brackets .now) (S .args .store .now) (S .args .fill) (S .pre) (R .parse-ruleset .ensures) (c .before .n .given .1)
 
 enum-known-p : tie.Need-enum-known-p
 enum-known-p c = search needs
@@ -45,7 +45,7 @@ same-length-8 c = search needs
 returns-2 : tie.Need-returns-2
 returns-2 c = let S = c .before .before .before .before .before .before .before .before .before .before .before .before .before .before .before .before .before .before .before .before .before in
     let R = c .before .before .before .before .before .before .before .before .before .before .before in
-    laws.panic-stated (S .args .s .now) (S .args .at) (S .args .rules .now) (S .args .place) (S .args .tokens .now) (S .args .brackets .now) (S .args .store .now) (S .args .fill) (S .pre) (R .parse-ruleset .ensures .0) (R .parse-ruleset .ensures .1 .0) (R .parse-ruleset .ensures .1 .1 .0) (R .parse-ruleset .ensures .1 .1 .1 .0) (R .parse-ruleset .ensures .1 .1 .1 .1 .0) (R .parse-ruleset .ensures .1 .1 .1 .1 .1) (c .before .p .given .1)
+    laws.panic-stated (S .args .s .now) (S .args .at) (S .args .rules .now) (S .args .place) (S .args .tokens .now) (S .args .brackets .now) (S .args .store .now) (S .args .fill) (S .pre) (R .parse-ruleset .ensures) (c .before .p .given .1)
 
 enum-told : tie.Need-enum-told
 enum-told c = search needs
@@ -53,7 +53,7 @@ enum-told c = search needs
 parse-at-rule-requires : tie.Need-parse-at-rule-requires
 parse-at-rule-requires c κs = let S = c .before .before .before .before .before .before .before .before .before .before .before .before .before .before .before .before .before .before .before .before .before .before .before in
     let R = c .before .before .before .before .before .before .before .before .before .before .before .before .before in
-    laws.at-room (S .args .s .now) (S .args .at) (S .args .rules .now) (S .args .place) (S .args .tokens .now) (S .args .brackets .now) (S .args .store .now) (S .args .fill) (S .pre) (R .parse-ruleset .ensures .0) (R .parse-ruleset .ensures .1 .0) (R .parse-ruleset .ensures .1 .1 .0) (R .parse-ruleset .ensures .1 .1 .1 .0) (R .parse-ruleset .ensures .1 .1 .1 .1 .0) (R .parse-ruleset .ensures .1 .1 .1 .1 .1) (c .before .before .before .enum-told .given .1)
+    laws.at-room (S .args .s .now) (S .args .at) (S .args .rules .now) (S .args .place) (S .args .tokens .now) (S .args .brackets .now) (S .args .store .now) (S .args .fill) (S .pre) (R .parse-ruleset .ensures) (c .before .before .before .enum-told .given .1)
 
 same-length-9 : tie.Need-same-length-9
 same-length-9 c = search needs
@@ -71,7 +71,7 @@ returns-3 : tie.Need-returns-3
 returns-3 c = let S = c .before .before .before .before .before .before .before .before .before .before .before .before .before .before .before .before .before .before .before .before .before .before .before .before .before .before .before .before .before .before in
     let R = c .before .before .before .before .before .before .before .before .before .before .before .before .before .before .before .before .before .before .before .before in
     let A = c .before .before .before .before .before .before in
-    laws.at-stated (S .args .s .now) (S .args .at) (S .args .rules .now) (S .args .place) (S .args .tokens .now) (S .args .brackets .now) (S .args .store .now) (S .args .fill) (S .pre) (R .parse-ruleset .ensures .0) (R .parse-ruleset .ensures .1 .0) (R .parse-ruleset .ensures .1 .1 .0) (R .parse-ruleset .ensures .1 .1 .1 .0) (R .parse-ruleset .ensures .1 .1 .1 .1 .0) (R .parse-ruleset .ensures .1 .1 .1 .1 .1) (c .before .before .before .before .before .before .before .before .before .before .enum-told .given .1) (A .parse-at-rule .ensures .0) (A .parse-at-rule .ensures .1 .0) (A .parse-at-rule .ensures .1 .1 .0) (A .parse-at-rule .ensures .1 .1 .1 .0) (A .parse-at-rule .ensures .1 .1 .1 .1 .0) (A .parse-at-rule .ensures .1 .1 .1 .1 .1)
+    laws.at-stated (S .args .s .now) (S .args .at) (S .args .rules .now) (S .args .place) (S .args .tokens .now) (S .args .brackets .now) (S .args .store .now) (S .args .fill) (S .pre) (R .parse-ruleset .ensures) (c .before .before .before .before .before .before .before .before .before .before .enum-told .given .1) (A .parse-at-rule .ensures)
 
 pub parse-statement-spec : {M : Type 1} → statement M
 parse-statement-spec =

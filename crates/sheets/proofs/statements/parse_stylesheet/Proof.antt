@@ -1,4 +1,4 @@
--- What is gathered and what is left from the byte on give the whole; a statement takes a byte, so the loop ends.
+-- What was read and what is still to be read make up the whole at each turn (`Reading-on`); each return is the law of its case.
 use mathlib.Core.Path.{_≡_, ap, _∙_}
 use Prim.Native.Nat.{_-_}
 use native.Mathlib.Omega.{arith}
@@ -61,42 +61,42 @@ add-taken c = let p = c .before .before .before .before .before .before .before 
     let i = test-of p in
     let q = i .before in
     let S = start-of q in
-    omega (arith, S .pre .work .text-bits, laws.next-fits (q .loop .inv) (i .loop-test .taken) (S .pre) (p .parse-statement .ensures .0) (p .parse-statement .ensures .1 .0) (p .parse-statement .ensures .1 .1 .0) (p .parse-statement .ensures .1 .1 .1 .0) (p .parse-statement .ensures .1 .1 .1 .1 .0) (p .parse-statement .ensures .1 .1 .1 .1 .1 .0) (c .before .n .given .1) (p .parse-statement .ensures .1 .1 .1 .1 .1 .1))
+    omega (arith, S .pre .work .text-bits, laws.next-fits (q .loop .inv) (i .loop-test .taken) (S .pre) (p .parse-statement .ensures) (c .before .n .given .1))
 
 add-count : tie.Need-add-count Inv-loop μ-loop
 add-count c = let p = c .before .before .before .before .before .before .before .before .before .before .before in
     let i = test-of p in
     let q = i .before in
     let S = start-of q in
-    omega (arith, S .pre .work .text-bits, laws.next-fits (q .loop .inv) (i .loop-test .taken) (S .pre) (p .parse-statement .ensures .0) (p .parse-statement .ensures .1 .0) (p .parse-statement .ensures .1 .1 .0) (p .parse-statement .ensures .1 .1 .1 .0) (p .parse-statement .ensures .1 .1 .1 .1 .0) (p .parse-statement .ensures .1 .1 .1 .1 .1 .0) (c .before .n .given .1) (p .parse-statement .ensures .1 .1 .1 .1 .1 .1), laws.next-count (q .loop .inv) (i .loop-test .taken) (S .pre) (p .parse-statement .ensures .0) (p .parse-statement .ensures .1 .0) (p .parse-statement .ensures .1 .1 .0) (p .parse-statement .ensures .1 .1 .1 .0) (p .parse-statement .ensures .1 .1 .1 .1 .0) (p .parse-statement .ensures .1 .1 .1 .1 .1 .0) (c .before .n .given .1) (p .parse-statement .ensures .1 .1 .1 .1 .1 .1))
+    omega (arith, S .pre .work .text-bits, laws.next-fits (q .loop .inv) (i .loop-test .taken) (S .pre) (p .parse-statement .ensures) (c .before .n .given .1), laws.next-count (q .loop .inv) (i .loop-test .taken) (S .pre) (p .parse-statement .ensures) (c .before .n .given .1))
 
 add-numbers : tie.Need-add-numbers Inv-loop μ-loop
 add-numbers c = let p = c .before .before .before .before .before .before .before .before .before .before .before in
     let i = test-of p in
     let q = i .before in
     let S = start-of q in
-    omega (arith, S .pre .work .text-bits, laws.next-fits (q .loop .inv) (i .loop-test .taken) (S .pre) (p .parse-statement .ensures .0) (p .parse-statement .ensures .1 .0) (p .parse-statement .ensures .1 .1 .0) (p .parse-statement .ensures .1 .1 .1 .0) (p .parse-statement .ensures .1 .1 .1 .1 .0) (p .parse-statement .ensures .1 .1 .1 .1 .1 .0) (c .before .n .given .1) (p .parse-statement .ensures .1 .1 .1 .1 .1 .1), laws.next-numbers (q .loop .inv) (i .loop-test .taken) (S .pre) (p .parse-statement .ensures .0) (p .parse-statement .ensures .1 .0) (p .parse-statement .ensures .1 .1 .0) (p .parse-statement .ensures .1 .1 .1 .0) (p .parse-statement .ensures .1 .1 .1 .1 .0) (p .parse-statement .ensures .1 .1 .1 .1 .1 .0) (c .before .n .given .1) (p .parse-statement .ensures .1 .1 .1 .1 .1 .1))
+    omega (arith, S .pre .work .text-bits, laws.next-fits (q .loop .inv) (i .loop-test .taken) (S .pre) (p .parse-statement .ensures) (c .before .n .given .1), laws.next-numbers (q .loop .inv) (i .loop-test .taken) (S .pre) (p .parse-statement .ensures) (c .before .n .given .1))
 
 add-text : tie.Need-add-text Inv-loop μ-loop
 add-text c = let p = c .before .before .before .before .before .before .before .before .before .before .before in
     let i = test-of p in
     let q = i .before in
     let S = start-of q in
-    omega (arith, S .pre .work .text-bits, laws.next-fits (q .loop .inv) (i .loop-test .taken) (S .pre) (p .parse-statement .ensures .0) (p .parse-statement .ensures .1 .0) (p .parse-statement .ensures .1 .1 .0) (p .parse-statement .ensures .1 .1 .1 .0) (p .parse-statement .ensures .1 .1 .1 .1 .0) (p .parse-statement .ensures .1 .1 .1 .1 .1 .0) (c .before .n .given .1) (p .parse-statement .ensures .1 .1 .1 .1 .1 .1), laws.next-text (q .loop .inv) (i .loop-test .taken) (S .pre) (p .parse-statement .ensures .0) (p .parse-statement .ensures .1 .0) (p .parse-statement .ensures .1 .1 .0) (p .parse-statement .ensures .1 .1 .1 .0) (p .parse-statement .ensures .1 .1 .1 .1 .0) (p .parse-statement .ensures .1 .1 .1 .1 .1 .0) (c .before .n .given .1) (p .parse-statement .ensures .1 .1 .1 .1 .1 .1))
+    omega (arith, S .pre .work .text-bits, laws.next-fits (q .loop .inv) (i .loop-test .taken) (S .pre) (p .parse-statement .ensures) (c .before .n .given .1), laws.next-text (q .loop .inv) (i .loop-test .taken) (S .pre) (p .parse-statement .ensures) (c .before .n .given .1))
 
 loop-less : tie.Need-loop-less Inv-loop μ-loop
 loop-less c = let p = c .before .before .before .before .before .before .before .before .before .before .before in
     let i = test-of p in
     let q = i .before in
     let S = start-of q in
-    omega (arith, laws.next-fits (q .loop .inv) (i .loop-test .taken) (S .pre) (p .parse-statement .ensures .0) (p .parse-statement .ensures .1 .0) (p .parse-statement .ensures .1 .1 .0) (p .parse-statement .ensures .1 .1 .1 .0) (p .parse-statement .ensures .1 .1 .1 .1 .0) (p .parse-statement .ensures .1 .1 .1 .1 .1 .0) (c .before .n .given .1) (p .parse-statement .ensures .1 .1 .1 .1 .1 .1), laws.next-later (q .loop .inv) (i .loop-test .taken) (S .pre) (p .parse-statement .ensures .0) (p .parse-statement .ensures .1 .0) (p .parse-statement .ensures .1 .1 .0) (p .parse-statement .ensures .1 .1 .1 .0) (p .parse-statement .ensures .1 .1 .1 .1 .0) (p .parse-statement .ensures .1 .1 .1 .1 .1 .0) (c .before .n .given .1) (p .parse-statement .ensures .1 .1 .1 .1 .1 .1))
+    omega (arith, laws.next-fits (q .loop .inv) (i .loop-test .taken) (S .pre) (p .parse-statement .ensures) (c .before .n .given .1), laws.next-later (q .loop .inv) (i .loop-test .taken) (S .pre) (p .parse-statement .ensures) (c .before .n .given .1))
 
 loop-again : tie.Need-loop-again Inv-loop μ-loop
 loop-again c = let p = c .before .before .before .before .before .before .before .before .before .before .before in
     let i = test-of p in
     let q = i .before in
     let S = start-of q in
-    laws.goes (q .loop .inv) (i .loop-test .taken) (S .pre) (p .parse-statement .ensures .0) (p .parse-statement .ensures .1 .0) (p .parse-statement .ensures .1 .1 .0) (p .parse-statement .ensures .1 .1 .1 .0) (p .parse-statement .ensures .1 .1 .1 .1 .0) (p .parse-statement .ensures .1 .1 .1 .1 .1 .0) (c .before .n .given .1) (p .parse-statement .ensures .1 .1 .1 .1 .1 .1)
+    laws.goes (q .loop .inv) (i .loop-test .taken) (S .pre) (p .parse-statement .ensures) (c .before .n .given .1)
 
 enum-told : tie.Need-enum-told Inv-loop μ-loop
 enum-told c = search needs
@@ -118,42 +118,39 @@ returns c = let p = c .before .before .before .before .before .before .before .b
     let i = test-of p in
     let q = i .before in
     let S = start-of q in
-    laws.no-more (q .loop .inv) (i .loop-test .taken) (S .pre) (p .parse-statement .ensures .0) (p .parse-statement .ensures .1 .0) (p .parse-statement .ensures .1 .1 .0) (p .parse-statement .ensures .1 .1 .1 .0) (p .parse-statement .ensures .1 .1 .1 .1 .0) (p .parse-statement .ensures .1 .1 .1 .1 .1 .0) (c .enum-told .given .1)
+    laws.no-more (q .loop .inv) (i .loop-test .taken) (S .pre) (p .parse-statement .ensures) (c .enum-told .given .1)
 
 enum-known-p : tie.Need-enum-known-p Inv-loop μ-loop
 enum-known-p c = search needs
 
-wipe-numbers-requires : tie.Need-wipe-numbers-requires Inv-loop μ-loop
-wipe-numbers-requires c κs = search needs
-
-wipe-bytes-requires : tie.Need-wipe-bytes-requires Inv-loop μ-loop
-wipe-bytes-requires c κs = search needs
+take-back-requires : tie.Need-take-back-requires Inv-loop μ-loop
+take-back-requires c κs = search needs
 
 add-t34 : tie.Need-add-t34 Inv-loop μ-loop
-add-t34 c = let p = c .before .before .before .before .before .before .before .before .before .before .before .before .before .before .before .before .before .before .before in
+add-t34 c = let p = c .before .before .before .before .before .before .before .before .before .before .before .before .before .before .before .before .before .before in
     let i = test-of p in
     let q = i .before in
     let S = start-of q in
-    omega (arith, S .pre .work .text-bits, laws.panic-fits (q .loop .inv) (i .loop-test .taken) (S .pre) (p .parse-statement .ensures .0) (p .parse-statement .ensures .1 .0) (p .parse-statement .ensures .1 .1 .0) (p .parse-statement .ensures .1 .1 .1 .0) (p .parse-statement .ensures .1 .1 .1 .1 .0) (p .parse-statement .ensures .1 .1 .1 .1 .1 .0) (c .before .before .before .before .before .before .before .before .before .p .given .1))
+    omega (arith, S .pre .work .text-bits, laws.panic-fits (q .loop .inv) (i .loop-test .taken) (S .pre) (p .parse-statement .ensures) (c .before .before .before .before .before .before .before .before .p .given .1))
 
 same-length-5 : tie.Need-same-length-5 Inv-loop μ-loop
-same-length-5 c = c .before .before .before .before .before .before .wipe-numbers .kept .0 ∙ rules-long (c .before .before .before .before .before .before .before .before .before .before .before .before .before .before .before .before .before .before .before)
+same-length-5 c = c .before .before .before .before .take-back .kept .0 ∙ rules-long (c .before .before .before .before .before .before .before .before .before .before .before .before .before .before .before .before .before .before)
 
 same-length-6 : tie.Need-same-length-6 Inv-loop μ-loop
-same-length-6 c = tokens-long (c .before .before .before .before .before .before .before .before .before .before .before .before .before .before .before .before .before .before .before)
+same-length-6 c = tokens-long (c .before .before .before .before .before .before .before .before .before .before .before .before .before .before .before .before .before .before)
 
 same-length-7 : tie.Need-same-length-7 Inv-loop μ-loop
-same-length-7 c = brackets-long (c .before .before .before .before .before .before .before .before .before .before .before .before .before .before .before .before .before .before .before)
+same-length-7 c = brackets-long (c .before .before .before .before .before .before .before .before .before .before .before .before .before .before .before .before .before .before)
 
 same-length-8 : tie.Need-same-length-8 Inv-loop μ-loop
-same-length-8 c = c .before .before .wipe-bytes .kept .0 ∙ store-long (c .before .before .before .before .before .before .before .before .before .before .before .before .before .before .before .before .before .before .before)
+same-length-8 c = c .before .before .before .before .take-back .kept .1 .1 .1 .0 ∙ store-long (c .before .before .before .before .before .before .before .before .before .before .before .before .before .before .before .before .before .before)
 
 returns-2 : tie.Need-returns-2 Inv-loop μ-loop
-returns-2 c = let p = c .before .before .before .before .before .before .before .before .before .before .before .before .before .before .before .before .before .before .before in
+returns-2 c = let p = c .before .before .before .before .before .before .before .before .before .before .before .before .before .before .before .before .before .before in
     let i = test-of p in
     let q = i .before in
     let S = start-of q in
-    laws.panicked (q .loop .inv) (i .loop-test .taken) (S .pre) (p .parse-statement .ensures .0) (p .parse-statement .ensures .1 .0) (p .parse-statement .ensures .1 .1 .0) (p .parse-statement .ensures .1 .1 .1 .0) (p .parse-statement .ensures .1 .1 .1 .1 .0) (p .parse-statement .ensures .1 .1 .1 .1 .1 .0) (c .before .before .before .before .before .before .before .before .before .p .given .1) (c .before .before .before .before .before .before .wipe-numbers .ensures) (c .before .before .wipe-bytes .ensures)
+    laws.panics-left (q .loop .inv) (i .loop-test .taken) (S .pre) (p .parse-statement .ensures) (c .before .before .before .before .before .before .before .before .p .given .1) (c .before .before .before .before .take-back .ensures .0) (c .before .before .before .before .take-back .ensures .1)
 
 same-length-9 : tie.Need-same-length-9 Inv-loop μ-loop
 same-length-9 c = laws.rules-kept (c .before .loop .inv)
@@ -195,8 +192,7 @@ parse-stylesheet-spec =
     same-length-4
     returns
     enum-known-p
-    wipe-numbers-requires
-    wipe-bytes-requires
+    take-back-requires
     add-t34
     same-length-5
     same-length-6

@@ -1,8 +1,8 @@
 -- A component that is not kept leaves the rows as they were.
 use Rattle.selectors.proofs.SelectorLaws as laws
 use borrow.Author.Needs.{needs}
-use Rattle.selectors.proofs.selectors.put_first.Statement.{statement}
-use Rattle.selectors.proofs.selectors.put_first.Tie as tie
+use Rattle.selectors.proofs.selectors.put_kept.Statement.{statement}
+use Rattle.selectors.proofs.selectors.put_kept.Tie as tie
 
 returns : tie.Need-returns
 returns c = laws.put-none _ _ _ _ (c .if1 .taken)
@@ -16,5 +16,5 @@ same-length c = search needs
 returns-2 : tie.Need-returns-2
 returns-2 c = laws.put-one _ _ _ _ _ (c .before .before .before .before .if1 .left) (c .before .before .put-component .ensures)
 
-pub put-first-spec : {M : Type 1} → statement M
-put-first-spec = tie.close (tie.spec returns put-component-requires same-length returns-2)
+pub put-kept-spec : {M : Type 1} → statement M
+put-kept-spec = tie.close (tie.spec returns put-component-requires same-length returns-2)
