@@ -20,15 +20,13 @@ use Rattle.syntax.specs.Signed.{signedNumber}
 use Rattle.selectors.specs.Outcome.{Outcome, reads, fails, panics, onOutcome, orElse}
 use Rattle.selectors.specs.Selector as selector
 use Rattle.selectors.specs.Selector.{isMinus, signTaken, greatest, digitsWorth, converted, bothOf, justA, justB, worded, nthOf, nthArgsOf}
-use Rattle.selectors.specs.NthAnswer.{nthAnswer, greatestSigned, nthPlace, nthFirst, nthSecond, NthBounds}
-use Rattle.selectors.specs.declared.nth.NthAnswer.{NthAnswer}
+use Rattle.selectors.specs.NthAnswer.{greatestSigned}
+use Rattle.selectors.proofs.AllLaws.{Where, where-else}
 use Rattle.selectors.proofs.NthNumbers.{sign-same, signed-le}
 
 -- where it reads or panics
 abbrev pub NthKeeps : List ℕ → Outcome selector.Nth → Type 0
-NthKeeps s (reads n x) = (n ≤ length s) × (signedNumber (x .a) ≤ greatestSigned) × (signedNumber (x .b) ≤ greatestSigned)
-NthKeeps s fails = Unit
-NthKeeps s (panics p) = p ≤ length s
+NthKeeps s o = Where (length s) (λ n x. (n ≤ length s) × (signedNumber (x .a) ≤ greatestSigned) × (signedNumber (x .b) ≤ greatestSigned)) o
 
 -- what holds of every case of an outcome
 pub on-outcome : {A B : Type 0} (P : B → Type 0) (o : Outcome A) (f : ℕ → A → B) (b : B) (g : ℕ → B)
@@ -40,10 +38,7 @@ on-outcome P (panics p) f b g h i j = j p refl
 
 -- what holds of two alternatives
 or-keeps : (s : List ℕ) (o o′ : Outcome selector.Nth) → NthKeeps s o → NthKeeps s o′ → NthKeeps s (orElse o o′)
-unfolding orElse
-or-keeps s (reads n x) o′ h i = h
-or-keeps s fails o′ h i = i
-or-keeps s (panics p) o′ h i = h
+or-keeps s o o′ h k = where-else (length s) (λ n x. (n ≤ length s) × (signedNumber (x .a) ≤ greatestSigned) × (signedNumber (x .b) ≤ greatestSigned)) o o′ h k
 
 -- a number that is converted fits
 converted-keeps : (s t : List ℕ) (i n : ℕ) (minus : Bool) (f : ℤ → Outcome selector.Nth) → ((z : ℤ) → signedNumber z ≤ greatestSigned → NthKeeps s (f z)) → i ≤ length s
@@ -135,13 +130,3 @@ args-keeps s =
     (λ f. let l = byte-there s (w + n + skipWhitespace (drop (w + n) s)) ascii.rightParenthesis (omega arith) f in (omega arith, k .1, k .2)) (λ _. tt))
     tt (λ p eo. let k = nth-from s w h (panics p) eo in omega arith))
     (λ _. tt)
-
--- ---- the bounds of an answer
-bounded-by : (s : List ℕ) (o : Outcome selector.Nth) → NthKeeps s o → NthBounds s (nthAnswer o)
-unfolding nthAnswer onOutcome nthPlace nthFirst nthSecond
-bounded-by s (reads n x) h = record { place = h .0; first = h .1; second = h .2 }
-bounded-by s fails h = record { place = omega arith; first = omega arith; second = omega arith }
-bounded-by s (panics p) h = record { place = h; first = omega arith; second = omega arith }
-
-pub nth-bounded : (s : List ℕ) (o : Outcome selector.Nth) → NthKeeps s o → (r : NthAnswer) → r ≡ nthAnswer o → NthBounds s r
-nth-bounded s o h r e = rw e (bounded-by s o h)

@@ -27,15 +27,16 @@ use Rattle.values.specs.declared.colours.NumberAnswer.the-variants.{Number, NoN
 use Rattle.selectors.specs.Outcome.{Outcome, reads, fails, panics, onOutcome, orElse}
 use Rattle.selectors.specs.Selector as selector
 use Rattle.selectors.specs.Selector.{isMinus, isSign, signTaken, signed, greatest, digitsWorth, converted, bothOf, justA, justB, worded, nthOf, nthArgsOf}
-use Rattle.selectors.specs.NthAnswer.{nthAnswer, integerBy, integerOf, nthPlace, NthBounds}
+use Rattle.selectors.specs.NthAnswer.{nthAnswer, integerBy, integerOf}
 use Rattle.selectors.specs.declared.nth.NthAnswer.{NthAnswer}
 use Rattle.selectors.specs.declared.nth.NthAnswer.the-variants.{Nth, NoNth, Panic}
 use Rattle.selectors.specs.declared.nth.SignedInteger.{SignedInteger}
 use Rattle.selectors.proofs.nth.NthAnswer.{the-type}
 use Rattle.selectors.proofs.NthNumbers.{number-fits, number-over, goes-on, stops}
-use Rattle.selectors.proofs.NthKeeps.{nth-keeps, args-keeps, nth-bounded}
+use Rattle.selectors.proofs.NthKeeps.{nth-keeps}
+use Rattle.selectors.proofs.AllLaws.{where-read, where-panics}
 
--- ---- answers
+-- the bounds of what was read
 module _ (o : Outcome selector.Nth) where
   -- an argument that reads is answered with its bytes and its two numbers
   answer-nth : (n : ℕ) (x y : ℤ) → reads n (record { a = x; b = y }) ≡ o → (a b : ℕ) → a ≡ signedNumber x → b ≡ signedNumber y → Nth n a b ≡ nthAnswer o
@@ -273,7 +274,7 @@ module _ (s : List ℕ) (x : SignedInteger) (ex : x ≡ integerOf s) (t : Bool) 
   both-none e =
       (answer-none _ (pick-false _ _ _ _ (and-left _ _ (told _ _ _ et e)) refl ∙ sym (both-is s (x .taken) (taken-is s x ex) _ refl)))
 
-  -- it is there
+  -- then white space up to w, and the reading from there on
   module _ (e : t ≡ true) (p : ℕ) (ep : p ≡ x .taken + 1 + skipWhitespace (drop (x .taken + 1) s)) (y : SignedInteger)
       (ey : y ≡ integerOf (take (length s - p) (drop p s))) where
     -- the places of the definition are those of the code
@@ -345,7 +346,7 @@ or-second o o′ e r h = go o (not-read o e)
     go : (o : Outcome selector.Nth) → o ≡ fails → r ≡ nthAnswer (orElse o o′)
     go o e = rw e h
 
--- a word
+-- the bounds of what was read
 module _ (s word : List ℕ) (x y : ℤ) (t : Bool) (et : t ≡ startsWith word s) where
   -- a word that is there is read with its numbers
   word-there : t ≡ true → (a b : ℕ) → a ≡ signedNumber x → b ≡ signedNumber y → Nth (length word) a b ≡ nthAnswer (worded s word x y)
@@ -424,31 +425,11 @@ module _ (s : List ℕ) (t : Bool) (et : t ≡ startsWith (0x65 ∷ 0x76 ∷ 0x6
         nth-b h x ex = no-both x (or-second _ _ (sym h ∙ er′) x ex)
 
 -- ---- the returns of `parse_nth_child_args`
--- the bounds of what was read
-module _ (s : List ℕ) (n a b : ℕ) (h : NthBounds s (Nth n a b)) where
-  -- it lies within the text
-  pub nth-place : n ≤ length s
-  unfolding nthPlace
-  nth-place = h .place
-
--- a panic lies within the text
-pub panic-place : (s : List ℕ) (p : ℕ) → NthBounds s (Panic p) → p ≤ length s
-unfolding nthPlace
-panic-place s p h = h .place
-
--- an answer and its bounds
-abbrev Bounded : List ℕ → NthAnswer → Type 0
-Bounded s r = (r ≡ nthAnswer (nthArgsOf s)) × NthBounds s r
-
--- both follow from the answer
-bounded : (s : List ℕ) (r : NthAnswer) → r ≡ nthAnswer (nthArgsOf s) → Bounded s r
-bounded s r e = (e, nth-bounded s _ (args-keeps s) r e)
-
 module _ (s : List ℕ) (t : Bool) (et : t ≡ is (getD s 0 0) ascii.leftParenthesis) where
   -- without an opening bracket there are no arguments
-  pub args-none : t ≡ false → Bounded s NoNth
+  pub args-none : t ≡ false → NoNth ≡ nthAnswer (nthArgsOf s)
   unfolding nthArgsOf
-  args-none e = bounded s _ (answer-none _ (pick-false _ _ _ _ (told _ _ _ et e) refl))
+  args-none e = answer-none _ (pick-false _ _ _ _ (told _ _ _ et e) refl)
 
   -- a bracket is there
   pub bracket-there : t ≡ true → 1 ≤ length s
@@ -460,10 +441,6 @@ module _ (s : List ℕ) (t : Bool) (et : t ≡ is (getD s 0 0) ascii.leftParenth
     -- of the rest of the text
     lent : r ≡ nthAnswer (nthOf (drop w s))
     lent = er ∙ ap (λ (u : List ℕ). nthAnswer (nthOf u)) (rest s w)
-
-    -- the answer is within its bounds
-    kept : NthBounds (drop w s) r
-    kept = nth-bounded (drop w s) _ (nth-keeps (drop w s)) r lent
 
     -- the definition where nothing is read
     args-fail : nthOf (drop w s) ≡ fails → fails ≡ nthArgsOf s
@@ -482,34 +459,34 @@ module _ (s : List ℕ) (t : Bool) (et : t ≡ is (getD s 0 0) ascii.leftParenth
     args-by n x h end q = rw (told _ _ _ et e, ← ew, h, q)
 
     -- where no argument was read there are none
-    pub args-not-read : r ≡ NoNth → Bounded s NoNth
-    args-not-read h = bounded s _ (answer-none _ (args-fail (not-read _ (sym h ∙ lent))))
+    pub args-not-read : r ≡ NoNth → NoNth ≡ nthAnswer (nthArgsOf s)
+    args-not-read h = answer-none _ (args-fail (not-read _ (sym h ∙ lent)))
 
     module _ (p : ℕ) (h : r ≡ Panic p) where
       -- it panics within the text
       pub args-panic-le : w + p ≤ length s
-      args-panic-le = omega (arith, panic-place (drop w s) p (rw h at kept), length-drop w s)
+      args-panic-le = omega (arith, where-panics (length (drop w s)) _ _ p (panic-read _ p (sym h ∙ lent)) (nth-keeps (drop w s)), length-drop w s)
 
       -- where the crate panics the place counts from the bracket
-      pub args-panic : Bounded s (Panic (w + p))
-      args-panic = bounded s _ (answer-panic _ _ (args-panics p (panic-read _ p (sym h ∙ lent))))
+      pub args-panic : Panic (w + p) ≡ nthAnswer (nthArgsOf s)
+      args-panic = answer-panic _ _ (args-panics p (panic-read _ p (sym h ∙ lent)))
 
     module _ (n a b : ℕ) (h : r ≡ Nth n a b) where
-      -- the reading lies within the text
-      pub args-le : w + n ≤ length s
-      args-le = omega (arith, nth-place (drop w s) n a b (rw h at kept), length-drop w s)
-
       -- the argument that was read
       got : Read (nthOf (drop w s)) n a b
       got = nth-read _ n a b (sym h ∙ lent)
 
+      -- it lies within the text
+      pub args-le : w + n ≤ length s
+      args-le = omega (arith, where-read (length (drop w s)) _ _ n (got .value) (got .reading) (nth-keeps (drop w s)) .0, length-drop w s)
+
       -- then white space up to the end, and a test for the closing bracket
       module _ (end : ℕ) (ee : end ≡ w + n + skipWhitespace (drop (w + n) s)) (u : Bool) (eu : u ≡ is (getD s end 0) ascii.rightParenthesis) where
         -- without a closing bracket there are none
-        pub args-open : u ≡ false → Bounded s NoNth
-        args-open f = bounded s _ (answer-none _ (pick-false _ _ _ _ (told _ _ _ eu f) refl ∙ args-by n _ (got .reading) end ee))
+        pub args-open : u ≡ false → NoNth ≡ nthAnswer (nthArgsOf s)
+        args-open f = answer-none _ (pick-false _ _ _ _ (told _ _ _ eu f) refl ∙ args-by n _ (got .reading) end ee)
 
         -- with it the numbers are the arguments
-        pub args-read : u ≡ true → Bounded s (Nth (end + 1) a b)
+        pub args-read : u ≡ true → Nth (end + 1) a b ≡ nthAnswer (nthArgsOf s)
         args-read f =
-            bounded s _ (answer-nth _ _ _ _ (pick-true _ _ _ _ (told _ _ _ eu f) refl ∙ args-by n _ (got .reading) end ee) a b (got .first-is) (got .second-is))
+            answer-nth _ _ _ _ (pick-true _ _ _ _ (told _ _ _ eu f) refl ∙ args-by n _ (got .reading) end ee) a b (got .first-is) (got .second-is)

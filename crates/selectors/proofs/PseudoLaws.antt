@@ -32,14 +32,16 @@ use Rattle.lexer.proofs.NameAnswers.{NameRead, named-from, unnamed-from}
 use Rattle.selectors.specs.Outcome.{Outcome, reads, fails, panics, onOutcome, behind}
 use Rattle.selectors.specs.Selector as selector
 use Rattle.selectors.specs.Selector.{nthArgsOf, nthChildArgs, pseudoClassOf}
-use Rattle.selectors.specs.NthAnswer.{nthAnswer, NthBounds}
+use Rattle.selectors.specs.NthAnswer.{nthAnswer}
 use Rattle.selectors.specs.Reading.{written}
 use Rattle.selectors.specs.ComponentAnswer.{componentAnswer, nthChildName}
 use Rattle.selectors.specs.Stores.{Clean}
 use Rattle.selectors.specs.declared.components.ComponentAnswer.the-variants as answer
 use Rattle.selectors.specs.declared.nth.NthAnswer.{NthAnswer}
 use Rattle.selectors.specs.declared.nth.NthAnswer.the-variants.{Nth, NoNth, Panic}
-use Rattle.selectors.proofs.NthLaws.{nth-read, not-read, panic-read, nth-place, panic-place, within}
+use Rattle.selectors.proofs.AllLaws.{where-read, where-panics}
+use Rattle.selectors.proofs.NthKeeps.{args-keeps}
+use Rattle.selectors.proofs.NthLaws.{nth-read, not-read, panic-read}
 use Rattle.combinators.proofs.ZeroLaws.{zeros-back}
 use Rattle.selectors.proofs.ComponentLaws.{answer-none}
 
@@ -223,10 +225,10 @@ module _ (s st : List ℕ) (t : Bool) (et : t ≡ is (getD s 0 0) ascii.colon) w
       pseudo-is = rw (told _ _ _ et e, q .reading, q .same-name)
 
       -- by the arguments
-      module _ (r : NthAnswer) (er : (r ≡ nthAnswer (nthArgsOf (take (length s - (1 + k)) (drop (1 + k) s)))) × NthBounds (take (length s - (1 + k)) (drop (1 + k) s)) r) where
+      module _ (r : NthAnswer) (er : r ≡ nthAnswer (nthArgsOf (take (length s - (1 + k)) (drop (1 + k) s)))) where
         -- of the rest of the text
         read : r ≡ nthAnswer (nthArgsOf (drop (1 + k) s))
-        read = er .0 ∙ ap (λ (u : List ℕ). nthAnswer (nthArgsOf u)) (rest s (1 + k))
+        read = er ∙ ap (λ (u : List ℕ). nthAnswer (nthArgsOf u)) (rest s (1 + k))
 
         -- the return where the arguments do not read
         pub pseudo-none : r ≡ NoNth → (answer.NoComponent ≡ componentAnswer (pseudoClassOf s)) × (z ≡ st)
@@ -235,7 +237,9 @@ module _ (s st : List ℕ) (t : Bool) (et : t ≡ is (getD s 0 0) ascii.colon) w
         module _ (n a b : ℕ) (h : r ≡ Nth n a b) where
           -- they lie within the text
           pub pseudo-le : 1 ≤ length s → 1 + k + n ≤ length s
-          pseudo-le l = within s (1 + k) n (child-le l) (nth-place _ n a b (rw h at (er .1)))
+          pseudo-le l =
+              let g = nth-read _ n a b (sym h ∙ read) in
+              omega (arith, child-le l, where-read (length (drop (1 + k) s)) _ _ n (g .value) (g .reading) (args-keeps (drop (1 + k) s)) .0, length-drop (1 + k) s)
 
           -- the return where they do
           pub pseudo-nth : (answer.Component (1 + k + n) nthKind a b ≡ componentAnswer (pseudoClassOf s)) × (z ≡ st)
@@ -246,7 +250,7 @@ module _ (s st : List ℕ) (t : Bool) (et : t ≡ is (getD s 0 0) ascii.colon) w
         module _ (p : ℕ) (h : r ≡ Panic p) where
           -- it lies within the text
           pub pseudo-panic-le : 1 ≤ length s → 1 + k + p ≤ length s
-          pseudo-panic-le l = within s (1 + k) p (child-le l) (panic-place _ p (rw h at (er .1)))
+          pseudo-panic-le l = omega (arith, child-le l, where-panics (length (drop (1 + k) s)) _ _ p (panic-read _ p (sym h ∙ read)) (args-keeps (drop (1 + k) s)), length-drop (1 + k) s)
 
           -- the return where the crate panics
           pub pseudo-panic : (answer.Panic (1 + k + p) ≡ componentAnswer (pseudoClassOf s)) × (z ≡ st)

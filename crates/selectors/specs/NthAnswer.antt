@@ -58,29 +58,6 @@ case-integer : (integerOf (text "-12n") ≡ record { sign = 1; taken = 3; value 
 unfolding integerOf integerBy digitsWorth signed signTaken isSign isMinus digits oneDigit isDigit many took numeral hexDigit signedNumber pick or and is within text utf8
 case-integer = (refl, refl, refl)
 
--- ---- bounds
-
 -- the greatest number of `i32` in the form of the compiled sheet
 abbrev pub greatestSigned : ℕ
 greatestSigned = 4294967294
-
--- where an answer stops reading
-unfoldable pub nthPlace : NthAnswer → ℕ
-nthPlace (Nth taken a b) = taken
-nthPlace NoNth = 0
-nthPlace (Panic p) = p
-
-unfoldable pub nthFirst : NthAnswer → ℕ
-nthFirst (Nth taken a b) = a
-nthFirst NoNth = 0
-nthFirst (Panic p) = 0
-
-unfoldable pub nthSecond : NthAnswer → ℕ
-nthSecond (Nth taken a b) = b
-nthSecond NoNth = 0
-nthSecond (Panic p) = 0
-
-pub record NthBounds (s : List ℕ) (r : NthAnswer) : Type 0 where
-  pub place : nthPlace r ≤ length s
-  pub first : nthFirst r ≤ greatestSigned
-  pub second : nthSecond r ≤ greatestSigned

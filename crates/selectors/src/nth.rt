@@ -13,7 +13,7 @@ ghost use Prim.Native.Nat.{_≤_};
 ghost use lib.ListN.{length};
 ghost use Rattle.syntax.specs.Signed.{signedNumber};
 ghost use Rattle.selectors.specs.Selector.{signTaken, signed, greatest, bothOf, justA, justB, nthOf, nthArgsOf};
-ghost use Rattle.selectors.specs.NthAnswer.{nthAnswer, convertedAnswer, integerOf, NthBounds};
+ghost use Rattle.selectors.specs.NthAnswer.{nthAnswer, convertedAnswer, integerOf};
 
 // The bytes taken, a and b; or the byte where the crate panics.
 pub enum NthAnswer {
@@ -191,7 +191,6 @@ fn parse_nth(s: &[u8]) -> NthAnswer
 // The arguments in brackets, with white space or none before and behind.
 pub fn parse_nth_child_args(s: &[u8]) -> NthAnswer
     ensures { λ r. ⌜ r ≡ nthAnswer (nthArgsOf (now (s .entry))) ⌝ }
-    ensures { λ r. ⌜ NthBounds (now (s .entry)) r ⌝ }
 {
     if byte_is(s, 0, b'(') {
         let start = skip_from(s, 1);
