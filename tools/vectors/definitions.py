@@ -16,7 +16,7 @@ from vectors import recorded_file
 
 HERE = pathlib.Path(__file__).resolve().parent
 ROOT = HERE.parent.parent
-LIBRARIES = "combinators unicode lexer decimal syntax values declarations sheets origins cascade page matching compiled compiler styles runner".split()
+LIBRARIES = "combinators unicode lexer decimal syntax values declarations selectors sheets origins cascade page matching compiled compiler styles runner".split()
 COMPUTED = 6
 SHEETS = 3
 NODE_WIDTH = 6
@@ -40,7 +40,7 @@ use Rattle.syntax.specs.Layout.{styleOf}
 use Rattle.syntax.specs.Selector.{RuleSet}
 use Rattle.syntax.specs.Style.{Style}
 use Rattle.syntax.specs.declared.styles.Value.{Value}
-use Rattle.sheets.specs.Outcome.{onOutcome}
+use Rattle.selectors.specs.Outcome.{onOutcome}
 use Rattle.sheets.specs.Sheet.{sheetOf}
 use Rattle.cascade.specs.declared.slots.Cascade.the-variants.{Crate}
 use Rattle.cascade.specs.Record.{Record, ComputedStyle}

@@ -108,7 +108,8 @@ module _ {A : Type 0} (c : A → ℕ) (w x : A → List ℕ) (o : Outcome A) (ru
   left-many-panics e ey ez = (rw e, (ey ∙ rw e, ez ∙ rw e))
 
   -- ---- what a caller is told
-  found-as : {n count numbers text : ℕ} → ReadAs c w x o n count numbers text → y ≡ sets rules place (written w o) → z ≡ sets store fill (written x o) → Found c w x o rules place store fill y z n count numbers text
+  -- by what it is
+  pub found-as : {n count numbers text : ℕ} → ReadAs c w x o n count numbers text → y ≡ sets rules place (written w o) → z ≡ sets store fill (written x o) → Found c w x o rules place store fill y z n count numbers text
   unfolding written onOutcome
   found-as a ey ez =
       record { value = a .value; reads-it = a .reads-it; counts = a .counts; rows = a .rows; texts = a .texts; rules-are = ey ∙ rw (a .reads-it); store-is = ez ∙ rw (a .reads-it) }
@@ -121,7 +122,7 @@ module _ {A : Type 0} (c : A → ℕ) (w x : A → List ℕ) (o : Outcome A) (ru
   found-many {r} {n} {count} {numbers} {text} never l e = found-as (many-by c w x o n count numbers text never (sym e ∙ l .0)) (l .1 .0) (l .1 .1)
 
   -- nothing was read, and the stores are as they were
-  nothing-as : o ≡ fails → y ≡ sets rules place (written w o) → z ≡ sets store fill (written x o) → (y ≡ rules) × (z ≡ store)
+  pub nothing-as : o ≡ fails → y ≡ sets rules place (written w o) → z ≡ sets store fill (written x o) → (y ≡ rules) × (z ≡ store)
   unfolding written onOutcome
   nothing-as e ey ez = (ey ∙ rw e, ez ∙ rw e)
 

@@ -1,5 +1,5 @@
 -- The block of a rule: '{', declarations, ';' or none, '}'.
-use mathlib.Core.Path.{_≡_, refl, sym, ap, _∙_}
+use mathlib.Core.Path.{_≡_, refl, sym, ap, subst, _∙_}
 use mathlib.Core.Bool.{Bool, true, false}
 use mathlib.Core.List.{List, [], _∷_, map}
 use Prim.Native.Nat.{ℕ, _+_, _-_, _*_, _^_, _≤_, _<_}
@@ -10,6 +10,7 @@ use Rattle.combinators.specs.Ascii as ascii
 use Rattle.combinators.specs.Choice.{pick, is}
 use Rattle.combinators.specs.Store.{wiped}
 use Rattle.combinators.proofs.Lists.{rest, byte-there}
+use Rattle.combinators.proofs.Rules.{pick-holds}
 use Rattle.lexer.specs.Whitespace.{skipWhitespace}
 use Rattle.syntax.specs.Declaration.{Decl, color, backgroundColor, height, maxHeight, overflow, overflowY, display, whiteSpace, content, unknown, Declaration}
 use Rattle.syntax.specs.Layout.{declarationWidth, declarationText, declarationRows, declarationTexts}
@@ -20,13 +21,14 @@ use Rattle.declarations.specs.Rules.{Rules, startsAt, declarationsOf}
 use Rattle.declarations.specs.Leaving.{kept, Leaves, leaves, usedRules, rulesAnswer, rulesOf, rulesLeft}
 use Rattle.declarations.specs.declared.rules.RulesRead.{RulesRead}
 use Rattle.declarations.proofs.StyleAttribute.{bounded}
-use Rattle.selectors.specs.Outcome.{reads, fails, onOutcome, behind}
+use Rattle.selectors.specs.Outcome.{Outcome, reads, fails, panics, onOutcome, behind}
 use Rattle.sheets.specs.Sheet.{spaced, beforeEnd, blockOf}
-use Rattle.sheets.specs.Rules.{blockAt, BlockRoom}
-use Rattle.selectors.specs.Reading.{reading, written}
-use Rattle.selectors.specs.declared.readings.Reading.{Reading}
-use Rattle.selectors.specs.declared.readings.Reading.the-variants.{Reads, Fails}
+use Rattle.sheets.specs.Rules.{blockAt, blockAnswer, BlockRoom}
+use Rattle.sheets.specs.declared.rulesets.BlockAnswer.{BlockAnswer}
+use Rattle.sheets.specs.declared.rulesets.BlockAnswer.the-variants.{Block, NoBlock}
+use Rattle.selectors.specs.Reading.{written}
 use Rattle.combinators.proofs.ZeroLaws.{zeros-back}
+use Rattle.selectors.proofs.ReadingLaws.{ReadAs}
 
 -- ---- `parse_block`
 module _ (s : List ℕ) (e : ℕ) (h : e ≤ length s) {t : Bool} (et : t ≡ is (getD s e 0) ascii.semicolon) where
@@ -88,19 +90,19 @@ kept-starts at d (x ∷ ds) =
 module _ (s : List ℕ) (n at : ℕ) (rules : List ℕ) (place : ℕ) (tokens brackets store : List ℕ) (fill : ℕ)
     (o : BlockRoom s n at rules place tokens brackets store fill) where
   -- what the function ensures
-  abbrev pub Blocked : Reading → List ℕ → List ℕ → List ℕ → List ℕ → Type 0
-  Blocked r y x b z = (r ≡ reading length (declarationRows fill) declarationTexts (blockAt at s n))
+  abbrev pub Blocked : BlockAnswer → List ℕ → List ℕ → List ℕ → List ℕ → Type 0
+  Blocked r y x b z = (r ≡ blockAnswer fill (blockAt at s n))
       × ((y ≡ sets rules place (written (declarationRows fill) (blockAt at s n)))
       × ((x ≡ tokens) × ((b ≡ brackets) × (z ≡ sets store fill (written declarationTexts (blockAt at s n))))))
 
   -- where it does not read
-  failed : blockOf s n ≡ fails → {y x b z : List ℕ} → y ≡ rules → x ≡ tokens → b ≡ brackets → z ≡ store → Blocked Fails y x b z
-  unfolding blockAt behind reading written onOutcome
+  failed : blockOf s n ≡ fails → {y x b z : List ℕ} → y ≡ rules → x ≡ tokens → b ≡ brackets → z ≡ store → Blocked NoBlock y x b z
+  unfolding blockAt behind blockAnswer written onOutcome
   failed e ey ex eb ez = (rw e, (ey ∙ rw e, (ex, (eb, ez ∙ rw e))))
 
   module _ {w : ℕ} (ew : w ≡ n + skipWhitespace (drop n s)) {t : Bool} (et : t ≡ is (getD s w 0) ascii.leftCurlyBracket) where
     -- without an opening brace there is no block
-    pub brace-missing : t ≡ false → Blocked Fails rules tokens brackets store
+    pub brace-missing : t ≡ false → Blocked NoBlock rules tokens brackets store
     unfolding blockOf spaced pick
     brace-missing f = failed (rw (← ew, ← et, f)) refl refl refl refl
 
@@ -191,7 +193,7 @@ module _ (s : List ℕ) (n at : ℕ) (rules : List ℕ) (place : ℕ) (tokens br
             end-at = eg ∙ ap (λ k. beforeEnd s (d + k)) taken-is
 
             -- without a closing brace there is no block, and rows and texts are wiped
-            pub end-missing : u ≡ false → {y′ z′ : List ℕ} → y′ ≡ wiped place (declarationWidth * r .count) y → z′ ≡ wiped fill (r .text) z → Blocked Fails y′ x b z′
+            pub end-missing : u ≡ false → {y′ z′ : List ℕ} → y′ ≡ wiped place (declarationWidth * r .count) y → z′ ≡ wiped fill (r .text) z → Blocked NoBlock y′ x b z′
             unfolding blockOf spaced pick
             end-missing v ey ez =
                 failed (rw (← ew, ← et, f, ← ed, ← end-at, ← eu, v))
@@ -214,6 +216,45 @@ module _ (s : List ℕ) (n at : ℕ) (rules : List ℕ) (place : ℕ) (tokens br
                     rw (← ew, ← et, f, ← ed, ← end-at, ← eu, v, ← ei, z)
 
                 -- and its rows and texts are left
-                pub block-read : Blocked (Reads i (r .count) (declarationWidth * r .count) (r .text)) y x b z
-                unfolding reading written onOutcome
+                pub block-read : Blocked (Block i (r .count) (declarationWidth * r .count) (r .text)) y x b z
+                unfolding blockAnswer written onOutcome
                 block-read = (rw (block-is, length-declarations fill ds, count-is, text-is), (rules-are ∙ rw block-is, (tokens-are, (brackets-are, store-is ∙ rw block-is))))
+
+-- ---- what the answer of `parse_block` says
+-- the block
+pub block-by : (f : ℕ) (o : Outcome (List Declaration)) (n count numbers text : ℕ) → Block n count numbers text ≡ blockAnswer f o
+    → ReadAs length (declarationRows f) declarationTexts o n count numbers text
+unfolding blockAnswer onOutcome
+block-by f (reads m ds) n count numbers text e =
+    let q : n ≡ m = cc in
+    record { value = ds; reads-it = rw q; counts = cc; rows = cc; texts = cc }
+block-by f fails n count numbers text e = absurd (let z : _≡_ {A = ℕ} 0 1 = cc in omega arith)
+block-by f (panics p) n count numbers text e = absurd (let z : _≡_ {A = ℕ} 0 1 = cc in omega arith)
+
+-- an outcome where the crate does not panic
+abbrev Calm : Outcome (List Declaration) → Type 0
+Calm (reads n ds) = Unit
+Calm fails = Unit
+Calm (panics p) = ⊥
+
+calm-moved : (at : ℕ) (o : Outcome (List Declaration)) → Calm o → Calm (behind 0 o (map (startsAt at)))
+unfolding behind onOutcome
+calm-moved at (reads n ds) h = tt
+calm-moved at fails h = tt
+calm-moved at (panics p) h = h
+
+calm-block : (s : List ℕ) (n : ℕ) → Calm (blockOf s n)
+unfolding blockOf
+calm-block s n = pick-holds Calm _ _ _ (λ _. pick-holds Calm _ _ _ (λ _. tt) (λ _. tt)) (λ _. tt)
+
+-- the crate never panics in a block
+pub block-never-panics : (at : ℕ) (s : List ℕ) (n p : ℕ) → blockAt at s n ≡ panics p → ⊥
+unfolding blockAt
+block-never-panics at s n p e = subst Calm e (calm-moved at (blockOf s n) (calm-block s n))
+
+-- so where there is none, none reads
+pub no-block-by : (f : ℕ) (o : Outcome (List Declaration)) → ((p : ℕ) → o ≡ panics p → ⊥) → NoBlock ≡ blockAnswer f o → o ≡ fails
+unfolding blockAnswer onOutcome
+no-block-by f (reads m ds) never e = absurd (let z : _≡_ {A = ℕ} 0 1 = cc in omega arith)
+no-block-by f fails never e = refl
+no-block-by f (panics p) never e = absurd (never p refl)

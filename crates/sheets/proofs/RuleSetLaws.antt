@@ -20,16 +20,19 @@ use Rattle.declarations.specs.Rules.{startsAt}
 use Rattle.selectors.specs.Outcome.{Outcome, reads, fails, panics, onOutcome, behind}
 use Rattle.selectors.specs.SelectorList.{selectorsOf}
 use Rattle.sheets.specs.Sheet.{blockOf, rulesetOf, movedBy}
-use Rattle.sheets.specs.Rules.{blockAt, BlockRoom, RuleRoom}
+use Rattle.sheets.specs.Rules.{blockAt, blockAnswer, BlockRoom, RuleRoom}
+use Rattle.sheets.specs.declared.rulesets.BlockAnswer.{BlockAnswer}
+use Rattle.sheets.specs.declared.rulesets.BlockAnswer.the-variants.{Block, NoBlock}
 use Rattle.selectors.specs.Reading.{reading, written, TextRoom, RowRoom}
 use Rattle.selectors.specs.declared.readings.Reading.{Reading}
 use Rattle.selectors.specs.declared.readings.Reading.the-variants.{Reads, Fails, Panics}
 use Rattle.selectors.specs.declared.readings.ManyReading.{ManyReading}
 use Rattle.selectors.specs.declared.readings.ManyReading.the-variants as many
 use Rattle.selectors.proofs.AllLaws.{where-read, where-panics}
-use Rattle.selectors.proofs.ReadingLaws.{Left, LeftMany, left-reads, left-fails, left-panics, Found, found, found-many, nothing, panicked, panicked-many}
+use Rattle.selectors.proofs.ReadingLaws.{Left, LeftMany, left-reads, left-fails, left-panics, Found, found-as, found-many, nothing-as, panicked-many}
 use Rattle.selectors.proofs.SelectorBounds.{SelectorsKeep, selectors-keep}
 use Rattle.selectors.proofs.SelectorLists.{selectors-never}
+use Rattle.sheets.proofs.BlockLaws.{block-by, no-block-by, block-never-panics}
 use Rattle.sheets.proofs.SheetBounds.{BlockKeeps, block-at-keeps}
 use Rattle.combinators.proofs.ZeroLaws.{zeros-later, zeros-behind, zeros-back}
 
@@ -202,13 +205,9 @@ module _ (s : List ℕ) (at : ℕ) (rules : List ℕ) (place : ℕ) (tokens brac
             ap (λ (q : Outcome RuleSet). behind 0 q (movedBy at)) (ruleset-is ∙ rw (got .reads-it)) ∙ moved-block at w ss (blockOf s (w + n))
 
         -- what `parse_block` left
-        module _ {q : Reading} {y₂ x₂ b₂ z₂ : List ℕ} (e₂ : (q ≡ reading length (declarationRows (fill + text)) declarationTexts block)
+        module _ {q : BlockAnswer} {y₂ x₂ b₂ z₂ : List ℕ} (e₂ : (q ≡ blockAnswer (fill + text) block)
             × ((y₂ ≡ sets y (place + ruleHead + numbers) (written (declarationRows (fill + text)) block))
             × ((x₂ ≡ tokens) × ((b₂ ≡ brackets) × (z₂ ≡ sets z (fill + text) (written declarationTexts block)))))) where
-          -- of rows and texts
-          left₂ : Left length (declarationRows (fill + text)) declarationTexts block y (place + ruleHead + numbers) z (fill + text) q y₂ z₂
-          left₂ = (e₂ .0, (e₂ .1 .0, e₂ .1 .1 .1 .1))
-
           -- the selectors are taken back, where nothing was written behind them
           rules-back : y₂ ≡ y → {y₃ : List ℕ} → y₃ ≡ wiped (place + ruleHead) numbers y₂ → y₃ ≡ rules
           rules-back e p =
@@ -221,25 +220,20 @@ module _ (s : List ℕ) (at : ℕ) (rules : List ℕ) (place : ℕ) (tokens brac
               p ∙ ap (wiped fill text) (e ∙ got .store-is) ∙ zeros-back store fill (o .work .store-zeros) (selectorTexts ss) text (omega (arith, got .texts))
 
           -- without a block there is no rule, and what the selectors left is wiped
-          pub block-fails : q ≡ Fails → {y₃ z₃ : List ℕ} → y₃ ≡ wiped (place + ruleHead) numbers y₂ → z₃ ≡ wiped fill text z₂ → Ruled Fails y₃ x₂ b₂ z₃
+          pub block-fails : q ≡ NoBlock → {y₃ z₃ : List ℕ} → y₃ ≡ wiped (place + ruleHead) numbers y₂ → z₃ ≡ wiped fill text z₂ → Ruled Fails y₃ x₂ b₂ z₃
           unfolding behind onOutcome
           block-fails hq ey₃ ez₃ =
-              let n = nothing _ _ _ _ _ _ _ _ left₂ hq in
-              ruled (left-fails _ _ _ _ _ _ _ _ (meant-is ∙ rw (n .0)) (rules-back (n .1 .0) ey₃) (store-back (n .1 .1) ez₃)) (e₂ .1 .1 .0) (e₂ .1 .1 .1 .0)
-
-          -- the crate panics in it
-          pub block-panics : {p : ℕ} → q ≡ Panics p → {y₃ z₃ : List ℕ} → y₃ ≡ wiped (place + ruleHead) numbers y₂ → z₃ ≡ wiped fill text z₂ → Ruled (Panics p) y₃ x₂ b₂ z₃
-          unfolding behind onOutcome
-          block-panics {p} hq ey₃ ez₃ =
-              let n = panicked _ _ _ _ _ _ _ _ left₂ hq in
-              let k : 0 + p ≡ p = omega arith in
-              ruled (left-panics _ _ _ _ _ _ _ _ (meant-is ∙ rw (n .0, k)) (rules-back (n .1 .0) ey₃) (store-back (n .1 .1) ez₃)) (e₂ .1 .1 .0) (e₂ .1 .1 .1 .0)
+              let e = no-block-by (fill + text) block (block-never-panics at s (w + n)) (sym hq ∙ e₂ .0) in
+              let n = nothing-as length (declarationRows (fill + text)) declarationTexts block y (place + ruleHead + numbers) z (fill + text) e (e₂ .1 .0) (e₂ .1 .1 .1 .1) in
+              ruled (left-fails _ _ _ _ _ _ _ _ (meant-is ∙ rw e) (rules-back (n .0) ey₃) (store-back (n .1) ez₃)) (e₂ .1 .1 .0) (e₂ .1 .1 .1 .0)
 
           -- it reads
-          module _ {end declarations more kept : ℕ} (hq : q ≡ Reads end declarations more kept) where
+          module _ {end declarations more kept : ℕ} (hq : q ≡ Block end declarations more kept) where
             -- the declarations that were read, with their counts
             got₂ : Found length (declarationRows (fill + text)) declarationTexts block y (place + ruleHead + numbers) z (fill + text) y₂ z₂ end declarations more kept
-            got₂ = found _ _ _ _ _ _ _ _ left₂ hq
+            got₂ =
+                found-as length (declarationRows (fill + text)) declarationTexts block y (place + ruleHead + numbers) z (fill + text)
+                (block-by (fill + text) block end declarations more kept (sym hq ∙ e₂ .0)) (e₂ .1 .0) (e₂ .1 .1 .1 .1)
 
             -- what stands behind it
             abbrev ds : List Declaration

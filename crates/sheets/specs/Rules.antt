@@ -5,15 +5,21 @@ use mathlib.Core.List.{List, [], map}
 use lib.ListN.{length}
 use Rattle.lexer.specs.TokenRow.{tokenWidth}
 use Rattle.syntax.specs.Declaration.{Declaration}
-use Rattle.syntax.specs.Layout.{declarationWidth}
+use Rattle.syntax.specs.Layout.{declarationWidth, declarationRows, declarationTexts}
 use Rattle.declarations.specs.Rules.{startsAt}
-use Rattle.selectors.specs.Outcome.{Outcome, behind}
+use Rattle.selectors.specs.Outcome.{Outcome, onOutcome, behind}
 use Rattle.sheets.specs.Sheet.{blockOf}
+use Rattle.sheets.specs.declared.rulesets.BlockAnswer.{BlockAnswer}
+use Rattle.sheets.specs.declared.rulesets.BlockAnswer.the-variants.{Block, NoBlock}
 use Rattle.combinators.specs.Store.{Zeros}
 
 -- ---- the declarations of a rule whose text starts at a byte
 unfoldable pub blockAt : ℕ → List ℕ → ℕ → Outcome (List Declaration)
 blockAt at t n = behind 0 (blockOf t n) (map (startsAt at))
+
+-- as the code answers it; the crate never panics in a block (law `block-never-panics`)
+unfoldable pub blockAnswer : ℕ → Outcome (List Declaration) → BlockAnswer
+blockAnswer fill o = onOutcome o (λ n ds. Block n (length ds) (length (declarationRows fill ds)) (length (declarationTexts ds))) NoBlock (λ p. NoBlock)
 
 -- ---- room: all stores are zero where something may be written
 

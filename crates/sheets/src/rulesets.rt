@@ -21,7 +21,7 @@ ghost use Rattle.syntax.specs.Layout.{declarationRows, declarationTexts};
 ghost use Rattle.syntax.specs.RuleLayout.{ruleRow, ruleText};
 ghost use Rattle.selectors.specs.Outcome.{behind};
 ghost use Rattle.sheets.specs.Sheet.{beforeEnd, rulesetOf, movedBy};
-ghost use Rattle.sheets.specs.Rules.{blockAt, BlockRoom, RuleRoom};
+ghost use Rattle.sheets.specs.Rules.{blockAt, blockAnswer, BlockRoom, RuleRoom};
 ghost use Rattle.selectors.specs.Reading.{reading, written};
 
 // The place behind a ';' at `e`, or `e` where there is none.
@@ -46,6 +46,18 @@ fn before_end(s: &[u8], n: usize) -> usize
     skip_from(s, past_semicolon(s, skip_from(s, n)))
 }
 
+// The place behind a block, how many declarations it has, how many numbers their rows take and how many bytes their texts; or that there is none. The
+// crate never panics in a block.
+pub enum BlockAnswer {
+    Block {
+        end: usize,
+        count: usize,
+        numbers: usize,
+        text: usize,
+    },
+    NoBlock,
+}
+
 // Reads '{', declarations and '}' behind the selectors of a rule, which end at `n`; `s` starts at the byte `at` of the text.
 fn parse_block(
     s: &[u8],
@@ -57,9 +69,9 @@ fn parse_block(
     brackets: &mut [u8],
     store: &mut [u8],
     fill: usize,
-) -> Reading
+) -> BlockAnswer
     requires { ⌜ BlockRoom (now s) n at (now rules) place (now tokens) (now brackets) (now store) fill ⌝ }
-    ensures { λ r. ⌜ r ≡ reading length (declarationRows fill) declarationTexts (blockAt at (now (s .entry)) n) ⌝ }
+    ensures { λ r. ⌜ r ≡ blockAnswer fill (blockAt at (now (s .entry)) n) ⌝ }
     ensures { λ _. ⌜ now (rules .exit) ≡ sets (now (rules .entry)) place (written (declarationRows fill) (blockAt at (now (s .entry)) n)) ⌝ }
     ensures { λ _. ⌜ now (tokens .exit) ≡ now (tokens .entry) ⌝ }
     ensures { λ _. ⌜ now (brackets .exit) ≡ now (brackets .entry) ⌝ }
@@ -82,17 +94,17 @@ fn parse_block(
         let numbers = DECLARATION_WIDTH * read.count;
         let f = before_end(s, d + read.taken);
         if byte_is(s, f, b'}') {
-            return Reading::Reads {
-                taken: skip_from(s, f + 1),
+            return BlockAnswer::Block {
+                end: skip_from(s, f + 1),
                 count: read.count,
                 numbers,
                 text: read.text,
             };
         }
         take_back(rules, place, numbers, store, fill, read.text);
-        return Reading::Fails;
+        return BlockAnswer::NoBlock;
     }
-    Reading::Fails
+    BlockAnswer::NoBlock
 }
 
 // Reads a rule; `s` starts at the byte `at` of the text.
@@ -136,8 +148,8 @@ pub fn parse_ruleset(
                 store,
                 fill + text,
             ) {
-                Reading::Reads {
-                    taken: end,
+                BlockAnswer::Block {
+                    end,
                     count: declarations,
                     numbers: more,
                     text: kept,
@@ -150,13 +162,9 @@ pub fn parse_ruleset(
                         text: text + kept,
                     };
                 }
-                Reading::Fails => {
+                BlockAnswer::NoBlock => {
                     take_back(rules, place + RULE_HEAD, numbers, store, fill, text);
                     return Reading::Fails;
-                }
-                Reading::Panics(p) => {
-                    take_back(rules, place + RULE_HEAD, numbers, store, fill, text);
-                    return Reading::Panics(p);
                 }
             }
         }

@@ -28,8 +28,8 @@ parse-selectors-requires c κs = let S = c .before .before .before .before .befo
 enum-known-p : tie.Need-enum-known-p
 enum-known-p c = search needs
 
-add-t31 : tie.Need-add-t31
-add-t31 c = let S = c .before .before .before .before .before .before .before .before .before .before .before .before .before .before .before .before .before in
+add-t30 : tie.Need-add-t30
+add-t30 c = let S = c .before .before .before .before .before .before .before .before .before .before .before .before .before .before .before .before .before in
     let W = c .before .before .before .before .before .before .before .before .before .before .before in
     let P = c .before .before .before .before .before .before .before in
     omega (arith, laws.list-place (S .args .s .now) (S .args .at) (S .args .rules .now) (S .args .place) (S .args .tokens .now) (S .args .brackets .now) (S .args .store .now) (S .args .fill) (S .pre) (W .skip-optional-whitespace .ensures .0) (W .skip-optional-whitespace .ensures .1) (P .parse-selectors .ensures) (c .before .p .given .1))
@@ -99,8 +99,16 @@ put-rule-head-requires c κs = let S = c .before .before .before .before .before
     let B = c .before .before .before .before .before .before .before .before .before .before .before .before in
     laws.head-fits (S .args .s .now) (S .args .at) (S .args .rules .now) (S .args .place) (S .args .tokens .now) (S .args .brackets .now) (S .args .store .now) (S .args .fill) (S .pre) (W .skip-optional-whitespace .ensures .0) (W .skip-optional-whitespace .ensures .1) (P .parse-selectors .ensures) (N .n .given .1) (B .parse-block .ensures) (c .before .before .end .given .1)
 
-add-t44 : tie.Need-add-t44
-add-t44 c = let S = c .before .before .before .before .before .before .before .before .before .before .before .before .before .before .before .before .before .before .before .before .before .before .before .before .before .before .before .before .before .before .before .before .before .before .before .before .before in
+add-t43 : tie.Need-add-t43
+add-t43 c = let S = c .before .before .before .before .before .before .before .before .before .before .before .before .before .before .before .before .before .before .before .before .before .before .before .before .before .before .before .before .before .before .before .before .before .before .before .before .before in
+    let W = c .before .before .before .before .before .before .before .before .before .before .before .before .before .before .before .before .before .before .before .before .before .before .before .before .before .before .before .before .before .before .before in
+    let P = c .before .before .before .before .before .before .before .before .before .before .before .before .before .before .before .before .before .before .before .before .before .before .before .before .before .before .before in
+    let N = c .before .before .before .before .before .before .before .before .before .before .before .before .before .before .before .before .before .before .before .before .before in
+    let B = c .before .before .before .before .before .before .before .before .before .before .before .before .before .before .before in
+    omega (arith, laws.numbers-fit (S .args .s .now) (S .args .at) (S .args .rules .now) (S .args .place) (S .args .tokens .now) (S .args .brackets .now) (S .args .store .now) (S .args .fill) (S .pre) (W .skip-optional-whitespace .ensures .0) (W .skip-optional-whitespace .ensures .1) (P .parse-selectors .ensures) (N .n .given .1) (B .parse-block .ensures) (c .before .before .before .before .before .end .given .1))
+
+add-t46 : tie.Need-add-t46
+add-t46 c = let S = c .before .before .before .before .before .before .before .before .before .before .before .before .before .before .before .before .before .before .before .before .before .before .before .before .before .before .before .before .before .before .before .before .before .before .before .before .before in
     let W = c .before .before .before .before .before .before .before .before .before .before .before .before .before .before .before .before .before .before .before .before .before .before .before .before .before .before .before .before .before .before .before in
     let P = c .before .before .before .before .before .before .before .before .before .before .before .before .before .before .before .before .before .before .before .before .before .before .before .before .before .before .before in
     let N = c .before .before .before .before .before .before .before .before .before .before .before .before .before .before .before .before .before .before .before .before .before in
@@ -109,14 +117,6 @@ add-t44 c = let S = c .before .before .before .before .before .before .before .b
 
 add-t47 : tie.Need-add-t47
 add-t47 c = let S = c .before .before .before .before .before .before .before .before .before .before .before .before .before .before .before .before .before .before .before .before .before .before .before .before .before .before .before .before .before .before .before .before .before .before .before .before .before in
-    let W = c .before .before .before .before .before .before .before .before .before .before .before .before .before .before .before .before .before .before .before .before .before .before .before .before .before .before .before .before .before .before .before in
-    let P = c .before .before .before .before .before .before .before .before .before .before .before .before .before .before .before .before .before .before .before .before .before .before .before .before .before .before .before in
-    let N = c .before .before .before .before .before .before .before .before .before .before .before .before .before .before .before .before .before .before .before .before .before in
-    let B = c .before .before .before .before .before .before .before .before .before .before .before .before .before .before .before in
-    omega (arith, laws.numbers-fit (S .args .s .now) (S .args .at) (S .args .rules .now) (S .args .place) (S .args .tokens .now) (S .args .brackets .now) (S .args .store .now) (S .args .fill) (S .pre) (W .skip-optional-whitespace .ensures .0) (W .skip-optional-whitespace .ensures .1) (P .parse-selectors .ensures) (N .n .given .1) (B .parse-block .ensures) (c .before .before .before .before .before .end .given .1))
-
-add-t48 : tie.Need-add-t48
-add-t48 c = let S = c .before .before .before .before .before .before .before .before .before .before .before .before .before .before .before .before .before .before .before .before .before .before .before .before .before .before .before .before .before .before .before .before .before .before .before .before .before in
     let W = c .before .before .before .before .before .before .before .before .before .before .before .before .before .before .before .before .before .before .before .before .before .before .before .before .before .before .before .before .before .before .before in
     let P = c .before .before .before .before .before .before .before .before .before .before .before .before .before .before .before .before .before .before .before .before .before .before .before .before .before .before .before in
     let N = c .before .before .before .before .before .before .before .before .before .before .before .before .before .before .before .before .before .before .before .before .before in
@@ -174,37 +174,6 @@ returns-3 c = let S = c .before .before .before .before .before .before .before 
     let B = c .before .before .before .before .before .before .before .before .before .before .before .before .before .before .before .before .before in
     laws.block-fails (S .args .s .now) (S .args .at) (S .args .rules .now) (S .args .place) (S .args .tokens .now) (S .args .brackets .now) (S .args .store .now) (S .args .fill) (S .pre) (W .skip-optional-whitespace .ensures .0) (W .skip-optional-whitespace .ensures .1) (P .parse-selectors .ensures) (N .n .given .1) (B .parse-block .ensures) (c .before .before .before .before .before .before .before .enum-told .given .1) (c .before .before .before .before .take-back .ensures .0) (c .before .before .before .before .take-back .ensures .1)
 
-enum-known-p-2 : tie.Need-enum-known-p-2
-enum-known-p-2 c = search needs
-
-add-take-back-2 : tie.Need-add-take-back-2
-add-take-back-2 c = let S = c .before .before .before .before .before .before .before .before .before .before .before .before .before .before .before .before .before .before .before .before .before .before .before .before .before .before .before .before .before .before .before .before .before .before in
-    let W = c .before .before .before .before .before .before .before .before .before .before .before .before .before .before .before .before .before .before .before .before .before .before .before .before .before .before .before .before in
-    omega (arith, laws.rows-room (S .args .s .now) (S .args .at) (S .args .rules .now) (S .args .place) (S .args .tokens .now) (S .args .brackets .now) (S .args .store .now) (S .args .fill) (S .pre) (W .skip-optional-whitespace .ensures .0) (W .skip-optional-whitespace .ensures .1) .bits)
-
-take-back-requires-2 : tie.Need-take-back-requires-2
-take-back-requires-2 c κs = search needs
-
-same-length-11 : tie.Need-same-length-11
-same-length-11 c = search needs
-
-same-length-12 : tie.Need-same-length-12
-same-length-12 c = search needs
-
-same-length-13 : tie.Need-same-length-13
-same-length-13 c = search needs
-
-same-length-14 : tie.Need-same-length-14
-same-length-14 c = search needs
-
-returns-4 : tie.Need-returns-4
-returns-4 c = let S = c .before .before .before .before .before .before .before .before .before .before .before .before .before .before .before .before .before .before .before .before .before .before .before .before .before .before .before .before .before .before .before .before .before .before .before .before .before .before .before .before in
-    let W = c .before .before .before .before .before .before .before .before .before .before .before .before .before .before .before .before .before .before .before .before .before .before .before .before .before .before .before .before .before .before .before .before .before .before in
-    let P = c .before .before .before .before .before .before .before .before .before .before .before .before .before .before .before .before .before .before .before .before .before .before .before .before .before .before .before .before .before .before in
-    let N = c .before .before .before .before .before .before .before .before .before .before .before .before .before .before .before .before .before .before .before .before .before .before .before .before in
-    let B = c .before .before .before .before .before .before .before .before .before .before .before .before .before .before .before .before .before .before in
-    laws.block-panics (S .args .s .now) (S .args .at) (S .args .rules .now) (S .args .place) (S .args .tokens .now) (S .args .brackets .now) (S .args .store .now) (S .args .fill) (S .pre) (W .skip-optional-whitespace .ensures .0) (W .skip-optional-whitespace .ensures .1) (P .parse-selectors .ensures) (N .n .given .1) (B .parse-block .ensures) (c .before .before .before .before .before .before .before .before .p2 .given .1) (c .before .before .before .before .take-back2 .ensures .0) (c .before .before .before .before .take-back2 .ensures .1)
-
 pub parse-ruleset-spec : {M : Type 1} → statement M
 parse-ruleset-spec =
     tie.close
@@ -216,7 +185,7 @@ parse-ruleset-spec =
     add-parse-selectors
     parse-selectors-requires
     enum-known-p
-    add-t31
+    add-t30
     same-length
     same-length-2
     returns
@@ -229,9 +198,9 @@ parse-ruleset-spec =
     enum-known-end
     add-put-rule-head
     put-rule-head-requires
-    add-t44
+    add-t43
+    add-t46
     add-t47
-    add-t48
     same-length-3
     same-length-4
     same-length-5
@@ -244,12 +213,4 @@ parse-ruleset-spec =
     same-length-8
     same-length-9
     same-length-10
-    returns-3
-    enum-known-p-2
-    add-take-back-2
-    take-back-requires-2
-    same-length-11
-    same-length-12
-    same-length-13
-    same-length-14
-    returns-4)
+    returns-3)
