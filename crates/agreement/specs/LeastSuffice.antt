@@ -1,4 +1,5 @@
 -- "Least lengths for N text bytes, all texts together": stores of these lengths suffice, for every N, for what each call does within them. One statement for all.
+-- "The stores' length facts are shown for all N together."
 use Prim.Native.Nat.{ℕ, _+_, _≤_, _<_}
 use mathlib.Core.Path.{_≡_}
 use mathlib.Core.Bool.{true, false}
