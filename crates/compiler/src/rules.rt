@@ -1,6 +1,6 @@
 // Rules from their rows as the bytes of their selectors, and how many selectors that are.
 use crate::past::is_past;
-use crate::selectors::emit_selector;
+use crate::selector::emit_selector;
 use crate::styles::count_styles;
 use combinators::stores::number_at;
 use combinators::stores::wipe_numbers;

@@ -1,7 +1,7 @@
 -- The three numbers that a pseudo element has; any other counts as the last.
 use Rattle.compiler.proofs.SelectorWriting as laws
-use Rattle.compiler.proofs.selectors.pseudo_number.Statement.{statement}
-use Rattle.compiler.proofs.selectors.pseudo_number.Tie as tie
+use Rattle.compiler.proofs.selector.pseudo_number.Statement.{statement}
+use Rattle.compiler.proofs.selector.pseudo_number.Tie as tie
 
 returns : tie.Need-returns
 returns c = laws.pseudo-none _ (c .if1 .taken)

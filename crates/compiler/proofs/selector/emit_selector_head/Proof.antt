@@ -1,8 +1,8 @@
 -- The numbers of the row are those of the head.
 use Rattle.compiler.proofs.SelectorWriting as laws
 use borrow.Author.Needs.{needs}
-use Rattle.compiler.proofs.selectors.emit_selector_head.Statement.{statement}
-use Rattle.compiler.proofs.selectors.emit_selector_head.Tie as tie
+use Rattle.compiler.proofs.selector.emit_selector_head.Statement.{statement}
+use Rattle.compiler.proofs.selector.emit_selector_head.Tie as tie
 
 number-at-requires : tie.Need-number-at-requires
 number-at-requires c κs = search needs

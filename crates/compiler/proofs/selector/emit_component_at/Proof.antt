@@ -1,8 +1,8 @@
 -- The four numbers of the row are those of the component that it reads as.
 use Rattle.compiler.proofs.SelectorWriting as laws
 use borrow.Author.Needs.{needs}
-use Rattle.compiler.proofs.selectors.emit_component_at.Statement.{statement}
-use Rattle.compiler.proofs.selectors.emit_component_at.Tie as tie
+use Rattle.compiler.proofs.selector.emit_component_at.Statement.{statement}
+use Rattle.compiler.proofs.selector.emit_component_at.Tie as tie
 
 number-at-requires : tie.Need-number-at-requires
 number-at-requires c κs = search needs

@@ -1,8 +1,8 @@
 -- The components that are left are written from the last on, which is the order of the bytes.
 use Rattle.compiler.proofs.SelectorWriting as laws
 use borrow.Author.Needs.{needs}
-use Rattle.compiler.proofs.selectors.emit_components.Statement.{statement}
-use Rattle.compiler.proofs.selectors.emit_components.Tie as tie
+use Rattle.compiler.proofs.selector.emit_components.Statement.{statement}
+use Rattle.compiler.proofs.selector.emit_components.Tie as tie
 
 abbrev Inv-loop : tie.InvT-loop
 Inv-loop rows at count texts store₀ fill f₀ left₀ store f left = laws.Returning rows at count texts store₀ fill left store f

@@ -1,8 +1,8 @@
 -- Head, components and styles are emitted one behind the other.
 use Rattle.compiler.proofs.SelectorWriting as laws
 use borrow.Author.Needs.{needs}
-use Rattle.compiler.proofs.selectors.emit_selector.Statement.{statement}
-use Rattle.compiler.proofs.selectors.emit_selector.Tie as tie
+use Rattle.compiler.proofs.selector.emit_selector.Statement.{statement}
+use Rattle.compiler.proofs.selector.emit_selector.Tie as tie
 
 emit-selector-head-requires : tie.Need-emit-selector-head-requires
 emit-selector-head-requires c κs = search needs
