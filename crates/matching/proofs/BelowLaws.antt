@@ -1,13 +1,14 @@
 -- Returns and turns of the functions that match on all rows of a path.
-use Prim.Native.Nat.{ℕ, suc, _+_, _≤_, _<_}
+use Prim.Native.Nat.{ℕ, zero, suc, _+_, _≤_, _<_}
 use mathlib.Core.Bool.{Bool, true, false}
 use mathlib.Core.List.{List, [], _∷_}
+use mathlib.Core.Logic.{⊎-elim}
 use mathlib.Core.Path.{_≡_, refl, sym, ap, _∙_}
 use native.Mathlib.Numerals.{add-one}
 use native.Mathlib.Omega.{arith}
 use lib.Dec.{ltb}
 use Rattle.combinators.specs.Choice.{pick, is}
-use Rattle.combinators.proofs.Rules.{pick-true, pick-false, is-true, is-false}
+use Rattle.combinators.proofs.Rules.{pick-true, pick-false, is-true, is-false, lt-or-ge}
 use Rattle.syntax.specs.RuleLayout.{childKind, descendantKind, componentKindAt}
 use Rattle.syntax.specs.Selector.{Component, descendant}
 use Rattle.page.specs.Ancestors.{ancestorsOf}
@@ -22,11 +23,12 @@ use Rattle.matching.specs.Topmost.{lastMatched, topmost, selectorTop, Ri
 use Rattle.matching.specs.Topmost.Line.{same}
 use Rattle.matching.specs.declared.matcher.SelectorMatch.{SelectorMatch}
 use Rattle.matching.specs.declared.matcher.SelectorMatch.the-variants.{Matches, FailsLocally, FailsCompletely}
+use Rattle.matching.proofs.CallLaws.{by-combinator}
 use Rattle.matching.proofs.ComponentLaws.{components-none, components-more}
 use Rattle.matching.proofs.PassLaws.{from-child, from-descendant, third-chosen}
 use Rattle.matching.proofs.PathLaws.{parent-rooted, parent-before}
 use Rattle.matching.proofs.RecursionLaws.{selector-matches, fails-locally, fails-here}
-use Rattle.matching.proofs.TopmostLaws.{line-up, last-document, last-above, right-top, top-within, right-above}
+use Rattle.matching.proofs.TopmostLaws.{line-up, last-document, last-above, Needs, step-needs, none-found, right-top, top-within, right-above}
 
 -- ---- the return of `matches_below` at a descendant combinator
 module _ (cs ds : List Component) (p q : Path) where
@@ -132,3 +134,39 @@ module _ (store components nodes attributes text : List ℕ) where
 
         pub top-other : ¬ (k ≡ descendantKind) → Topping top (i + 1)
         top-other d = record { within = omega arith; is-top = g .is-top ∙ sym (stays d (is k childKind) refl) }
+
+  -- where nothing is found for a descendant combinator, nothing is for those behind it
+  module _ (row : ℕ) (r : Rooted nodes row) (i : ℕ) (e : componentNumber components i componentKindAt ≡ descendantKind)
+      (none : topmost nodes attributes text (componentsAt store components i) row ≡ row) where
+    combinator : componentsAt store components (suc i) ≡ descendant ∷ componentsAt store components i
+    unfolding componentAt
+    combinator = components-more store components i ∙ ap (λ (c : Component). c ∷ componentsAt store components i) (from-descendant store _ _ _ _ e)
+
+    -- they ask for an ancestor that what stands before it matches
+    asks : (n : ℕ) → i < n → Needs (matches (componentsAt store components i)) (matches (componentsAt store components n))
+    unfolding matches step
+    asks zero h = absurd (omega arith)
+    asks (suc n) h =
+        ⊎-elim
+        (λ (l : i < n). rw (components-more store components n) (step-needs (matches (componentsAt store components i)) (matches (componentsAt store components n)) (asks n l) (componentAt store components n)))
+        (λ (l : n ≤ i). let q : n ≡ i = omega arith in rw (q, combinator) (λ p z. z))
+        (lt-or-ge i n)
+
+    pub none-behind : (n : ℕ) → i < n → selectorTop nodes attributes text row (componentsAt store components n) ≡ row
+    unfolding selectorTop byCombinator
+    none-behind zero h = absurd (omega arith)
+    none-behind (suc n) h =
+        ⊎-elim
+        (λ (l : i < n).
+        let cs = componentsAt store components n in
+        let found = none-found nodes attributes text (componentsAt store components i) cs row r (asks n l) none in
+        rw (components-more store components n)
+        (by-combinator (λ (a b : ℕ). a ≡ row) (componentAt store components n) {a = row} {b = row} {e = row} (none-behind n l) found (none-behind n l)))
+        (λ (l : n ≤ i). let q : n ≡ i = omega arith in rw (q, combinator) none)
+        (lt-or-ge i n)
+
+  -- the return of `selector_top` there
+  pub top-none : (left row : ℕ) → Rooted nodes row → (i : ℕ) → i < left → (k : ℕ) → k ≡ componentNumber components i componentKindAt → k ≡ descendantKind
+      → (t : ℕ) → t ≡ topmost nodes attributes text (componentsAt store components i) row → t ≡ row
+      → (row ≡ selectorTop nodes attributes text row (componentsAt store components left)) × (row ≤ row)
+  top-none left row r i h k ek e t et z = (sym (none-behind row r i (sym ek ∙ e) (sym et ∙ z) left h), omega arith)

@@ -17,7 +17,7 @@ use Rattle.matching.proofs.PassLaws.{and-yes}
 use Rattle.matching.proofs.Selectors.{Exactly, ancestor-seen}
 
 -- neither of two tests holds where their `or` fails
-neither : (a b : Bool) → or a b ≡ false → (a ≡ false) × (b ≡ false)
+pub neither : (a b : Bool) → or a b ≡ false → (a ≡ false) × (b ≡ false)
 unfolding or
 neither true b e = never (sym e)
 neither false b e = (refl, e)

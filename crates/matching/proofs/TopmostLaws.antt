@@ -8,13 +8,14 @@ use native.Mathlib.Omega.{arith}
 use borrow.Author.Tests.{lt-ltb, le-ltb}
 use lib.Dec.{ltb}
 use Rattle.combinators.specs.Choice.{pick, or}
-use Rattle.syntax.specs.Selector.{Component}
+use Rattle.combinators.proofs.Rules.{never, or-none, and-right}
+use Rattle.syntax.specs.Selector.{Component, star, class, element, hash, child, descendant, nth, attribute, attributeEqual}
 use Rattle.page.specs.Ancestors.{ancestorsFrom, ancestorsOf}
 use Rattle.page.specs.Path.{Path}
 use Rattle.page.specs.PathOf.{pathOf}
 use Rattle.page.specs.Rows.{nodeAt}
 use Rattle.page.proofs.Ancestry.{below-ancestors}
-use Rattle.matching.specs.Matches.{onAncestors, matches}
+use Rattle.matching.specs.Matches.{onParent, onAncestors, step, matches}
 use Rattle.matching.specs.Recursion.{byCombinator}
 use Rattle.matching.specs.Rows.{Rooted}
 use Rattle.matching.specs.Rows.Rooted.{document, below}
@@ -22,6 +23,7 @@ use Rattle.matching.specs.Topmost.{Line, aboveDescendant, lastMatched, t
 use Rattle.matching.specs.Topmost.Line.{same, above}
 use Rattle.matching.proofs.CallLaws.{by-combinator}
 use Rattle.matching.proofs.PathLaws.{top-path, other-path}
+use Rattle.matching.proofs.RecursionLaws.{neither}
 
 -- ---- a row and its ancestors
 module _ (nodes : List ℕ) where
@@ -105,6 +107,47 @@ module _ (nodes attributes text : List ℕ) (cs : List Component) where
   pub topmost-within : (row : ℕ) → Rooted nodes row → topmost nodes attributes text cs row ≤ row
   unfolding topmost
   topmost-within row r = ⊎-elim (λ (e : Last row row ≡ row). omega arith) (λ (l : Last row row < row). omega arith) (last-before row r row)
+
+-- ---- what asks for an ancestor
+module _ (f : Path → Bool) where
+  -- g passes no path without an ancestor that f passes
+  abbrev pub Needs : (Path → Bool) → Type 0
+  Needs g = (q : Path) → onAncestors f q ≡ false → g q ≡ false
+
+  module _ (g : Path → Bool) (n : Needs g) where
+    parent-needs : Needs (onParent g)
+    unfolding onAncestors onParent
+    parent-needs [] e = refl
+    parent-needs (x ∷ up) e = n up (neither (f up) (onAncestors f up) e .1)
+
+    ancestor-needs : Needs (onAncestors g)
+    unfolding onAncestors
+    ancestor-needs [] e = refl
+    ancestor-needs (x ∷ up) e = let w = neither (f up) (onAncestors f up) e .1 in or-none (g up) _ (n up w) (ancestor-needs up w)
+
+    -- nor does a component before it
+    pub step-needs : (c : Component) → Needs (step c g)
+    unfolding step
+    step-needs star q e = n q e
+    step-needs (class c) q e = and-right _ (g q) (n q e)
+    step-needs (element c) q e = and-right _ (g q) (n q e)
+    step-needs (hash h) q e = and-right _ (g q) (n q e)
+    step-needs child q e = parent-needs q e
+    step-needs descendant q e = ancestor-needs q e
+    step-needs (nth a b) q e = and-right _ (g q) (n q e)
+    step-needs (attribute c) q e = and-right _ (g q) (n q e)
+    step-needs (attributeEqual c v) q e = and-right _ (g q) (n q e)
+
+-- where components match no ancestor, no more do those that ask for one that they match
+pub none-found : (nodes attributes text : List ℕ) (cs ds : List Component) (row : ℕ) → Rooted nodes row → Needs (matches cs) (matches ds)
+    → topmost nodes attributes text cs row ≡ row → topmost nodes attributes text ds row ≡ row
+unfolding topmost
+none-found nodes attributes text cs ds row r n e =
+    let none : onAncestors (matches cs) (pathOf nodes attributes text row) ≡ false =
+    last-decides nodes attributes text cs row r row (omega arith) row same ∙ ap (λ (t : ℕ). ltb t row) e ∙ le-ltb row row (omega arith) in
+    ⊎-elim (λ h. h)
+    (λ h. never (sym (ancestor-needs (matches cs) (matches ds) n (pathOf nodes attributes text row) none) ∙ last-decides nodes attributes text ds row r row (omega arith) row same ∙ lt-ltb _ row h))
+    (last-before nodes attributes text ds row r row)
 
 -- ---- the number of a selector
 module _ (nodes attributes text : List ℕ) (row : ℕ) (r : Rooted nodes row) where

@@ -65,7 +65,7 @@ fn topmost_ancestor(
 }
 
 // The topmost ancestor of a row that matches what stands before the last descendant combinator of the first `left` components. Each component is asked of each row once: what stands before
-// a descendant combinator is decided by the row that was found for it.
+// a descendant combinator is decided by the row that was found for it. Where none was, none is for those behind it.
 pub fn selector_top(
     components: &[u32],
     store: &[u8],
@@ -86,6 +86,9 @@ pub fn selector_top(
         i += 1;
         if kind_at(components, before) == DESCENDANT {
             top = topmost_ancestor(components, store, before, top, nodes, attributes, text, row);
+            if top == row {
+                return row;
+            }
         }
     }
     top
