@@ -18,7 +18,7 @@ pub const WITHOUT_TESTS: u8 = 2;
 pub const WITH_TESTS: u8 = 3;
 
 // The byte as a number of a place's width.
-fn wide(b: u8) -> usize
+pub fn wide(b: u8) -> usize
     ensures { λ r. ⌜ r ≡ b ⌝ }
     ensures { λ r. ⌜ r < byteValues ⌝ }
 {
