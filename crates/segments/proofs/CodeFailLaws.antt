@@ -1,23 +1,24 @@
--- A first test that surely fails: a type selector whose name has another length than that of the element, or another first byte.
-use Prim.Native.Nat.{ℕ, zero, suc, _+_, _≤_, _<_}
+-- A first test that surely fails: a type selector whose name has another length than that of the element, or another first byte; or one that asks for an attribute where there is none.
+use Prim.Native.Nat.{ℕ, zero, suc, _+_, _/_, _≤_, _<_}
 use mathlib.Core.Path.{_≡_, refl, sym, ap, _∙_}
 use mathlib.Core.Bool.{Bool, true, false}
 use mathlib.Core.List.{List, [], _∷_}
 use native.Mathlib.Omega.{arith}
 use borrow.Author.Tests.{leb-true}
 use lib.Dec.{leb}
-use lib.ListN.{length, getD, take, drop, length-take, length-drop}
+use lib.ListN.{length, getD, drop, length-take, length-drop}
 use lib.Seq.{getD-take}
-use Rattle.combinators.specs.Choice.{pick, or, and, is, within}
+use Rattle.combinators.specs.Choice.{pick, or, and, is}
 use Rattle.combinators.specs.Part.{part}
 use Rattle.combinators.specs.Word.{sameText}
-use Rattle.combinators.proofs.Rules.{never, is-no}
+use Rattle.combinators.proofs.Rules.{never, is-no, within-yes}
 use Rattle.combinators.proofs.Lists.{first}
 use Rattle.combinators.proofs.Words.{same-lengths}
-use Rattle.syntax.specs.RuleLayout.{starKind, elementKind, attributeEqualKind}
-use Rattle.syntax.specs.Selector.{Component, element}
-use Rattle.page.specs.Path.{Element, Path}
-use Rattle.matching.specs.Matches.{nameIs, here, step}
+use Rattle.syntax.specs.RuleLayout.{starKind, classKind, elementKind, hashKind, attributeKind, attributeEqualKind}
+use Rattle.page.specs.Path.{Attribute, Element, Path}
+use Rattle.page.specs.PathOf.{attributesFrom}
+use Rattle.page.specs.Rows.{attributeWidth, attributeRows}
+use Rattle.matching.specs.Matches.{anyAttribute, isClass, isId, isNamed}
 use Rattle.compiled.specs.Decoded.{Decoded, read, fault, onDecoded, andThen, mapped}
 use Rattle.compiled.specs.Number.{groupValues, numberAt, rangedAt}
 use Rattle.compiled.specs.Text.{Span, spanAt, textIn}
@@ -29,6 +30,7 @@ use Rattle.compiled.proofs.NumberReading.{reading-one}
 use Rattle.segments.specs.Segments.{piece, tested}
 use Rattle.segments.specs.Sweep.{onPiece, pieceAt, testsPass}
 use Rattle.segments.specs.Met.{rowAlone, handedElement}
+use Rattle.segments.proofs.CodePieceLaws.{name-asked, class-asked, id-asked, attribute-asked, named-test}
 
 -- ---- texts that differ
 -- texts whose first bytes differ are not the same
@@ -50,6 +52,28 @@ module _ (store : List ℕ) (a n : ℕ) where
   unfolding part
   part-first h = getD-take n (drop a store) 0 0 h ∙ first store a
 
+-- ---- kinds of one text
+-- behind such a kind a text is read
+abbrev Named : ℕ → Type 0
+Named kind = (code : List ℕ) (n : ℕ) → bodyAt code kind n ≡ nameAt code kind n
+
+-- a type selector, a class, an id and an attribute have one
+element-named : Named elementKind
+unfolding bodyAt isMark pick or is
+element-named code n = refl
+
+class-named : Named classKind
+unfolding bodyAt isMark pick or is
+class-named code n = refl
+
+hash-named : Named hashKind
+unfolding bodyAt isMark pick or is
+hash-named code n = refl
+
+attribute-named : Named attributeKind
+unfolding bodyAt isMark pick or is
+attribute-named code n = refl
+
 module _ (code : List ℕ) where
   -- ---- what is read
   -- a byte without its top bit is the number
@@ -69,54 +93,83 @@ module _ (code : List ℕ) where
       go true f q = unfold pick in (cc, leb-true _ _ f)
       go false f q = unfold pick in never cc
 
-  module _ (at : ℕ) (l : at < length code) (k : getD code at 0 ≡ elementKind) where
-    -- the kind of a type selector
-    kind-read : rangedAt code at starKind attributeEqualKind ≡ read (at + 1) elementKind
-    unfolding rangedAt andThen pick within and
-    kind-read = rw (number-one at elementKind l k (omega arith))
+  module _ (at kind : ℕ) (named : Named kind) (l : at < length code) (k : getD code at 0 ≡ kind) where
+    -- the kind of a component of one text
+    kind-read : kind ≤ attributeKind → rangedAt code at starKind attributeEqualKind ≡ read (at + 1) kind
+    unfolding rangedAt andThen pick
+    kind-read h = rw (number-one at kind l k (omega arith), within-yes kind starKind attributeEqualKind (omega arith) (omega arith))
 
-    -- behind it stands its name
-    type-read : componentAt code at ≡ mapped (componentIn code) (nameAt code elementKind (at + 1))
-    unfolding componentAt writtenAt bodyAt andThen isMark pick or is
-    type-read = rw kind-read
+    -- behind it stands the text
+    name-read : kind ≤ attributeKind → componentAt code at ≡ mapped (componentIn code) (nameAt code kind (at + 1))
+    unfolding componentAt writtenAt andThen
+    name-read h = rw (kind-read h, named code (at + 1))
 
     -- tests that begin with it do not pass where it does not, nor where the bytes break off in it
-    type-fails : (row : Path) → ((n : ℕ) (x : Span) → spanAt code (at + 1) ≡ read n x → tested row (element (textIn code x)) ≡ false)
+    name-fails : kind ≤ attributeKind → (row : Path) → ((n : ℕ) (x : Span) → spanAt code (at + 1) ≡ read n x → false ≡ tested row (namedOf kind (textIn code x)))
         → (t : ℕ) → testsPass code row (suc t) at ≡ false
     unfolding testsPass pieceAt nameAt
-    type-fails row f t = rw type-read (go (spanAt code (at + 1)) f)
+    name-fails h row f t = rw (name-read h) (go (spanAt code (at + 1)) f)
       where
-        go : (d : Decoded Span) → ((n : ℕ) (x : Span) → d ≡ read n x → tested row (element (textIn code x)) ≡ false)
-            → onDecoded (mapped piece (mapped (componentIn code) (mapped (λ x. name elementKind x) d)))
+        go : (d : Decoded Span) → ((n : ℕ) (x : Span) → d ≡ read n x → false ≡ tested row (namedOf kind (textIn code x)))
+            → onDecoded (mapped piece (mapped (componentIn code) (mapped (λ x. name kind x) d)))
             (λ n x. onPiece x (λ c. and (tested row c) (testsPass code row t n)) (λ _. false) (λ _. false)) (λ _. false) ≡ false
-        go (read n x) g = unfold mapped onDecoded componentIn namedOf piece onPiece pick is and in rw (g n x refl)
+        go (read n x) g = unfold mapped onDecoded componentIn onPiece and in rw (named-test kind (textIn code x), ← g n x refl)
         go (fault p) g = unfold mapped onDecoded in refl
 
-    -- ---- the returns of `surely_fails`
-    module _ (name′ : List ℕ) (v : ℕ) (l′ : at + 1 < length code) (e : v ≡ getD code (at + 1) 0) (h : v < groupValues) where
-      -- what is told
-      abbrev Fails : Type 0
-      Fails = (attributes text : List ℕ) (place tests : ℕ) → testsPass code (handedElement name′ attributes text place ∷ []) (suc tests) at ≡ false
+  -- ---- the returns of `surely_fails`
+  module _ (at : ℕ) (l : at < length code) (k : getD code at 0 ≡ elementKind)
+      (name′ : List ℕ) (v : ℕ) (l′ : at + 1 < length code) (e : v ≡ getD code (at + 1) 0) (h : v < groupValues) where
+    -- what is told
+    abbrev Fails : Type 0
+    Fails = (attributes text : List ℕ) (place tests : ℕ) → testsPass code (handedElement name′ attributes text place ∷ []) (suc tests) at ≡ false
 
-      -- by the word that lies there
-      by-word : (at + 1 + 1 + v ≤ length code → false ≡ sameText name′ (part code (at + 1 + 1) v)) → Fails
-      by-word f attributes text place tests =
-          type-fails (handedElement name′ attributes text place ∷ [])
-          (λ n x p. let q = span-one (at + 1) v l′ (sym e) h n x p in asked x (q .0) (f (q .1))) tests
-        where
-          asked : (x : Span) → x ≡ record { start = at + 1 + 1; size = v } → false ≡ sameText name′ (part code (at + 1 + 1) v)
-              → tested (handedElement name′ attributes text place ∷ []) (element (textIn code x)) ≡ false
-          asked x ex w = unfold tested step here nameIs handedElement textIn and in rw (ex, ← w)
+    -- by the word that lies there
+    by-word : (at + 1 + 1 + v ≤ length code → false ≡ sameText name′ (part code (at + 1 + 1) v)) → Fails
+    unfolding textIn
+    by-word f attributes text place tests =
+        name-fails at elementKind element-named l k (omega arith) (handedElement name′ attributes text place ∷ [])
+        (λ n x p. let q = span-one (at + 1) v l′ (sym e) h n x p in
+        name-asked name′ attributes text (textIn code x) elementKind refl false (f (q .1) ∙ ap (λ (y : Span). sameText name′ (textIn code y)) (sym (q .0))) place) tests
 
-      -- its length is another
-      pub fails-length : ¬ (v ≡ length name′) → Fails
-      fails-length d = by-word (λ b. same-lengths name′ _ (λ q. d (sym (part-length code (at + 1 + 1) v b) ∙ sym q)))
+    -- its length is another
+    pub fails-length : ¬ (v ≡ length name′) → Fails
+    fails-length d = by-word (λ b. same-lengths name′ _ (λ q. d (sym (part-length code (at + 1 + 1) v b) ∙ sym q)))
 
-      -- its first byte is another
-      pub fails-first : 0 < v → ¬ (getD code (at + 2) 0 ≡ getD name′ 0 0) → Fails
-      fails-first s d =
-          let two : at + 2 ≡ at + 1 + 1 = omega arith in
-          by-word (λ _. same-firsts name′ _ (λ q. d (ap (λ (i : ℕ). getD code i 0) two ∙ sym (part-first code (at + 1 + 1) v s) ∙ sym q)))
+    -- its first byte is another
+    pub fails-first : 0 < v → ¬ (getD code (at + 2) 0 ≡ getD name′ 0 0) → Fails
+    fails-first s d =
+        let two : at + 2 ≡ at + 1 + 1 = omega arith in
+        by-word (λ _. same-firsts name′ _ (λ q. d (ap (λ (i : ℕ). getD code i 0) two ∙ sym (part-first code (at + 1 + 1) v s) ∙ sym q)))
+
+  -- ---- the returns of `lacks_attribute`
+  module _ (at : ℕ) (l : at < length code) (attributes : List ℕ) (few : length attributes < attributeWidth) where
+    -- what is told
+    abbrev Lacks : Type 0
+    Lacks = (name′ text : List ℕ) (place tests : ℕ) → testsPass code (handedElement name′ attributes text place ∷ []) (suc tests) at ≡ false
+
+    -- no attribute is any that is asked for
+    none : (f : Attribute → Bool) (text : List ℕ) → false ≡ anyAttribute f (attributesFrom attributes text (attributeRows attributes) 0)
+    unfolding anyAttribute attributesFrom
+    none f text = let z : length attributes / attributeWidth ≡ 0 = omega arith in rw z
+
+    -- a class
+    pub lacks-class : getD code at 0 ≡ classKind → Lacks
+    lacks-class k name′ text place =
+        name-fails at classKind class-named l k (omega arith) (handedElement name′ attributes text place ∷ [])
+        (λ n x p. class-asked name′ attributes text (textIn code x) classKind refl false (none (isClass (textIn code x)) text) place)
+
+    -- an id
+    pub lacks-id : getD code at 0 ≡ hashKind → Lacks
+    lacks-id k name′ text place =
+        name-fails at hashKind hash-named l k (omega arith) (handedElement name′ attributes text place ∷ [])
+        (λ n x p. id-asked name′ attributes text (textIn code x) hashKind refl false (none (isId (textIn code x)) text) place)
+
+    -- an attribute
+    pub lacks-any : getD code at 0 ≡ attributeKind → Lacks
+    lacks-any k name′ text place =
+        name-fails at attributeKind attribute-named l k (omega arith) (handedElement name′ attributes text place ∷ [])
+        (λ n x p. attribute-asked name′ attributes text (textIn code x) attributeKind (λ e. absurd (omega (arith, e))) (λ e. absurd (omega (arith, e))) (λ e. absurd (omega (arith, e)))
+        false (none (isNamed (textIn code x)) text) place)
 
 -- ---- the return of `mark_passes`
 -- where the first test fails, the tests do not pass

@@ -57,11 +57,11 @@ module _ (name attributes text x : List ℕ) (kind : ℕ) where
 
 -- ---- tests
 -- a component is a test
-abbrev IsTest : Component → Type 0
+abbrev pub IsTest : Component → Type 0
 IsTest c = piece c ≡ test c
 
 -- one of one text is
-named-test : (kind : ℕ) (x : List ℕ) → IsTest (namedOf kind x)
+pub named-test : (kind : ℕ) (x : List ℕ) → IsTest (namedOf kind x)
 unfolding namedOf piece
 named-test kind x =
     pick-holds IsTest (is kind classKind) _ _ (λ _. refl)

@@ -16,8 +16,12 @@ use crate::sweeping::sweep_rest;
 use combinators::texts::part_of;
 use compiled::sheets::HeadAnswer;
 use compiled::sheets::read_head;
+use page::rows::ATTRIBUTE_WIDTH;
 use syntax::rows::AGENT_ORIGIN;
+use syntax::rows::ATTRIBUTE;
+use syntax::rows::CLASS;
 use syntax::rows::ELEMENT;
+use syntax::rows::HASH;
 ghost use mathlib.Core.Path.{_≡_};
 ghost use mathlib.Core.Bool.{true, false};
 ghost use mathlib.Core.List.{List, [], _∷_, _++_};
@@ -252,6 +256,27 @@ fn surely_fails(compiled: &[u8], at: usize, name: &[u8]) -> bool
     false
 }
 
+// The same for a class, an id or an attribute, which fail at an element without attributes.
+fn lacks_attribute(compiled: &[u8], at: usize, attributes: &[u32]) -> bool
+    ensures { λ r. ⌜ (r ≡ true → (name text : List ℕ) (place tests : ℕ) → testsPass (now (compiled .entry)) (handedElement name (now (attributes .entry)) text place ∷ []) (suc tests) at ≡ false) ⌝ }
+{
+    if attributes.len() < ATTRIBUTE_WIDTH {
+        if at < compiled.len() {
+            let kind = wide(compiled[at]);
+            if kind == CLASS as usize {
+                return true;
+            }
+            if kind == HASH as usize {
+                return true;
+            }
+            if kind == ATTRIBUTE as usize {
+                return true;
+            }
+        }
+    }
+    false
+}
+
 // Whether the tests of a mark pass. At most rows the first one surely fails, which is told before they are read.
 fn mark_passes(
     compiled: &[u8],
@@ -269,6 +294,9 @@ fn mark_passes(
     if element {
         if tests > 0 {
             if surely_fails(compiled, awaited, name) {
+                return false;
+            }
+            if lacks_attribute(compiled, awaited, attributes) {
                 return false;
             }
         }
