@@ -1,7 +1,7 @@
 -- Returns of `read_behind`: one sheet, read behind what the stores hold.
-use mathlib.Core.Path.{_≡_, refl, sym, _∙_}
+use mathlib.Core.Path.{_≡_, sym, _∙_}
 use mathlib.Core.List.{List}
-use Prim.Native.Nat.{ℕ, _+_, _-_, _*_, _≤_}
+use Prim.Native.Nat.{ℕ, _-_, _≤_}
 use native.Mathlib.Omega.{arith}
 use borrow.Rule.Slice.PartMut.{putMid}
 use lib.ListN.{length}
@@ -10,7 +10,7 @@ use Rattle.syntax.specs.RuleLayout.{ruleRows, ruleTexts}
 use Rattle.syntax.specs.Selector.{RuleSet}
 use Rattle.selectors.specs.Outcome.{Outcome, reads, fails, panics, onOutcome}
 use Rattle.selectors.specs.Reading.{manyReading, written}
-use Rattle.sheets.specs.Rules.{ruleWidth, SheetRoom}
+use Rattle.sheets.specs.Rules.{SheetRoom}
 use Rattle.sheets.specs.Sheet.{sheetOf}
 use Rattle.selectors.specs.declared.readings.ManyReading.{ManyReading}
 use Rattle.selectors.specs.declared.readings.ManyReading.the-variants as many

@@ -1,15 +1,15 @@
 -- The components of a selector as the code reads them: a first one, and more behind it; a blank at either end is dropped.
-use mathlib.Core.Path.{_≡_, refl, sym, ap, subst, _∙_}
+use mathlib.Core.Path.{_≡_, refl, sym, ap, _∙_}
 use mathlib.Core.Bool.{Bool, true, false}
-use mathlib.Core.List.{List, [], _∷_, _++_, reverse, reverse-cons, reverse-append, reverse-reverse, append-nil, append-assoc}
-use Prim.Native.Nat.{ℕ, zero, suc, _+_, _-_, _*_, _≤_, _<_}
+use mathlib.Core.List.{List, [], _∷_, _++_, reverse, reverse-cons, reverse-append, reverse-reverse, append-nil}
+use Prim.Native.Nat.{ℕ, zero, suc, _+_}
 use native.Mathlib.Omega.{arith}
 use lib.ListN.{length, drop, length-drop}
 use Rattle.combinators.specs.Choice.{pick, is}
 use Rattle.combinators.specs.Parsed.{Parsed, ok, err, onParsed}
 use Rattle.combinators.proofs.Rules.{is-no, pick-true}
 use Rattle.lexer.specs.Name.{identOf}
-use Rattle.syntax.specs.Selector.{Component, star, class, element, hash, child, descendant, nth, attribute, attributeEqual}
+use Rattle.syntax.specs.Selector.{Component, element}
 use Rattle.selectors.specs.Outcome.{Outcome, reads, fails, panics, onOutcome, behind, parsed, orElse}
 use Rattle.selectors.specs.Selector.{componentOf, componentsOf, componentsFrom, someOf, withElementOf, withoutElementOf, bodyOf, isDescendant, withoutBlank, withoutFirst}
 use Rattle.selectors.specs.Components.{firstOf, startedOf, keptOf}

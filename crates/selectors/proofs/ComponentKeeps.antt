@@ -1,6 +1,6 @@
 -- What a component keeps to: it takes a byte or more, and no more than there are; its text is no longer than what it takes, or two bytes
 -- longer where a backslash ends the text.
-use mathlib.Core.Path.{_≡_, refl, sym}
+use mathlib.Core.Path.{_≡_, refl}
 use mathlib.Core.Bool.{Bool}
 use mathlib.Core.List.{List, [], _++_}
 use Prim.Native.Nat.{ℕ, _+_, _^_, _≤_, _<_}
@@ -21,7 +21,7 @@ use Rattle.lexer.proofs.TokenBounds.{on-holds}
 use Rattle.syntax.specs.RuleLayout.{componentFirst, componentSecond, componentText}
 use Rattle.syntax.specs.Selector.{Component, star, class, element, hash, child, descendant, nth, attribute, attributeEqual}
 use Rattle.syntax.specs.Signed.{signedNumber}
-use Rattle.selectors.specs.Outcome.{Outcome, reads, fails, panics, onOutcome, parsed, orElse}
+use Rattle.selectors.specs.Outcome.{Outcome, reads, fails, panics, parsed, orElse}
 use Rattle.selectors.specs.Selector as selector
 use Rattle.selectors.specs.Selector.{classOf, hashOf, closed, valueOf, attrOf, nthArgsOf, pseudoClassOf, marked, blankOf, componentOf}
 use Rattle.selectors.specs.NthAnswer.{greatestSigned}

@@ -18,7 +18,6 @@ use Rattle.combinators.proofs.Lists.{rest, first, byte-there}
 use Rattle.combinators.proofs.Rules.{pick-true, pick-false, told, and-both, and-left, and-right}
 use Rattle.unicode.specs.Literal.{text}
 use Rattle.unicode.specs.Utf8.{utf8}
-use Rattle.lexer.specs.Number as number
 use Rattle.lexer.specs.Number.{digits}
 use Rattle.lexer.specs.Whitespace.{skipWhitespace}
 use Rattle.syntax.specs.Signed.{signedNumber}

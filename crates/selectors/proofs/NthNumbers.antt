@@ -9,9 +9,9 @@ use lib.IntN.{ℤ}
 use lib.ListN.{length, getD, take, drop, length-drop}
 use lib.Seq.{take-nil, length-take-le}
 use Rattle.combinators.specs.Ascii as ascii
-use Rattle.combinators.specs.Choice.{pick, and, is}
+use Rattle.combinators.specs.Choice.{pick, is}
 use Rattle.combinators.specs.Repeat.{many, took}
-use Rattle.combinators.proofs.Lists.{rest, first}
+use Rattle.combinators.proofs.Lists.{rest}
 use Rattle.combinators.proofs.Repeats.{many-ge}
 use Rattle.combinators.proofs.Rules.{pick-true, pick-false, is-yes, is-no, and-both}
 use Rattle.unicode.specs.Literal.{text}

@@ -2,20 +2,20 @@
 use mathlib.Core.Path.{_≡_, refl, sym, ap, subst, _∙_}
 use mathlib.Core.Bool.{Bool, true, false}
 use mathlib.Core.List.{List, [], _∷_, _++_, reverse, reverse-reverse, append-nil}
-use Prim.Native.Nat.{ℕ, zero, suc, _+_, _-_, _*_, _^_, _≤_, _<_}
+use Prim.Native.Nat.{ℕ, suc, _+_, _-_, _*_, _^_, _≤_, _<_}
 use native.Mathlib.Omega.{arith}
 use lib.ListN.{length, getD, take, drop, length-drop, length-append, length-reverse}
 use lib.Seq.{sets, length-sets, getD-drop}
 use Rattle.combinators.specs.Choice.{pick, is}
 use Rattle.combinators.specs.Store.{wiped, Zeros}
 use Rattle.combinators.proofs.Lists.{rest}
-use Rattle.combinators.proofs.Rules.{pick-true, pick-false, is-yes, is-no}
+use Rattle.combinators.proofs.Rules.{pick-false, is-no}
 use Rattle.combinators.proofs.Wiped.{sets-append, sets-apart}
 use Rattle.syntax.specs.RuleLayout.{componentWidth, componentKindAt, descendantKind, componentKind, componentText, componentRow, componentRows, componentTexts, selectorHead, pseudoNumber, selectorRow, selectorText}
 use Rattle.syntax.specs.Selector.{Component, PseudoElement, Selector}
 use Rattle.syntax.specs.Stream.{rowsMany, textsMany}
 use Rattle.syntax.proofs.RowSizes.{length-components, length-component}
-use Rattle.syntax.proofs.Streams.{sets-drop, texts-append, rows-append}
+use Rattle.syntax.proofs.Streams.{sets-drop, rows-append}
 use Rattle.selectors.specs.Outcome.{Outcome, reads, fails, panics, onOutcome, behind}
 use Rattle.selectors.specs.Selector.{bodyOf, isDescendant, withoutBlank, withoutFirst, pseudoOf, pseudoTaken, selectorOf}
 use Rattle.selectors.specs.Components.{startedOf, blankLast}

@@ -1,7 +1,7 @@
 -- How much selectors can hold, over their definitions: a byte or more for each component and each selector, texts no longer than what was
 -- read, but for two bytes where a backslash ends the text.
 use mathlib.Core.Path.{_≡_, refl, ap, sym, subst, _∙_}
-use mathlib.Core.List.{List, [], _∷_, _++_, reverse}
+use mathlib.Core.List.{List, [], _∷_, reverse}
 use mathlib.Core.Logic.{⊎-elim}
 use Prim.Native.Nat.{ℕ, zero, suc, _+_, _*_, _≤_, _<_}
 use native.Mathlib.Omega.{arith}

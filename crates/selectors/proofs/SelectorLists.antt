@@ -6,7 +6,7 @@ use Prim.Native.Nat.{ℕ, zero, suc, _+_, _-_, _*_, _^_, _≤_, _<_}
 use native.Mathlib.Nat.{zero-add}
 use native.Mathlib.Omega.{arith}
 use lib.ListN.{length, take, drop, getD, length-drop}
-use lib.Seq.{sets, drop-drop}
+use lib.Seq.{drop-drop}
 use Rattle.combinators.specs.Ascii as ascii
 use Rattle.combinators.specs.Choice.{pick, is}
 use Rattle.combinators.specs.Store.{wiped}

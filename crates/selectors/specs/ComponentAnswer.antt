@@ -1,6 +1,6 @@
 -- Components of selectors as the code answers them: the columns of a component's row, and its text in the store.
 use Prim.Native.Nat.{ℕ, _+_}
-use mathlib.Core.List.{List, []}
+use mathlib.Core.List.{List}
 use mathlib.Core.Path.{_≡_, refl}
 use lib.Dec.{leb}
 use lib.ListN.{length, getD, drop}

@@ -1,5 +1,5 @@
 -- The arguments of `nth-child` as the code answers them: numbers in the form of the compiled sheet.
-use Prim.Native.Nat.{ℕ, _+_, _≤_}
+use Prim.Native.Nat.{ℕ, _+_}
 use mathlib.Core.Bool.{Bool}
 use mathlib.Core.List.{List}
 use mathlib.Core.Path.{_≡_, refl}

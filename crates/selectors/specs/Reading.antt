@@ -5,7 +5,7 @@ use mathlib.Core.List.{List, []}
 use lib.ListN.{length}
 use Rattle.syntax.specs.RuleLayout.{componentWidth}
 use Rattle.combinators.specs.Store.{Zeros}
-use Rattle.selectors.specs.Outcome.{Outcome, reads, fails, panics, onOutcome}
+use Rattle.selectors.specs.Outcome.{Outcome, onOutcome}
 use Rattle.selectors.specs.declared.readings.Reading.{Reading}
 use Rattle.selectors.specs.declared.readings.Reading.the-variants.{Reads, Fails, Panics}
 use Rattle.selectors.specs.declared.readings.ManyReading.{ManyReading}
@@ -15,7 +15,7 @@ use Rattle.selectors.specs.declared.readings.ManyReading.the-variants as
 unfoldable pub reading : {A : Type 0} → (A → ℕ) → (A → List ℕ) → (A → List ℕ) → Outcome A → Reading
 reading c w x o = onOutcome o (λ n a. Reads n (c a) (length (w a)) (length (x a))) Fails (λ p. Panics p)
 
--- that of a reader which never fails
+-- that of a reader which never fails (laws `selectors-never`, `sheet-never-fails`): what is said of `fails` is said of nothing
 unfoldable pub manyReading : {A : Type 0} → (A → ℕ) → (A → List ℕ) → (A → List ℕ) → Outcome A → ManyReading
 manyReading c w x o = onOutcome o (λ n a. many.Reads n (c a) (length (w a)) (length (x a))) (many.Reads 0 0 0 0) (λ p. many.Panics p)
 

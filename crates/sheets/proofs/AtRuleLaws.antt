@@ -32,7 +32,7 @@ use Rattle.sheets.specs.Sheet.{spaced, statementEnd, atRuleOf}
 use Rattle.sheets.specs.Rules.{WorkRoom}
 use Rattle.selectors.specs.Reading.{reading}
 use Rattle.selectors.specs.declared.readings.Reading.{Reading}
-use Rattle.selectors.specs.declared.readings.Reading.the-variants.{Reads, Fails, Panics}
+use Rattle.selectors.specs.declared.readings.Reading.the-variants.{Reads, Fails}
 use Rattle.combinators.proofs.ZeroLaws.{zeros-back}
 
 -- ---- what the answer of `parse_to_end_of_statement` says

@@ -13,8 +13,7 @@ use Rattle.combinators.proofs.Lists.{rest, byte-there}
 use Rattle.combinators.proofs.Rules.{pick-holds}
 use Rattle.lexer.specs.Whitespace.{skipWhitespace}
 use Rattle.syntax.specs.Declaration.{Decl, color, backgroundColor, height, maxHeight, overflow, overflowY, display, whiteSpace, content, unknown, Declaration}
-use Rattle.syntax.specs.Layout.{declarationWidth, declarationText, declarationRows, declarationTexts}
-use Rattle.syntax.specs.Stream.{textsMany}
+use Rattle.syntax.specs.Layout.{declarationWidth, declarationRows, declarationTexts}
 use Rattle.syntax.proofs.RowSizes.{length-declarations}
 use Rattle.declarations.specs.DeclRow.{namedDecl}
 use Rattle.declarations.specs.Rules.{Rules, startsAt, declarationsOf}

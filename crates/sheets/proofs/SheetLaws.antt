@@ -1,7 +1,7 @@
 -- Returns of `read_sheet` and what it calls; reading a sheet never fails.
-use mathlib.Core.Path.{_≡_, refl, ap, sym, subst, _∙_}
+use mathlib.Core.Path.{_≡_, refl, ap, sym, _∙_}
 use mathlib.Core.Bool.{Bool, true, false}
-use mathlib.Core.List.{List, [], _++_, map}
+use mathlib.Core.List.{List, [], _++_}
 use Prim.Native.Nat.{ℕ, zero, suc, _+_, _-_, _^_, _≤_, _<_}
 use native.Mathlib.Nat.{zero-add}
 use native.Mathlib.Omega.{arith}
@@ -16,10 +16,10 @@ use Rattle.combinators.proofs.Rules.{pick-true, pick-false}
 use Rattle.unicode.specs.Utf8.{valid}
 use Rattle.syntax.specs.RuleLayout.{ruleRows, ruleTexts}
 use Rattle.syntax.specs.Selector.{RuleSet}
-use Rattle.selectors.specs.Outcome.{Outcome, reads, fails, panics, onOutcome, behind}
-use Rattle.sheets.specs.Sheet.{statementsOf, movedBy, sheetFrom, sheetOf}
+use Rattle.selectors.specs.Outcome.{Outcome, reads, fails, panics, onOutcome}
+use Rattle.sheets.specs.Sheet.{statementsOf, sheetFrom, sheetOf}
 use Rattle.selectors.specs.Reading.{manyReading, written}
-use Rattle.sheets.specs.Rules.{ruleWidth, SheetRoom}
+use Rattle.sheets.specs.Rules.{SheetRoom}
 use Rattle.sheets.specs.SheetAnswer.{sheetLimit, numbersOf, SheetLeft, padded, sheetNumbers, sheetLeft, unchanged, readSheet, SheetLent}
 use Rattle.selectors.specs.declared.readings.ManyReading.{ManyReading}
 use Rattle.selectors.specs.declared.readings.ManyReading.the-variants as many

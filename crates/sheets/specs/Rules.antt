@@ -1,7 +1,6 @@
 -- Rules in the order of the code, and the room that reading them asks for.
 use Prim.Native.Nat.{ℕ, _+_, _*_, _^_, _≤_, _<_}
-use mathlib.Core.Path.{_≡_}
-use mathlib.Core.List.{List, [], map}
+use mathlib.Core.List.{List, map}
 use lib.ListN.{length}
 use Rattle.lexer.specs.TokenRow.{tokenWidth}
 use Rattle.syntax.specs.Declaration.{Declaration}

@@ -1,6 +1,6 @@
 -- Sheets: `parse_ruleset`, `parse_at_rule`, `parse_statement` and `parse_stylesheet` of src/css/parser.rs.
 use Prim.Native.Nat.{ℕ, zero, suc, _+_}
-use mathlib.Core.Bool.{Bool, true, false}
+use mathlib.Core.Bool.{true}
 use mathlib.Core.List.{List, [], _∷_, _++_, map}
 use lib.ListN.{length, getD, drop}
 use Rattle.combinators.specs.Ascii as ascii
