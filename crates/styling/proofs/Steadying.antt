@@ -20,7 +20,7 @@ use Rattle.styles.specs.StyleCall.{rulesContents, sheetsContents, placedRules, 
 use Rattle.rule_styles.specs.Deciding.{decidingRule}
 use Rattle.rule_styles.specs.Placing.{sheetText, rulesSelectors, keptRules, rulesKept}
 use Rattle.styling.specs.Path.{keptSheet, keptSheets, SameKept, SheetsTops, Steady, PathRoom}
-use Rattle.styling.specs.Tops.{selectorsTops, sheetSelectors, sheetsSelectors, TextsIn, SheetsTopsRoom, readyPlaces, readySheets}
+use Rattle.styling.specs.Tops.{selectorsTops, sheetSelectors, sheetsSelectors, TextsIn, SheetsTopsRoom, readyPlaces, readyCounts, readySheets}
 use Rattle.styling.specs.declared.tops.ReadySheets.{ReadySheets}
 use Rattle.rule_styles.specs.Held.{SheetsHeld, PathHeld, sheetsKept, styledPlaces}
 use Rattle.rule_styles.specs.declared.styled.StyledSheets.{StyledSheets}
@@ -75,7 +75,7 @@ module _ {s : SheetsRules} {rows tokens texts : List ℕ} (h : SheetsHeld s rows
 
   -- where all lies, with a number for each of them
   abbrev pub ready : ReadySheets
-  ready = readyPlaces v (length SA) (length SU) (length SW)
+  ready = readyCounts v (length SA) (length SU) (length SW)
 
   kept-length : length (sheetsKept read) ≡ held.pu h + length (held.Kept h (held.fu h) (held.w h))
   unfolding sheetsKept placedSheets
@@ -98,7 +98,7 @@ module _ {s : SheetsRules} {rows tokens texts : List ℕ} (h : SheetsHeld s rows
     pub all-behind : ready .behind ≡ length (sheetsKept read) + (length SA + (length SU + length SW))
 
   pub places : Places
-  unfolding styledPlaces readyPlaces placedSheets
+  unfolding styledPlaces readyPlaces readyCounts placedSheets
   places =
       let z = held.sizes h in
       let f = held.fits h in
@@ -119,12 +119,12 @@ module _ {s : SheetsRules} {rows tokens texts : List ℕ} (h : SheetsHeld s rows
     long-t = ap length et ∙ length-sets tokens 0 (sheetsKept read)
 
     texts-end : s .end ≤ length texts₃
-    unfolding styledPlaces readyPlaces
+    unfolding styledPlaces readyPlaces readyCounts
     texts-end = omega (arith, long-x, places .end-short, held.fits h .texts-room)
 
     -- what lies in the texts behind the contents is what was read
     texts-read : take (s .end) texts₃ ≡ textsHeld (h .lent) (held.m h)
-    unfolding styledPlaces readyPlaces
+    unfolding styledPlaces readyPlaces readyCounts
     texts-read =
         ap (take (s .end)) ex
         ∙ take-sets (s .end) texts (sheetsContents read) (omega (arith, places .fill-short, places .end-short, held.fits h .texts-room))
@@ -191,12 +191,12 @@ module _ {s : SheetsRules} {rows tokens texts : List ℕ} (h : SheetsHeld s rows
 
       module _ (rows′ tokens′ texts′ : List ℕ) (k : SameKept ready rows tokens₄ texts₃ rows′ tokens′ texts′) where
         rows-front : take (v .rows) rows′ ≡ rowsHeld (h .lent) (held.m h)
-        unfolding styledPlaces readyPlaces
+        unfolding styledPlaces readyPlaces readyCounts
         rows-front =
             k .same-rows ∙ ap (take (v .rows)) rows-now ∙ take-at (rowsHeld (h .lent) (held.m h)) (zr (h .lent) (held.m h) (held.er h) (held.et h)) (v .rows) (rows-length (h .lent) (held.m h))
 
         texts-front : take (s .end) texts′ ≡ textsHeld (h .lent) (held.m h)
-        unfolding styledPlaces readyPlaces
+        unfolding styledPlaces readyPlaces readyCounts
         texts-front = k .same-texts ∙ texts-read
 
         tokens-front : take (length all) tokens′ ≡ all
@@ -226,7 +226,7 @@ module _ {s : SheetsRules} {rows tokens texts : List ℕ} (h : SheetsHeld s rows
 
         -- the three sheets, read back
         pub kept-as : keptSheets rows′ tokens′ texts′ ready ≡ decided (placedSheets read)
-        unfolding keptSheets styledPlaces readyPlaces placedSheets
+        unfolding keptSheets styledPlaces readyPlaces readyCounts placedSheets
         kept-as =
             let K = held.Kept h in
             let A = held.a h in
@@ -253,7 +253,7 @@ module _ {s : SheetsRules} {rows tokens texts : List ℕ} (h : SheetsHeld s rows
         further n = sym (drop-drop n (v .behind) tokens′) ∙ ap (drop n) tops-behind
 
         pub tops-as : SheetsTops ready nodes attributes text row rows′ tokens′ texts′
-        unfolding styledPlaces readyPlaces
+        unfolding styledPlaces readyPlaces readyCounts
         tops-as =
             let X = drop (v .rows) rows′ in
             let Q = drop (s .end) texts′ in
@@ -273,7 +273,7 @@ module _ {s : SheetsRules} {rows tokens texts : List ℕ} (h : SheetsHeld s rows
       kept-now = kept-as rows tokens₄ texts₃ (record { same-rows = refl; same-tokens = refl; same-texts = refl })
 
       pub steady : Steady ready nodes attributes text row rows tokens₄ texts₃
-      unfolding styledPlaces readyPlaces
+      unfolding styledPlaces readyPlaces readyCounts
       steady =
           record {
             kept = λ rows′ tokens′ texts′ k. kept-as rows′ tokens′ texts′ k ∙ sym kept-now;

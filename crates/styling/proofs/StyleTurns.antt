@@ -31,7 +31,7 @@ use Rattle.styles.specs.StyleCall.{sheetsContents, pathContents, placedSheets, 
 use Rattle.styles.proofs.Room.{path-short}
 use Rattle.rule_styles.specs.Held.{sheetsFrom, SheetsHeld, PathHeld, sheetsKept, styledPlaces}
 use Rattle.rule_styles.specs.Placing.{rulesSelectors}
-use Rattle.styling.specs.Tops.{selectorsTops, sheetsSelectors, SheetsTopsRoom, readyPlaces, readySheets}
+use Rattle.styling.specs.Tops.{selectorsTops, sheetsSelectors, SheetsTopsRoom, readyPlaces, readyCounts, readySheets}
 use Rattle.styling.specs.Path.{keptSheets, Steady, PathRoom}
 use Rattle.styling.specs.StyleAnswer.{isElement}
 use Rattle.rule_styles.specs.declared.styled.StyledSheets.{StyledSheets}
@@ -130,7 +130,7 @@ module _ {s : SheetsRules} {rows tokens texts : List ℕ} (h : SheetsHeld s rows
     unfolding callRow placedAlong
     row-called c settings p ys e =
         let k : keptSheets rows y x w ≡ decided (placedSheets read) = ap (keptSheets rows y x) w-is ∙ still.kept-now h t-is x-is nodes attributes text row rooted y-is in
-        let f : w .fill ≡ length (sheetsContents read) = ap (λ (z : ReadySheets). z .fill) w-is ∙ (unfold styledPlaces readyPlaces in refl) in
+        let f : w .fill ≡ length (sheetsContents read) = ap (λ (z : ReadySheets). z .fill) w-is ∙ (unfold styledPlaces readyPlaces readyCounts in refl) in
         e
         ∙ ap (λ (r : Rules (StyledRule Value)). rowOf (cascaded c (placedFrom r (w .fill) settings p))) k
         ∙ ap rowOf (path-decided c (placedSheets read) (w .fill) settings p)
@@ -147,10 +147,10 @@ module _ {s : SheetsRules} {rows tokens texts : List ℕ} (h : SheetsHeld s rows
       store-is = ap (λ (q : Rules RuleSet). sheetsContents q ++ pathContents settings p) (held.sheets-are h)
 
       end-is : w .end ≡ s .end
-      end-is = ap (λ (z : ReadySheets). z .end) w-is ∙ (unfold styledPlaces readyPlaces in refl)
+      end-is = ap (λ (z : ReadySheets). z .end) w-is ∙ (unfold styledPlaces readyPlaces readyCounts in refl)
 
       fill-is : w .fill ≡ length (sheetsContents read)
-      fill-is = ap (λ (z : ReadySheets). z .fill) w-is ∙ (unfold styledPlaces readyPlaces in refl)
+      fill-is = ap (λ (z : ReadySheets). z .fill) w-is ∙ (unfold styledPlaces readyPlaces readyCounts in refl)
 
       pub filled : r ≡ length store
       filled = omega (arith, er, fill-is, ap length store-is, length-append (sheetsContents read) (pathContents settings p))

@@ -19,7 +19,7 @@ use Rattle.matching.specs.Topmost.Line.{same}
 use Rattle.matching.proofs.TopmostLaws.{line-up, right-top, right-above}
 use Rattle.rule_styles.specs.Placing.{rulesSelectors}
 use Rattle.rule_styles.specs.declared.styled.StyledSheets.{StyledSheets}
-use Rattle.styling.specs.Tops.{topWidth, selectorsTops, RightTops, sheetSelectors, sheetsSelectors, readyPlaces, readySheets, TopsRoom, SheetsTopsRoom}
+use Rattle.styling.specs.Tops.{topWidth, selectorsTops, RightTops, sheetSelectors, sheetsSelectors, readyPlaces, readyCounts, readySheets, TopsRoom, SheetsTopsRoom}
 use Rattle.styling.specs.declared.tops.ReadySheets.{ReadySheets}
 
 -- ---- the selector at a place, whose components are lent from behind its head on
@@ -289,10 +289,9 @@ module _ (nodes attributes text : List ℕ) (row : ℕ) where
         tops-stored t₃ e₃ =
             e₃ ∙ ap (λ (l : List ℕ). sets l p₂ (Tops W)) e₂ ∙ stored-both t₁ p₁ U W p₂ q₂ ∙ ap (λ (l : List ℕ). sets l p₁ (Tops (U ++ W))) e₁ ∙ stored-both tokens (v .behind) A (U ++ W) p₁ q₁
 
-        pub places-ready : (p₃ : ℕ) → p₃ ≡ p₂ + length W → (s : ReadySheets) → s .agent ≡ record { rules = v .agent .rules; styles = v .agent .styles; tops = v .behind }
-            → s .user ≡ record { rules = v .user .rules; styles = v .user .styles; tops = p₁ } → s .author ≡ record { rules = v .author .rules; styles = v .author .styles; tops = p₂ }
-            → s .end ≡ v .end → s .rows ≡ v .rows → s .behind ≡ p₃ → s .fill ≡ v .fill → s ≡ readySheets rows texts v
-        unfolding readySheets readyPlaces
-        places-ready p₃ q₃ s ea eu ew ee er eb ef =
+        pub places-ready : (p₃ : ℕ) → p₃ ≡ p₂ + length W → (s : ReadySheets) → s ≡ readyPlaces v p₁ p₂ p₃ → s ≡ readySheets rows texts v
+        unfolding readySheets readyCounts
+        places-ready p₃ q₃ s e =
             let b : p₂ ≡ v .behind + length A + length U = q₂ ∙ ap (λ (i : ℕ). i + length U) q₁ in
-            rw (ea, eu ∙ ap (λ (i : ℕ). record { rules = v .user .rules; styles = v .user .styles; tops = i }) q₁, ew ∙ ap (λ (i : ℕ). record { rules = v .author .rules; styles = v .author .styles; tops = i }) b, ee, er, eb ∙ q₃ ∙ ap (λ (i : ℕ). i + length W) b, ef) refl
+            e ∙ ap (λ (i : ℕ). readyPlaces v i p₂ p₃) q₁ ∙ ap (λ (i : ℕ). readyPlaces v (v .behind + length A) i p₃) b
+            ∙ ap (readyPlaces v (v .behind + length A) (v .behind + length A + length U)) (q₃ ∙ ap (λ (i : ℕ). i + length W) b)

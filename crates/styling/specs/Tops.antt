@@ -52,20 +52,24 @@ pub record SheetsTopsRoom (rows tokens texts : List ℕ) (v : StyledSheets) : Ty
   pub author-in : TextsIn texts (v .end) (v .author .rules)
   pub room : v .behind + length (sheetsSelectors rows texts v) ≤ length tokens
 
--- where all of it lies, with so many selectors of each sheet
+-- where all of it lies: the numbers of the agent's selectors behind the styles, the user's and the author's from a place on each, and the end
 unfoldable pub readyPlaces : StyledSheets → ℕ → ℕ → ℕ → ReadySheets
-readyPlaces v a u w =
+readyPlaces v user author behind =
     record {
       agent = record { rules = v .agent .rules; styles = v .agent .styles; tops = v .behind };
-      user = record { rules = v .user .rules; styles = v .user .styles; tops = v .behind + a };
-      author = record { rules = v .author .rules; styles = v .author .styles; tops = v .behind + a + u };
+      user = record { rules = v .user .rules; styles = v .user .styles; tops = user };
+      author = record { rules = v .author .rules; styles = v .author .styles; tops = author };
       end = v .end;
       rows = v .rows;
-      behind = v .behind + a + u + w;
+      behind = behind;
       fill = v .fill;
     }
 
+-- one behind the other, with so many selectors of each sheet
+unfoldable pub readyCounts : StyledSheets → ℕ → ℕ → ℕ → ReadySheets
+readyCounts v a u w = readyPlaces v (v .behind + a) (v .behind + a + u) (v .behind + a + u + w)
+
 unfoldable pub readySheets : List ℕ → List ℕ → StyledSheets → ReadySheets
 readySheets rows texts v =
-    readyPlaces v (length (sheetSelectors rows texts (v .end) (v .agent .rules))) (length (sheetSelectors rows texts (v .end) (v .user .rules)))
+    readyCounts v (length (sheetSelectors rows texts (v .end) (v .agent .rules))) (length (sheetSelectors rows texts (v .end) (v .user .rules)))
     (length (sheetSelectors rows texts (v .end) (v .author .rules)))

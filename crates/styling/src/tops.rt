@@ -21,7 +21,7 @@ ghost use Rattle.page.specs.Rows.{numberBound};
 ghost use Rattle.matching.specs.Rows.{Rooted};
 ghost use Rattle.matching.specs.Topmost.{selectorTop};
 ghost use Rattle.rule_styles.specs.Placing.{rulesSelectors};
-ghost use Rattle.styling.specs.Tops.{selectorsTops, sheetSelectors, sheetsSelectors, TextsIn, TopsRoom, SheetsTopsRoom, readySheets};
+ghost use Rattle.styling.specs.Tops.{selectorsTops, sheetSelectors, sheetsSelectors, TextsIn, TopsRoom, SheetsTopsRoom, readyPlaces, readySheets};
 
 // A selector's number is one of the store of tokens.
 pub const TOP_WIDTH: usize = 1;
@@ -193,6 +193,39 @@ fn find_sheet_tops(
     )
 }
 
+// Three sheets with the places where the numbers of the user's and the author's selectors start, and where all ends; the agent's lie behind the styles.
+fn ready_sheets(sheets: StyledSheets, user: usize, author: usize, behind: usize) -> ReadySheets
+    ensures { λ r. ⌜ r ≡ readyPlaces sheets user author behind ⌝ }
+{
+    let agent_rules = sheets.agent.rules;
+    let agent_sheet = ReadySheet {
+        rules: agent_rules,
+        styles: sheets.agent.styles,
+        tops: sheets.behind,
+    };
+    let user_rules = sheets.user.rules;
+    let user_sheet = ReadySheet {
+        rules: user_rules,
+        styles: sheets.user.styles,
+        tops: user,
+    };
+    let author_rules = sheets.author.rules;
+    let author_sheet = ReadySheet {
+        rules: author_rules,
+        styles: sheets.author.styles,
+        tops: author,
+    };
+    ReadySheets {
+        agent: agent_sheet,
+        user: user_sheet,
+        author: author_sheet,
+        end: sheets.end,
+        rows: sheets.rows,
+        behind,
+        fill: sheets.fill,
+    }
+}
+
 // Stores the numbers of the selectors of three sheets behind their styles; where all of it lies.
 pub fn find_tops(
     sheets: StyledSheets,
@@ -211,14 +244,9 @@ pub fn find_tops(
     ensures { λ _. ⌜ now (tokens .exit) ≡ sets (now (tokens .entry)) (sheets .behind)
         (selectorsTops (now (nodes .entry)) (now (attributes .entry)) (now (text .entry)) row (sheetsSelectors (now (rules .entry)) (now (texts .entry)) sheets)) ⌝ }
 {
-    let end = sheets.end;
-    let agent_tops = sheets.behind;
-    let agent_rules = sheets.agent.rules;
-    let user_rules = sheets.user.rules;
-    let author_rules = sheets.author.rules;
-    let user_tops = find_sheet_tops(
-        agent_rules,
-        end,
+    let user = find_sheet_tops(
+        sheets.agent.rules,
+        sheets.end,
         rules,
         texts,
         nodes,
@@ -226,11 +254,11 @@ pub fn find_tops(
         text,
         row,
         tokens,
-        agent_tops,
+        sheets.behind,
     );
-    let author_tops = find_sheet_tops(
-        user_rules,
-        end,
+    let author = find_sheet_tops(
+        sheets.user.rules,
+        sheets.end,
         rules,
         texts,
         nodes,
@@ -238,11 +266,11 @@ pub fn find_tops(
         text,
         row,
         tokens,
-        user_tops,
+        user,
     );
     let behind = find_sheet_tops(
-        author_rules,
-        end,
+        sheets.author.rules,
+        sheets.end,
         rules,
         texts,
         nodes,
@@ -250,30 +278,7 @@ pub fn find_tops(
         text,
         row,
         tokens,
-        author_tops,
-    );
-    let agent = ReadySheet {
-        rules: agent_rules,
-        styles: sheets.agent.styles,
-        tops: agent_tops,
-    };
-    let user = ReadySheet {
-        rules: user_rules,
-        styles: sheets.user.styles,
-        tops: user_tops,
-    };
-    let author = ReadySheet {
-        rules: author_rules,
-        styles: sheets.author.styles,
-        tops: author_tops,
-    };
-    ReadySheets {
-        agent,
-        user,
         author,
-        end,
-        rows: sheets.rows,
-        behind,
-        fill: sheets.fill,
-    }
+    );
+    ready_sheets(sheets, user, author, behind)
 }
