@@ -1,0 +1,6 @@
+pub mod Number
+pub mod Unit
+pub mod Length
+pub mod Numeral
+pub mod HeightLength
+pub mod Cases
