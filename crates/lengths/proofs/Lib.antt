@@ -1,2 +1,3 @@
 pub mod NumberLaws
 pub mod NumeralLaws
+pub mod DimensionLaws
