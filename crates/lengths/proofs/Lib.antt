@@ -1,3 +1,4 @@
 pub mod NumberLaws
 pub mod NumeralLaws
 pub mod DimensionLaws
+pub mod TokenLaws
