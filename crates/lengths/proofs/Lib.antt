@@ -2,3 +2,4 @@ pub mod NumberLaws
 pub mod NumeralLaws
 pub mod DimensionLaws
 pub mod TokenLaws
+pub mod HeightLengthLaws

@@ -4,3 +4,4 @@ pub mod numbers; // numbers.rt: numbers with decimals, recognised
 pub mod numerals; // numerals.rt: what the text of a number says
 pub mod dimensions; // dimensions.rt: numbers with a unit and without
 pub mod tokens; // tokens.rt: the one token of a value
+pub mod height; // height.rt: the call
