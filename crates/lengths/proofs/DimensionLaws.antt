@@ -16,7 +16,7 @@ use Rattle.values.proofs.ColourLaws.{product-fits}
 use Rattle.values.proofs.WordLaws.{numbersOf, joinedOf, lengthsOf, table-place, row-none, wordsOf}
 use Rattle.lengths.specs.Length.{ten, mostDecimals, mostNumber, digitsNumber, decimals, isNegative, isTooFine, isAbove, isBelow, isBad, tenThousandths, withUnit, dimensionLength, numberLength}
 use Rattle.lengths.specs.Numeral.{mostDigits, capped, numeralOf}
-use Rattle.lengths.specs.Unit.{Unit, units, unitKind}
+use Rattle.lengths.specs.Unit.{LengthUnit, units, unitKind}
 use Rattle.lengths.specs.declared.numerals.Numeral.{Numeral}
 use Rattle.lengths.specs.declared.answers.LengthAnswer.{LengthAnswer}
 use Rattle.lengths.specs.declared.answers.LengthAnswer.the-variants.{NoLength, Length, BadLength}
@@ -217,13 +217,13 @@ module _ (place : ℕ) (n unit : List ℕ) (i : ℕ) (e : i ≡ placeOf unit (sp
       let p = row-found units i h in
       er ∙ ap (λ (k : ℕ). withUnit place n k (getD (numbersOf (λ u. u .factor) units) i 0)) (p .2 (λ u. u .kind))
       ∙ ap (withUnit place n (p .0 .kind)) (p .2 (λ u. u .factor))
-      ∙ ap (λ (u : Found Unit). onFound u (λ a. withUnit place n (a .kind) (a .factor)) NoLength) (sym (p .1) ∙ table-place units unit i e)
+      ∙ ap (λ (u : Found LengthUnit). onFound u (λ a. withUnit place n (a .kind) (a .factor)) NoLength) (sym (p .1) ∙ table-place units unit i e)
 
   -- none of them
   pub unit-unknown : length (wordsOf units) ≤ i → NoLength ≡ dimensionLength place n unit
   unfolding dimensionLength onFound
   unit-unknown h =
-      ap (λ (u : Found Unit). onFound u (λ a. withUnit place n (a .kind) (a .factor)) NoLength) (sym (row-none units i h) ∙ table-place units unit i e)
+      ap (λ (u : Found LengthUnit). onFound u (λ a. withUnit place n (a .kind) (a .factor)) NoLength) (sym (row-none units i h) ∙ table-place units unit i e)
 
 -- ---- `number_length`
 module _ (n : List ℕ) (x : Numeral) (e : x ≡ numeralOf n) where

@@ -3,3 +3,4 @@ pub mod NumeralLaws
 pub mod DimensionLaws
 pub mod TokenLaws
 pub mod HeightLengthLaws
+pub mod Exact

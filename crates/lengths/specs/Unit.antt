@@ -4,6 +4,7 @@ use Prim.Native.Nat.{ℕ, _*_}
 use mathlib.Core.Bool.{Bool, true}
 use mathlib.Core.List.{List, [], _∷_}
 use mathlib.Core.Path.{_≡_, refl}
+use lib.Dec.{leb}
 use Rattle.combinators.specs.Choice.{and, is}
 use Rattle.unicode.specs.Literal.{text}
 use Rattle.values.specs.Words.{Entry}
@@ -27,7 +28,7 @@ exKind = 3
 
 -- ---- the table
 -- what an answer in the unit counts, how much of it the unit is, and how much a ten-thousandth of the unit is
-pub record Unit : Type 0 where
+pub record LengthUnit : Type 0 where
   pub kind : ℕ
   pub amount : ℕ
   pub factor : ℕ
@@ -36,7 +37,7 @@ pub record Unit : Type 0 where
 abbrev pub tenThousand : ℕ
 tenThousand = 10000
 
-abbrev pub units : List (Entry Unit)
+abbrev pub units : List (Entry LengthUnit)
 units =
     record { word = text "px"; means = record { kind = unitKind; amount = 3810000; factor = 381 } }
     ∷ record { word = text "in"; means = record { kind = unitKind; amount = 365760000; factor = 36576 } }
@@ -47,3 +48,30 @@ units =
     ∷ record { word = text "em"; means = record { kind = emKind; amount = 10000; factor = 1 } }
     ∷ record { word = text "ex"; means = record { kind = exKind; amount = 10000; factor = 1 } }
     ∷ []
+
+-- ---- the table's rule
+
+-- a test holds of every row of a table
+unfoldable pub everyRow : {A : Type 0} → (A → Bool) → List (Entry A) → Bool
+everyRow p [] = true
+everyRow p (e ∷ es) = and (p (e .means)) (everyRow p es)
+
+-- a unit is 10,000 times its factor
+unfoldable pub isExact : LengthUnit → Bool
+isExact u = is (u .amount) (tenThousand * u .factor)
+
+-- the inch has the largest factor
+abbrev pub largestFactor : ℕ
+largestFactor = 36576
+
+unfoldable pub isSmall : LengthUnit → Bool
+isSmall u = leb (u .factor) largestFactor
+
+-- of every row
+pub units-exact : everyRow isExact units ≡ true
+unfolding everyRow isExact and is
+units-exact = refl
+
+pub units-small : everyRow isSmall units ≡ true
+unfolding everyRow isSmall and
+units-small = refl
