@@ -38,15 +38,15 @@ fn with_unit(place: usize, n: &[u8], kind: u32, factor: u32) -> LengthAnswer
     let numeral = numeral_of(n);
     let decimals = numeral.decimals;
     if decimals >= SCALES.len() {
-        return LengthAnswer::BadLength(place);
+        return LengthAnswer::BadLength(place); // five decimals or more
     }
     let amount = numeral.digits * SCALES[decimals];
     if amount > MOST_DIGITS {
-        return LengthAnswer::BadLength(place);
+        return LengthAnswer::BadLength(place); // above 10,000
     }
     if numeral.negative {
         if amount > 0 {
-            return LengthAnswer::BadLength(place);
+            return LengthAnswer::BadLength(place); // below zero
         }
         return LengthAnswer::Length { kind, amount: 0 };
     }
