@@ -174,9 +174,10 @@ module _ (s st : List ℕ) (w : ℕ) (ew : w ≡ skipWhitespace s) (p : ℕ) (ep
     pub percent : b ≡ true → (NoLength ≡ lengthOf s) × (st ≡ sets st 0 (unitText s))
     unfolding numericFrom nameBehind
     percent e =
-        let q = token-from ∙ sym (pick-true _ _ _ _ (told _ _ _ eb e) refl) in
-        (pick-holds (λ (a : LengthAnswer). NoLength ≡ a) _ _ _ (λ _. refl) (λ _. refl) ∙ length-at s (n + 1) (percentage (take n t)) NoLength q (of-percentage _ _ []),
-        kept (sym (pick-false _ _ _ _ (is-no _ _ d) (pick-true _ _ _ _ (told _ _ _ eb e) refl))))
+        let q = token-from ∙ sym (pick-true _ _ _ _ (told _ _ _ eb e) refl) in (
+          pick-holds (λ (a : LengthAnswer). NoLength ≡ a) _ _ _ (λ _. refl) (λ _. refl) ∙ length-at s (n + 1) (percentage (take n t)) NoLength q (of-percentage _ _ []),
+          kept (sym (pick-false _ _ _ _ (is-no _ _ d) (pick-true _ _ _ _ (told _ _ _ eb e) refl))),
+        )
 
     module _ (e : b ≡ false) where
       -- the token by the name behind the number
@@ -198,6 +199,7 @@ module _ (s st : List ℕ) (w : ℕ) (ew : w ≡ skipWhitespace s) (p : ℕ) (ep
       pub read-behind : (r : LengthAnswer) (z : List ℕ) → (r ≡ lengthBehind w t n) × (z ≡ sets st 0 (nameText (identOf (drop n t))))
           → (r ≡ lengthOf s) × (z ≡ sets st 0 (unitText s))
       unfolding nameBehind
-      read-behind r z p =
-          (p .0 ∙ whole (identOf (drop n t)) refl,
-          p .1 ∙ ap (sets st 0) (pick-false _ _ _ _ (is-no _ _ d) (pick-false _ _ _ _ (told _ _ _ eb e) refl) ∙ sym text-of))
+      read-behind r z p = (
+        p .0 ∙ whole (identOf (drop n t)) refl,
+        p .1 ∙ ap (sets st 0) (pick-false _ _ _ _ (is-no _ _ d) (pick-false _ _ _ _ (told _ _ _ eb e) refl) ∙ sym text-of),
+      )

@@ -22,8 +22,8 @@ const KINDS: [u32; 8] = [
     UNIT_KIND, // mm
     UNIT_KIND, // pt
     UNIT_KIND, // pc
-    EM_KIND,   // em
-    EX_KIND,   // ex
+    EM_KIND, // em
+    EX_KIND, // ex
 ];
 
 const FACTORS: [u32; 8] = [381, 36576, 14400, 1440, 508, 6096, 1, 1];
