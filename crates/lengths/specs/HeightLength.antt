@@ -5,7 +5,7 @@ use lib.Dec.{ltb}
 use lib.ListN.{length, replicate}
 use Rattle.combinators.specs.Choice.{pick}
 use Rattle.combinators.specs.LeastLengths.{storesSuffice}
-use Rattle.combinators.specs.Refusal.{noRefusal, refused, refusedAt, tooLong, shortStore, notUtf8}
+use Rattle.combinators.specs.Refusal.{noRefusal, refused, refusedAt, tooLong, shortStore, notUtf8, badLength}
 use Rattle.combinators.specs.declared.refusals.Refusal.{Refusal}
 use Rattle.unicode.specs.Utf8.{valid}
 use Rattle.sheets.specs.SheetAnswer.{sheetLimit}
@@ -14,10 +14,6 @@ use Rattle.lengths.specs.Length.{lengthOf}
 use Rattle.lengths.specs.declared.answers.LengthNumbers.{LengthNumbers}
 use Rattle.lengths.specs.declared.answers.LengthAnswer.{LengthAnswer}
 use Rattle.lengths.specs.declared.answers.LengthAnswer.the-variants.{NoLength, Length, TooLong, ShortStore, NotUtf8, BadLength}
-
--- TEMPORARY
-abbrev pub badLength : ℕ
-badLength = 12
 
 -- ---- the answer in numbers: without a length all is 0 but the refusal
 abbrev pub withoutLength : Refusal → LengthNumbers

@@ -1,4 +1,5 @@
 // What `height_length` answers, in the numbers of documents 01 and 02.
+use combinators::refusals::BAD_LENGTH;
 use combinators::refusals::NOT_UTF8;
 use combinators::refusals::Refusal;
 use combinators::refusals::SHORT_STORE;
@@ -8,9 +9,6 @@ use combinators::refusals::refused;
 use combinators::refusals::refused_at;
 ghost use mathlib.Core.Path.{_≡_};
 ghost use Rattle.lengths.specs.HeightLength.{withoutLength, numbersOf};
-
-// TEMPORARY
-const BAD_LENGTH: u32 = 12;
 
 // What an answer counts: nothing where there is no length, units, or ten-thousandths of an `em` or an `ex`.
 pub const NO_KIND: u32 = 0;
