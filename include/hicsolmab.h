@@ -5,8 +5,9 @@
  *     1. hicsolmab_compile   makes one compiled sheet of three stylesheets;
  *     2. hicsolmab_run       styles all elements of a page by it: colour, background, display, white space, content.
  *
- * hicsolmab_style and hicsolmab_style_book style one element straight from the sheets, hicsolmab_check_page says whether a page is accepted, and
- * hicsolmab_read_sheet reads one sheet and says where reading stopped. examples/c/styles.c is a whole program.
+ * hicsolmab_style and hicsolmab_style_book style one element straight from the sheets, hicsolmab_check_page says whether a page is accepted,
+ * hicsolmab_read_sheet reads one sheet and says where reading stopped, and hicsolmab_height_length gives a height's value as an exact length.
+ * examples/c/styles.c is a whole program.
  *
  * What holds for every call:
  *
@@ -31,9 +32,9 @@ extern "C" {
 
 /* ---- Refusals
  *
- * The first number of each result. Where several apply, they are looked for in the order in which they stand here. After HICSOLMAB_PANIC and
- * HICSOLMAB_NO_ROOM every slice that the call writes is zero throughout; after the others it is unchanged. A place counts from 0, and is 0 where none is
- * named. */
+ * The first number of each result. Where several apply, they are looked for in the order in which they stand here. After HICSOLMAB_PANIC,
+ * HICSOLMAB_BAD_LENGTH and HICSOLMAB_NO_ROOM every slice that the call writes is zero throughout; after the others it is unchanged. A place counts from 0, and
+ * is 0 where none is named. */
 enum hicsolmab_refusal {
     HICSOLMAB_NO_REFUSAL = 0,  /* nothing is refused */
     HICSOLMAB_TOO_LONG = 1,    /* a sheet of more than HICSOLMAB_SHEET_LIMIT bytes, or more than HICSOLMAB_COMPILED_LIMIT compiled bytes */
@@ -45,6 +46,7 @@ enum hicsolmab_refusal {
     HICSOLMAB_NO_ELEMENT = 8,  /* the row asked for is no element, or beyond the page */
     HICSOLMAB_BAD_BYTES = 9,   /* bytes that are no compiled sheet; place: the byte where the number or text starts that cannot be read, or the first left over */
     HICSOLMAB_PANIC = 4,       /* html2text panics on a sheet: `[name=` ends it, or an nth-child number is above 2147483647; text: the sheet; place: the byte */
+    HICSOLMAB_BAD_LENGTH = 12, /* a height with one of the eight units that has five or more decimals, is above 10,000 or is below 0; place: its first byte */
     HICSOLMAB_NO_ROOM = 10     /* the compiled sheet would have more bytes than are lent, or than HICSOLMAB_COMPILED_LIMIT */
 };
 
@@ -196,6 +198,7 @@ static inline const uint8_t *hicsolmab_content(const uint32_t *row, enum hicsolm
  * What is lent has a least length, which grows with the bytes of text that a call is handed. First so many bytes for each call, then the least lengths for so
  * many bytes. All are constant expressions where their arguments are, so that arrays can have them. */
 #define HICSOLMAB_READ_SHEET_BYTES(sheet_length) ((size_t)(sheet_length))
+#define HICSOLMAB_HEIGHT_LENGTH_BYTES(value_length) ((size_t)(value_length))
 #define HICSOLMAB_COMPILE_BYTES(agent_length, user_length, author_length) ((size_t)(agent_length) + (size_t)(user_length) + (size_t)(author_length))
 #define HICSOLMAB_RUN_BYTES(attributes_length, text_length) ((size_t)(text_length) + 2 * ((size_t)(attributes_length) / HICSOLMAB_ATTRIBUTE_WIDTH))
 #define HICSOLMAB_STYLE_BYTES(agent_length, user_length, author_length, attributes_length, text_length) \
@@ -236,6 +239,32 @@ hicsolmab_sheet_result hicsolmab_read_sheet(const uint8_t *sheet, size_t sheet_l
                                             uint32_t *tokens, size_t tokens_length,
                                             uint8_t *brackets, size_t brackets_length,
                                             uint8_t *texts, size_t texts_length);
+
+/* What a length counts. */
+enum hicsolmab_length {
+    HICSOLMAB_NO_LENGTH = 0,    /* nothing: the value is no length */
+    HICSOLMAB_UNIT_LENGTH = 1,  /* units: 3,810,000 to the pixel, 365,760,000 to the inch */
+    HICSOLMAB_EM_LENGTH = 2,    /* ten-thousandths of an em */
+    HICSOLMAB_EX_LENGTH = 3     /* ten-thousandths of an ex */
+};
+
+/* What hicsolmab_height_length answers. */
+typedef struct {
+    uint32_t refusal;
+    size_t place;    /* of BAD_LENGTH the first byte of the number, its sign included */
+    uint32_t kind;   /* one of hicsolmab_length */
+    uint64_t amount; /* so many; at most 3,657,600,000,000 */
+} hicsolmab_length_result;
+
+/* A height's value, such as `1.5px`, as an exact length: a number with one of the units px, in, cm, mm, pt, pc, em and ex, or zero without one, with nothing but
+ * white space and comments around it. Every other value is no length, which is an answer and no refusal. All four stores are work stores.
+ *
+ * Least lengths for HICSOLMAB_HEIGHT_LENGTH_BYTES. Refuses TOO_LONG, SHORT_STORE, NOT_UTF8, BAD_LENGTH. Stack: 816 bytes. */
+hicsolmab_length_result hicsolmab_height_length(const uint8_t *value, size_t value_length,
+                                                uint32_t *rules, size_t rules_length,
+                                                uint32_t *tokens, size_t tokens_length,
+                                                uint8_t *brackets, size_t brackets_length,
+                                                uint8_t *texts, size_t texts_length);
 
 /* What hicsolmab_compile answers. */
 typedef struct {

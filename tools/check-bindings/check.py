@@ -29,10 +29,11 @@ MACRO = "HICSOLMAB_"
 # For each source the constants that are repeated, a name that is another one there behind a colon; and before them a pattern. Every constant of the source that
 # the pattern matches is to be among them, so that a new refusal or a new slot is not forgotten.
 CONSTANTS = {
-    "crates/combinators/src/refusals.rt": (r"", """NO_REFUSAL TOO_LONG SHORT_STORE NOT_UTF8 PANIC TOO_LARGE BAD_ROW BAD_TEXT NO_ELEMENT BAD_BYTES NO_ROOM"""),
+    "crates/combinators/src/refusals.rt": (r"", """NO_REFUSAL TOO_LONG SHORT_STORE NOT_UTF8 PANIC TOO_LARGE BAD_ROW BAD_TEXT NO_ELEMENT BAD_BYTES BAD_LENGTH NO_ROOM"""),
     "crates/combinators/src/least.rt": (r"", "TEXT_WIDTH TEXT_MORE NUMBER_WIDTH NUMBER_MORE"),
     "crates/origins/src/reading.rt": (r"\w+_TEXT$", "AGENT_TEXT USER_TEXT AUTHOR_TEXT"),
     "crates/sheets/src/sheet.rt": (r"\w+_LIMIT$", "SHEET_LIMIT"),
+    "crates/lengths/src/answers.rt": (r"\w+_KIND$", "NO_LENGTH:NO_KIND UNIT_LENGTH:UNIT_KIND EM_LENGTH:EM_KIND EX_LENGTH:EX_KIND"),
     "crates/compiled/src/sheets.rt": (r"\w+_LIMIT$", "COMPILED_LIMIT"),
     "crates/page/src/check.rt": (r"\w+_LIMIT$", "NODE_LIMIT ATTRIBUTE_LIMIT TEXT_LIMIT"),
     "crates/page/src/rules.rt": (r"\w+_LIMIT$", "DEPTH_LIMIT"),
@@ -48,6 +49,7 @@ CONSTANTS = {
 # The least lengths, and where things begin in a row: the header's macro, the bindings' function, and the formula over the constants of the sources.
 FORMULAS = [
     ("READ_SHEET_BYTES", "read_sheet_bytes", lambda c, sheet: sheet),
+    ("HEIGHT_LENGTH_BYTES", "height_length_bytes", lambda c, value: value),
     ("COMPILE_BYTES", "compile_bytes", lambda c, agent, user, author: agent + user + author),
     ("RUN_BYTES", "run_bytes", lambda c, attributes, text: text + 2 * (attributes // c["ATTRIBUTE_WIDTH"])),
     ("STYLE_BYTES", "style_bytes", lambda c, agent, user, author, attributes, text: agent + user + author + text + 2 * (attributes // c["ATTRIBUTE_WIDTH"])),
@@ -70,7 +72,7 @@ INLINE = {"hicsolmab_has_record", "hicsolmab_slot_of", "hicsolmab_is_hidden", "h
 MOVERS = {"memset", "memcpy", "memmove", "memcmp", "bcmp"}
 
 # How a parameter of a signature passes.
-C_TYPES = {"u32": "uint32_t", "u8": "uint8_t", "usize": "size_t"}
+C_TYPES = {"u64": "uint64_t", "u32": "uint32_t", "u8": "uint8_t", "usize": "size_t"}
 
 
 class Declared:

@@ -63,6 +63,18 @@ static uint32_t read_sheet(void)
     return hicsolmab_read_sheet(BYTES(user), rules, length[RULES], tokens, length[TOKENS], brackets, length[BRACKETS], texts, length[TEXTS]).refusal;
 }
 
+static const uint8_t value[] = "+ 1.5px";
+
+static uint32_t height_length(void)
+{
+    hicsolmab_length_result result = hicsolmab_height_length(BYTES(value), rules, length[RULES], tokens, length[TOKENS], brackets, length[BRACKETS],
+                                                             texts, length[TEXTS]);
+    if (result.refusal == HICSOLMAB_NO_REFUSAL) {
+        expect(result.kind == HICSOLMAB_UNIT_LENGTH && result.amount == 5715000, "a length of kind", result.kind);
+    }
+    return result.refusal;
+}
+
 static uint32_t compile(void)
 {
     hicsolmab_compile_result result = hicsolmab_compile(BYTES(agent), BYTES(user), BYTES(author), compiled, sizeof compiled, texts, length[TEXTS],
@@ -134,6 +146,8 @@ int main(void)
 {
     lend(HICSOLMAB_READ_SHEET_BYTES(TEXT_LENGTH(user)), 0, 0);
     least("hicsolmab_read_sheet", read_sheet, ROWS);
+    lend(HICSOLMAB_HEIGHT_LENGTH_BYTES(TEXT_LENGTH(value)), 0, 0);
+    least("hicsolmab_height_length", height_length, ROWS);
     lend(HICSOLMAB_COMPILE_BYTES(TEXT_LENGTH(agent), TEXT_LENGTH(user), TEXT_LENGTH(author)), 0, 0);
     least("hicsolmab_compile", compile, ROWS);
     lend(HICSOLMAB_STYLE_BYTES(TEXT_LENGTH(agent), TEXT_LENGTH(user), TEXT_LENGTH(author), LENGTH(attributes), TEXT_LENGTH(text)),

@@ -12,10 +12,10 @@ import sys
 import check
 
 # Lines that declare a parameter or a field, in C, in Rust, and in the sources.
-C_MEMBER = re.compile(r"^ +(?:hicsolmab_\w+ \w+\()?(?:const )?(?:uint8_t|uint32_t|size_t) \*?\w+[,;)]|^hicsolmab_\w+ \w+\(")
-RUST_MEMBER = re.compile(r"^ {4,8}(?:pub )?\w+: (?:\*(?:const|mut) |&(?:mut )?\[)?(?:u8|u32|usize)\b")
-TYPES = [("uint8_t", "uint32_t"), ("uint32_t", "uint8_t"), ("size_t", "uint32_t"), ("const ", ""), ("uint8_t *", "const uint8_t *"), ("*const", "*mut"),
-         ("*mut", "*const"), ("u8", "u32"), ("u32", "u8"), ("usize", "u32"), ("&mut [", "&["), ("&[", "&mut [")]
+C_MEMBER = re.compile(r"^ +(?:hicsolmab_\w+ \w+\()?(?:const )?(?:uint8_t|uint32_t|uint64_t|size_t) \*?\w+[,;)]|^hicsolmab_\w+ \w+\(")
+RUST_MEMBER = re.compile(r"^ {4,8}(?:pub )?\w+: (?:\*(?:const|mut) |&(?:mut )?\[)?(?:u8|u32|u64|usize)\b")
+TYPES = [("uint8_t", "uint32_t"), ("uint32_t", "uint8_t"), ("uint64_t", "uint32_t"), ("size_t", "uint32_t"), ("const ", ""), ("uint8_t *", "const uint8_t *"), ("*const", "*mut"),
+         ("*mut", "*const"), ("u8", "u32"), ("u32", "u8"), ("u64", "u32"), ("usize", "u32"), ("&mut [", "&["), ("&[", "&mut [")]
 
 
 def numbers(path, text):
@@ -51,7 +51,7 @@ def members(path, text, pattern):
             yield edited("left out")
             if pattern.match(plain[i + 1]) and ");" not in lines[i + 1]:
                 yield edited("behind the next", lines[i + 1], line, lines_taken=2)
-        for match in re.finditer(r"\b(?!u8|u32|usize)(\w+)(?=[:,;)])", plain[i]):
+        for match in re.finditer(r"\b(?!u8|u32|u64|usize)(\w+)(?=[:,;)])", plain[i]):
             yield edited(f"{match[1]} renamed", line[:match.end()] + "s" + line[match.end():])
         for before, after in TYPES:
             for match in re.finditer(r"(?<!\w)" + re.escape(before) + (r"(?!\w)" if before[-1].isalnum() else ""), plain[i]):

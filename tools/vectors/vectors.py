@@ -16,14 +16,14 @@ import model
 HERE = os.path.dirname(os.path.abspath(__file__))
 CASES = os.path.join(HERE, "cases")
 REPLAY = os.path.join(HERE, "..", "..", "crates", "replay")
-LISTS = ["sheets", "compiled sheets", "compiled bytes", "pages", "attributes", "classes", "styles", "runs"]
+LISTS = ["sheets", "lengths", "compiled sheets", "compiled bytes", "pages", "attributes", "classes", "styles", "runs"]
 RECORDED = {"vectors": "html2text's sheets, attributes and selectors", "compile_vectors": "html2text's compiled sheets", "style_vectors": "html2text's computed styles"}
 
 IN_BOOK_ORDER = "computed styles in the book order"
 BY_RUNS = "html2text's computed styles by runs"
 
 # The calls, as crates/replay/src/calls.rt has them.
-CALLS = {"read_sheet": 1, "compile": 2, "check_page": 3, "style": 4, "style_book": 5, "run": 6, "check_bytes": 7, "style_attribute": 8, "color_attribute": 9, "matches": 10, "rows": 11, "selector": 12}
+CALLS = {"read_sheet": 1, "compile": 2, "check_page": 3, "style": 4, "style_book": 5, "run": 6, "check_bytes": 7, "style_attribute": 8, "color_attribute": 9, "matches": 10, "rows": 11, "selector": 12, "height_length": 13}
 BUFFERS = ["rules", "tokens", "brackets", "texts", "bytes", "out"]
 RUN_BUFFERS = {"state": "bytes", "rows": "out"}  # what `bytes` and `out` are in a run
 NUMBER_BUFFERS = ("rules", "tokens", "out")
@@ -32,7 +32,9 @@ RESULTS = 6
 ANY = None
 NODE_WIDTH, ATTRIBUTE_WIDTH, COMPONENTS_OF_FIRST_RULE = 6, 4, 5
 SLOT_NAMES = ["color", "background", "display", "space", "content"]
-PANIC, NO_ELEMENT, NO_SHEET, NO_ROOM = 4, 8, 9, 10
+PANIC, NO_ELEMENT, NO_SHEET, NO_ROOM, BAD_LENGTH = 4, 8, 9, 10, 12
+LENGTH_KINDS = {"none": 0, "units": 1, "em": 2, "ex": 3}
+MILLION = 10 ** 6  # an amount is told as millions and what is left
 FULL = 255
 ROOM = 4096
 SLOT_WEIGHT = 6  # the numbers of a slot between whether it is filled and its value
@@ -172,7 +174,7 @@ def least(n):
 
 
 def left_by(refusal):
-    return {"all": "zero" if refusal in (PANIC, NO_ROOM) else "unchanged"}
+    return {"all": "zero" if refusal in (PANIC, NO_ROOM, BAD_LENGTH) else "unchanged"}
 
 
 def runs(xs):
@@ -504,7 +506,7 @@ def fields(line, words):
 
 
 WORDS = {"sheet", "agent", "user", "author", "lent", "filled", "nodes", "attributes", "text", "selector", "bytes", "value",
-         "page", "row", "rows", "switch", "main", "before", "after", "refused", "in", "at", "rules", "stop", "numbers", "texts", "matches", "misses", "compiled", "accepted", "styles", "colour", "none"}
+         "page", "row", "rows", "switch", "main", "before", "after", "refused", "in", "at", "rules", "stop", "numbers", "texts", "matches", "misses", "compiled", "accepted", "styles", "colour", "none", "units", "em", "ex"}
 
 
 def total(parts):
@@ -537,6 +539,18 @@ def sheet_case(words, f):
     after = {"all": "zero", "rules": ([(taken, [])] if taken else [], 0), "texts": (names, 0), "bytes": "unchanged"}
     results = [0, 0, int(f["rules"].value), int(f["stop"].value), taken, total(names)]
     return Vector(words, "read_sheet", sheet, [], Question(lent_to(f, n), filling(f), [n], results, after))
+
+
+def length_case(words, f):
+    """A height's value, and so many units, ten-thousandths of em or ex, or none. All four stores are work stores."""
+    value = f["value"].texts()
+    n, (number_, _, place) = total(value), refusal(f)
+    results, after = [number_, place, 0, 0, 0], left_by(number_)
+    if number_ == 0:
+        kind = next(k for k in LENGTH_KINDS if k in f)
+        results = [0, 0, LENGTH_KINDS[kind], *divmod(int(f[kind].value or 0), MILLION)]
+        after = {"all": "zero"}
+    return Vector(words, "height_length", value, [], Question(lent_to(f, n), filling(f), [n], results, after))
 
 
 def compile_case(words, f):
@@ -673,7 +687,7 @@ def run_case(words, f):
     return Vector(words, "run", page + compiled, nodes + attributes, Question(lent, filling(f), arguments, results, after))
 
 
-KINDS = {"read_sheet": sheet_case, "compile": compile_case, "check_page": page_case, "check_bytes": bytes_case, "prefixes": prefixes_case,
+KINDS = {"read_sheet": sheet_case, "height_length": length_case, "compile": compile_case, "check_page": page_case, "check_bytes": bytes_case, "prefixes": prefixes_case,
          "style_attribute": style_attribute_case, "color_attribute": colour_case, "class": class_case, "style": style_case("style"),
          "style_book": style_case("style_book"), "both": both_case, "run": run_case}
 

@@ -16,7 +16,7 @@ pub struct Stores<'a> {
     pub tokens: &'a mut [u32],
     /// A work store.
     pub brackets: &'a mut [u8],
-    /// The texts.
+    /// The texts; of [`height_length`] a work store.
     pub texts: &'a mut [u8],
 }
 
@@ -36,6 +36,20 @@ pub struct SheetResult {
     pub numbers: usize,
     /// The bytes of `texts` that their texts take.
     pub bytes: usize,
+}
+
+/// What [`height_length`] answers.
+#[repr(C)]
+#[derive(Debug, Clone, Copy, PartialEq, Eq)]
+pub struct LengthResult {
+    /// The refusal's number, 0 where nothing is refused.
+    pub refusal: u32,
+    /// The refusal's place.
+    pub place: usize,
+    /// What the length counts, as [`layout`](crate::layout) names it.
+    pub kind: u32,
+    /// So many.
+    pub amount: u64,
 }
 
 /// What [`compile`] answers.
@@ -100,6 +114,14 @@ unsafe extern "C" {
         brackets: *mut u8, brackets_length: usize,
         texts: *mut u8, texts_length: usize,
     ) -> SheetResult;
+
+    fn hicsolmab_height_length(
+        value: *const u8, value_length: usize,
+        rules: *mut u32, rules_length: usize,
+        tokens: *mut u32, tokens_length: usize,
+        brackets: *mut u8, brackets_length: usize,
+        texts: *mut u8, texts_length: usize,
+    ) -> LengthResult;
 
     fn hicsolmab_compile(
         agent: *const u8, agent_length: usize,
@@ -175,6 +197,23 @@ pub fn read_sheet(sheet: &[u8], stores: Stores<'_>) -> SheetResult {
     unsafe {
         hicsolmab_read_sheet(
             sheet.as_ptr(), sheet.len(),
+            rules.as_mut_ptr(), rules.len(),
+            tokens.as_mut_ptr(), tokens.len(),
+            brackets.as_mut_ptr(), brackets.len(),
+            texts.as_mut_ptr(), texts.len(),
+        )
+    }
+}
+
+/// The exact length that a height's value is.
+#[must_use]
+#[rustfmt::skip]
+pub fn height_length(value: &[u8], stores: Stores<'_>) -> LengthResult {
+    let Stores { rules, tokens, brackets, texts } = stores;
+    // SAFETY: as in `read_sheet`.
+    unsafe {
+        hicsolmab_height_length(
+            value.as_ptr(), value.len(),
             rules.as_mut_ptr(), rules.len(),
             tokens.as_mut_ptr(), tokens.len(),
             brackets.as_mut_ptr(), brackets.len(),

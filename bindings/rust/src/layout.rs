@@ -25,6 +25,8 @@ pub const BAD_TEXT: u32 = 7;
 pub const NO_ELEMENT: u32 = 8;
 /// Bytes that are no compiled sheet.
 pub const BAD_BYTES: u32 = 9;
+/// A height with one of the eight units that is too fine, above 10,000 or below zero.
+pub const BAD_LENGTH: u32 = 12;
 /// The compiled sheet would exceed its buffer or its limit.
 pub const NO_ROOM: u32 = 10;
 
@@ -34,6 +36,17 @@ pub const AGENT_TEXT: usize = 0;
 pub const USER_TEXT: usize = 1;
 /// The text of [`PANIC`] in the author sheet.
 pub const AUTHOR_TEXT: usize = 2;
+
+// ---- lengths
+
+/// The value is no length.
+pub const NO_LENGTH: u32 = 0;
+/// A length in units, of which a pixel has 3,810,000.
+pub const UNIT_LENGTH: u32 = 1;
+/// A length in ten-thousandths of an `em`.
+pub const EM_LENGTH: u32 = 2;
+/// A length in ten-thousandths of an `ex`.
+pub const EX_LENGTH: u32 = 3;
 
 // ---- limits
 

@@ -12,6 +12,12 @@ pub const fn read_sheet_bytes(sheet_length: usize) -> usize {
     sheet_length
 }
 
+/// The bytes of text of [`calls::height_length`](crate::calls::height_length), by the length of its value.
+#[must_use]
+pub const fn height_length_bytes(value_length: usize) -> usize {
+    value_length
+}
+
 /// The bytes of text of [`calls::compile`](crate::calls::compile), by the lengths of its sheets.
 #[must_use]
 pub const fn compile_bytes(agent_length: usize, user_length: usize, author_length: usize) -> usize {

@@ -37,6 +37,10 @@
 //! hidden element is hidden, and a parent's colour from a stronger selector stays. [`Sheets::style_book`] gives the style of one element in the order of CSS
 //! Cascading Level 3.
 //!
+//! # Heights
+//!
+//! [`height_length`] gives a height's value as an exact [`Length`], in whole units of which a pixel has 3,810,000.
+//!
 //! # Buffers
 //!
 //! The engine allocates nothing: what it writes to is lent to it. [`Sheets::compile`], [`Compiled::run`] and [`Sheets::style`] make buffers for each call. A
@@ -49,6 +53,7 @@
 //! has it, or what `rt staticlib engine` writes in the repository; where that is not there yet, the build script runs the command, which takes minutes.
 
 pub mod calls;
+mod height;
 pub mod layout;
 pub mod lengths;
 mod page;
@@ -58,6 +63,7 @@ mod sheets;
 mod style;
 mod workspace;
 
+pub use height::{Length, height_length, height_length_in};
 pub use page::{Page, PageRows};
 pub use refusal::{Reason, Refusal};
 pub use settings::Settings;

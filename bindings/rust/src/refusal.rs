@@ -1,10 +1,10 @@
 use std::error::Error;
 use std::fmt;
 
-use crate::calls::{CompileResult, PageResult, RunResult, SheetResult, StyleResult};
+use crate::calls::{CompileResult, LengthResult, PageResult, RunResult, SheetResult, StyleResult};
 use crate::layout::{
-    AGENT_TEXT, ATTRIBUTE_LIMIT, AUTHOR_TEXT, BAD_BYTES, BAD_ROW, BAD_TEXT, COMPILED_LIMIT, DEPTH_LIMIT, NO_ELEMENT, NO_REFUSAL, NO_ROOM, NODE_LIMIT, NOT_UTF8,
-    PANIC, SHEET_LIMIT, SHORT_STORE, TEXT_LIMIT, TOO_LARGE, TOO_LONG, USER_TEXT,
+    AGENT_TEXT, ATTRIBUTE_LIMIT, AUTHOR_TEXT, BAD_BYTES, BAD_LENGTH, BAD_ROW, BAD_TEXT, COMPILED_LIMIT, DEPTH_LIMIT, NO_ELEMENT, NO_REFUSAL, NO_ROOM,
+    NODE_LIMIT, NOT_UTF8, PANIC, SHEET_LIMIT, SHORT_STORE, TEXT_LIMIT, TOO_LARGE, TOO_LONG, USER_TEXT,
 };
 use crate::style::Origin;
 
@@ -30,6 +30,8 @@ pub enum Reason {
     NoElement,
     /// Bytes are no compiled sheet.
     BadBytes,
+    /// A height has one of the eight units, and has five or more decimals, is above 10,000 or is below zero.
+    BadLength,
     /// A compiled sheet would be over its limit, or longer than its buffer.
     NoRoom,
     /// A number that the library gives and these bindings do not know.
@@ -40,6 +42,7 @@ pub enum Reason {
 #[derive(Debug, Clone, Copy, PartialEq, Eq, Hash)]
 enum Call {
     OneSheet,
+    Height,
     ThreeSheets,
     Page,
     Run,
@@ -69,7 +72,7 @@ pub struct Refusal {
 }
 
 impl Refusal {
-    /// Its number, 1 to 10, as [`layout`](crate::layout) names them.
+    /// Its number, 1 to 10 or 12, as [`layout`](crate::layout) names them.
     #[must_use]
     pub const fn number(&self) -> u32 {
         self.number
@@ -82,7 +85,7 @@ impl Refusal {
     }
 
     /// The place, counted from 0: of [`Reason::Panic`] a byte of the sheet, of [`Reason::BadRow`] and [`Reason::BadText`] a row of the page, of
-    /// [`Reason::BadBytes`] a byte of the compiled sheet; otherwise 0.
+    /// [`Reason::BadBytes`] a byte of the compiled sheet, of [`Reason::BadLength`] the first byte of the number, its sign included; otherwise 0.
     #[must_use]
     pub const fn place(&self) -> usize {
         self.place
@@ -101,6 +104,7 @@ impl Refusal {
             BAD_TEXT => Reason::BadText,
             NO_ELEMENT => Reason::NoElement,
             BAD_BYTES => Reason::BadBytes,
+            BAD_LENGTH => Reason::BadLength,
             NO_ROOM => Reason::NoRoom,
             _ => Reason::Unknown,
         }
@@ -137,6 +141,7 @@ impl fmt::Display for Refusal {
             Some(Origin::User) => "the user sheet",
             Some(Origin::Author) => "the author sheet",
             None if one => "the sheet",
+            None if self.call == Call::Height => "the height",
             None => "one of the sheets",
         };
         match self.reason() {
@@ -157,6 +162,7 @@ impl fmt::Display for Refusal {
             }
             Reason::NoElement => write!(f, "the row asked for is no element of the page"),
             Reason::BadBytes => write!(f, "the bytes are no compiled sheet: they cannot be read on from byte {place}"),
+            Reason::BadLength => write!(f, "the number at byte {place} of the height has more than 4 decimals, is above 10000 or is below 0"),
             Reason::NoRoom => {
                 write!(f, "the compiled sheet would have more than {COMPILED_LIMIT} bytes, or more than its buffer")
             }
@@ -180,6 +186,17 @@ impl SheetResult {
     /// What the call refused.
     pub fn accepted(self) -> Result<Self, Refusal> {
         accepted(self, Call::OneSheet, self.refusal, 0, self.place)
+    }
+}
+
+impl LengthResult {
+    /// The result where nothing is refused, and otherwise the refusal.
+    ///
+    /// # Errors
+    ///
+    /// What the call refused.
+    pub fn accepted(self) -> Result<Self, Refusal> {
+        accepted(self, Call::Height, self.refusal, 0, self.place)
     }
 }
 

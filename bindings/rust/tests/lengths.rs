@@ -33,6 +33,12 @@ fn assert_least(bytes: usize, mut call: impl FnMut(calls::Stores<'_>) -> u32) {
 }
 
 #[test]
+fn the_length_of_a_height() {
+    let value = b"+ 1.5px";
+    assert_least(lengths::height_length_bytes(value.len()), |stores| calls::height_length(value, stores).refusal);
+}
+
+#[test]
 fn reading_a_sheet() {
     let sheet = SHEETS.author;
     assert_least(lengths::read_sheet_bytes(sheet.len()), |stores| calls::read_sheet(sheet, stores).refusal);

@@ -1,5 +1,5 @@
--- Document 01's refusals, in the order in which they are looked for: "The lowest number that applies is returned, 4 counting as above 9 and below
--- 10, with a place counted from 0".
+-- The refusals of documents 01 and 02, in the order in which they are looked for: "The lowest number that applies is returned, 4 counting as above
+-- 9 and below 10, with a place counted from 0"; "12, after 11", which stands behind 4.
 use Prim.Native.Nat.{ℕ}
 use Rattle.combinators.specs.declared.refusals.Refusal.{Refusal}
 
@@ -56,6 +56,11 @@ badBytes = 9
 -- the number"
 abbrev pub panic : ℕ
 panic = 4
+
+-- S-8: "a value that is a number with one of the eight units and has five or more decimals, is above 10,000 or is below zero; place at the number,
+-- its sign included"
+abbrev pub badLength : ℕ
+badLength = 12
 
 -- "the compiled sheet would exceed its buffer or 65,536 bytes"; no place
 abbrev pub noRoom : ℕ

@@ -1,4 +1,4 @@
-// Document 01's refusals, in the order in which they are looked for, each with what its place is.
+// The refusals of documents 01 and 02, in the order in which they are looked for, each with what its place is.
 ghost use mathlib.Core.Path.{_≡_};
 ghost use Rattle.combinators.specs.Refusal.{noRefusal, refused, refusedAt, refusedIn};
 
@@ -31,6 +31,9 @@ pub const BAD_BYTES: u32 = 9;
 
 // The crate panics while reading: the text, and the byte in it.
 pub const PANIC: u32 = 4;
+
+// A number with a unit that is no exact length, or out of range: its first byte, the sign included.
+pub const BAD_LENGTH: u32 = 12;
 
 // The compiled sheet would exceed its buffer; no place.
 pub const NO_ROOM: u32 = 10;

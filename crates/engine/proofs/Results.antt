@@ -9,6 +9,11 @@ use Rattle.sheets.specs.SheetAnswer.{numbersOf, SheetLeft}
 use Rattle.sheets.specs.declared.answers.SheetNumbers.{SheetNumbers}
 use Rattle.sheets.specs.declared.sheet.SheetAnswer.{SheetAnswer}
 use Rattle.sheets.specs.declared.sheet.SheetAnswer.the-variants as sheet
+use Rattle.lengths.specs.HeightLength as lengths
+use Rattle.lengths.specs.HeightLength.{LengthLeft}
+use Rattle.lengths.specs.declared.answers.LengthNumbers.{LengthNumbers}
+use Rattle.lengths.specs.declared.answers.LengthAnswer.{LengthAnswer}
+use Rattle.lengths.specs.declared.answers.LengthAnswer.the-variants as length
 use Rattle.page.specs.Accepted.{refusalOf}
 use Rattle.page.specs.declared.check.PageAnswer.{PageAnswer}
 use Rattle.page.specs.declared.check.PageAnswer.the-variants as page
@@ -42,6 +47,15 @@ sheet-text sheet.ShortStore = refl
 sheet-text sheet.NotUtf8 = refl
 sheet-text (sheet.Panic p) = refl
 
+length-text : (a : LengthAnswer) → lengths.numbersOf a .refusal .text ≡ 0
+unfolding lengths.numbersOf
+length-text length.NoLength = refl
+length-text (length.Length kind amount) = refl
+length-text length.TooLong = refl
+length-text length.ShortStore = refl
+length-text length.NotUtf8 = refl
+length-text (length.BadLength p) = refl
+
 page-text : (a : PageAnswer) → refusalOf a .text ≡ 0
 unfolding refusalOf
 page-text page.Page = refl
@@ -57,6 +71,14 @@ sheet-numbers a {n} e =
     let t : n .refusal .text ≡ 0 = ap (λ (m : SheetNumbers). m .refusal .text) e ∙ sheet-text a in
     ap (λ (r : Refusal). record { refusal = r; count = n .count; stop = n .stop; numbers = n .numbers; bytes = n .bytes }) (one-text (n .refusal) t) ∙ e
 
+-- those of a length
+pub length-numbers : (a : LengthAnswer) {n : LengthNumbers} → n ≡ lengths.numbersOf a
+    → _≡_ {A = LengthNumbers}
+    (record { refusal = refusedAt (n .refusal .number) (n .refusal .place); kind = n .kind; amount = n .amount }) (lengths.numbersOf a)
+length-numbers a {n} e =
+    let t : n .refusal .text ≡ 0 = ap (λ (m : LengthNumbers). m .refusal .text) e ∙ length-text a in
+    ap (λ (r : Refusal). record { refusal = r; kind = n .kind; amount = n .amount }) (one-text (n .refusal) t) ∙ e
+
 -- the refusal of a page
 pub page-refused : (a : PageAnswer) {r q : Refusal} → r ≡ refusalOf a → refusalOf a ≡ q → refusedAt (r .number) (r .place) ≡ q
 page-refused a {r} e f = one-text r (ap (λ (x : Refusal). x .text) e ∙ page-text a) ∙ e ∙ f
@@ -65,6 +87,10 @@ page-refused a {r} e f = one-text r (ap (λ (x : Refusal). x .text) e ∙ page-t
 pub sheet-called : {n m : SheetNumbers} {y x b z : List ℕ} {l : SheetLeft} → record { answer = m; rules = y; tokens = x; brackets = b; texts = z } ≡ l
     → n ≡ m → record { answer = n; rules = y; tokens = x; brackets = b; texts = z } ≡ l
 sheet-called {n} {m} {y} {x} {b} {z} e f = ap (λ (q : SheetNumbers). record { answer = q; rules = y; tokens = x; brackets = b; texts = z }) f ∙ e
+
+pub length-called : {n m : LengthNumbers} {y x b z : List ℕ} {l : LengthLeft} → record { answer = m; rules = y; tokens = x; brackets = b; texts = z } ≡ l
+    → n ≡ m → record { answer = n; rules = y; tokens = x; brackets = b; texts = z } ≡ l
+length-called {n} {m} {y} {x} {b} {z} e f = ap (λ (q : LengthNumbers). record { answer = q; rules = y; tokens = x; brackets = b; texts = z }) f ∙ e
 
 pub compile-called : {n m : CompileNumbers} {k t y x b : List ℕ} {l : CompileLeft}
     → record { answer = m; compiled = k; texts = t; rules = y; tokens = x; brackets = b } ≡ l → n ≡ m

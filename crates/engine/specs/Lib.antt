@@ -3,3 +3,4 @@ pub mod Compile
 pub mod Page
 pub mod Style
 pub mod Run
+pub mod Length

@@ -5,3 +5,4 @@ pub mod compile; // compile.rt: three sheets into a compiled sheet
 pub mod pages; // pages.rt: which pages are accepted
 pub mod style; // style.rt: the style of an element
 pub mod run; // run.rt: the style rows of a page
+pub mod length; // length.rt: a height's value as an exact length

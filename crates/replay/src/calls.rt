@@ -30,6 +30,9 @@ pub const ROWS: u32 = 11;
 // The selector of a sheet, which is read first, on a row.
 pub const SELECTOR: u32 = 12;
 
+// An entry point again: the length that a height's value is. Its amount is told as millions and what is left.
+pub const HEIGHT_LENGTH: u32 = 13;
+
 // A call gives so many numbers; where it has fewer, the others are 0.
 pub const RESULTS: usize = 6;
 

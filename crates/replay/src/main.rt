@@ -4,7 +4,7 @@
 mod calls; // calls.rt: the calls, and where their arguments stand
 mod content; // content.rt: what stands in a buffer
 mod pages; // pages.rt: calls with a page or with compiled bytes
-mod reading; // reading.rt: calls with sheets and attributes
+mod reading; // reading.rt: calls with sheets, attributes and heights
 mod run_calls; // run_calls.rt: the styles of all elements of a page
 mod stream; // stream.rt: numbers and texts of a vector
 mod style_calls; // style_calls.rt: the style of an element
@@ -18,6 +18,7 @@ use calls::CHECK_PAGE;
 use calls::COLOUR;
 use calls::COMPILE;
 use calls::FILLING;
+use calls::HEIGHT_LENGTH;
 use calls::MATCHES;
 use calls::OUT_LENT;
 use calls::READ_SHEET;
@@ -47,6 +48,7 @@ use pages::ask_rows;
 use pages::ask_selector;
 use reading::ask_colour;
 use reading::ask_compile;
+use reading::ask_length;
 use reading::ask_sheet;
 use reading::ask_style_attribute;
 use run_calls::ask_run;
@@ -212,6 +214,7 @@ fn ask(
         ),
         STYLE_ATTRIBUTE => ask_style_attribute(s, arguments, input, rules, tokens, brackets, texts),
         COLOUR => ask_colour(s, arguments, input, tokens, brackets, texts),
+        HEIGHT_LENGTH => ask_length(s, arguments, input, rules, tokens, brackets, texts),
         SELECTOR => ask_selector(s, arguments, input, numbers, rules, tokens, brackets, texts),
         _ => ask_page_call(s, arguments, call, input, numbers, rules),
     }

@@ -1,4 +1,4 @@
-// Calls with sheets and attributes. Each answers the numbers of its result, in the order of its struct.
+// Calls with sheets, attributes and heights. Each answers the numbers of its result, in the order of its struct.
 use crate::calls::FIRST;
 use crate::calls::RESULTS;
 use crate::calls::SECOND;
@@ -8,8 +8,12 @@ use combinators::texts::part_of;
 use comparison::values_read::comparison_color_attribute;
 use comparison::values_read::comparison_style_attribute;
 use engine::compile::hicsolmab_compile;
+use engine::length::hicsolmab_height_length;
 use engine::sheet::hicsolmab_read_sheet;
 use std::num::wrapping_add_usize;
+
+// A number of a vector is below 2^32, which an amount may exceed.
+const MILLION: u64 = 1_000_000;
 
 pub fn ask_sheet(
     s: &[u8],
@@ -96,6 +100,28 @@ pub fn ask_colour(
         came.colour as usize,
         0,
         0,
+        0,
+    ]
+}
+
+pub fn ask_length(
+    s: &[u8],
+    arguments: usize,
+    input: &[u8],
+    rules: &mut [u32],
+    tokens: &mut [u32],
+    brackets: &mut [u8],
+    texts: &mut [u8],
+) -> [usize; RESULTS] {
+    let value = part_of(input, 0, argument(s, arguments, FIRST));
+    let came = hicsolmab_height_length(value, rules, tokens, brackets, texts);
+    let amount = came.amount;
+    [
+        came.refusal as usize,
+        came.place,
+        came.kind as usize,
+        (amount / MILLION) as usize,
+        (amount % MILLION) as usize,
         0,
     ]
 }

@@ -14,6 +14,15 @@ pub struct SheetResult {
 
 #[repr(C)]
 #[derive(Debug, Clone, Copy)]
+pub struct LengthResult {
+    pub refusal: u32,
+    pub place: usize,
+    pub kind: u32,
+    pub amount: u64,
+}
+
+#[repr(C)]
+#[derive(Debug, Clone, Copy)]
 pub struct PageResult {
     pub refusal: u32,
     pub place: usize,
@@ -125,6 +134,14 @@ unsafe extern "C" {
         brackets: *mut u8, brackets_length: usize,
         texts: *mut u8, texts_length: usize,
     ) -> SheetResult;
+
+    fn hicsolmab_height_length(
+        value: *const u8, value_length: usize,
+        rules: *mut u32, rules_length: usize,
+        tokens: *mut u32, tokens_length: usize,
+        brackets: *mut u8, brackets_length: usize,
+        texts: *mut u8, texts_length: usize,
+    ) -> LengthResult;
 
     fn hicsolmab_check_page(
         nodes: *const u32, nodes_length: usize,
@@ -268,6 +285,19 @@ impl Stores {
         unsafe {
             hicsolmab_read_sheet(
                 sheet.as_ptr(), sheet.len(),
+                self.rules.as_mut_ptr(), self.rules.len(),
+                self.tokens.as_mut_ptr(), self.tokens.len(),
+                self.brackets.as_mut_ptr(), self.brackets.len(),
+                self.texts.as_mut_ptr(), self.texts.len(),
+            )
+        }
+    }
+
+    #[rustfmt::skip]
+    pub fn height_length(&mut self, value: &[u8]) -> LengthResult {
+        unsafe {
+            hicsolmab_height_length(
+                value.as_ptr(), value.len(),
                 self.rules.as_mut_ptr(), self.rules.len(),
                 self.tokens.as_mut_ptr(), self.tokens.len(),
                 self.brackets.as_mut_ptr(), self.brackets.len(),

@@ -1,4 +1,4 @@
-//! Texts to ask about: sheets, style attributes and colour attributes, joined from pieces that matter to the reader, and damaged copies of them.
+//! Texts to ask about: sheets, style attributes, colour attributes and heights, joined from pieces that matter to the reader, and damaged copies of them.
 //! Each kind of piece has usual forms, which read, and odd ones, of which many do not; how odd a text is as a whole is chosen first.
 use crate::random::Random;
 
@@ -435,6 +435,36 @@ pub fn page_sheet(random: &mut Random) -> String {
     if random.percent(1) {
         text += random.choose(&["[a=", ":nth-child(2147483648){}"]);
     }
+    if damage { damaged(random, text) } else { text }
+}
+
+// ---- heights
+
+const LENGTH_SIGNS: [&str; 12] = ["", "", "", "", "", "", "+", "-", "+ ", "+-", "++", "+/**/"];
+const WHOLE_NUMBERS: [&str; 16] =
+    ["0", "1", "2", "9", "12", "00", "007", "999", "9999", "10000", "10001", "010000", "99999", "00000000000000000001", "99999999999999999999", ""];
+const DECIMALS: [&str; 18] =
+    ["", "", "", "", ".0", ".5", ".25", ".125", ".0001", ".9999", ".0000", ".00000", ".12345", ".00001", ".", "..5", ".5.5", ".000000000000000001"];
+const LENGTH_UNITS: [&str; 34] = [
+    "px", "px", "in", "cm", "mm", "pt", "pc", "em", "ex", "PX", "Em", "iN", "", "", "%", "rem", "p", "pxx", "vh", "e3px", "-px", "\\70x", "\\50x", "\\000070c",
+    "p\\78", "p\\78 ", "e\\6d", "\\65 x", "\\p\\x", "px\\", "é", "x", "1px", "_",
+];
+const BEHIND_LENGTHS: [&str; 14] = ["", "", "", "", "", "", " ", "/**/", "/*", ";", "!important", " 1px", ")", "é"];
+
+/// A height's value.
+pub fn height(random: &mut Random) -> String {
+    let damage = begin(random);
+    let space = |random: &mut Random| if random.percent(70) { String::new() } else { random.either(&SPACES, &ODD_SPACES).to_string() };
+    let mut text = space(random) + random.choose(&LENGTH_SIGNS) + &space(random) + random.choose(&WHOLE_NUMBERS);
+    if random.percent(2) {
+        text += &random.choose(&["0", "9"]).repeat([50, 500, 5000][random.below(3)]);
+    }
+    text += random.choose(&DECIMALS);
+    if random.percent(20) {
+        text += &space(random);
+    }
+    text += random.choose(&LENGTH_UNITS);
+    text += random.choose(&BEHIND_LENGTHS);
     if damage { damaged(random, text) } else { text }
 }
 

@@ -4,6 +4,7 @@ pub mod book;
 pub mod engine;
 pub mod generate;
 pub mod guarded;
+pub mod height;
 pub mod pages;
 pub mod questions;
 pub mod ran;

@@ -1,6 +1,7 @@
 //! The questions that both sides are asked, and what counts as the same answer.
 use crate::engine::{self, Stores};
 use crate::generate;
+use crate::height::{a_height, ask_height};
 use crate::pages::{self, Tree};
 use crate::ran::ASK_RUN;
 use crate::random::Random;
@@ -35,9 +36,10 @@ pub struct Question {
 
 // `computed` and `styled` ask the same of each element, the style by html2text's cascade: of short sheets and small pages, from which vectors are chosen, and of
 // sheets and pages in which more contends; `book` asks for the style in book order, which is held against src/book.rs. `run` and `styled_run` ask for all elements of
-// the same pages in one run over the compiled sheets.
+// the same pages in one run over the compiled sheets. `lengths` asks for the length of a height, which is held against src/height.rs.
 pub const QUESTIONS: &[Question] = &[
     Question { name: "sheet", call: "hicsolmab_read_sheet", generate: a_sheet, ask: Some(ask_sheet) },
+    Question { name: "lengths", call: "hicsolmab_height_length", generate: a_height, ask: Some(ask_height) },
     Question { name: "style", call: "comparison_style_attribute", generate: a_style_attribute, ask: Some(ask_style_attribute) },
     Question { name: "colour", call: "comparison_color_attribute", generate: a_color_attribute, ask: Some(ask_color_attribute) },
     Question { name: "matches", call: "comparison_matches", generate: a_sheet_and_page, ask: Some(ask_matches) },
@@ -50,7 +52,7 @@ pub const QUESTIONS: &[Question] = &[
 ];
 
 // What the stores hold before a call, so that a byte left as it was is seen.
-const FILLING: u8 = 0xa5;
+pub const FILLING: u8 = 0xa5;
 
 pub const PANICS: u32 = 4;
 #[cfg(compiler)]
@@ -109,7 +111,7 @@ pub fn is_clear<T: Default + PartialEq>(store: &[T]) -> bool {
     store.iter().all(|n| *n == T::default())
 }
 
-fn all_clear(stores: &Stores) -> bool {
+pub fn all_clear(stores: &Stores) -> bool {
     is_clear(&stores.rules) && is_clear(&stores.tokens) && is_clear(&stores.brackets) && is_clear(&stores.texts)
 }
 

@@ -23,7 +23,7 @@ impl Input {
 type Sheet = (&'static str, &'static str, &'static str, &'static str);
 
 const NO_SHEET: Sheet = ("", "", "", "");
-const SHEETS: [Sheet; 25] = [
+const SHEETS: [Sheet; 28] = [
     ("open brackets", "p{a:", "(", ""),
     ("closed brackets, one in another", "p{a:", "()", "}"),
     ("open braces of an at-rule", "@x", "{", ""),
@@ -59,6 +59,9 @@ const SHEETS: [Sheet; 25] = [
     ("closed comments", "a{color:", "/**/", "red}"),
     ("rules", "", "a{color:red;background-color:blue!important}", ""),
     ("at-rules", "", "@x y;", ""),
+    ("one height", "0.", "0", "1px"),
+    ("a height without decimals", "", "0", "1px"),
+    ("a height with an escaped unit", "1", "\\72", "x"),
 ];
 
 fn repeated(before: &str, again: &str, behind: &str, limit: usize) -> String {

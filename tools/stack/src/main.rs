@@ -32,8 +32,9 @@ struct Call {
     ask: fn(&Input, &mut Lent) -> u32,
 }
 
-const CALLS: [Call; 6] = [
+const CALLS: [Call; 7] = [
     Call { name: "hicsolmab_read_sheet", takes_page: false, takes_sheets: true, ask: read_sheet },
+    Call { name: "hicsolmab_height_length", takes_page: false, takes_sheets: true, ask: height_length },
     Call { name: "hicsolmab_compile", takes_page: false, takes_sheets: true, ask: compile },
     Call { name: "hicsolmab_check_page", takes_page: true, takes_sheets: false, ask: check_page },
     Call { name: "hicsolmab_style", takes_page: true, takes_sheets: true, ask: style },
@@ -89,6 +90,11 @@ fn sheets(input: &Input) -> Sheets<'_> {
 
 fn read_sheet(input: &Input, lent: &mut Lent) -> u32 {
     calls::read_sheet(&input.sheet, lent.stores(input.sheet.len())).refusal
+}
+
+// The sheet is taken for a height's value.
+fn height_length(input: &Input, lent: &mut Lent) -> u32 {
+    calls::height_length(&input.sheet, lent.stores(input.sheet.len())).refusal
 }
 
 fn compile(input: &Input, lent: &mut Lent) -> u32 {
@@ -213,6 +219,7 @@ fn table_of_memory() {
     let style = bytes_of_stores(lengths::style_bytes(SHEET_LIMIT, SHEET_LIMIT, SHEET_LIMIT, page.0, page.1)) + 4 * STYLE_ROW_WIDTH;
     println!("\n| call | bytes that it is lent to write, at the limits |\n|---|---|");
     println!("| `hicsolmab_read_sheet` | {} |", bytes_of_stores(lengths::read_sheet_bytes(SHEET_LIMIT)));
+    println!("| `hicsolmab_height_length` | {} |", bytes_of_stores(lengths::height_length_bytes(SHEET_LIMIT)));
     println!("| `hicsolmab_compile` | {} |", bytes_of_stores(lengths::compile_bytes(SHEET_LIMIT, SHEET_LIMIT, SHEET_LIMIT)) + COMPILED_LIMIT);
     println!("| `hicsolmab_check_page` | 0 |\n| `hicsolmab_style`, `hicsolmab_style_book` | {style} |\n| `hicsolmab_run` | {run} |");
 }
