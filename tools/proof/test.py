@@ -161,7 +161,7 @@ class Reprinting(unittest.TestCase):
 class Paths(unittest.TestCase):
     def test_claims_nest_to_the_right(self):
         paths = tool("paths")
-        function = paths.function_of("sheets", "parse_selector")
+        function = paths.function_of("selectors", "parse_selector")
         self.assertEqual([p for p, _, _ in paths.clauses(function, "requires")][:2], [" .0", " .1"] if len(function.of_kind("requires")) == 2 else [" .0", " .1 .0"])
 
     def test_a_callee_of_another_file(self):
