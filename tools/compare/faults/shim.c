@@ -10,6 +10,7 @@
 #define ROW_BYTES (WIDTH * sizeof(uint32_t))
 
 __typeof__(hicsolmab_read_sheet) real_hicsolmab_read_sheet;
+__typeof__(hicsolmab_height_length) real_hicsolmab_height_length;
 __typeof__(hicsolmab_compile) real_hicsolmab_compile;
 __typeof__(hicsolmab_check_page) real_hicsolmab_check_page;
 __typeof__(hicsolmab_style) real_hicsolmab_style;
@@ -64,6 +65,22 @@ hicsolmab_sheet_result hicsolmab_read_sheet(const uint8_t *sheet, size_t sheet_l
         tokens[tokens_length - 1] = 1;
     if (is("sheet_panic_place") && result.refusal == HICSOLMAB_PANIC)
         result.place += 1;
+    return result;
+}
+
+hicsolmab_length_result hicsolmab_height_length(const uint8_t *value, size_t value_length, uint32_t *rules, size_t rules_length, uint32_t *tokens, size_t tokens_length,
+                                                uint8_t *brackets, size_t brackets_length, uint8_t *texts, size_t texts_length)
+{
+    hicsolmab_length_result result =
+        real_hicsolmab_height_length(value, value_length, rules, rules_length, tokens, tokens_length, brackets, brackets_length, texts, texts_length);
+    if (is("length_rounded") && result.kind == HICSOLMAB_UNIT_LENGTH)
+        result.amount -= result.amount % 10;
+    if (is("length_em_as_ex") && result.kind == HICSOLMAB_EM_LENGTH)
+        result.kind = HICSOLMAB_EX_LENGTH;
+    if (is("length_place") && result.refusal == HICSOLMAB_BAD_LENGTH)
+        result.place += 1;
+    if (is("length_texts_left") && result.refusal == 0)
+        texts[texts_length - 1] = 1;
     return result;
 }
 
