@@ -19,7 +19,7 @@ use Rattle.syntax.specs.Declaration.{Declaration}
 use Rattle.declarations.specs.Rules.{propertyOf, declarationOf, startsAt, moreRules, declarationsOf}
 use Rattle.selectors.specs.Outcome.{reads}
 use Rattle.sheets.specs.Sheet.{spaced, beforeEnd, blockOf}
-use Rattle.grammar.proofs.NthGrammar.{Blanks}
+use Rattle.grammar.specs.Nth.{Blanks}
 use Rattle.grammar.proofs.Places.{Unblank, blank-first, rest-on, rest-one, byte-on, spaced-on, spaced-none}
 use Rattle.grammar.proofs.RuleGrammar.{Declared, Next, Block, empty, filled, writtenDeclared, writtenNext, writtenNexts, writtenEnd, writtenBlock, meansDeclared, meansNexts, meansBlock}
 use Rattle.grammar.proofs.DeclarationsRead.{ValueEnds, at-semicolon, at-brace, block-items, declaration-read}

@@ -24,8 +24,8 @@ use Rattle.lexer.proofs.SyntaxName.{IdentSequence, started, dashed, identStart,
 use Rattle.lexer.proofs.SyntaxWhitespace.{Blank, none, skips-blank}
 use Rattle.values.specs.Value.{bracketBy, bracketOf, before, closing, ending, stepOf, stop, cons, onStep, scan, statementOf, tokensOf, isImportant, withoutMark, valueFrom, valueOf}
 use Rattle.declarations.specs.Rules.{colonBehind, propertyOf, valueBehind, declarationOf}
-use Rattle.grammar.proofs.NthGrammar.{Blanks}
-use Rattle.grammar.proofs.SelectorGrammar.{Name}
+use Rattle.grammar.specs.Nth.{Blanks}
+use Rattle.grammar.specs.Selectors.{Name}
 use Rattle.grammar.proofs.Places.{differs}
 use Rattle.grammar.proofs.RuleGrammar.{Word, Declared, writtenDeclared, meansDeclared}
 use Rattle.grammar.proofs.ComponentsRead.{Ended, name-read, behind-blank}

@@ -23,8 +23,8 @@ use Rattle.values.specs.Words.{foundOr, lookup, onFound}
 use Rattle.selectors.specs.Outcome.{reads}
 use Rattle.selectors.specs.Selector.{signed, selectorOf}
 use Rattle.sheets.specs.Sheet.{sheetOf}
-use Rattle.grammar.proofs.NthGrammar.{Blanks, minus, Count, sum, worth, writtenSign, signByte, writtenArgument, negative, meansArgument}
-use Rattle.grammar.proofs.SelectorGrammar.{Name, class, attributeIs, nthChild, typed, untyped, universal, child, descendant, Complex, one, joined, writtenSimple, writtenSimples, writtenCompound, writtenCombinator, written, meansSimple, meansCompound, meansCombinator, inOrder, meaning, NoStarAtEnd, NoStarAtStart, firstCompound, Agrees}
+use Rattle.grammar.specs.Nth.{Blanks, minus, Count, sum, worth, writtenSign, signByte, writtenArgument, negative, meansArgument}
+use Rattle.grammar.specs.Selectors.{Name, class, attributeIs, nthChild, typed, untyped, universal, child, descendant, Complex, one, joined, writtenSimple, writtenSimples, writtenCompound, writtenCombinator, written, meansSimple, meansCompound, meansCombinator, inOrder, meaning, NoStarAtEnd, NoStarAtStart, firstCompound, Agrees}
 use Rattle.grammar.proofs.RuleGrammar.{Word, empty, filled, Rule, writtenDeclared, writtenNext, writtenNexts, writtenEnd, writtenBlock, writtenChosen, writtenOthers, writtenSelectors, writtenRule, writtenRules, meansDeclared, meansNexts, meansBlock, meansOthers, meansRule, meansRules}
 use Rattle.grammar.proofs.SelectorsRead.{block, selector-read}
 use Rattle.grammar.proofs.RuleList.{rules-read}

@@ -1,7 +1,5 @@
 pub mod Places
-pub mod NthGrammar
 pub mod NthRead
-pub mod SelectorGrammar
 pub mod ComponentsRead
 pub mod SelectorsRead
 pub mod RuleGrammar

@@ -29,7 +29,7 @@ use Rattle.values.specs.Colour.{numeral}
 use Rattle.selectors.specs.Outcome as outcome
 use Rattle.selectors.specs.Outcome.{Outcome, reads, fails, onOutcome, orElse}
 use Rattle.selectors.specs.Selector.{Nth, isMinus, isSign, signTaken, signed, greatest, digitsWorth, converted, bothOf, justA, justB, worded, nthOf, nthArgsOf, nthChildArgs, pseudoClassOf}
-use Rattle.grammar.proofs.NthGrammar.{Blanks, Sign, unsigned, plus, minus, worth, Count, Integer, Argument, even, odd, multiple, sum, number, writtenSign, signByte, writtenArgument, negative, meansArgument}
+use Rattle.grammar.specs.Nth.{Blanks, Sign, unsigned, plus, minus, worth, Count, Integer, Argument, even, odd, multiple, sum, number, writtenSign, signByte, writtenArgument, negative, meansArgument}
 use Rattle.grammar.proofs.Places.{differs, Unblank, blank-first, unblank-item, rest-on, rest-one, byte-on}
 
 -- ---- digits
@@ -40,7 +40,7 @@ digits-from none t i e = many-stop oneDigit t i (unfold oneDigit pick in rw e) �
 digits-from (more {x} {r} h hs) t i e = rw h (digits-from hs t (i + 1) e ∙ omega arith)
 
 -- the same from the start
-digits-read : {ds : List ℕ} → Each isDigit ds → (t : List ℕ) → isDigit (getD t 0 0) ≡ false → digits (ds ++ t) ≡ length ds
+pub digits-read : {ds : List ℕ} → Each isDigit ds → (t : List ℕ) → isDigit (getD t 0 0) ≡ false → digits (ds ++ t) ≡ length ds
 unfolding digits
 digits-read h t e = digits-from h t 0 e ∙ zero-add _
 

@@ -12,8 +12,8 @@ use Rattle.lexer.proofs.SyntaxName.{identStart}
 use Rattle.syntax.specs.Declaration.{Declaration}
 use Rattle.syntax.specs.Selector.{Selector, RuleSet}
 use Rattle.values.specs.Property.{declOf}
-use Rattle.grammar.proofs.NthGrammar.{Blanks}
-use Rattle.grammar.proofs.SelectorGrammar.{Name, Complex, written, meaning, Agrees}
+use Rattle.grammar.specs.Nth.{Blanks}
+use Rattle.grammar.specs.Selectors.{Name, Complex, written, meaning, Agrees}
 
 -- ---- what is written
 -- a name that does not begin with '-'

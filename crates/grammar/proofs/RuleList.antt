@@ -17,8 +17,8 @@ use Rattle.selectors.specs.Outcome.{reads, onOutcome, behind, orElse}
 use Rattle.selectors.specs.Selector.{selectorOf}
 use Rattle.selectors.specs.SelectorList.{moreSelectors, moreFrom, selectorsOf}
 use Rattle.sheets.specs.Sheet.{blockOf, rulesetOf, statementsOf, movedBy, sheetFrom, sheetOf}
-use Rattle.grammar.proofs.NthGrammar.{Blanks}
-use Rattle.grammar.proofs.SelectorGrammar.{written, meaning}
+use Rattle.grammar.specs.Nth.{Blanks}
+use Rattle.grammar.specs.Selectors.{written, meaning}
 use Rattle.grammar.proofs.RuleGrammar.{Block, empty, filled, Chosen, Other, Rule, writtenDeclared, writtenBlock, writtenChosen, writtenOthers, writtenSelectors, writtenRule, writtenRules, meansBlock, meansOthers, meansRule, meansRules}
 use Rattle.grammar.proofs.SelectorsRead.{Ends, block, another, complex-item, selector-read}
 use Rattle.grammar.proofs.BlocksRead.{block-read, moved-declared, moved-nexts}

@@ -24,9 +24,9 @@ use Rattle.syntax.specs.Selector as syntax
 use Rattle.syntax.specs.Selector.{Component}
 use Rattle.selectors.specs.Outcome.{reads, fails, onOutcome, behind, parsed, orElse}
 use Rattle.selectors.specs.Selector.{classOf, attrOf, hashOf, pseudoClassOf, marked, blankOf, componentOf, componentsOf, componentsFrom, someOf, withElementOf, withoutElementOf, bodyOf, isDescendant, withoutBlank, pseudoOf, pseudoTaken, selectorOf}
-use Rattle.grammar.proofs.NthGrammar.{Blanks, Argument, writtenArgument, meansArgument}
+use Rattle.grammar.specs.Nth.{Blanks, Argument, writtenArgument, meansArgument}
 use Rattle.grammar.proofs.Places.{differs}
-use Rattle.grammar.proofs.SelectorGrammar.{Name, Spaces, Quoted, Simple, id, class, attribute, attributeIs, attributeString, nthChild, Compound, typed, universal, untyped, Combinator, child, descendant, Complex, one, joined, writtenSimple, writtenSimples, writtenCompound, writtenCombinator, written, meansSimple, meansCompound, meansCombinator, inOrder, meaning, NoStarAtEnd, NoStarAtStart, firstCompound, Agrees}
+use Rattle.grammar.specs.Selectors.{Name, Spaces, Quoted, Simple, id, class, attribute, attributeIs, attributeString, nthChild, Compound, typed, universal, untyped, Combinator, child, descendant, Complex, one, joined, writtenSimple, writtenSimples, writtenCompound, writtenCombinator, written, meansSimple, meansCompound, meansCombinator, inOrder, meaning, NoStarAtEnd, NoStarAtStart, firstCompound, Agrees}
 use Rattle.grammar.proofs.ComponentsRead.{Ended, marks, name-read, class-read, id-read, attribute-read, attribute-is-read, attribute-string-read, nth-child-read, element-read, child-read, star-read, blank-read}
 
 -- ---- components one behind the other

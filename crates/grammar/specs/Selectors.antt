@@ -14,7 +14,7 @@ use Rattle.lexer.proofs.SyntaxString.{plain}
 use Rattle.lexer.proofs.SyntaxWhitespace.{White}
 use Rattle.syntax.specs.Selector as syntax
 use Rattle.syntax.specs.Selector.{Component, Selector}
-use Rattle.grammar.proofs.NthGrammar.{Blanks, Argument, writtenArgument, meansArgument}
+use Rattle.grammar.specs.Nth.{Blanks, Argument, writtenArgument, meansArgument}
 
 -- ---- what is written
 -- IDENT, of ASCII and without escapes. The reader folds names to small letters, which the document leaves to the language of the page, so

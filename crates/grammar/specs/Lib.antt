@@ -1,0 +1,3 @@
+pub mod Nth
+pub mod Selectors
+pub mod Tokens

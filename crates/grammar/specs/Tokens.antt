@@ -1,0 +1,167 @@
+-- Tokens in the words of CSS Syntax Level 3 (section 4, Tokenization), as far as the reader agrees with the document: how a token is written,
+-- what it means, and what may stand behind it so that it ends there.
+use mathlib.Core.Path.{_≡_, refl}
+use mathlib.Core.Bool.{Bool, true, false, not}
+use mathlib.Core.List.{List, [], _∷_, _++_, map}
+use Prim.Native.Nat.{ℕ, _≤_}
+use lib.ListN.{length, getD}
+use Rattle.combinators.specs.Ascii as ascii
+use Rattle.combinators.specs.Choice.{or, and, is}
+use Rattle.combinators.specs.Word.{startsWith, sameText}
+use Rattle.unicode.specs.Literal.{text}
+use Rattle.unicode.specs.WhiteSpace.{member}
+use Rattle.lexer.specs.Name.{lower}
+use Rattle.lexer.specs.Number.{isDigit}
+use Rattle.lexer.specs.Token as tokens
+use Rattle.lexer.specs.Token.{Token}
+use Rattle.lexer.specs.Whitespace.{skipWhitespace}
+use Rattle.lexer.proofs.SyntaxName.{Each, identStart, identCodePoint}
+use Rattle.grammar.specs.Nth.{Sign, unsigned, plus, minus, writtenSign}
+use Rattle.grammar.specs.Selectors.{Name, Quoted}
+
+-- ---- what is written
+-- a number (4.3.12, Consume a number) without an exponent: a sign or none, and digits, or a full stop and digits. Digits on both sides of
+-- a full stop are left out: the reader stops before it.
+pub record Numeral : Type 0 where
+  pub sign : Sign
+  pub fraction : Bool
+  pub digits : List ℕ
+  pub are : Each isDigit digits
+  pub some : 1 ≤ length digits
+
+-- what stands behind the '#' of a <hash-token> (4.3.1): ident code points, without capital letters, which the reader folds
+pub record Hashed : Type 0 where
+  pub bytes : List ℕ
+  pub are : Each identCodePoint bytes
+  pub some : 1 ≤ length bytes
+  pub small : map lower bytes ≡ bytes
+
+-- a name that is the exponent of the number before it (4.3.12): `e` and a digit, with a '-' or none between them
+unfoldable pub isExponent : List ℕ → Bool
+isExponent u = and (startsWith (text "e") u) (or (isDigit (getD u 1 0)) (and (is (getD u 1 0) ascii.hyphenMinus) (isDigit (getD u 2 0))))
+
+-- the unit of a <dimension-token> (4.3.3)
+pub record UnitName : Type 0 where
+  pub name : Name
+  pub no-exponent : isExponent (name .bytes) ≡ false
+
+-- code points that are a <delim-token> whatever stands behind them; a solidus where no asterisk follows (4.3.1, "anything else")
+unfoldable pub isDelimiter : ℕ → Bool
+isDelimiter c = member c (text "!$%&*/=>?^`|~")
+
+-- a token that opens no block and closes none
+pub data Atom : Type 0 where
+  word : Name → Atom
+  string : Quoted → Atom
+  hash : Hashed → Atom
+  number : Numeral → Atom
+  percentage : Numeral → Atom
+  dimension : Numeral → UnitName → Atom
+  comma : Atom
+  colon : Atom
+  semicolon : Atom
+  delimiter : (c : ℕ) → isDelimiter c ≡ true → Atom
+
+-- a token that opens a block (5.4.8, Consume a simple block; 5.4.9, Consume a function). Behind `url(` the document has a <url-token> (4.3.4).
+pub data Opening : Type 0 where
+  function : (n : Name) → sameText (n .bytes) (text "url") ≡ false → Opening
+  round : Opening
+  square : Opening
+  brace : Opening
+
+-- ---- how it is written
+unfoldable pub writtenStop : Bool → List ℕ
+writtenStop true = ascii.fullStop ∷ []
+writtenStop false = []
+
+unfoldable pub writtenNumeral : Numeral → List ℕ
+writtenNumeral n = writtenSign (n .sign) ++ (writtenStop (n .fraction) ++ n .digits)
+
+unfoldable pub writtenAtom : Atom → List ℕ
+writtenAtom (word n) = n .bytes
+writtenAtom (string q) = q .quote ∷ (q .body ++ (q .quote ∷ []))
+writtenAtom (hash h) = ascii.numberSign ∷ h .bytes
+writtenAtom (number n) = writtenNumeral n
+writtenAtom (percentage n) = writtenNumeral n ++ (ascii.percentSign ∷ [])
+writtenAtom (dimension n u) = writtenNumeral n ++ u .name .bytes
+writtenAtom comma = ascii.comma ∷ []
+writtenAtom colon = ascii.colon ∷ []
+writtenAtom semicolon = ascii.semicolon ∷ []
+writtenAtom (delimiter c d) = c ∷ []
+
+unfoldable pub writtenOpening : Opening → List ℕ
+writtenOpening (function n d) = n .bytes ++ (ascii.leftParenthesis ∷ [])
+writtenOpening round = ascii.leftParenthesis ∷ []
+writtenOpening square = ascii.leftSquareBracket ∷ []
+writtenOpening brace = ascii.leftCurlyBracket ∷ []
+
+-- the byte that closes what it opens: the ending token is the mirror of the opening one
+unfoldable pub closer : Opening → ℕ
+closer (function n d) = ascii.rightParenthesis
+closer round = ascii.rightParenthesis
+closer square = ascii.rightSquareBracket
+closer brace = ascii.rightCurlyBracket
+
+-- ---- what it means
+-- the sign as the token's text has it: a '+' is left out
+unfoldable pub meansSign : Sign → List ℕ
+meansSign unsigned = []
+meansSign plus = []
+meansSign minus = ascii.hyphenMinus ∷ []
+
+unfoldable pub meansNumeral : Numeral → List ℕ
+meansNumeral n = meansSign (n .sign) ++ (writtenStop (n .fraction) ++ n .digits)
+
+unfoldable pub meansAtom : Atom → Token
+meansAtom (word n) = tokens.ident (n .bytes)
+meansAtom (string q) = tokens.string (q .body)
+meansAtom (hash h) = tokens.hash (h .bytes)
+meansAtom (number n) = tokens.number (meansNumeral n)
+meansAtom (percentage n) = tokens.percentage (meansNumeral n)
+meansAtom (dimension n u) = tokens.dimension (meansNumeral n) (u .name .bytes)
+meansAtom comma = tokens.comma
+meansAtom colon = tokens.colon
+meansAtom semicolon = tokens.semicolon
+meansAtom (delimiter c d) = tokens.delim c
+
+unfoldable pub meansOpening : Opening → Token
+meansOpening (function n d) = tokens.function (n .bytes)
+meansOpening round = tokens.openRound
+meansOpening square = tokens.openSquare
+meansOpening brace = tokens.openBrace
+
+unfoldable pub meansCloser : Opening → Token
+meansCloser (function n d) = tokens.closeRound
+meansCloser round = tokens.closeRound
+meansCloser square = tokens.closeSquare
+meansCloser brace = tokens.closeBrace
+
+-- ---- where it ends
+-- an ident sequence ends before x (4.3.11): no ident code point and no escape
+unfoldable pub endsName : ℕ → Bool
+endsName x = not (or (identCodePoint x) (is x ascii.reverseSolidus))
+
+-- what an ident sequence begins with (4.3.9): an ident-start code point, a '-' or an escape
+unfoldable pub beginsName : ℕ → Bool
+beginsName y = or (identStart y) (or (is y ascii.hyphenMinus) (is y ascii.reverseSolidus))
+
+-- the token ends where the byte x stands behind it and y is the first byte behind white space and comments; each is 0 at the end of the
+-- text. The reader takes a name behind white space for a number's unit, so y must not begin one there: to the document `0 auto` is two tokens.
+unfoldable pub mayFollow : Atom → ℕ → ℕ → Bool
+mayFollow (word n) x y = and (endsName x) (not (is x ascii.leftParenthesis))
+mayFollow (string q) x y = true
+mayFollow (hash h) x y = endsName x
+mayFollow (number n) x y = and (endsName x) (and (not (is x ascii.fullStop)) (and (not (is x ascii.percentSign)) (not (beginsName y))))
+mayFollow (percentage n) x y = true
+mayFollow (dimension n u) x y = and (endsName x) (not (is x ascii.plusSign))
+mayFollow comma x y = true
+mayFollow colon x y = true
+mayFollow semicolon x y = true
+mayFollow (delimiter c d) x y = not (and (is c ascii.solidus) (is x ascii.asterisk))
+
+abbrev pub MayFollow : Atom → ℕ → ℕ → Type 0
+MayFollow a x y = mayFollow a x y ≡ true
+
+-- the same of the text behind it
+abbrev pub EndsBefore : Atom → List ℕ → Type 0
+EndsBefore a t = MayFollow a (getD t 0 0) (getD t (skipWhitespace t) 0)
