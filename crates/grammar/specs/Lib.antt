@@ -1,3 +1,4 @@
 pub mod Nth
 pub mod Selectors
 pub mod Tokens
+pub mod Values
