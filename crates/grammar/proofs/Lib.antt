@@ -1,6 +1,7 @@
 pub mod Places
 pub mod NthRead
 pub mod ComponentsRead
+pub mod TokensRead
 pub mod SelectorsRead
 pub mod RuleGrammar
 pub mod DeclarationsRead

@@ -1,0 +1,711 @@
+-- Tokens of the grammar are read whole: the steps of CSS Syntax Level 3, section 4.3 ('Consume a token' and what it calls), where the reader
+-- agrees with them.
+use mathlib.Core.Path.{_≡_, refl, ap, sym, subst, _∙_}
+use mathlib.Core.Bool.{Bool, true, false, not}
+use mathlib.Core.List.{List, [], _∷_, _++_, append-assoc, map}
+use Prim.Native.Nat.{ℕ, suc, _+_, _≤_}
+use native.Mathlib.Nat.{zero-add, add-zero}
+use native.Mathlib.Omega.{arith}
+use borrow.Author.Tests.{le-leb, lt-leb}
+use lib.ListN.{length, getD, take, drop, length-append}
+use lib.Seq.{drop-append-seam, take-append-seam}
+use Rattle.combinators.specs.Ascii as ascii
+use Rattle.combinators.specs.Choice.{pick, or, and, is, within}
+use Rattle.combinators.specs.Parsed.{Parsed, ok, err, onParsed, behind, orElse}
+use Rattle.combinators.specs.Repeat.{many, took}
+use Rattle.combinators.specs.Word.{startsWith}
+use Rattle.combinators.proofs.Lists.{first}
+use Rattle.combinators.proofs.Rules.{never, pick-true, pick-false, either, and-true, is-yes, is-no, is-true, or-false, within-true, within-false, within-past}
+use Rattle.combinators.proofs.Repeats.{many-stop, texts-stop}
+use Rattle.unicode.specs.Literal.{text}
+use Rattle.unicode.specs.Utf8.{utf8, scalarOf, scalarBy, leadOf, takenOf}
+use Rattle.unicode.specs.WhiteSpace.{member}
+use Rattle.unicode.specs.declared.utf8.Scalar.the-variants.{Value, NoScalar}
+use Rattle.lexer.specs.Name.{isNmstart, isNmchar, lower, nmstartCharOf, nmcharCharOf, nmstartOf, nmcharOf, charTaken, charText, charsEnd, charsText, charsOf, dash, nameOf, identOf, identstringOf}
+use Rattle.lexer.specs.Number.{isDigit, oneDigit, digits}
+use Rattle.lexer.specs.Number as numbers
+use Rattle.lexer.specs.Token as tokens
+use Rattle.lexer.specs.Token.{Token, numericFrom, numericOf, identLikeOf, isQuote, stringOf, firstAboveU0080, isIdentStart, startOf, markOf, hashOf, plusOf, minusOf, lessOf, tokenBy, tokenAt, tokenOf}
+use Rattle.lexer.specs.Whitespace.{isWhitespace, commentOf, whitespaceItem, skipWhitespace}
+use Rattle.lexer.specs.declared.tokens.Start.the-variants.{Quote, Letter, Digit, Other}
+use Rattle.lexer.proofs.SyntaxName.{Each, none, more, IdentSequence, started, dashed, identStart, identCodePoint, letter, start-code-point, code-point-item, hyphen-code-point, ident-sequence}
+use Rattle.lexer.proofs.SyntaxString.{string-quote}
+use Rattle.lexer.proofs.SyntaxWhitespace.{skips-blank}
+use Rattle.lexer.proofs.SyntaxWhitespace as blanks
+use Rattle.lexer.proofs.Escapes.{char-no, escape-no, either-second}
+use Rattle.lexer.proofs.Characters.{lower-byte}
+use Rattle.lexer.proofs.CharacterRuns.{chars-step, chars-text-step}
+use Rattle.lexer.proofs.Idents.{char-plain, name-none}
+use Rattle.grammar.specs.Nth.{Blanks, Sign, unsigned, plus, minus, writtenSign}
+use Rattle.grammar.specs.Selectors.{Name, Quoted}
+use Rattle.grammar.specs.Tokens.{Numeral, Hashed, UnitName, isDelimiter, Atom, word, string, hash, number, percentage, dimension, comma, colon, semicolon, delimiter, Opening, function, round, square, brace, writtenStop, writtenNumeral, writtenAtom, writtenOpening, closer, meansSign, meansNumeral, meansAtom, meansOpening, meansCloser, endsName, beginsName, mayFollow, MayFollow, EndsBefore}
+use Rattle.grammar.proofs.Places.{differs, Unblank, unblank-item}
+use Rattle.grammar.proofs.NthRead.{digits-read}
+use Rattle.grammar.proofs.ComponentsRead.{behind-blank, string-closed}
+
+-- ---- a token at the start of a text
+-- a text that does not begin with white space begins with the token k, of n bytes
+pub record Begins (t : List ℕ) (n : ℕ) (k : Token) : Type 0 where
+  pub item : whitespaceItem t ≡ 0
+  pub reads : tokenAt t (scalarOf t) ≡ ok n k
+
+module _ (b : Blanks) (t : List ℕ) (n : ℕ) (k : Token) (h : Begins t n k) where
+  -- white space and comments before it are skipped
+  pub token-skips : skipWhitespace (b .bytes ++ t) ≡ length (b .bytes)
+  token-skips = skips-blank (b .bytes) t (b .blank) (h .item)
+
+  -- and it is read behind them
+  pub token-read : tokenOf (b .bytes ++ t) ≡ ok (length (b .bytes) + n) k
+  unfolding tokenOf behind
+  token-read = rw (token-skips, drop-append-seam (b .bytes) t, h .reads)
+
+-- a byte of ASCII is a character
+ascii-scalar : (x : ℕ) (l : List ℕ) → x ≤ 0x7f → scalarOf (x ∷ l) ≡ Value 1 x
+unfolding scalarOf scalarBy leadOf pick is
+ascii-scalar x l h = rw (is-no (suc (length l)) 0 (λ z. omega arith), le-leb x 0x7f h)
+
+-- the reader that it selects
+begins-by : (x : ℕ) (l : List ℕ) (n : ℕ) (k : Token) → whitespaceItem (x ∷ l) ≡ 0 → x ≤ 0x7f → tokenBy (startOf x) 1 x (x ∷ l) ≡ ok n k → Begins (x ∷ l) n k
+unfolding tokenAt
+begins-by x l n k e h p = record { item = e; reads = rw (ascii-scalar x l h, p) }
+
+-- a test that does not hold
+untrue : (b : Bool) → not b ≡ true → b ≡ false
+untrue true e = sym e
+untrue false e = refl
+
+-- neither of two tests holds
+neither : (a b : Bool) → or a b ≡ false → (a ≡ false) × (b ≡ false)
+unfolding or
+neither true b e = absurd (never (sym e))
+neither false b e = (refl, e)
+
+-- ---- names: 4.3.4, Consume an ident-like token
+-- no mark is an ident-start code point
+start-marks : (identStart ascii.quotationMark ≡ false) × (identStart ascii.apostrophe ≡ false) × (identStart ascii.numberSign ≡ false) × (identStart ascii.plusSign ≡ false)
+    × (identStart ascii.hyphenMinus ≡ false) × (identStart ascii.fullStop ≡ false) × (identStart ascii.lessThanSign ≡ false) × (identStart ascii.reverseSolidus ≡ false)
+unfolding identStart letter or and within is
+start-marks = (refl, refl, refl, refl, refl, refl, refl, refl)
+
+-- the document's test of a first character is the crate's, of ASCII
+or-among : (a b c d : Bool) → or (or a b) c ≡ true → or b (or a (or c d)) ≡ true
+unfolding or
+or-among true true c d e = refl
+or-among true false c d e = refl
+or-among false true c d e = refl
+or-among false false true d e = refl
+or-among false false false d e = never e
+
+-- so where the document says it is one, the crate does
+crate-start : (x : ℕ) → identStart x ≡ true → isIdentStart x ≡ true
+unfolding identStart letter isIdentStart
+crate-start x e = or-among _ _ _ _ e
+
+-- an ident-start code point selects the reader of names
+start-letter : (x : ℕ) → identStart x ≡ true → startOf x ≡ Letter
+unfolding startOf isQuote pick or
+start-letter x e =
+    rw (
+      differs identStart x ascii.quotationMark e (start-marks .0),
+      differs identStart x ascii.apostrophe e (start-marks .1),
+      differs identStart x ascii.numberSign e (start-marks .2),
+      differs identStart x ascii.plusSign e (start-marks .3),
+      differs identStart x ascii.hyphenMinus e (start-marks .4),
+      differs identStart x ascii.fullStop e (start-marks .5),
+      differs identStart x ascii.lessThanSign e (start-marks .6),
+      differs identStart x ascii.reverseSolidus e (start-marks .7),
+      crate-start x e,
+    )
+
+-- it is of ASCII, and above the digits
+start-between : (x : ℕ) → identStart x ≡ true → (x ≤ 0x7f) × (ascii.digitNine + 1 ≤ x)
+unfolding identStart letter
+start-between x e =
+    either ((x ≤ 0x7f) × (ascii.digitNine + 1 ≤ x)) _ _ e
+    (λ l. either ((x ≤ 0x7f) × (ascii.digitNine + 1 ≤ x)) _ _ l
+    (λ w. let h = within-true x ascii.capitalA ascii.capitalZ w in (omega arith, omega arith))
+    (λ w. let h = within-true x ascii.smallA ascii.smallZ w in (omega arith, omega arith)))
+    (λ w. let h = is-true x ascii.lowLine w in (omega arith, omega arith))
+
+-- nothing that is neither a digit nor a full stop begins a number without a sign
+no-unsigned : (x : ℕ) (l : List ℕ) → isDigit x ≡ false → is x ascii.fullStop ≡ false → numbers.unsigned (x ∷ l) ≡ 0
+unfolding numbers.unsigned numbers.decimal digits oneDigit many took pick is
+no-unsigned x l d e = rw (d, e)
+
+-- so a '-' before an ident-start code point begins none
+dashed-number : (x : ℕ) (l : List ℕ) → identStart x ≡ true → numericOf (ascii.hyphenMinus ∷ x ∷ l) ≡ err
+unfolding numericOf numbers.number numbers.signed numbers.sign skipWhitespace whitespaceItem isWhitespace commentOf many took pick or is
+dashed-number x l e =
+    let b = start-between x e .1 in
+    rw (no-unsigned x l (unfold isDigit in within-past x ascii.digitZero ascii.digitNine (omega arith)) (is-no x ascii.fullStop (λ q. omega arith)))
+
+-- what a name begins is what the reader of names reads
+name-begins : (bytes t : List ℕ) (n : ℕ) (k : Token) → IdentSequence bytes → identLikeOf (bytes ++ t) ≡ ok n k → Begins (bytes ++ t) n k
+name-begins _ t n k (started {x} {r} e s) p = begins-by x (r ++ t) n k (code-point-item x (r ++ t) (start-code-point x e)) (start-between x e .0) (by-letter x (r ++ t) n k e p)
+  where
+    by-letter : (x : ℕ) (l : List ℕ) (n : ℕ) (k : Token) → identStart x ≡ true → identLikeOf (x ∷ l) ≡ ok n k → tokenBy (startOf x) 1 x (x ∷ l) ≡ ok n k
+    by-letter x l n k e p = unfold tokenBy in rw (start-letter x e, p)
+name-begins _ t n k (dashed {x} {r} e s) p =
+    begins-by ascii.hyphenMinus (x ∷ (r ++ t)) n k (code-point-item ascii.hyphenMinus (x ∷ (r ++ t)) hyphen-code-point) (omega arith) (by-dash x (r ++ t) n k e p)
+  where
+    by-dash : (x : ℕ) (l : List ℕ) (n : ℕ) (k : Token) → identStart x ≡ true → identLikeOf (ascii.hyphenMinus ∷ x ∷ l) ≡ ok n k
+        → tokenBy (startOf ascii.hyphenMinus) 1 ascii.hyphenMinus (ascii.hyphenMinus ∷ x ∷ l) ≡ ok n k
+    by-dash x l n k e p =
+        unfold tokenBy startOf isQuote minusOf orElse startsWith pick or and is in
+        rw (dashed-number x l e, differs identStart x ascii.hyphenMinus e (start-marks .4), p)
+
+-- a name ends before t
+record NameEnds (t : List ℕ) : Type 0 where
+  no-character : identCodePoint (getD t 0 0) ≡ false
+  no-escape : ¬ (getD t 0 0 ≡ ascii.reverseSolidus)
+
+-- by the grammar's test
+name-ends : (t : List ℕ) → endsName (getD t 0 0) ≡ true → NameEnds t
+unfolding endsName
+name-ends t e =
+    let n = neither _ _ (untrue _ e) in
+    record { no-character = n .0; no-escape = λ q. never (sym (n .1) ∙ is-yes _ _ q) }
+
+-- a name is read as it is written
+name-whole : (n : Name) (t : List ℕ) → NameEnds t → identOf (n .bytes ++ t) ≡ ok (length (n .bytes)) (n .bytes)
+name-whole n t h = ident-sequence (n .bytes) t (n .sequence) (h .no-character) (h .no-escape) ∙ rw (n .small)
+
+-- "Otherwise, return an <ident-token> with its value set to string"
+pub ident-token : (n : Name) (t : List ℕ) → endsName (getD t 0 0) ≡ true → is (getD t 0 0) ascii.leftParenthesis ≡ false
+    → Begins (n .bytes ++ t) (length (n .bytes)) (tokens.ident (n .bytes))
+ident-token n t e d = name-begins (n .bytes) t _ _ (n .sequence) (like n t (name-ends t e) d)
+  where
+    like : (n : Name) (t : List ℕ) → NameEnds t → is (getD t 0 0) ascii.leftParenthesis ≡ false → identLikeOf (n .bytes ++ t) ≡ ok (length (n .bytes)) (tokens.ident (n .bytes))
+    like n t h d = unfold identLikeOf onParsed pick in rw (name-whole n t h, behind-blank (n .bytes) t, d)
+
+-- a name ends before a round bracket
+round-ends : (t : List ℕ) → NameEnds (ascii.leftParenthesis ∷ t)
+unfolding identCodePoint identStart letter or and within is
+round-ends t = record { no-character = refl; no-escape = λ q. omega arith }
+
+-- "if the next input code point is U+0028 LEFT PARENTHESIS, consume it. Return a <function-token> with its value set to string"
+pub function-token : (n : Name) (t : List ℕ) → Begins (n .bytes ++ (ascii.leftParenthesis ∷ t)) (length (n .bytes) + 1) (tokens.function (n .bytes))
+function-token n t = name-begins (n .bytes) (ascii.leftParenthesis ∷ t) _ _ (n .sequence) (like n t)
+  where
+    like : (n : Name) (t : List ℕ) → identLikeOf (n .bytes ++ (ascii.leftParenthesis ∷ t)) ≡ ok (length (n .bytes) + 1) (tokens.function (n .bytes))
+    like n t = unfold identLikeOf onParsed pick is in rw (name-whole n (ascii.leftParenthesis ∷ t) (round-ends t), behind-blank (n .bytes) (ascii.leftParenthesis ∷ t))
+
+-- ---- hashes: 4.3.1, U+0023 NUMBER SIGN
+-- the document's ident code points are the crate's
+or-turned : (a b c d : Bool) → or (or (or a b) c) d ≡ or (or c (or b a)) d
+unfolding or
+or-turned true true true d = refl
+or-turned true true false d = refl
+or-turned true false true d = refl
+or-turned true false false d = refl
+or-turned false true true d = refl
+or-turned false true false d = refl
+or-turned false false true d = refl
+or-turned false false false d = refl
+
+-- so is what starts a name
+start-nmstart : (x : ℕ) → identStart x ≡ isNmstart x
+unfolding identStart letter isNmstart
+start-nmstart x = sym (or-false _ _ refl) ∙ or-turned _ _ _ false ∙ or-false _ _ refl
+
+-- and what stands in it
+code-point-nmchar : (x : ℕ) → identCodePoint x ≡ isNmchar x
+unfolding identCodePoint identStart letter isNmchar isNmstart
+code-point-nmchar x = or-turned _ _ _ _
+
+-- no character of a name is read where a name ends
+unread : (t : List ℕ) → NameEnds t → nmcharOf t ≡ NoScalar
+unfolding nmcharOf nmcharCharOf
+unread t h =
+    let p = char-no isNmchar t _ refl _ refl (sym (code-point-nmchar _) ∙ h .no-character) in
+    sym (either-second _ _ _ p refl _ (escape-no t _ refl (is-no _ _ (h .no-escape))))
+
+-- ident code points before it are the characters of the name, each folded
+characters : (t : List ℕ) → NameEnds t → {r : List ℕ} → Each identCodePoint r → (charsEnd (r ++ t) ≡ length r) × (charsText (r ++ t) ≡ map lower r)
+characters t h none = unfold charsEnd charsText in (many-stop charTaken t 0 (untaken t h), texts-stop charTaken charText t (untaken t h))
+  where
+    untaken : (t : List ℕ) → NameEnds t → charTaken t ≡ 0
+    untaken t h = unfold charTaken takenOf in ap takenOf (unread t h)
+characters t h (more {x} {r} e es) =
+    let c = sym (code-point-nmchar x) ∙ e in
+    let k = char-plain (x ∷ (r ++ t)) c in
+    let g = characters t h es in
+    (chars-step _ 1 _ k ∙ omega (arith, g .0), chars-text-step _ 1 _ k ∙ ap (λ b. b ++ charsText (r ++ t)) (lower-byte x c) ∙ ap (λ l. lower x ∷ l) (g .1))
+
+-- where there are some, they are read from the start
+hash-named : (h : Hashed) (t : List ℕ) → NameEnds t → identstringOf (h .bytes ++ t) ≡ ok (length (h .bytes)) (h .bytes)
+unfolding identstringOf charsOf behind pick
+hash-named h t e =
+    let c = characters t e (h .are) in
+    rw (
+      hash-unskipped (h .bytes) t (h .are) (h .some),
+      c .0,
+      is-no (length (h .bytes)) 0 (λ z. omega (arith, h .some)),
+      c .1,
+      h .small,
+      zero-add (length (h .bytes)),
+    )
+  where
+    hash-unskipped : (bytes t : List ℕ) → Each identCodePoint bytes → 1 ≤ length bytes → skipWhitespace (bytes ++ t) ≡ 0
+    hash-unskipped _ t none l = absurd (omega arith)
+    hash-unskipped _ t (more {x} {r} e es) l = skips-blank [] (x ∷ (r ++ t)) blanks.none (code-point-item x (r ++ t) e)
+
+-- "If the next input code point is an ident code point ..: Consume an ident sequence, and set the <hash-token>'s value to the returned string"
+pub hash-token : (h : Hashed) (t : List ℕ) → endsName (getD t 0 0) ≡ true → Begins (ascii.numberSign ∷ (h .bytes ++ t)) (1 + length (h .bytes)) (tokens.hash (h .bytes))
+hash-token h t e = begins-by ascii.numberSign (h .bytes ++ t) _ _ (sign-item (h .bytes ++ t)) (omega arith) (by-sign (h .bytes ++ t) _ _ (hash-named h t (name-ends t e)))
+  where
+    sign-item : (l : List ℕ) → whitespaceItem (ascii.numberSign ∷ l) ≡ 0
+    sign-item l = unfold whitespaceItem isWhitespace commentOf pick or is in refl
+
+    by-sign : (l : List ℕ) (m : ℕ) (b : List ℕ) → identstringOf l ≡ ok m b → tokenBy (startOf ascii.numberSign) 1 ascii.numberSign (ascii.numberSign ∷ l) ≡ ok (1 + m) (tokens.hash b)
+    by-sign l m b p = unfold tokenBy startOf isQuote hashOf onParsed pick or is in rw p
+
+-- a digit is an ident code point
+digit-code-point : (x : ℕ) → isDigit x ≡ true → identCodePoint x ≡ true
+unfolding isDigit identCodePoint
+digit-code-point x e = middle (identStart x) _ _ e
+  where
+    middle : (a b c : Bool) → b ≡ true → or a (or b c) ≡ true
+    middle true b c e = unfold or in refl
+    middle false b c e = unfold or in rw e
+
+-- so where a name ends no digit stands
+ended-digit : (x : ℕ) → identCodePoint x ≡ false → isDigit x ≡ false
+unfolding isDigit identCodePoint
+ended-digit x e = neither _ _ (neither _ _ e .1) .0
+
+-- ---- strings: 4.3.5, Consume a string token
+-- a quote selects the reader of strings, and is of ASCII
+quote-start : (q : ℕ) (l : List ℕ) → isQuote q ≡ true → (startOf q ≡ Quote) × (q ≤ 0x7f) × (whitespaceItem (q ∷ l) ≡ 0)
+unfolding isQuote
+quote-start q l e =
+    either ((startOf q ≡ Quote) × (q ≤ 0x7f) × (whitespaceItem (q ∷ l) ≡ 0)) _ _ e
+    (λ w. at ascii.quotationMark (is-true q ascii.quotationMark w) (double l))
+    (λ w. at ascii.apostrophe (is-true q ascii.apostrophe w) (single l))
+  where
+    at : (k : ℕ) → q ≡ k → (startOf k ≡ Quote) × (k ≤ 0x7f) × (whitespaceItem (k ∷ l) ≡ 0) → (startOf q ≡ Quote) × (q ≤ 0x7f) × (whitespaceItem (q ∷ l) ≡ 0)
+    at k p h = rw p h
+
+    double : (l : List ℕ) → (startOf ascii.quotationMark ≡ Quote) × (ascii.quotationMark ≤ 0x7f) × (whitespaceItem (ascii.quotationMark ∷ l) ≡ 0)
+    double l = unfold startOf isQuote whitespaceItem isWhitespace commentOf pick or is in (refl, omega arith, refl)
+
+    single : (l : List ℕ) → (startOf ascii.apostrophe ≡ Quote) × (ascii.apostrophe ≤ 0x7f) × (whitespaceItem (ascii.apostrophe ∷ l) ≡ 0)
+    single l = unfold startOf isQuote whitespaceItem isWhitespace commentOf pick or is in (refl, omega arith, refl)
+
+-- "ending code point: Return the <string-token>"
+pub string-token : (q : Quoted) (t : List ℕ) → Begins (q .quote ∷ (q .body ++ (q .quote ∷ t))) (1 + length (q .body) + 1) (tokens.string (q .body))
+string-token q t =
+    let g = string-quote (q .quote) (q .body) (q .ordinary) t in
+    let s = quote-start (q .quote) (q .body ++ (q .quote ∷ t)) (q .quotes) in
+    begins-by (q .quote) (q .body ++ (q .quote ∷ t)) _ _ (s .2) (s .1) (by-quote (q .quote) _ _ _ (s .0) (string-closed (q .quote) (q .body) t (q .quotes) (g .0) (g .1)))
+  where
+    by-quote : (x : ℕ) (l : List ℕ) (n : ℕ) (k : Token) → startOf x ≡ Quote → stringOf (x ∷ l) ≡ ok n k → tokenBy (startOf x) 1 x (x ∷ l) ≡ ok n k
+    by-quote x l n k e p = unfold tokenBy in rw (e, p)
+
+-- ---- numbers: 4.3.12, Consume a number; 4.3.3, Consume a numeric token
+-- no digit begins with a full stop
+stop-digits : (l : List ℕ) → digits (ascii.fullStop ∷ l) ≡ 0
+unfolding digits oneDigit isDigit many took pick and within
+stop-digits l = refl
+
+-- a full stop and digits are a decimal
+stop-decimal : (l : List ℕ) (n : ℕ) → digits l ≡ n → 1 ≤ n → numbers.decimal (ascii.fullStop ∷ l) ≡ 1 + n
+unfolding numbers.decimal pick is
+stop-decimal l n e h = rw (stop-digits l, e, is-no n 0 (λ z. omega arith)) (omega arith)
+
+-- a number without a sign: digits, or a full stop and digits, up to a byte that is no digit
+unsigned-read : (f : Bool) (ds u : List ℕ) → Each isDigit ds → 1 ≤ length ds → isDigit (getD u 0 0) ≡ false
+    → numbers.unsigned (writtenStop f ++ (ds ++ u)) ≡ length (writtenStop f) + length ds
+unfolding numbers.unsigned writtenStop pick
+unsigned-read false ds u h l e = rw (digits-read h u e, is-no (length ds) 0 (λ z. omega arith), zero-add (length ds))
+unsigned-read true ds u h l e = sym (pick-true _ _ _ _ (is-yes _ _ (stop-digits (ds ++ u))) (sym (stop-decimal (ds ++ u) (length ds) (digits-read h u e) l)))
+
+-- what it begins with: a digit or a full stop
+unfoldable unsignedFirst : ℕ → Bool
+unsignedFirst x = or (isDigit x) (is x ascii.fullStop)
+
+unsigned-first : (f : Bool) (ds u : List ℕ) → Each isDigit ds → 1 ≤ length ds → unsignedFirst (getD (writtenStop f ++ (ds ++ u)) 0 0) ≡ true
+unsigned-first true ds u h l = unfold writtenStop unsignedFirst isDigit or and within is in refl
+unsigned-first false _ u none l = absurd (omega arith)
+unsigned-first false _ u (more e es) l = unfold writtenStop unsignedFirst or in rw e
+
+-- neither begins white space
+first-unblank : Unblank unsignedFirst
+unfolding unsignedFirst isDigit or and within is
+first-unblank = record { of-space = refl; of-tab = refl; of-line-feed = refl; of-carriage-return = refl; of-form-feed = refl; of-solidus = refl }
+
+-- neither is a sign
+first-signs : (unsignedFirst ascii.plusSign ≡ false) × (unsignedFirst ascii.hyphenMinus ≡ false)
+unfolding unsignedFirst isDigit or and within is
+first-signs = (refl, refl)
+
+-- without a sign
+unsigned-signed : (v : List ℕ) (n : ℕ) → unsignedFirst (getD v 0 0) ≡ true → numbers.unsigned v ≡ n → 1 ≤ n → numbers.signed v ≡ n
+unfolding numbers.signed numbers.sign pick or
+unsigned-signed v n e p l =
+    rw (
+      differs unsignedFirst (getD v 0 0) ascii.hyphenMinus e (first-signs .1),
+      differs unsignedFirst (getD v 0 0) ascii.plusSign e (first-signs .0),
+      p,
+      is-no n 0 (λ z. omega arith),
+      zero-add n,
+    )
+
+-- and behind a '-'
+minus-signed : (v : List ℕ) (n : ℕ) → numbers.unsigned v ≡ n → 1 ≤ n → numbers.signed (ascii.hyphenMinus ∷ v) ≡ 1 + n
+unfolding numbers.signed numbers.sign pick or is
+minus-signed v n p l = rw (p, is-no n 0 (λ z. omega arith))
+
+-- so a number with its sign or none is read
+signed-read : (s : Sign) (v : List ℕ) (n : ℕ) → unsignedFirst (getD v 0 0) ≡ true → numbers.unsigned v ≡ n → 1 ≤ n → numbers.signed (meansSign s ++ v) ≡ length (meansSign s) + n
+unfolding meansSign
+signed-read unsigned v n e p l = unsigned-signed v n e p l ∙ sym (zero-add n)
+signed-read plus v n e p l = unsigned-signed v n e p l ∙ sym (zero-add n)
+signed-read minus v n e p l = minus-signed v n p l
+
+-- what begins with a '-', a digit or a full stop begins no white space
+signed-unskipped : (s : Sign) (v : List ℕ) → unsignedFirst (getD v 0 0) ≡ true → skipWhitespace (meansSign s ++ v) ≡ 0
+signed-unskipped unsigned v e = unfold meansSign in skips-blank [] v blanks.none (unblank-item unsignedFirst first-unblank v e)
+signed-unskipped plus v e = unfold meansSign in skips-blank [] v blanks.none (unblank-item unsignedFirst first-unblank v e)
+signed-unskipped minus v e = unfold meansSign in skips-blank [] (ascii.hyphenMinus ∷ v) blanks.none (code-point-item ascii.hyphenMinus v hyphen-code-point)
+
+module _ (n : Numeral) (u : List ℕ) (e : isDigit (getD u 0 0) ≡ false) where
+  -- the number without its sign, and what stands behind it
+  abbrev v : List ℕ
+  v = writtenStop (n .fraction) ++ (n .digits ++ u)
+
+  numeral-onto : meansNumeral n ++ u ≡ meansSign (n .sign) ++ v
+  unfolding meansNumeral
+  numeral-onto =
+      append-assoc (meansSign (n .sign)) (writtenStop (n .fraction) ++ n .digits) u
+      ∙ ap (λ (l : List ℕ). meansSign (n .sign) ++ l) (append-assoc (writtenStop (n .fraction)) (n .digits) u)
+
+  numeral-length : length (meansNumeral n) ≡ length (meansSign (n .sign)) + (length (writtenStop (n .fraction)) + length (n .digits))
+  unfolding meansNumeral
+  numeral-length = omega (arith, length-append (meansSign (n .sign)) (writtenStop (n .fraction) ++ n .digits), length-append (writtenStop (n .fraction)) (n .digits))
+
+  -- "Repeatedly consume digits": all of the number is taken, and no more
+  number-taken : numbers.number (meansNumeral n ++ u) ≡ length (meansNumeral n)
+  unfolding numbers.number pick
+  number-taken =
+      let f = unsigned-first (n .fraction) (n .digits) u (n .are) (n .some) in
+      let k = length (writtenStop (n .fraction)) + length (n .digits) in
+      let r = signed-read (n .sign) v k f (unsigned-read (n .fraction) (n .digits) u (n .are) (n .some) e) (omega (arith, n .some)) in
+      rw (numeral-onto, signed-unskipped (n .sign) v f, r, is-no (length (meansSign (n .sign)) + k) 0 (λ z. omega (arith, n .some)), numeral-length) (omega arith)
+
+  -- so what follows the number decides
+  numeric-from : numericOf (meansNumeral n ++ u) ≡ numericFrom (length (meansNumeral n)) (meansNumeral n ++ u)
+  unfolding numericOf pick
+  numeric-from = rw (number-taken, is-no (length (meansNumeral n)) 0 (λ z. omega (arith, numeral-length, n .some)))
+
+module _ (m u : List ℕ) where
+  -- "If the next input code point is U+0025 PERCENTAGE SIGN, consume it. Create a <percentage-token>"
+  from-percent : numericFrom (length m) (m ++ (ascii.percentSign ∷ u)) ≡ ok (length m + 1) (tokens.percentage m)
+  unfolding numericFrom pick is
+  from-percent = rw (behind-blank m (ascii.percentSign ∷ u), take-append-seam m (ascii.percentSign ∷ u))
+
+  -- "If the next 3 input code points would start an ident sequence: Create a <dimension-token>"
+  from-unit : (k : ℕ) (b : List ℕ) → is (getD u 0 0) ascii.percentSign ≡ false → identOf u ≡ ok k b → numericFrom (length m) (m ++ u) ≡ ok (length m + k) (tokens.dimension m b)
+  unfolding numericFrom onParsed pick
+  from-unit k b e p = rw (behind-blank m u, e, drop-append-seam m u, p, take-append-seam m u)
+
+  -- "Otherwise, create a <number-token>"
+  from-none : is (getD u 0 0) ascii.percentSign ≡ false → identOf u ≡ err → numericFrom (length m) (m ++ u) ≡ ok (length m) (tokens.number m)
+  unfolding numericFrom onParsed pick
+  from-none e p = rw (behind-blank m u, e, drop-append-seam m u, p, take-append-seam m u)
+
+-- no character that does not start a name is read as one that does
+no-start : (t : List ℕ) → identStart (getD t 0 0) ≡ false → is (getD t 0 0) ascii.reverseSolidus ≡ false → nmstartOf t ≡ NoScalar
+unfolding nmstartOf nmstartCharOf
+no-start t e d =
+    let p = char-no isNmstart t _ refl _ refl (sym (start-nmstart (getD t 0 0)) ∙ e) in
+    sym (either-second _ _ _ p refl _ (escape-no t _ refl d))
+
+-- what does not begin a name is none
+no-name : (t : List ℕ) → beginsName (getD t 0 0) ≡ false → nameOf t ≡ err
+unfolding beginsName
+no-name t e =
+    let n = neither (identStart (getD t 0 0)) _ e in
+    let m = neither (is (getD t 0 0) ascii.hyphenMinus) _ (n .1) in
+    name-none t (undashed t (m .0) (no-start t (n .0) (m .1)))
+  where
+    undashed : (t : List ℕ) → is (getD t 0 0) ascii.hyphenMinus ≡ false → nmstartOf t ≡ NoScalar → nmstartOf (drop (dash t) t) ≡ NoScalar
+    undashed t e p = unfold dash pick in rw e p
+
+-- so no unit is read where white space and comments end before it
+no-unit : (t : List ℕ) → beginsName (getD t (skipWhitespace t) 0) ≡ false → identOf t ≡ err
+unfolding identOf behind
+no-unit t e = rw (no-name (drop (skipWhitespace t) t) (ap beginsName (first t (skipWhitespace t)) ∙ e))
+
+-- a digit selects the reader of numbers
+digit-start : (x : ℕ) → isDigit x ≡ true → (startOf x ≡ Digit) × (x ≤ 0x7f)
+digit-start x e = (selects x e (digit-marks) (above x e), (let h = within-true x ascii.digitZero ascii.digitNine (unfold isDigit in e) in omega arith))
+  where
+    above : (x : ℕ) → isDigit x ≡ true → isIdentStart x ≡ false
+    above x e =
+        let h = within-true x ascii.digitZero ascii.digitNine (unfold isDigit in e) in
+        unfold isIdentStart or in
+        rw (
+          sym (within-false x ascii.smallA ascii.smallZ (omega arith)),
+          sym (within-false x ascii.capitalA ascii.capitalZ (omega arith)),
+          is-no x ascii.lowLine (λ q. omega arith),
+          lt-leb firstAboveU0080 x (omega arith),
+        )
+
+    selects : (x : ℕ) → isDigit x ≡ true → (isDigit ascii.quotationMark ≡ false) × (isDigit ascii.apostrophe ≡ false) × (isDigit ascii.numberSign ≡ false) × (isDigit ascii.plusSign ≡ false)
+        × (isDigit ascii.hyphenMinus ≡ false) × (isDigit ascii.fullStop ≡ false) × (isDigit ascii.lessThanSign ≡ false) × (isDigit ascii.reverseSolidus ≡ false) → isIdentStart x ≡ false → startOf x ≡ Digit
+    selects x e o a =
+        unfold startOf isQuote pick or in
+        rw (
+          differs isDigit x ascii.quotationMark e (o .0),
+          differs isDigit x ascii.apostrophe e (o .1),
+          differs isDigit x ascii.numberSign e (o .2),
+          differs isDigit x ascii.plusSign e (o .3),
+          differs isDigit x ascii.hyphenMinus e (o .4),
+          differs isDigit x ascii.fullStop e (o .5),
+          differs isDigit x ascii.lessThanSign e (o .6),
+          differs isDigit x ascii.reverseSolidus e (o .7),
+          a,
+          e,
+        )
+
+    digit-marks : (isDigit ascii.quotationMark ≡ false) × (isDigit ascii.apostrophe ≡ false) × (isDigit ascii.numberSign ≡ false) × (isDigit ascii.plusSign ≡ false)
+        × (isDigit ascii.hyphenMinus ≡ false) × (isDigit ascii.fullStop ≡ false) × (isDigit ascii.lessThanSign ≡ false) × (isDigit ascii.reverseSolidus ≡ false)
+    digit-marks = unfold isDigit and within in (refl, refl, refl, refl, refl, refl, refl, refl)
+
+-- a number without a sign, by what it begins with
+unsigned-begins : (f : Bool) (ds u : List ℕ) (n : ℕ) (k : Token) → Each isDigit ds → 1 ≤ length ds → numericOf (writtenStop f ++ (ds ++ u)) ≡ ok n k → Begins (writtenStop f ++ (ds ++ u)) n k
+unsigned-begins true ds u n k h l p = unfold writtenStop in begins-by ascii.fullStop (ds ++ u) n k (stop-item (ds ++ u)) (omega arith) (by-stop (ds ++ u) n k (unfold writtenStop in p))
+  where
+    stop-item : (l : List ℕ) → whitespaceItem (ascii.fullStop ∷ l) ≡ 0
+    stop-item l = unfold whitespaceItem isWhitespace commentOf pick or is in refl
+
+    by-stop : (l : List ℕ) (n : ℕ) (k : Token) → numericOf (ascii.fullStop ∷ l) ≡ ok n k → tokenBy (startOf ascii.fullStop) 1 ascii.fullStop (ascii.fullStop ∷ l) ≡ ok n k
+    by-stop l n k p = unfold tokenBy startOf isQuote orElse pick or is in rw p
+unsigned-begins false _ u n k none l p = absurd (omega arith)
+unsigned-begins false _ u n k (more {x} {r} e es) l p =
+    unfold writtenStop in
+    begins-by x (r ++ u) n k (code-point-item x (r ++ u) (digit-code-point x e)) (digit-start x e .1) (by-digit x (r ++ u) n k (digit-start x e .0) (unfold writtenStop in p))
+  where
+    by-digit : (x : ℕ) (l : List ℕ) (n : ℕ) (k : Token) → startOf x ≡ Digit → numericOf (x ∷ l) ≡ ok n k → tokenBy (startOf x) 1 x (x ∷ l) ≡ ok n k
+    by-digit x l n k e p = unfold tokenBy in rw (e, p)
+
+-- behind a '+' the reader starts anew, and drops it
+plus-begins : (l : List ℕ) (n : ℕ) (k : Token) → numericOf l ≡ ok n k → Begins (ascii.plusSign ∷ l) (1 + n) k
+unfolding whitespaceItem isWhitespace commentOf tokenBy startOf isQuote plusOf orElse behind pick or is
+plus-begins l n k p = begins-by ascii.plusSign l (1 + n) k refl (omega arith) (rw p)
+
+-- a '-' is read with the number
+minus-begins : (l : List ℕ) (n : ℕ) (k : Token) → numericOf (ascii.hyphenMinus ∷ l) ≡ ok n k → Begins (ascii.hyphenMinus ∷ l) n k
+unfolding tokenBy startOf isQuote minusOf orElse pick or is
+minus-begins l n k p = begins-by ascii.hyphenMinus l n k (code-point-item ascii.hyphenMinus l hyphen-code-point) (omega arith) (rw p)
+
+-- with a sign or none, by its parts
+signed-begins : (s : Sign) (f : Bool) (ds u : List ℕ) (j : ℕ) (k : Token) → Each isDigit ds → 1 ≤ length ds
+    → numericOf ((meansSign s ++ (writtenStop f ++ ds)) ++ u) ≡ ok (length (meansSign s ++ (writtenStop f ++ ds)) + j) k
+    → Begins ((writtenSign s ++ (writtenStop f ++ ds)) ++ u) (length (writtenSign s ++ (writtenStop f ++ ds)) + j) k
+unfolding writtenSign meansSign
+signed-begins unsigned f ds u j k h l p =
+    subst (λ (t : List ℕ). Begins t (length (writtenStop f ++ ds) + j) k) (sym (append-assoc (writtenStop f) ds u))
+    (unsigned-begins f ds u _ k h l (ap numericOf (sym (append-assoc (writtenStop f) ds u)) ∙ p))
+signed-begins plus f ds u j k h l p =
+    subst (λ (i : ℕ). Begins (ascii.plusSign ∷ ((writtenStop f ++ ds) ++ u)) i k) (omega arith) (plus-begins ((writtenStop f ++ ds) ++ u) _ k p)
+signed-begins minus f ds u j k h l p = minus-begins ((writtenStop f ++ ds) ++ u) _ k p
+
+-- a number and what follows it, as the reader of numbers has it
+numeral-begins : (n : Numeral) (u : List ℕ) (j : ℕ) (k : Token) → numericOf (meansNumeral n ++ u) ≡ ok (length (meansNumeral n) + j) k
+    → Begins (writtenNumeral n ++ u) (length (writtenNumeral n) + j) k
+unfolding meansNumeral writtenNumeral
+numeral-begins n u j k p = signed-begins (n .sign) (n .fraction) (n .digits) u j k (n .are) (n .some) p
+
+-- what may follow a number: no digit, full stop or percent sign, and behind white space no unit
+record NumberEnds (t : List ℕ) : Type 0 where
+  no-digit : isDigit (getD t 0 0) ≡ false
+  no-percent : is (getD t 0 0) ascii.percentSign ≡ false
+  no-name-behind : beginsName (getD t (skipWhitespace t) 0) ≡ false
+
+-- by the grammar's test
+number-ends : (n : Numeral) (t : List ℕ) → EndsBefore (number n) t → NumberEnds t
+unfolding mayFollow
+number-ends n t e =
+    let a = and-true (endsName (getD t 0 0)) _ e in
+    let b = and-true (not (is (getD t 0 0) ascii.fullStop)) _ (a .1) in
+    let c = and-true (not (is (getD t 0 0) ascii.percentSign)) _ (b .1) in
+    record { no-digit = ended-digit _ (name-ends t (a .0) .no-character); no-percent = untrue _ (c .0); no-name-behind = untrue _ (c .1) }
+
+-- "Otherwise, create a <number-token> with the same value", where nothing goes on with it
+pub number-token : (n : Numeral) (t : List ℕ) → EndsBefore (number n) t → Begins (writtenNumeral n ++ t) (length (writtenNumeral n)) (tokens.number (meansNumeral n))
+number-token n t e =
+    let h = number-ends n t e in
+    let k = tokens.number (meansNumeral n) in
+    let r = numeric-from n t (h .no-digit) ∙ from-none (meansNumeral n) t (h .no-percent) (no-unit t (h .no-name-behind)) in
+    subst (λ (i : ℕ). Begins (writtenNumeral n ++ t) i k) (add-zero (length (writtenNumeral n)))
+    (numeral-begins n t 0 k (r ∙ ap (λ (i : ℕ). ok i k) (sym (add-zero (length (meansNumeral n))))))
+
+-- a percent sign is no digit
+percent-digit : isDigit ascii.percentSign ≡ false
+unfolding isDigit and within
+percent-digit = refl
+
+-- "If the next input code point is U+0025 PERCENTAGE SIGN, consume it. Create a <percentage-token> with the same value"
+pub percentage-token : (n : Numeral) (t : List ℕ) → Begins (writtenNumeral n ++ (ascii.percentSign ∷ t)) (length (writtenNumeral n) + 1) (tokens.percentage (meansNumeral n))
+percentage-token n t = numeral-begins n (ascii.percentSign ∷ t) 1 _ (numeric-from n (ascii.percentSign ∷ t) percent-digit ∙ from-percent (meansNumeral n) t)
+
+-- "Create a <dimension-token> with the same value, and a unit set initially to the empty string. Consume an ident sequence. Set the
+-- <dimension-token>'s unit to the returned value"
+pub dimension-token : (n : Numeral) (w : Name) (t : List ℕ) → endsName (getD t 0 0) ≡ true
+    → Begins (writtenNumeral n ++ (w .bytes ++ t)) (length (writtenNumeral n) + length (w .bytes)) (tokens.dimension (meansNumeral n) (w .bytes))
+dimension-token n w t e =
+    let g = unit-first (w .bytes) t (w .sequence) in
+    numeral-begins n (w .bytes ++ t) (length (w .bytes)) _
+    (numeric-from n (w .bytes ++ t) (g .0) ∙ from-unit (meansNumeral n) (w .bytes ++ t) _ _ (g .1) (name-whole w t (name-ends t e)))
+  where
+    unit-first : (bytes t : List ℕ) → IdentSequence bytes → (isDigit (getD (bytes ++ t) 0 0) ≡ false) × (is (getD (bytes ++ t) 0 0) ascii.percentSign ≡ false)
+    unit-first _ t (started {x} e s) =
+        let h = start-between x e .1 in
+        (unfold isDigit in within-past x ascii.digitZero ascii.digitNine (omega arith), is-no x ascii.percentSign (λ q. omega arith))
+    unit-first _ t (dashed e s) = unfold isDigit and within is in (refl, refl)
+
+-- ---- code points that are tokens by themselves: 4.3.1, Consume a token
+-- what selects no other reader is a mark or a delimiter
+mark-begins : (x : ℕ) (l : List ℕ) → whitespaceItem (x ∷ l) ≡ 0 → x ≤ 0x7f → startOf x ≡ Other → Begins (x ∷ l) 1 (markOf x)
+mark-begins x l e h s = begins-by x l 1 (markOf x) e h (unfold tokenBy in rw s)
+
+-- the punctuation of declarations
+pub comma-token : (t : List ℕ) → Begins (ascii.comma ∷ t) 1 tokens.comma
+unfolding whitespaceItem isWhitespace commentOf startOf isQuote isIdentStart isDigit markOf pick or and within is
+comma-token t = mark-begins ascii.comma t refl (omega arith) refl
+
+pub colon-token : (t : List ℕ) → Begins (ascii.colon ∷ t) 1 tokens.colon
+unfolding whitespaceItem isWhitespace commentOf startOf isQuote isIdentStart isDigit markOf pick or and within is
+colon-token t = mark-begins ascii.colon t refl (omega arith) refl
+
+pub semicolon-token : (t : List ℕ) → Begins (ascii.semicolon ∷ t) 1 tokens.semicolon
+unfolding whitespaceItem isWhitespace commentOf startOf isQuote isIdentStart isDigit markOf pick or and within is
+semicolon-token t = mark-begins ascii.semicolon t refl (omega arith) refl
+
+-- a byte that opens a block
+pub round-token : (t : List ℕ) → Begins (ascii.leftParenthesis ∷ t) 1 tokens.openRound
+unfolding whitespaceItem isWhitespace commentOf startOf isQuote isIdentStart isDigit markOf pick or and within is
+round-token t = mark-begins ascii.leftParenthesis t refl (omega arith) refl
+
+pub square-token : (t : List ℕ) → Begins (ascii.leftSquareBracket ∷ t) 1 tokens.openSquare
+unfolding whitespaceItem isWhitespace commentOf startOf isQuote isIdentStart isDigit markOf pick or and within is
+square-token t = mark-begins ascii.leftSquareBracket t refl (omega arith) refl
+
+pub brace-token : (t : List ℕ) → Begins (ascii.leftCurlyBracket ∷ t) 1 tokens.openBrace
+unfolding whitespaceItem isWhitespace commentOf startOf isQuote isIdentStart isDigit markOf pick or and within is
+brace-token t = mark-begins ascii.leftCurlyBracket t refl (omega arith) refl
+
+-- the byte that closes it
+pub closer-token : (o : Opening) (t : List ℕ) → Begins (closer o ∷ t) 1 (meansCloser o)
+unfolding closer meansCloser whitespaceItem isWhitespace commentOf startOf isQuote isIdentStart isDigit markOf pick or and within is
+closer-token (function n d) t = mark-begins ascii.rightParenthesis t refl (omega arith) refl
+closer-token round t = mark-begins ascii.rightParenthesis t refl (omega arith) refl
+closer-token square t = mark-begins ascii.rightSquareBracket t refl (omega arith) refl
+closer-token brace t = mark-begins ascii.rightCurlyBracket t refl (omega arith) refl
+
+-- "If the next 3 input code points are U+0021 EXCLAMATION MARK U+002D HYPHEN-MINUS U+002D HYPHEN-MINUS (!--), consume them and return a <CDO-token>"
+pub cdo-token : (t : List ℕ) → Begins (tokens.cdoMark ++ t) 4 tokens.cdo
+unfolding whitespaceItem isWhitespace commentOf tokenBy startOf isQuote lessOf startsWith pick or and is
+cdo-token t = begins-by ascii.lessThanSign (ascii.exclamationMark ∷ ascii.hyphenMinus ∷ ascii.hyphenMinus ∷ t) 4 tokens.cdo refl (omega arith) refl
+
+-- "if the next 2 input code points are U+002D HYPHEN-MINUS U+003E GREATER-THAN SIGN (->), consume them and return a <CDC-token>"
+pub cdc-token : (t : List ℕ) → Begins (tokens.cdcMark ++ t) 3 tokens.cdc
+unfolding whitespaceItem isWhitespace commentOf tokenBy startOf isQuote minusOf numericOf numbers.number numbers.signed numbers.sign numbers.unsigned numbers.decimal digits oneDigit isDigit skipWhitespace many took orElse startsWith pick or and within is
+cdc-token t = begins-by ascii.hyphenMinus (ascii.hyphenMinus ∷ ascii.greaterThanSign ∷ t) 3 tokens.cdc refl (omega arith) refl
+
+-- a delimiter is of ASCII, selects no other reader, is no mark and no white space
+abbrev Plain : ℕ → Type 0
+Plain c = (c ≤ 0x7f) × (startOf c ≡ Other) × (markOf c ≡ tokens.delim c) × (isWhitespace c ≡ false)
+
+-- what holds of every number of a list
+unfoldable Every : (ℕ → Type 0) → List ℕ → Type 0
+Every P [] = Unit
+Every P (k ∷ ks) = P k × Every P ks
+
+-- holds of its members
+every : (P : ℕ → Type 0) (c : ℕ) (ks : List ℕ) → Every P ks → member c ks ≡ true → P c
+unfolding Every member
+every P c [] h e = never e
+every P c (k ∷ ks) h e = either (P c) _ _ e (λ w. subst P (sym (is-true c k w)) (h .0)) (every P c ks (h .1))
+
+-- so it does of each delimiter
+delimiter-plain : (c : ℕ) → isDelimiter c ≡ true → Plain c
+unfolding isDelimiter Every text utf8 pick startOf isQuote isIdentStart isDigit isWhitespace markOf or and within is
+delimiter-plain c e =
+    every Plain c (text "!$%&*/=>?^`|~")
+    ((omega arith, refl, refl, refl), ((omega arith, refl, refl, refl), ((omega arith, refl, refl, refl), ((omega arith, refl, refl, refl), ((omega arith, refl, refl, refl), ((omega arith, refl, refl, refl), ((omega arith, refl, refl, refl), ((omega arith, refl, refl, refl), ((omega arith, refl, refl, refl), ((omega arith, refl, refl, refl), ((omega arith, refl, refl, refl), ((omega arith, refl, refl, refl), ((omega arith, refl, refl, refl), tt))))))))))))) e
+
+-- where no asterisk follows a solidus no comment begins
+by-solidus : (a b : Bool) (n : ℕ) → and a b ≡ false → pick a (pick b n 0) 0 ≡ 0
+unfolding and pick
+by-solidus true b n e = rw e
+by-solidus false b n e = refl
+
+no-comment : (c : ℕ) (t : List ℕ) → isWhitespace c ≡ false → and (is c ascii.solidus) (is (getD t 0 0) ascii.asterisk) ≡ false → whitespaceItem (c ∷ t) ≡ 0
+unfolding whitespaceItem commentOf
+no-comment c t w e = sym (pick-false _ _ _ _ w (sym (by-solidus _ _ _ e)))
+
+-- "Return a <delim-token> with its value set to the current input code point"
+pub delim-token : (c : ℕ) (d : isDelimiter c ≡ true) (t : List ℕ) → EndsBefore (delimiter c d) t → Begins (c ∷ t) 1 (tokens.delim c)
+unfolding mayFollow
+delim-token c d t e =
+    let p = delimiter-plain c d in
+    subst (λ (k : Token). Begins (c ∷ t) 1 k) (p .2) (mark-begins c t (no-comment c t (p .3) (untrue _ e)) (p .0) (p .1))
+
+-- ---- all of them
+-- every token of the grammar is read whole, where what follows it may follow
+pub atom-begins : (a : Atom) (t : List ℕ) → EndsBefore a t → Begins (writtenAtom a ++ t) (length (writtenAtom a)) (meansAtom a)
+unfolding writtenAtom meansAtom mayFollow
+atom-begins (word n) t e =
+    let a = and-true (endsName (getD t 0 0)) _ e in
+    ident-token n t (a .0) (untrue _ (a .1))
+atom-begins (string q) t e =
+    let l : length (q .quote ∷ (q .body ++ (q .quote ∷ []))) ≡ 1 + length (q .body) + 1 = omega (arith, length-append (q .body) (q .quote ∷ [])) in
+    subst (λ (i : ℕ). Begins ((q .quote ∷ (q .body ++ (q .quote ∷ []))) ++ t) i (tokens.string (q .body))) (sym l)
+    (subst (λ (r : List ℕ). Begins (q .quote ∷ r) (1 + length (q .body) + 1) (tokens.string (q .body))) (sym (append-assoc (q .body) (q .quote ∷ []) t)) (string-token q t))
+atom-begins (hash h) t e = subst (λ (i : ℕ). Begins (ascii.numberSign ∷ (h .bytes ++ t)) i (tokens.hash (h .bytes))) (omega arith) (hash-token h t e)
+atom-begins (number n) t e = number-token n t e
+atom-begins (percentage n) t e =
+    let m = writtenNumeral n in
+    subst (λ (i : ℕ). Begins ((m ++ (ascii.percentSign ∷ [])) ++ t) i (tokens.percentage (meansNumeral n))) (sym (length-append m (ascii.percentSign ∷ [])))
+    (subst (λ (r : List ℕ). Begins r (length m + 1) (tokens.percentage (meansNumeral n))) (sym (append-assoc m (ascii.percentSign ∷ []) t)) (percentage-token n t))
+atom-begins (dimension n u) t e =
+    let m = writtenNumeral n in
+    let w = u .name .bytes in
+    let a = and-true (endsName (getD t 0 0)) _ e in
+    subst (λ (i : ℕ). Begins ((m ++ w) ++ t) i (tokens.dimension (meansNumeral n) w)) (sym (length-append m w))
+    (subst (λ (r : List ℕ). Begins r (length m + length w) (tokens.dimension (meansNumeral n) w)) (sym (append-assoc m w t)) (dimension-token n (u .name) t (a .0)))
+atom-begins comma t e = comma-token t
+atom-begins colon t e = colon-token t
+atom-begins semicolon t e = semicolon-token t
+atom-begins (delimiter c d) t e = delim-token c d t e
+
+-- and so is every token that opens a block
+pub opening-begins : (o : Opening) (t : List ℕ) → Begins (writtenOpening o ++ t) (length (writtenOpening o)) (meansOpening o)
+unfolding writtenOpening meansOpening
+opening-begins (function n d) t =
+    let b = n .bytes in
+    subst (λ (i : ℕ). Begins ((b ++ (ascii.leftParenthesis ∷ [])) ++ t) i (tokens.function b)) (sym (length-append b (ascii.leftParenthesis ∷ [])))
+    (subst (λ (r : List ℕ). Begins r (length b + 1) (tokens.function b)) (sym (append-assoc b (ascii.leftParenthesis ∷ []) t)) (function-token n t))
+opening-begins round t = round-token t
+opening-begins square t = square-token t
+opening-begins brace t = brace-token t
+
+module _ (b : Blanks) where
+  -- behind white space and comments, a token of the grammar is the token that it means
+  pub atom-read : (a : Atom) (t : List ℕ) → EndsBefore a t → tokenOf (b .bytes ++ (writtenAtom a ++ t)) ≡ ok (length (b .bytes) + length (writtenAtom a)) (meansAtom a)
+  atom-read a t e = token-read b (writtenAtom a ++ t) _ _ (atom-begins a t e)
+
+  -- what opens a block is
+  pub opening-read : (o : Opening) (t : List ℕ) → tokenOf (b .bytes ++ (writtenOpening o ++ t)) ≡ ok (length (b .bytes) + length (writtenOpening o)) (meansOpening o)
+  opening-read o t = token-read b (writtenOpening o ++ t) _ _ (opening-begins o t)
+
+  -- and what closes it
+  pub closer-read : (o : Opening) (t : List ℕ) → tokenOf (b .bytes ++ (closer o ∷ t)) ≡ ok (length (b .bytes) + 1) (meansCloser o)
+  closer-read o t = token-read b (closer o ∷ t) _ _ (closer-token o t)
+
+-- what may follow, where white space and comments stand before the next token
+pub ends-behind : (a : Atom) (b : Blanks) (t : List ℕ) → whitespaceItem t ≡ 0 → MayFollow a (getD (b .bytes ++ t) 0 0) (getD t 0 0) → EndsBefore a (b .bytes ++ t)
+ends-behind a b t z e = rw (skips-blank (b .bytes) t (b .blank) z, behind-blank (b .bytes) t) e
