@@ -3,6 +3,7 @@ pub mod NthRead
 pub mod ComponentsRead
 pub mod TokensRead
 pub mod SelectorsRead
+pub mod ValuesRead
 pub mod RuleGrammar
 pub mod DeclarationsRead
 pub mod BlocksRead
