@@ -9,3 +9,5 @@ pub mod DeclarationsRead
 pub mod BlocksRead
 pub mod RuleList
 pub mod GrammarCases
+pub mod NumbersMeant
+pub mod DeclarationsMeant

@@ -2,3 +2,5 @@ pub mod Nth
 pub mod Selectors
 pub mod Tokens
 pub mod Values
+pub mod Spelling
+pub mod Declarations
