@@ -19,16 +19,16 @@ use Rattle.lexer.specs.Token.{Token, ident, coded, textOf}
 use Rattle.lexer.specs.TokenRow.{columnsOf}
 use Rattle.lexer.proofs.SyntaxName.{letter, identStart, identCodePoint}
 use Rattle.syntax.specs.Declaration as syntax
-use Rattle.syntax.specs.Declaration.{Colour, Decl, Overflow, WhiteSpace}
+use Rattle.syntax.specs.Declaration.{Colour, Overflow, WhiteSpace}
 use Rattle.values.specs.Words.{Entry, Found, found, missing, foundOr, lookup, onFound, kindOf, firstOf, numberOf, unitOf, isKind}
-use Rattle.values.specs.Colour.{rgb, colours, oneToken, colourOf, hashColour, behindComma, backgroundOf}
+use Rattle.values.specs.Colour.{colours, oneToken, colourOf, hashColour, behindComma, backgroundOf}
 use Rattle.values.specs.Property.{numberZero, units, anyOf, heightOf, firstWord, overflowOf, displayOf, whiteSpaceOf, contentOf, properties, declOf}
 use Rattle.values.proofs.CssColour.{six-digits, replicated, functional}
 use Rattle.grammar.specs.Nth.{Blanks}
 use Rattle.grammar.specs.Selectors.{Name, Quoted}
 use Rattle.grammar.specs.Tokens.{Numeral, Atom, word, string, number, dimension, comma, writtenAtom, meansAtom, meansOpening, meansCloser, meansNumeral, endsName, beginsName, mayFollow, MayFollow}
 use Rattle.grammar.specs.Values.{Values, end, then, block, meansValues, Follows, Apart, isSemicolon, isBang, isBrace, Outermost, Unmarked, Some, DeclarationValue}
-use Rattle.grammar.specs.Spelling.{spelt, HexDigit, digitBytes, hashed}
+use Rattle.grammar.specs.Spelling.{spelt, digitBytes, hashed}
 use Rattle.grammar.specs.Declarations.{Keyword, colourNames, Shade, named, three, six, ColourValue, shade, parts, lengthUnits, isZero, Length, measured, bare, overflowWords, displayWords, whiteSpaceWords, Strings, last, more, Known, color, backgroundColor, background, height, maxHeight, overflow, overflowY, display, whiteSpace, content, knownNames, Declared, known, other, knownName, property, alone, shadeValues, partValues, colourValues, lengthValues, stringValues, knownValues, valuesOf, pair, meansShade, meansColour, meansLength, meansStrings, meansKnown, meansDeclared}
 use Rattle.grammar.proofs.Places.{Unblank, blank-first}
 use Rattle.grammar.proofs.NumbersMeant.{part-integer, numeral-zero}

@@ -11,3 +11,4 @@ pub mod RuleList
 pub mod GrammarCases
 pub mod NumbersMeant
 pub mod DeclarationsMeant
+pub mod GroupsRead

@@ -2,16 +2,15 @@
 use mathlib.Core.Path.{_≡_, refl, ap, sym, _∙_}
 use mathlib.Core.Bool.{Bool, true, false, not}
 use mathlib.Core.List.{List, [], _∷_, _++_, append-nil}
-use Prim.Native.Nat.{ℕ, zero, suc, _+_, _-_, _≤_, _<_}
-use native.Mathlib.Nat.{zero-add}
+use Prim.Native.Nat.{ℕ, zero, suc, _+_, _-_, _≤_}
 use native.Mathlib.Omega.{arith}
 use borrow.Author.Tests.{leb-true, lt-ltb, le-ltb}
 use lib.Dec.{leb, ltb}
-use lib.ListN.{length, getD, take, drop, replicate, drop-of-length-le}
+use lib.ListN.{length, getD, drop, replicate, drop-of-length-le}
 use lib.Seq.{take-length}
 use Rattle.combinators.specs.Ascii as ascii
 use Rattle.combinators.specs.Choice.{pick, or, and, is, within}
-use Rattle.combinators.proofs.Rules.{never, lt-or-ge, either, pick-false, pick-true, and-both, and-true, same-test, is-yes, is-no, is-true, within-true}
+use Rattle.combinators.proofs.Rules.{never, either, and-both, and-true, same-test, is-yes, is-no, is-true, within-true}
 use Rattle.decimal.specs.Decimal as decimal
 use Rattle.decimal.specs.Decimal.{roundsToZero}
 use Rattle.decimal.specs.Places.{places, allZero, atMost}
@@ -19,7 +18,7 @@ use Rattle.decimal.proofs.Compare.{rounds-to-zero-digits}
 use Rattle.decimal.proofs.Table.{digits-length}
 use Rattle.lexer.specs.Name.{hexDigit}
 use Rattle.lexer.specs.Number.{isDigit, digits, sign}
-use Rattle.lexer.specs.Whitespace.{isWhitespace, commentOf, whitespaceItem, skipWhitespace}
+use Rattle.lexer.specs.Whitespace.{isWhitespace, commentOf, whitespaceItem}
 use Rattle.lexer.proofs.SyntaxName.{Each, none, more}
 use Rattle.lexer.proofs.SyntaxWhitespace.{skips-blank}
 use Rattle.lexer.proofs.SyntaxWhitespace as blanks

@@ -3,9 +3,8 @@
 use mathlib.Core.Path.{_≡_, refl, sym, ap, _∙_}
 use mathlib.Core.Bool.{Bool, true, false}
 use mathlib.Core.List.{List, [], _∷_, map}
-use Prim.Native.Nat.{ℕ, _≤_}
+use Prim.Native.Nat.{ℕ}
 use native.Mathlib.Omega.{arith}
-use lib.ListN.{length}
 use Rattle.combinators.specs.Ascii as ascii
 use Rattle.combinators.specs.Choice.{or, and, is, within}
 use Rattle.combinators.proofs.Rules.{never, either, and-true, or-left, or-right, pick-false, is-true, within-true, within-past, within-false, within-yes}
