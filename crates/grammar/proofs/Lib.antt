@@ -12,3 +12,4 @@ pub mod GrammarCases
 pub mod NumbersMeant
 pub mod DeclarationsMeant
 pub mod GroupsRead
+pub mod DeclarationCases
