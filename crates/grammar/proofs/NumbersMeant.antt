@@ -114,6 +114,7 @@ zeros-at-most (d ∷ ds) (t ∷ ts) h =
     settled true = unfold pick in refl
     settled false = unfold pick in refl
 
+-- so says the test of the digits behind a point
 rounds-zeros : {ds : List ℕ} → Each isDigit ds → allOf (λ d. is d ascii.digitZero) ds ≡ true → roundsToZero [] ds ≡ true
 rounds-zeros {ds} h z =
     rounds-point ds ∙ zeros-at-most (decimal.digits ds) places (digits-zero h ∙ z)
@@ -128,16 +129,18 @@ rounds-whole {ds} h = rounds-to-zero-digits ds [] ∙ unit (allZero (decimal.dig
     unit false = unfold and in refl
 
 -- ---- the text of a number
--- a sign or none before what a number begins with is passed over
+-- what begins with a digit or a full stop has no sign
 unsigned-zero : (u : List ℕ) → unsignedFirst (getD u 0 0) ≡ true → unsignedZero (drop (sign u) u) ≡ unsignedZero u
 unfolding sign pick or
 unsigned-zero u h =
     rw (differs unsignedFirst (getD u 0 0) ascii.hyphenMinus h (first-signs .1), differs unsignedFirst (getD u 0 0) ascii.plusSign h (first-signs .0))
 
+-- a '-' is passed over
 minus-zero : (u : List ℕ) → unsignedZero (drop (sign (ascii.hyphenMinus ∷ u)) (ascii.hyphenMinus ∷ u)) ≡ unsignedZero u
 unfolding sign pick or is
 minus-zero u = refl
 
+-- so is any sign
 by-sign : (s : Sign) (u : List ℕ) → unsignedFirst (getD u 0 0) ≡ true → unsignedZero (drop (sign (meansSign s ++ u)) (meansSign s ++ u)) ≡ unsignedZero u
 unfolding meansSign
 by-sign unsigned u h = unsigned-zero u h
