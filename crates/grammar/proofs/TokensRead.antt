@@ -7,11 +7,11 @@ use Prim.Native.Nat.{ℕ, suc, _+_, _≤_}
 use native.Mathlib.Nat.{zero-add, add-zero}
 use native.Mathlib.Omega.{arith}
 use borrow.Author.Tests.{le-leb, lt-leb}
-use lib.ListN.{length, getD, take, drop, length-append}
+use lib.ListN.{length, getD, drop, length-append}
 use lib.Seq.{drop-append-seam, take-append-seam}
 use Rattle.combinators.specs.Ascii as ascii
 use Rattle.combinators.specs.Choice.{pick, or, and, is, within}
-use Rattle.combinators.specs.Parsed.{Parsed, ok, err, onParsed, behind, orElse}
+use Rattle.combinators.specs.Parsed.{ok, err, onParsed, behind, orElse}
 use Rattle.combinators.specs.Repeat.{many, took}
 use Rattle.combinators.specs.Word.{startsWith}
 use Rattle.combinators.proofs.Lists.{first}
@@ -27,6 +27,7 @@ use Rattle.lexer.specs.Number as numbers
 use Rattle.lexer.specs.Token as tokens
 use Rattle.lexer.specs.Token.{Token, numericFrom, numericOf, identLikeOf, isQuote, stringOf, firstAboveU0080, isIdentStart, startOf, markOf, hashOf, plusOf, minusOf, lessOf, tokenBy, tokenAt, tokenOf}
 use Rattle.lexer.specs.Whitespace.{isWhitespace, commentOf, whitespaceItem, skipWhitespace}
+use Rattle.lexer.specs.declared.tokens.Start.{Start}
 use Rattle.lexer.specs.declared.tokens.Start.the-variants.{Quote, Letter, Digit, Other}
 use Rattle.lexer.proofs.SyntaxName.{Each, none, more, IdentSequence, started, dashed, identStart, identCodePoint, letter, start-code-point, code-point-item, hyphen-code-point, ident-sequence}
 use Rattle.lexer.proofs.SyntaxString.{string-quote}
@@ -38,7 +39,7 @@ use Rattle.lexer.proofs.CharacterRuns.{chars-step, chars-text-step}
 use Rattle.lexer.proofs.Idents.{char-plain, name-none}
 use Rattle.grammar.specs.Nth.{Blanks, Sign, unsigned, plus, minus, writtenSign}
 use Rattle.grammar.specs.Selectors.{Name, Quoted}
-use Rattle.grammar.specs.Tokens.{Numeral, Hashed, UnitName, isDelimiter, Atom, word, string, hash, number, percentage, dimension, comma, colon, semicolon, delimiter, Opening, function, round, square, brace, writtenStop, writtenNumeral, writtenAtom, writtenOpening, closer, meansSign, meansNumeral, meansAtom, meansOpening, meansCloser, endsName, beginsName, mayFollow, MayFollow, EndsBefore}
+use Rattle.grammar.specs.Tokens.{Numeral, Hashed, isDelimiter, Atom, word, string, hash, number, percentage, dimension, comma, colon, semicolon, delimiter, Opening, function, round, square, brace, writtenStop, writtenNumeral, writtenAtom, writtenOpening, closer, meansSign, meansNumeral, meansAtom, meansOpening, meansCloser, endsName, beginsName, mayFollow, MayFollow, EndsBefore}
 use Rattle.grammar.proofs.Places.{differs, Unblank, unblank-item}
 use Rattle.grammar.proofs.NthRead.{digits-read}
 use Rattle.grammar.proofs.ComponentsRead.{behind-blank, string-closed}
@@ -139,20 +140,22 @@ dashed-number x l e =
     let b = start-between x e .1 in
     rw (no-unsigned x l (unfold isDigit in within-past x ascii.digitZero ascii.digitNine (omega arith)) (is-no x ascii.fullStop (λ q. omega arith)))
 
--- what a name begins is what the reader of names reads
+-- what an ident-start code point begins is what the reader of names reads
+letter-begins : (x : ℕ) (l : List ℕ) (n : ℕ) (k : Token) → identStart x ≡ true → identLikeOf (x ∷ l) ≡ ok n k → Begins (x ∷ l) n k
+unfolding tokenBy
+letter-begins x l n k e p = begins-by x l n k (code-point-item x l (start-code-point x e)) (start-between x e .0) (rw (start-letter x e, p))
+
+-- and so is what a '-' begins before one
+dash-begins : (x : ℕ) (l : List ℕ) (n : ℕ) (k : Token) → identStart x ≡ true → identLikeOf (ascii.hyphenMinus ∷ x ∷ l) ≡ ok n k → Begins (ascii.hyphenMinus ∷ x ∷ l) n k
+unfolding tokenBy startOf isQuote minusOf orElse startsWith pick or and is
+dash-begins x l n k e p =
+    begins-by ascii.hyphenMinus (x ∷ l) n k (code-point-item ascii.hyphenMinus (x ∷ l) hyphen-code-point) (omega arith)
+    (rw (dashed-number x l e, differs identStart x ascii.hyphenMinus e (start-marks .4), p))
+
+-- so of every name
 name-begins : (bytes t : List ℕ) (n : ℕ) (k : Token) → IdentSequence bytes → identLikeOf (bytes ++ t) ≡ ok n k → Begins (bytes ++ t) n k
-name-begins _ t n k (started {x} {r} e s) p = begins-by x (r ++ t) n k (code-point-item x (r ++ t) (start-code-point x e)) (start-between x e .0) (by-letter x (r ++ t) n k e p)
-  where
-    by-letter : (x : ℕ) (l : List ℕ) (n : ℕ) (k : Token) → identStart x ≡ true → identLikeOf (x ∷ l) ≡ ok n k → tokenBy (startOf x) 1 x (x ∷ l) ≡ ok n k
-    by-letter x l n k e p = unfold tokenBy in rw (start-letter x e, p)
-name-begins _ t n k (dashed {x} {r} e s) p =
-    begins-by ascii.hyphenMinus (x ∷ (r ++ t)) n k (code-point-item ascii.hyphenMinus (x ∷ (r ++ t)) hyphen-code-point) (omega arith) (by-dash x (r ++ t) n k e p)
-  where
-    by-dash : (x : ℕ) (l : List ℕ) (n : ℕ) (k : Token) → identStart x ≡ true → identLikeOf (ascii.hyphenMinus ∷ x ∷ l) ≡ ok n k
-        → tokenBy (startOf ascii.hyphenMinus) 1 ascii.hyphenMinus (ascii.hyphenMinus ∷ x ∷ l) ≡ ok n k
-    by-dash x l n k e p =
-        unfold tokenBy startOf isQuote minusOf orElse startsWith pick or and is in
-        rw (dashed-number x l e, differs identStart x ascii.hyphenMinus e (start-marks .4), p)
+name-begins _ t n k (started {x} {r} e s) p = letter-begins x (r ++ t) n k e p
+name-begins _ t n k (dashed {x} {r} e s) p = dash-begins x (r ++ t) n k e p
 
 -- a name ends before t
 record NameEnds (t : List ℕ) : Type 0 where
@@ -170,25 +173,29 @@ name-ends t e =
 name-whole : (n : Name) (t : List ℕ) → NameEnds t → identOf (n .bytes ++ t) ≡ ok (length (n .bytes)) (n .bytes)
 name-whole n t h = ident-sequence (n .bytes) t (n .sequence) (h .no-character) (h .no-escape) ∙ rw (n .small)
 
+-- no bracket follows the name
+like-ident : (n : Name) (t : List ℕ) → NameEnds t → is (getD t 0 0) ascii.leftParenthesis ≡ false → identLikeOf (n .bytes ++ t) ≡ ok (length (n .bytes)) (tokens.ident (n .bytes))
+unfolding identLikeOf onParsed pick
+like-ident n t h d = rw (name-whole n t h, behind-blank (n .bytes) t, d)
+
 -- "Otherwise, return an <ident-token> with its value set to string"
 pub ident-token : (n : Name) (t : List ℕ) → endsName (getD t 0 0) ≡ true → is (getD t 0 0) ascii.leftParenthesis ≡ false
     → Begins (n .bytes ++ t) (length (n .bytes)) (tokens.ident (n .bytes))
-ident-token n t e d = name-begins (n .bytes) t _ _ (n .sequence) (like n t (name-ends t e) d)
-  where
-    like : (n : Name) (t : List ℕ) → NameEnds t → is (getD t 0 0) ascii.leftParenthesis ≡ false → identLikeOf (n .bytes ++ t) ≡ ok (length (n .bytes)) (tokens.ident (n .bytes))
-    like n t h d = unfold identLikeOf onParsed pick in rw (name-whole n t h, behind-blank (n .bytes) t, d)
+ident-token n t e d = name-begins (n .bytes) t _ _ (n .sequence) (like-ident n t (name-ends t e) d)
 
 -- a name ends before a round bracket
 round-ends : (t : List ℕ) → NameEnds (ascii.leftParenthesis ∷ t)
 unfolding identCodePoint identStart letter or and within is
 round-ends t = record { no-character = refl; no-escape = λ q. omega arith }
 
+-- where one does
+like-function : (n : Name) (t : List ℕ) → identLikeOf (n .bytes ++ (ascii.leftParenthesis ∷ t)) ≡ ok (length (n .bytes) + 1) (tokens.function (n .bytes))
+unfolding identLikeOf onParsed pick is
+like-function n t = rw (name-whole n (ascii.leftParenthesis ∷ t) (round-ends t), behind-blank (n .bytes) (ascii.leftParenthesis ∷ t))
+
 -- "if the next input code point is U+0028 LEFT PARENTHESIS, consume it. Return a <function-token> with its value set to string"
 pub function-token : (n : Name) (t : List ℕ) → Begins (n .bytes ++ (ascii.leftParenthesis ∷ t)) (length (n .bytes) + 1) (tokens.function (n .bytes))
-function-token n t = name-begins (n .bytes) (ascii.leftParenthesis ∷ t) _ _ (n .sequence) (like n t)
-  where
-    like : (n : Name) (t : List ℕ) → identLikeOf (n .bytes ++ (ascii.leftParenthesis ∷ t)) ≡ ok (length (n .bytes) + 1) (tokens.function (n .bytes))
-    like n t = unfold identLikeOf onParsed pick is in rw (name-whole n (ascii.leftParenthesis ∷ t) (round-ends t), behind-blank (n .bytes) (ascii.leftParenthesis ∷ t))
+function-token n t = name-begins (n .bytes) (ascii.leftParenthesis ∷ t) _ _ (n .sequence) (like-function n t)
 
 -- ---- hashes: 4.3.1, U+0023 NUMBER SIGN
 -- the document's ident code points are the crate's
@@ -250,15 +257,14 @@ hash-named h t e =
     hash-unskipped _ t none l = absurd (omega arith)
     hash-unskipped _ t (more {x} {r} e es) l = skips-blank [] (x ∷ (r ++ t)) blanks.none (code-point-item x (r ++ t) e)
 
+-- behind '#' the characters of a name are a hash
+hash-begins : (l : List ℕ) (m : ℕ) (b : List ℕ) → identstringOf l ≡ ok m b → Begins (ascii.numberSign ∷ l) (1 + m) (tokens.hash b)
+unfolding whitespaceItem isWhitespace commentOf tokenBy startOf isQuote hashOf onParsed pick or is
+hash-begins l m b p = begins-by ascii.numberSign l (1 + m) (tokens.hash b) refl (omega arith) (rw p)
+
 -- "If the next input code point is an ident code point ..: Consume an ident sequence, and set the <hash-token>'s value to the returned string"
 pub hash-token : (h : Hashed) (t : List ℕ) → endsName (getD t 0 0) ≡ true → Begins (ascii.numberSign ∷ (h .bytes ++ t)) (1 + length (h .bytes)) (tokens.hash (h .bytes))
-hash-token h t e = begins-by ascii.numberSign (h .bytes ++ t) _ _ (sign-item (h .bytes ++ t)) (omega arith) (by-sign (h .bytes ++ t) _ _ (hash-named h t (name-ends t e)))
-  where
-    sign-item : (l : List ℕ) → whitespaceItem (ascii.numberSign ∷ l) ≡ 0
-    sign-item l = unfold whitespaceItem isWhitespace commentOf pick or is in refl
-
-    by-sign : (l : List ℕ) (m : ℕ) (b : List ℕ) → identstringOf l ≡ ok m b → tokenBy (startOf ascii.numberSign) 1 ascii.numberSign (ascii.numberSign ∷ l) ≡ ok (1 + m) (tokens.hash b)
-    by-sign l m b p = unfold tokenBy startOf isQuote hashOf onParsed pick or is in rw p
+hash-token h t e = hash-begins (h .bytes ++ t) _ _ (hash-named h t (name-ends t e))
 
 -- a digit is an ident code point
 digit-code-point : (x : ℕ) → isDigit x ≡ true → identCodePoint x ≡ true
@@ -275,32 +281,33 @@ unfolding isDigit identCodePoint
 ended-digit x e = neither _ _ (neither _ _ e .1) .0
 
 -- ---- strings: 4.3.5, Consume a string token
--- a quote selects the reader of strings, and is of ASCII
-quote-start : (q : ℕ) (l : List ℕ) → isQuote q ≡ true → (startOf q ≡ Quote) × (q ≤ 0x7f) × (whitespaceItem (q ∷ l) ≡ 0)
+-- what a first byte says of a text: the reader that it selects, that it is of ASCII, and that it begins no white space
+abbrev Selects : Start → ℕ → Type 0
+Selects s x = (startOf x ≡ s) × (x ≤ 0x7f) × ((l : List ℕ) → whitespaceItem (x ∷ l) ≡ 0)
+
+-- both quotes select the reader of strings
+quotes-select : Selects Quote ascii.quotationMark × Selects Quote ascii.apostrophe
+unfolding startOf isQuote whitespaceItem isWhitespace commentOf pick or is
+quotes-select = ((refl, omega arith, λ l. refl), (refl, omega arith, λ l. refl))
+
+-- and so does what the reader calls a quote
+quote-selects : (q : ℕ) → isQuote q ≡ true → Selects Quote q
 unfolding isQuote
-quote-start q l e =
-    either ((startOf q ≡ Quote) × (q ≤ 0x7f) × (whitespaceItem (q ∷ l) ≡ 0)) _ _ e
-    (λ w. at ascii.quotationMark (is-true q ascii.quotationMark w) (double l))
-    (λ w. at ascii.apostrophe (is-true q ascii.apostrophe w) (single l))
-  where
-    at : (k : ℕ) → q ≡ k → (startOf k ≡ Quote) × (k ≤ 0x7f) × (whitespaceItem (k ∷ l) ≡ 0) → (startOf q ≡ Quote) × (q ≤ 0x7f) × (whitespaceItem (q ∷ l) ≡ 0)
-    at k p h = rw p h
+quote-selects q e =
+    either (Selects Quote q) _ _ e
+    (λ w. subst (Selects Quote) (sym (is-true q ascii.quotationMark w)) (quotes-select .0))
+    (λ w. subst (Selects Quote) (sym (is-true q ascii.apostrophe w)) (quotes-select .1))
 
-    double : (l : List ℕ) → (startOf ascii.quotationMark ≡ Quote) × (ascii.quotationMark ≤ 0x7f) × (whitespaceItem (ascii.quotationMark ∷ l) ≡ 0)
-    double l = unfold startOf isQuote whitespaceItem isWhitespace commentOf pick or is in (refl, omega arith, refl)
-
-    single : (l : List ℕ) → (startOf ascii.apostrophe ≡ Quote) × (ascii.apostrophe ≤ 0x7f) × (whitespaceItem (ascii.apostrophe ∷ l) ≡ 0)
-    single l = unfold startOf isQuote whitespaceItem isWhitespace commentOf pick or is in (refl, omega arith, refl)
+-- what it begins is a string
+quote-begins : (q : ℕ) (l : List ℕ) (n : ℕ) (k : Token) → isQuote q ≡ true → stringOf (q ∷ l) ≡ ok n k → Begins (q ∷ l) n k
+unfolding tokenBy
+quote-begins q l n k e p = let s = quote-selects q e in begins-by q l n k (s .2 l) (s .1) (rw (s .0, p))
 
 -- "ending code point: Return the <string-token>"
 pub string-token : (q : Quoted) (t : List ℕ) → Begins (q .quote ∷ (q .body ++ (q .quote ∷ t))) (1 + length (q .body) + 1) (tokens.string (q .body))
 string-token q t =
     let g = string-quote (q .quote) (q .body) (q .ordinary) t in
-    let s = quote-start (q .quote) (q .body ++ (q .quote ∷ t)) (q .quotes) in
-    begins-by (q .quote) (q .body ++ (q .quote ∷ t)) _ _ (s .2) (s .1) (by-quote (q .quote) _ _ _ (s .0) (string-closed (q .quote) (q .body) t (q .quotes) (g .0) (g .1)))
-  where
-    by-quote : (x : ℕ) (l : List ℕ) (n : ℕ) (k : Token) → startOf x ≡ Quote → stringOf (x ∷ l) ≡ ok n k → tokenBy (startOf x) 1 x (x ∷ l) ≡ ok n k
-    by-quote x l n k e p = unfold tokenBy in rw (e, p)
+    quote-begins (q .quote) (q .body ++ (q .quote ∷ t)) _ _ (q .quotes) (string-closed (q .quote) (q .body) t (q .quotes) (g .0) (g .1))
 
 -- ---- numbers: 4.3.12, Consume a number; 4.3.3, Consume a numeric token
 -- no digit begins with a full stop
@@ -324,6 +331,7 @@ unsigned-read true ds u h l e = sym (pick-true _ _ _ _ (is-yes _ _ (stop-digits 
 unfoldable unsignedFirst : ℕ → Bool
 unsignedFirst x = or (isDigit x) (is x ascii.fullStop)
 
+-- as it does
 unsigned-first : (f : Bool) (ds u : List ℕ) → Each isDigit ds → 1 ≤ length ds → unsignedFirst (getD (writtenStop f ++ (ds ++ u)) 0 0) ≡ true
 unsigned-first true ds u h l = unfold writtenStop unsignedFirst isDigit or and within is in refl
 unsigned-first false _ u none l = absurd (omega arith)
@@ -374,12 +382,14 @@ module _ (n : Numeral) (u : List ℕ) (e : isDigit (getD u 0 0) ≡ false) where
   abbrev v : List ℕ
   v = writtenStop (n .fraction) ++ (n .digits ++ u)
 
+  -- they stand one behind the other
   numeral-onto : meansNumeral n ++ u ≡ meansSign (n .sign) ++ v
   unfolding meansNumeral
   numeral-onto =
       append-assoc (meansSign (n .sign)) (writtenStop (n .fraction) ++ n .digits) u
       ∙ ap (λ (l : List ℕ). meansSign (n .sign) ++ l) (append-assoc (writtenStop (n .fraction)) (n .digits) u)
 
+  -- and so long is the number
   numeral-length : length (meansNumeral n) ≡ length (meansSign (n .sign)) + (length (writtenStop (n .fraction)) + length (n .digits))
   unfolding meansNumeral
   numeral-length = omega (arith, length-append (meansSign (n .sign)) (writtenStop (n .fraction) ++ n .digits), length-append (writtenStop (n .fraction)) (n .digits))
@@ -437,58 +447,59 @@ no-unit : (t : List ℕ) → beginsName (getD t (skipWhitespace t) 0) ≡ false 
 unfolding identOf behind
 no-unit t e = rw (no-name (drop (skipWhitespace t) t) (ap beginsName (first t (skipWhitespace t)) ∙ e))
 
--- a digit selects the reader of numbers
-digit-start : (x : ℕ) → isDigit x ≡ true → (startOf x ≡ Digit) × (x ≤ 0x7f)
-digit-start x e = (selects x e (digit-marks) (above x e), (let h = within-true x ascii.digitZero ascii.digitNine (unfold isDigit in e) in omega arith))
-  where
-    above : (x : ℕ) → isDigit x ≡ true → isIdentStart x ≡ false
-    above x e =
-        let h = within-true x ascii.digitZero ascii.digitNine (unfold isDigit in e) in
-        unfold isIdentStart or in
-        rw (
-          sym (within-false x ascii.smallA ascii.smallZ (omega arith)),
-          sym (within-false x ascii.capitalA ascii.capitalZ (omega arith)),
-          is-no x ascii.lowLine (λ q. omega arith),
-          lt-leb firstAboveU0080 x (omega arith),
-        )
+-- no mark is a digit
+digit-marks : (isDigit ascii.quotationMark ≡ false) × (isDigit ascii.apostrophe ≡ false) × (isDigit ascii.numberSign ≡ false) × (isDigit ascii.plusSign ≡ false)
+    × (isDigit ascii.hyphenMinus ≡ false) × (isDigit ascii.fullStop ≡ false) × (isDigit ascii.lessThanSign ≡ false) × (isDigit ascii.reverseSolidus ≡ false)
+unfolding isDigit and within
+digit-marks = (refl, refl, refl, refl, refl, refl, refl, refl)
 
-    selects : (x : ℕ) → isDigit x ≡ true → (isDigit ascii.quotationMark ≡ false) × (isDigit ascii.apostrophe ≡ false) × (isDigit ascii.numberSign ≡ false) × (isDigit ascii.plusSign ≡ false)
-        × (isDigit ascii.hyphenMinus ≡ false) × (isDigit ascii.fullStop ≡ false) × (isDigit ascii.lessThanSign ≡ false) × (isDigit ascii.reverseSolidus ≡ false) → isIdentStart x ≡ false → startOf x ≡ Digit
-    selects x e o a =
-        unfold startOf isQuote pick or in
-        rw (
-          differs isDigit x ascii.quotationMark e (o .0),
-          differs isDigit x ascii.apostrophe e (o .1),
-          differs isDigit x ascii.numberSign e (o .2),
-          differs isDigit x ascii.plusSign e (o .3),
-          differs isDigit x ascii.hyphenMinus e (o .4),
-          differs isDigit x ascii.fullStop e (o .5),
-          differs isDigit x ascii.lessThanSign e (o .6),
-          differs isDigit x ascii.reverseSolidus e (o .7),
-          a,
-          e,
-        )
+-- a digit lies below all that starts a name
+digit-below : (x : ℕ) → isDigit x ≡ true → (x ≤ 0x7f) × (isIdentStart x ≡ false)
+unfolding isDigit isIdentStart or
+digit-below x e =
+    let h = within-true x ascii.digitZero ascii.digitNine e in (
+      omega arith,
+      rw (
+        sym (within-false x ascii.smallA ascii.smallZ (omega arith)),
+        sym (within-false x ascii.capitalA ascii.capitalZ (omega arith)),
+        is-no x ascii.lowLine (λ q. omega arith),
+        lt-leb firstAboveU0080 x (omega arith),
+      ),
+    )
 
-    digit-marks : (isDigit ascii.quotationMark ≡ false) × (isDigit ascii.apostrophe ≡ false) × (isDigit ascii.numberSign ≡ false) × (isDigit ascii.plusSign ≡ false)
-        × (isDigit ascii.hyphenMinus ≡ false) × (isDigit ascii.fullStop ≡ false) × (isDigit ascii.lessThanSign ≡ false) × (isDigit ascii.reverseSolidus ≡ false)
-    digit-marks = unfold isDigit and within in (refl, refl, refl, refl, refl, refl, refl, refl)
+-- so it selects the reader of numbers
+digit-start : (x : ℕ) → isDigit x ≡ true → startOf x ≡ Digit
+unfolding startOf isQuote pick or
+digit-start x e =
+    rw (
+      differs isDigit x ascii.quotationMark e (digit-marks .0),
+      differs isDigit x ascii.apostrophe e (digit-marks .1),
+      differs isDigit x ascii.numberSign e (digit-marks .2),
+      differs isDigit x ascii.plusSign e (digit-marks .3),
+      differs isDigit x ascii.hyphenMinus e (digit-marks .4),
+      differs isDigit x ascii.fullStop e (digit-marks .5),
+      differs isDigit x ascii.lessThanSign e (digit-marks .6),
+      differs isDigit x ascii.reverseSolidus e (digit-marks .7),
+      digit-below x e .1,
+      e,
+    )
+
+-- what a digit begins is a number
+digit-begins : (x : ℕ) (l : List ℕ) (n : ℕ) (k : Token) → isDigit x ≡ true → numericOf (x ∷ l) ≡ ok n k → Begins (x ∷ l) n k
+unfolding tokenBy
+digit-begins x l n k e p = begins-by x l n k (code-point-item x l (digit-code-point x e)) (digit-below x e .0) (rw (digit-start x e, p))
+
+-- and so is what a full stop begins, where a number is read there
+stop-begins : (l : List ℕ) (n : ℕ) (k : Token) → numericOf (ascii.fullStop ∷ l) ≡ ok n k → Begins (ascii.fullStop ∷ l) n k
+unfolding whitespaceItem isWhitespace commentOf tokenBy startOf isQuote orElse pick or is
+stop-begins l n k p = begins-by ascii.fullStop l n k refl (omega arith) (rw p)
 
 -- a number without a sign, by what it begins with
 unsigned-begins : (f : Bool) (ds u : List ℕ) (n : ℕ) (k : Token) → Each isDigit ds → 1 ≤ length ds → numericOf (writtenStop f ++ (ds ++ u)) ≡ ok n k → Begins (writtenStop f ++ (ds ++ u)) n k
-unsigned-begins true ds u n k h l p = unfold writtenStop in begins-by ascii.fullStop (ds ++ u) n k (stop-item (ds ++ u)) (omega arith) (by-stop (ds ++ u) n k (unfold writtenStop in p))
-  where
-    stop-item : (l : List ℕ) → whitespaceItem (ascii.fullStop ∷ l) ≡ 0
-    stop-item l = unfold whitespaceItem isWhitespace commentOf pick or is in refl
-
-    by-stop : (l : List ℕ) (n : ℕ) (k : Token) → numericOf (ascii.fullStop ∷ l) ≡ ok n k → tokenBy (startOf ascii.fullStop) 1 ascii.fullStop (ascii.fullStop ∷ l) ≡ ok n k
-    by-stop l n k p = unfold tokenBy startOf isQuote orElse pick or is in rw p
+unfolding writtenStop
+unsigned-begins true ds u n k h l p = stop-begins (ds ++ u) n k p
 unsigned-begins false _ u n k none l p = absurd (omega arith)
-unsigned-begins false _ u n k (more {x} {r} e es) l p =
-    unfold writtenStop in
-    begins-by x (r ++ u) n k (code-point-item x (r ++ u) (digit-code-point x e)) (digit-start x e .1) (by-digit x (r ++ u) n k (digit-start x e .0) (unfold writtenStop in p))
-  where
-    by-digit : (x : ℕ) (l : List ℕ) (n : ℕ) (k : Token) → startOf x ≡ Digit → numericOf (x ∷ l) ≡ ok n k → tokenBy (startOf x) 1 x (x ∷ l) ≡ ok n k
-    by-digit x l n k e p = unfold tokenBy in rw (e, p)
+unsigned-begins false _ u n k (more {x} {r} e es) l p = digit-begins x (r ++ u) n k e p
 
 -- behind a '+' the reader starts anew, and drops it
 plus-begins : (l : List ℕ) (n : ℕ) (k : Token) → numericOf l ≡ ok n k → Begins (ascii.plusSign ∷ l) (1 + n) k
@@ -571,28 +582,32 @@ dimension-token n w t e =
 mark-begins : (x : ℕ) (l : List ℕ) → whitespaceItem (x ∷ l) ≡ 0 → x ≤ 0x7f → startOf x ≡ Other → Begins (x ∷ l) 1 (markOf x)
 mark-begins x l e h s = begins-by x l 1 (markOf x) e h (unfold tokenBy in rw s)
 
--- the punctuation of declarations
+-- a comma
 pub comma-token : (t : List ℕ) → Begins (ascii.comma ∷ t) 1 tokens.comma
 unfolding whitespaceItem isWhitespace commentOf startOf isQuote isIdentStart isDigit markOf pick or and within is
 comma-token t = mark-begins ascii.comma t refl (omega arith) refl
 
+-- a colon
 pub colon-token : (t : List ℕ) → Begins (ascii.colon ∷ t) 1 tokens.colon
 unfolding whitespaceItem isWhitespace commentOf startOf isQuote isIdentStart isDigit markOf pick or and within is
 colon-token t = mark-begins ascii.colon t refl (omega arith) refl
 
+-- a semicolon
 pub semicolon-token : (t : List ℕ) → Begins (ascii.semicolon ∷ t) 1 tokens.semicolon
 unfolding whitespaceItem isWhitespace commentOf startOf isQuote isIdentStart isDigit markOf pick or and within is
 semicolon-token t = mark-begins ascii.semicolon t refl (omega arith) refl
 
--- a byte that opens a block
+-- what opens a block: a round bracket
 pub round-token : (t : List ℕ) → Begins (ascii.leftParenthesis ∷ t) 1 tokens.openRound
 unfolding whitespaceItem isWhitespace commentOf startOf isQuote isIdentStart isDigit markOf pick or and within is
 round-token t = mark-begins ascii.leftParenthesis t refl (omega arith) refl
 
+-- a square bracket
 pub square-token : (t : List ℕ) → Begins (ascii.leftSquareBracket ∷ t) 1 tokens.openSquare
 unfolding whitespaceItem isWhitespace commentOf startOf isQuote isIdentStart isDigit markOf pick or and within is
 square-token t = mark-begins ascii.leftSquareBracket t refl (omega arith) refl
 
+-- a brace
 pub brace-token : (t : List ℕ) → Begins (ascii.leftCurlyBracket ∷ t) 1 tokens.openBrace
 unfolding whitespaceItem isWhitespace commentOf startOf isQuote isIdentStart isDigit markOf pick or and within is
 brace-token t = mark-begins ascii.leftCurlyBracket t refl (omega arith) refl
@@ -637,12 +652,13 @@ delimiter-plain c e =
     every Plain c (text "!$%&*/=>?^`|~")
     ((omega arith, refl, refl, refl), ((omega arith, refl, refl, refl), ((omega arith, refl, refl, refl), ((omega arith, refl, refl, refl), ((omega arith, refl, refl, refl), ((omega arith, refl, refl, refl), ((omega arith, refl, refl, refl), ((omega arith, refl, refl, refl), ((omega arith, refl, refl, refl), ((omega arith, refl, refl, refl), ((omega arith, refl, refl, refl), ((omega arith, refl, refl, refl), ((omega arith, refl, refl, refl), tt))))))))))))) e
 
--- where no asterisk follows a solidus no comment begins
+-- a comment takes a solidus and an asterisk
 by-solidus : (a b : Bool) (n : ℕ) → and a b ≡ false → pick a (pick b n 0) 0 ≡ 0
 unfolding and pick
 by-solidus true b n e = rw e
 by-solidus false b n e = refl
 
+-- so where no asterisk follows a solidus no comment begins
 no-comment : (c : ℕ) (t : List ℕ) → isWhitespace c ≡ false → and (is c ascii.solidus) (is (getD t 0 0) ascii.asterisk) ≡ false → whitespaceItem (c ∷ t) ≡ 0
 unfolding whitespaceItem commentOf
 no-comment c t w e = sym (pick-false _ _ _ _ w (sym (by-solidus _ _ _ e)))

@@ -4,18 +4,20 @@ use mathlib.Core.Path.{_≡_, refl}
 use mathlib.Core.Bool.{Bool, true, false, not}
 use mathlib.Core.List.{List, [], _∷_, _++_, map}
 use Prim.Native.Nat.{ℕ, _≤_}
+use native.Mathlib.Omega.{arith}
 use lib.ListN.{length, getD}
 use Rattle.combinators.specs.Ascii as ascii
-use Rattle.combinators.specs.Choice.{or, and, is}
+use Rattle.combinators.specs.Choice.{pick, or, and, is, within}
 use Rattle.combinators.specs.Word.{startsWith, sameText}
 use Rattle.unicode.specs.Literal.{text}
+use Rattle.unicode.specs.Utf8.{utf8, continuation}
 use Rattle.unicode.specs.WhiteSpace.{member}
 use Rattle.lexer.specs.Name.{lower}
 use Rattle.lexer.specs.Number.{isDigit}
 use Rattle.lexer.specs.Token as tokens
 use Rattle.lexer.specs.Token.{Token}
 use Rattle.lexer.specs.Whitespace.{skipWhitespace}
-use Rattle.lexer.proofs.SyntaxName.{Each, identStart, identCodePoint}
+use Rattle.lexer.proofs.SyntaxName.{Each, none, more, started, letter, identStart, identCodePoint}
 use Rattle.grammar.specs.Nth.{Sign, unsigned, plus, minus, writtenSign}
 use Rattle.grammar.specs.Selectors.{Name, Quoted}
 
@@ -165,3 +167,20 @@ MayFollow a x y = mayFollow a x y ≡ true
 -- the same of the text behind it
 abbrev pub EndsBefore : Atom → List ℕ → Type 0
 EndsBefore a t = MayFollow a (getD t 0 0) (getD t (skipWhitespace t) 0)
+
+-- `+.5` and `em`
+unfoldable half : Numeral
+unfolding isDigit and within text utf8 pick
+half = record { sign = plus; fraction = true; digits = text "5"; are = more refl none; some = omega arith }
+
+unfoldable em : UnitName
+unfolding isExponent isDigit startsWith identCodePoint identStart letter lower or and within is text utf8 pick
+em = record { name = record { bytes = text "em"; sequence = started refl (more refl none); small = refl }; no-exponent = refl }
+
+-- `+.5em` is a dimension of `.5`; `0` ends before `,` and not before ` auto` or `%`; `e3` is an exponent and `em` is none
+test-tokens : (writtenAtom (dimension half em) ≡ text "+.5em") × (meansAtom (dimension half em) ≡ tokens.dimension (text ".5") (text "em"))
+    × (mayFollow (number half) ascii.comma ascii.comma ≡ true) × (mayFollow (number half) ascii.space ascii.smallA ≡ false)
+    × (mayFollow (number half) ascii.percentSign ascii.percentSign ≡ false)
+    × (isExponent (text "e3") ≡ true) × (isExponent (text "e-3") ≡ true) × (isExponent (text "em") ≡ false)
+unfolding writtenAtom writtenNumeral writtenSign writtenStop meansAtom meansNumeral meansSign mayFollow endsName beginsName isExponent isDigit identCodePoint identStart letter startsWith half em text utf8 continuation pick or and within is
+test-tokens = (refl, refl, refl, refl, refl, refl, refl, refl)
