@@ -156,7 +156,7 @@ module _ (include : Bool) (b : Blanks) where
   atom-goes (delimiter c d) v cs h = refl
 
   -- an opening token awaits its closing one
-  opening-goes : (o : Opening) (cs : List ℕ) → stepOf include (bracketOf (meansOpening o)) cs ≡ next (closer o ∷ cs)
+  pub opening-goes : (o : Opening) (cs : List ℕ) → stepOf include (bracketOf (meansOpening o)) cs ≡ next (closer o ∷ cs)
   unfolding stepOf bracketOf bracketBy coded meansOpening closer
   opening-goes (function n d) cs = refl
   opening-goes round cs = refl
@@ -194,7 +194,7 @@ continues x =
     (or (is x ascii.leftParenthesis) (or (is x ascii.fullStop) (or (is x ascii.percentSign) (or (is x ascii.plusSign) (is x ascii.asterisk))))))
 
 -- neither of two tests holds
-neither : (a b : Bool) → or a b ≡ false → (a ≡ false) × (b ≡ false)
+pub neither : (a b : Bool) → or a b ≡ false → (a ≡ false) × (b ≡ false)
 unfolding or
 neither true b e = never (sym e)
 neither false b e = (refl, e)
@@ -257,6 +257,11 @@ blank-ends a {l} t h c =
     let f = closes-first c in
     ends-behind a (record { bytes = l; blank = h }) t (f .2) (atom-ends a _ _ (blank-first continues unblank t h (f .0)) (f .1))
 
+-- and a name ends there
+pub halts-ends : {z : List ℕ} → Halts z → endsName (getD z 0 0) ≡ true
+unfolding endsName or
+halts-ends (halts {l} {t} h c) = let q = quiet (getD (l ++ t) 0 0) (blank-first continues unblank t h (closes-first c .0)) in rw (q .no-code-point, q .no-escape)
+
 -- white space behind white space is white space
 blank-append : {a b : List ℕ} → Blank a → Blank b → Blank (a ++ b)
 blank-append none k = k
@@ -290,12 +295,12 @@ trail (then b a v) = trail v
 trail (block b o w v) = trail v
 
 -- what is written, with z behind it
-then-onto : (b : Blanks) (a : Atom) (v : Values) (z : List ℕ) → writtenValues (then b a v) ++ z ≡ b .bytes ++ (writtenAtom a ++ (writtenValues v ++ z))
+pub then-onto : (b : Blanks) (a : Atom) (v : Values) (z : List ℕ) → writtenValues (then b a v) ++ z ≡ b .bytes ++ (writtenAtom a ++ (writtenValues v ++ z))
 unfolding writtenValues
 then-onto b a v z =
     append-assoc (b .bytes) (writtenAtom a ++ writtenValues v) z ∙ ap (λ (l : List ℕ). b .bytes ++ l) (append-assoc (writtenAtom a) (writtenValues v) z)
 
-block-onto : (b : Blanks) (o : Opening) (w v : Values) (z : List ℕ)
+pub block-onto : (b : Blanks) (o : Opening) (w v : Values) (z : List ℕ)
     → writtenValues (block b o w v) ++ z ≡ b .bytes ++ (writtenOpening o ++ (writtenValues w ++ (closer o ∷ (writtenValues v ++ z))))
 unfolding writtenValues
 block-onto b o w v z =
@@ -305,7 +310,7 @@ block-onto b o w v z =
     ∙ ap (λ (l : List ℕ). writtenOpening o ++ l) (append-assoc (writtenValues w) (closer o ∷ writtenValues v) z))
 
 -- what closes a block may stand behind values
-closer-halts : (o : Opening) (r : List ℕ) → Halts (closer o ∷ r)
+pub closer-halts : (o : Opening) (r : List ℕ) → Halts (closer o ∷ r)
 closer-halts o r = halts {l = []} none (closed o r)
 
 -- ---- the last two tokens of a value
@@ -392,7 +397,7 @@ marked-without (a ∷ b ∷ []) = ap (λ (l : List Token). a ∷ l) (marked-with
 marked-without (a ∷ b ∷ c ∷ ks) = ap (λ (l : List Token). a ∷ l) (marked-without (b ∷ c ∷ ks))
 
 -- each atom ends where the grammar says so
-follows : (a : Atom) (v : Values) (z : List ℕ) → Follows a v → Apart v → Halts z → EndsBefore a (writtenValues v ++ z)
+pub follows : (a : Atom) (v : Values) (z : List ℕ) → Follows a v → Apart v → Halts z → EndsBefore a (writtenValues v ++ z)
 unfolding Follows Apart
 follows a (end b) _ f h (halts {l} {t} g c) = unfold writtenValues in subst (EndsBefore a) (append-assoc (b .bytes) l t) (blank-ends a t (blank-append (b .blank) g) c)
 follows a (then b n v) z f h g =
@@ -404,7 +409,7 @@ follows a (block b o w v) z f h g =
 
 module _ {include : Bool} where
   -- a token behind white space
-  passes-token : (b : Blanks) (w r : List ℕ) (at : ℕ) (k : Token) (cs ds : List ℕ) → Begins (w ++ r) (length w) k → stepOf include (bracketOf k) cs ≡ next ds
+  pub passes-token : (b : Blanks) (w r : List ℕ) (at : ℕ) (k : Token) (cs ds : List ℕ) → Begins (w ++ r) (length w) k → stepOf include (bracketOf k) cs ≡ next ds
       → Passes include (b .bytes ++ (w ++ r)) r at cs ds (k ∷ [])
   passes-token b w r at k cs ds h p =
       passes-one (b .bytes ++ (w ++ r)) r at (length (b .bytes) + length w) k cs ds (token-read b (w ++ r) (length w) k h)
@@ -476,7 +481,7 @@ value-stops (before-brace b r) l at =
     stop-scan l (b .bytes ++ (ascii.rightCurlyBracket ∷ r)) at _ _ (closer-read b brace r) (mark-steps .1)
 
 -- values end there
-ends-halt : {z : List ℕ} → ValueEnds z → Halts z
+pub ends-halt : {z : List ℕ} → ValueEnds z → Halts z
 unfolding closer
 ends-halt (at-end b) = subst Halts (append-nil (b .bytes)) (halts (b .blank) nothing)
 ends-halt (before-semicolon b r) = halts (b .blank) (at-semicolon r)

@@ -4,3 +4,4 @@ pub mod Tokens
 pub mod Values
 pub mod Spelling
 pub mod Declarations
+pub mod Sheets
