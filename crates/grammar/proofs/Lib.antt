@@ -3,8 +3,12 @@ pub mod NthRead
 pub mod ComponentsRead
 pub mod TokensRead
 pub mod SelectorsRead
-pub mod RuleGrammar
+pub mod GroupsRead
+pub mod ValuesRead
+pub mod NumbersMeant
+pub mod DeclarationsMeant
 pub mod DeclarationsRead
 pub mod BlocksRead
-pub mod RuleList
+pub mod SheetsRead
+pub mod DeclarationCases
 pub mod GrammarCases

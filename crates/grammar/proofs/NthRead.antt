@@ -50,7 +50,7 @@ unfolding isDigit hexDigit pick
 digit-worth x e = rw e
 
 -- so what digits write is the same number
-numeral-same : {ds : List ℕ} → Each isDigit ds → (a : ℕ) → numeral 10 hexDigit a ds ≡ numeral 10 (λ d. d - ascii.digitZero) a ds
+pub numeral-same : {ds : List ℕ} → Each isDigit ds → (a : ℕ) → numeral 10 hexDigit a ds ≡ numeral 10 (λ d. d - ascii.digitZero) a ds
 unfolding numeral
 numeral-same none a = refl
 numeral-same (more {x} {r} h hs) a = rw (digit-worth x h) (numeral-same hs (a * 10 + (x - ascii.digitZero)))

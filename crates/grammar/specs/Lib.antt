@@ -1,3 +1,7 @@
 pub mod Nth
 pub mod Selectors
 pub mod Tokens
+pub mod Values
+pub mod Spelling
+pub mod Declarations
+pub mod Sheets
