@@ -1,16 +1,21 @@
 -- Declarations and groups of selectors as derivations of the grammar: their texts, and what they mean, computed.
 use mathlib.Core.Path.{_≡_, refl}
 use mathlib.Core.Bool.{true, false}
-use mathlib.Core.List.{[], _∷_}
+use mathlib.Core.List.{[], _∷_, _++_}
 use native.Mathlib.Omega.{arith}
+use lib.ListN.{replicate}
 use Rattle.combinators.specs.Ascii as ascii
+use Rattle.combinators.specs.Repeat.{many, took}
 use Rattle.combinators.specs.Choice.{pick, or, and, is, within}
 use Rattle.combinators.specs.Word.{startsWith, sameText}
+use Rattle.decimal.specs.Decimal as decimal
 use Rattle.unicode.specs.Literal.{text}
 use Rattle.unicode.specs.Utf8.{utf8, continuation}
 use Rattle.lexer.specs.Name.{isHexDigit, hexDigit, lower}
-use Rattle.lexer.specs.Number.{isDigit}
-use Rattle.lexer.specs.Token.{isQuote}
+use Rattle.lexer.specs.Number.{isDigit, oneDigit, digits, sign}
+use Rattle.lexer.specs.Token.{isQuote, ident, dimension, coded, textOf}
+use Rattle.lexer.specs.TokenRow.{columnsOf}
+use Rattle.lexer.specs.Whitespace.{isWhitespace, commentOf, whitespaceItem, skipWhitespace}
 use Rattle.lexer.proofs.SyntaxName.{more}
 use Rattle.lexer.proofs.SyntaxName as each
 use Rattle.lexer.proofs.SyntaxString.{ordinary, plain}
@@ -19,8 +24,9 @@ use Rattle.lexer.proofs.SyntaxWhitespace as blanks
 use Rattle.syntax.specs.Declaration as syntax
 use Rattle.syntax.specs.Selector as pseudo
 use Rattle.values.specs.Colour.{rgb, numeral, allOf}
-use Rattle.values.specs.Property.{anyOf}
-use Rattle.values.specs.Words.{lookup, foundOr}
+use Rattle.values.specs.Property.{unsignedZero, numberZero, anyOf, heightOf, firstWord, overflowOf, displayOf, whiteSpaceOf, declOf}
+use Rattle.values.specs.Words.{kindOf, firstOf, numberOf, unitOf, isKind, lookup, foundOr, onFound}
+use Rattle.selectors.specs.Selector.{pseudoOf}
 use Rattle.grammar.specs.Nth.{Blanks, unsigned, plus, minus, writtenSign, negative, worth}
 use Rattle.grammar.specs.Selectors.{Quoted, unprocessed, typed, universal, one, writtenSimples, writtenCompound, written, meansCompound, inOrder, Agrees, writtenPseudo, Tight, Group, several, writtenChosen, writtenGroup, meansChosen, meansGroup}
 use Rattle.grammar.specs.Selectors as selectors
@@ -137,3 +143,23 @@ test-group : (writtenGroup group ≡ text "a::before,*::after ")
     ≡ record { components = pseudo.element (text "a") ∷ []; pseudo = pseudo.before } ∷ record { components = pseudo.star ∷ []; pseudo = pseudo.after } ∷ [])
 unfolding group spelt writtenGroup writtenChosen writtenPseudo written writtenCompound writtenSimples meansGroup meansChosen inOrder meansCompound text utf8 continuation pick
 test-group = (refl, refl)
+
+-- ---- what the grammar leaves out, since the engine takes it otherwise than the documents
+-- `display:inherit`, `display:x`, `white-space:inherit` are other than none, and normal; `overflow:inherit`, `overflow-y:clip` are unknown
+test-keywords : (declOf (text "display") (ident (text "inherit") ∷ []) ≡ syntax.display false) × (declOf (text "display") (ident (text "x") ∷ []) ≡ syntax.display false)
+    × (declOf (text "white-space") (ident (text "inherit") ∷ []) ≡ syntax.whiteSpace syntax.normal)
+    × (declOf (text "overflow") (ident (text "inherit") ∷ []) ≡ syntax.unknown (text "overflow"))
+    × (declOf (text "overflow-y") (ident (text "clip") ∷ []) ≡ syntax.unknown (text "overflow-y"))
+unfolding declOf displayOf whiteSpaceOf overflowOf firstWord lookup foundOr onFound isKind kindOf columnsOf coded textOf sameText text utf8 continuation pick and is
+test-keywords = (refl, refl, refl, refl, refl)
+
+-- a full stop, 45 zeros and `7px` is a height of zero, one zero less is not
+test-finest : (declOf (text "height") (dimension (ascii.fullStop ∷ (replicate 45 ascii.digitZero ++ text "7")) (text "px") ∷ []) ≡ syntax.height true)
+    × (declOf (text "height") (dimension (ascii.fullStop ∷ (replicate 44 ascii.digitZero ++ text "7")) (text "px") ∷ []) ≡ syntax.height false)
+unfolding declOf heightOf anyOf numberZero unsignedZero skipWhitespace whitespaceItem isWhitespace commentOf digits sign oneDigit isDigit many took decimal.roundsToZero decimal.numerator decimal.denominator decimal.number decimal.digits decimal.digit unitOf numberOf firstOf lookup foundOr onFound isKind kindOf columnsOf coded textOf sameText text utf8 continuation pick or and is within
+test-finest = (refl, refl)
+
+-- `::BEFORE` and `::first-line` are no pseudo elements
+test-pseudo : (pseudoOf (text "::BEFORE{") ≡ pseudo.none) × (pseudoOf (text "::first-line{") ≡ pseudo.none)
+unfolding pseudoOf startsWith text utf8 continuation pick and is
+test-pseudo = (refl, refl)

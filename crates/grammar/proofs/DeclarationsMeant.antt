@@ -79,11 +79,12 @@ pub names-agree : All (λ (e : Entry Colour). lookup (e .word) colours ≡ found
 unfolding lookup foundOr sameText text utf8 continuation pick and is
 names-agree = ((refl, (refl, (refl, (refl, (refl, (refl, (refl, (refl, (refl, (refl, (refl, (refl, (refl, (refl, (refl, (refl, (refl, tt))))))))))))))))), refl)
 
--- a name and a hash are looked up each by itself
+-- a name is looked up
 ident-colour : (w : List ℕ) → colourOf (ident w ∷ []) ≡ lookup w colours
 unfolding colourOf oneToken isKind kindOf columnsOf coded textOf pick is
 ident-colour w = refl
 
+-- a hash is worth its digits
 hash-colour : (b : List ℕ) → colourOf (tokens.hash b ∷ []) ≡ hashColour b
 unfolding colourOf oneToken isKind kindOf columnsOf coded textOf pick is
 hash-colour b = refl
@@ -142,7 +143,7 @@ length-meant b (measured m) =
 length-meant b (bare n z) = number-height (meansNumeral n) (numeral-zero n (or-left _ _ z) ∙ z)
 
 -- ---- keywords
--- each of a table means to the engine what the document says
+-- each of `overflow` means to the engine what the document says
 overflow-meant : (k : Keyword overflowWords) → overflowOf (ident (k .name .bytes) ∷ []) ≡ found (k .means)
 overflow-meant k =
     row-holds (λ (w : List ℕ) (a : Overflow). overflowOf (ident w ∷ []) ≡ found a) (k .name .bytes) (k .means) overflowWords rows (k .listed)
@@ -150,6 +151,7 @@ overflow-meant k =
     rows : All (λ (e : Entry Overflow). overflowOf (ident (e .word) ∷ []) ≡ found (e .means)) overflowWords
     rows = unfold overflowOf firstWord lookup foundOr onFound isKind kindOf columnsOf coded textOf sameText text utf8 continuation pick and is in (refl, (refl, (refl, (refl, tt))))
 
+-- each of `display`
 display-meant : (k : Keyword displayWords) → displayOf (ident (k .name .bytes) ∷ []) ≡ k .means
 display-meant k =
     row-holds (λ (w : List ℕ) (a : Bool). displayOf (ident w ∷ []) ≡ a) (k .name .bytes) (k .means) displayWords rows (k .listed)
@@ -159,6 +161,7 @@ display-meant k =
         unfold displayOf firstWord lookup foundOr onFound isKind kindOf columnsOf coded textOf sameText text utf8 continuation pick and is in
         (refl, (refl, (refl, (refl, (refl, (refl, (refl, (refl, (refl, (refl, (refl, (refl, (refl, (refl, (refl, tt)))))))))))))))
 
+-- each of `white-space`
 white-space-meant : (k : Keyword whiteSpaceWords) → whiteSpaceOf (ident (k .name .bytes) ∷ []) ≡ k .means
 white-space-meant k =
     row-holds (λ (w : List ℕ) (a : WhiteSpace). whiteSpaceOf (ident w ∷ []) ≡ a) (k .name .bytes) (k .means) whiteSpaceWords rows (k .listed)
@@ -172,6 +175,7 @@ string-content : (t : List ℕ) (ks : List Token) (r : List ℕ) → contentOf k
 unfolding contentOf onFound isKind kindOf columnsOf coded textOf pick is
 string-content t ks r e = rw e
 
+-- so all are joined
 strings-meant : (b : Blanks) (s : Strings) → contentOf (meansValues (stringValues b s)) ≡ found (meansStrings s)
 unfolding meansValues stringValues meansAtom meansStrings
 strings-meant b (last q) = string-content (q .body) [] [] (unfold contentOf in refl) ∙ ap found (append-nil (q .body))
@@ -269,6 +273,7 @@ string-before : (b : Blanks) (q : Quoted) (v : Values) → DeclarationValue v �
 unfolding Some Apart Outermost Unmarked isSemicolon isBang
 string-before b q v r = record { some = tt; apart = (string-follows q v, r .apart); outermost = (refl, r .outermost); unmarked = (refl, r .unmarked) }
 
+-- strings one behind the other
 strings-value : (b : Blanks) (s : Strings) → DeclarationValue (stringValues b s)
 unfolding stringValues isSemicolon isBang
 strings-value b (last q) = alone-value b (string q) refl refl

@@ -198,6 +198,7 @@ module _ (c : Chosen) (h : Tight (c .pseudo) (c .gap)) (b : Blanks) (g : Group) 
       append-assoc (writtenChosen c) (ascii.comma ∷ (b .bytes ++ writtenGroup g)) (opened x)
       ∙ ap (λ (l : List ℕ). writtenChosen c ++ (ascii.comma ∷ l)) (append-assoc (b .bytes) (writtenGroup g) (opened x))
 
+  -- and how long they are
   several-length : length (writtenGroup (several c h b g)) ≡ length (writtenChosen c) + (1 + length (b .bytes) + length (writtenGroup g))
   unfolding writtenGroup
   several-length =

@@ -18,10 +18,7 @@ use Rattle.decimal.proofs.Compare.{rounds-to-zero-digits}
 use Rattle.decimal.proofs.Table.{digits-length}
 use Rattle.lexer.specs.Name.{hexDigit}
 use Rattle.lexer.specs.Number.{isDigit, digits, sign}
-use Rattle.lexer.specs.Whitespace.{isWhitespace, commentOf, whitespaceItem}
 use Rattle.lexer.proofs.SyntaxName.{Each, none, more}
-use Rattle.lexer.proofs.SyntaxWhitespace.{skips-blank}
-use Rattle.lexer.proofs.SyntaxWhitespace as blanks
 use Rattle.values.specs.Colour.{allOf, numeral}
 use Rattle.values.specs.Property.{unsignedZero, numberZero}
 use Rattle.values.proofs.CssColour.{Integer}
@@ -29,7 +26,8 @@ use Rattle.grammar.specs.Nth.{Sign, unsigned, plus, minus, negative, wor
 use Rattle.grammar.specs.Tokens.{Numeral, meansSign, writtenStop, meansNumeral}
 use Rattle.grammar.specs.Declarations.{isZero, finest, Part}
 use Rattle.grammar.proofs.NthRead.{digits-read, numeral-same}
-use Rattle.grammar.proofs.Places.{differs, Unblank, unblank-item}
+use Rattle.grammar.proofs.Places.{differs}
+use Rattle.grammar.proofs.TokensRead.{stop-digits, unsignedFirst, unsigned-first, first-signs, signed-unskipped}
 
 -- ---- a part of a colour
 -- the text of a number without '-' and full stop is its digits
@@ -116,6 +114,7 @@ zeros-at-most (d ∷ ds) (t ∷ ts) h =
     settled true = unfold pick in refl
     settled false = unfold pick in refl
 
+-- so says the test of the digits behind a point
 rounds-zeros : {ds : List ℕ} → Each isDigit ds → allOf (λ d. is d ascii.digitZero) ds ≡ true → roundsToZero [] ds ≡ true
 rounds-zeros {ds} h z =
     rounds-point ds ∙ zeros-at-most (decimal.digits ds) places (digits-zero h ∙ z)
@@ -130,41 +129,28 @@ rounds-whole {ds} h = rounds-to-zero-digits ds [] ∙ unit (allZero (decimal.dig
     unit false = unfold and in refl
 
 -- ---- the text of a number
--- a byte that a number without sign begins with
-unfoldable begins : ℕ → Bool
-begins x = or (isDigit x) (is x ascii.fullStop)
-
--- it is no white space
-begins-unblank : Unblank begins
-unfolding begins isDigit or and within is
-begins-unblank = record { of-space = refl; of-tab = refl; of-line-feed = refl; of-carriage-return = refl; of-form-feed = refl; of-solidus = refl }
-
--- nor a sign
-begins-unsigned : (u : List ℕ) → begins (getD u 0 0) ≡ true → sign u ≡ 0
+-- what begins with a digit or a full stop has no sign
+unsigned-zero : (u : List ℕ) → unsignedFirst (getD u 0 0) ≡ true → unsignedZero (drop (sign u) u) ≡ unsignedZero u
 unfolding sign pick or
-begins-unsigned u h =
-    rw (
-      differs begins (getD u 0 0) ascii.hyphenMinus h (unfold begins isDigit or and within is in refl),
-      differs begins (getD u 0 0) ascii.plusSign h (unfold begins isDigit or and within is in refl),
-    )
+unsigned-zero u h =
+    rw (differs unsignedFirst (getD u 0 0) ascii.hyphenMinus h (first-signs .1), differs unsignedFirst (getD u 0 0) ascii.plusSign h (first-signs .0))
 
--- so nothing is passed over before it
-unsigned-zero : (u : List ℕ) → begins (getD u 0 0) ≡ true → numberZero u ≡ unsignedZero u
-unfolding numberZero
-unsigned-zero u h = rw (skips-blank [] u blanks.none (unblank-item begins begins-unblank u h), begins-unsigned u h)
+-- a '-' is passed over
+minus-zero : (u : List ℕ) → unsignedZero (drop (sign (ascii.hyphenMinus ∷ u)) (ascii.hyphenMinus ∷ u)) ≡ unsignedZero u
+unfolding sign pick or is
+minus-zero u = refl
 
--- and the sign alone where there is one
-minus-zero : (u : List ℕ) → numberZero (ascii.hyphenMinus ∷ u) ≡ unsignedZero u
-unfolding numberZero
-minus-zero u =
-    rw (skips-blank [] (ascii.hyphenMinus ∷ u) blanks.none (unfold whitespaceItem isWhitespace commentOf pick or is in refl))
-    (unfold sign pick or is in refl)
-
-sign-zero : (s : Sign) (u : List ℕ) → begins (getD u 0 0) ≡ true → numberZero (meansSign s ++ u) ≡ unsignedZero u
+-- so is any sign
+by-sign : (s : Sign) (u : List ℕ) → unsignedFirst (getD u 0 0) ≡ true → unsignedZero (drop (sign (meansSign s ++ u)) (meansSign s ++ u)) ≡ unsignedZero u
 unfolding meansSign
-sign-zero unsigned u h = unsigned-zero u h
-sign-zero plus u h = unsigned-zero u h
-sign-zero minus u h = minus-zero u
+by-sign unsigned u h = unsigned-zero u h
+by-sign plus u h = unsigned-zero u h
+by-sign minus u h = minus-zero u
+
+-- so it does not matter
+sign-zero : (s : Sign) (u : List ℕ) → unsignedFirst (getD u 0 0) ≡ true → numberZero (meansSign s ++ u) ≡ unsignedZero u
+unfolding numberZero
+sign-zero s u h = rw (signed-unskipped s u h) (by-sign s u h)
 
 -- digits alone
 whole-zero : {ds : List ℕ} → Each isDigit ds → unsignedZero ds ≡ allOf (λ d. is d ascii.digitZero) ds
@@ -179,7 +165,7 @@ whole-zero {ds} h =
 -- and behind a full stop
 point-zero : (ds : List ℕ) → unsignedZero (ascii.fullStop ∷ ds) ≡ roundsToZero [] ds
 unfolding unsignedZero
-point-zero ds = rw (digits-read none (ascii.fullStop ∷ ds) (unfold isDigit and within in refl))
+point-zero ds = rw (stop-digits ds)
 
 -- where there are not too many, or only zeros
 fraction-zero : {ds : List ℕ} → Each isDigit ds → or (allOf (λ d. is d ascii.digitZero) ds) (leb (length ds) finest) ≡ true
@@ -195,15 +181,11 @@ unfolding writtenStop
 stop-zero true h e = fraction-zero h (unfold or in e)
 stop-zero false h e = whole-zero h
 
--- a digit or a full stop stands first
-stop-begins : (f : Bool) {ds : List ℕ} → Each isDigit ds → 1 ≤ length ds → begins (getD (writtenStop f ++ ds) 0 0) ≡ true
-unfolding writtenStop begins
-stop-begins true h l = unfold isDigit or and within is in refl
-stop-begins false none l = absurd (omega arith)
-stop-begins false (more h hs) l = unfold or in rw h
-
 -- a number of the grammar, where it does not have too many digits behind a full stop, is zero to the engine exactly if all its digits are
 pub numeral-zero : (n : Numeral) → or (isZero n) (or (not (n .fraction)) (leb (length (n .digits)) finest)) ≡ true → numberZero (meansNumeral n) ≡ isZero n
 unfolding meansNumeral isZero
 numeral-zero n e =
-    sign-zero (n .sign) (writtenStop (n .fraction) ++ n .digits) (stop-begins (n .fraction) (n .are) (n .some)) ∙ stop-zero (n .fraction) (n .are) e
+    let u = writtenStop (n .fraction) ++ n .digits in
+    let f : unsignedFirst (getD u 0 0) ≡ true =
+    ap (λ (l : List ℕ). unsignedFirst (getD (writtenStop (n .fraction) ++ l) 0 0)) (sym (append-nil (n .digits))) ∙ unsigned-first (n .fraction) (n .digits) [] (n .are) (n .some) in
+    sign-zero (n .sign) u f ∙ stop-zero (n .fraction) (n .are) e

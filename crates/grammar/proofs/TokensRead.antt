@@ -311,7 +311,7 @@ string-token q t =
 
 -- ---- numbers: 4.3.12, Consume a number; 4.3.3, Consume a numeric token
 -- no digit begins with a full stop
-stop-digits : (l : List ℕ) → digits (ascii.fullStop ∷ l) ≡ 0
+pub stop-digits : (l : List ℕ) → digits (ascii.fullStop ∷ l) ≡ 0
 unfolding digits oneDigit isDigit many took pick and within
 stop-digits l = refl
 
@@ -328,11 +328,11 @@ unsigned-read false ds u h l e = rw (digits-read h u e, is-no (length ds) 0 (λ 
 unsigned-read true ds u h l e = sym (pick-true _ _ _ _ (is-yes _ _ (stop-digits (ds ++ u))) (sym (stop-decimal (ds ++ u) (length ds) (digits-read h u e) l)))
 
 -- what it begins with: a digit or a full stop
-unfoldable unsignedFirst : ℕ → Bool
+unfoldable pub unsignedFirst : ℕ → Bool
 unsignedFirst x = or (isDigit x) (is x ascii.fullStop)
 
 -- as it does
-unsigned-first : (f : Bool) (ds u : List ℕ) → Each isDigit ds → 1 ≤ length ds → unsignedFirst (getD (writtenStop f ++ (ds ++ u)) 0 0) ≡ true
+pub unsigned-first : (f : Bool) (ds u : List ℕ) → Each isDigit ds → 1 ≤ length ds → unsignedFirst (getD (writtenStop f ++ (ds ++ u)) 0 0) ≡ true
 unsigned-first true ds u h l = unfold writtenStop unsignedFirst isDigit or and within is in refl
 unsigned-first false _ u none l = absurd (omega arith)
 unsigned-first false _ u (more e es) l = unfold writtenStop unsignedFirst or in rw e
@@ -343,7 +343,7 @@ unfolding unsignedFirst isDigit or and within is
 first-unblank = record { of-space = refl; of-tab = refl; of-line-feed = refl; of-carriage-return = refl; of-form-feed = refl; of-solidus = refl }
 
 -- neither is a sign
-first-signs : (unsignedFirst ascii.plusSign ≡ false) × (unsignedFirst ascii.hyphenMinus ≡ false)
+pub first-signs : (unsignedFirst ascii.plusSign ≡ false) × (unsignedFirst ascii.hyphenMinus ≡ false)
 unfolding unsignedFirst isDigit or and within is
 first-signs = (refl, refl)
 
@@ -372,7 +372,7 @@ signed-read plus v n e p l = unsigned-signed v n e p l ∙ sym (zero-add n)
 signed-read minus v n e p l = minus-signed v n p l
 
 -- what begins with a '-', a digit or a full stop begins no white space
-signed-unskipped : (s : Sign) (v : List ℕ) → unsignedFirst (getD v 0 0) ≡ true → skipWhitespace (meansSign s ++ v) ≡ 0
+pub signed-unskipped : (s : Sign) (v : List ℕ) → unsignedFirst (getD v 0 0) ≡ true → skipWhitespace (meansSign s ++ v) ≡ 0
 signed-unskipped unsigned v e = unfold meansSign in skips-blank [] v blanks.none (unblank-item unsignedFirst first-unblank v e)
 signed-unskipped plus v e = unfold meansSign in skips-blank [] v blanks.none (unblank-item unsignedFirst first-unblank v e)
 signed-unskipped minus v e = unfold meansSign in skips-blank [] (ascii.hyphenMinus ∷ v) blanks.none (code-point-item ascii.hyphenMinus v hyphen-code-point)

@@ -141,7 +141,7 @@ pub data Strings : Type 0 where
 
 -- ---- declarations
 -- the properties that the engine knows: 14.1, 14.2.1 (of `background` a colour alone; in rgb() the reader looks behind the last comma), 10.5, 10.7,
--- 11.1.1, CSS Overflow Level 3 section 3.1 (`overflow-y`), 9.2.4, 16.6, 12.2
+-- 11.1.1, CSS Overflow Level 3 section 3.1 (`overflow-y`, without `clip`), 9.2.4, 16.6, 12.2
 pub data Known : Type 0 where
   color : ColourValue → Known
   backgroundColor : ColourValue → Known

@@ -51,12 +51,13 @@ spells-small x h =
     (λ s. within-past x ascii.capitalA ascii.capitalZ (let p = within-true x ascii.smallA ascii.smallZ s .0 in omega arith))
     (λ d. sym (within-false x ascii.capitalA ascii.capitalZ (let p = is-true x ascii.hyphenMinus d in omega arith)))) refl)
 
--- so it is with all bytes of such a text
+-- all bytes of such a text go on with a name
 each-goes-on : (r : List ℕ) → allOf spells r ≡ true → Each identCodePoint r
 unfolding allOf
 each-goes-on [] h = none
 each-goes-on (x ∷ r) h = let p = and-true (spells x) (allOf spells r) h in more (spells-goes-on x (p .0)) (each-goes-on r (p .1))
 
+-- and none of them is a capital letter
 each-small : (r : List ℕ) → allOf spells r ≡ true → map lower r ≡ r
 unfolding allOf
 each-small [] h = refl
@@ -109,11 +110,13 @@ unfoldable pub digitBytes : List HexDigit → List ℕ
 digitBytes [] = []
 digitBytes (d ∷ ds) = d .byte ∷ digitBytes ds
 
+-- they go on with a name
 pub digits-go-on : (ds : List HexDigit) → Each identCodePoint (digitBytes ds)
 unfolding digitBytes
 digits-go-on [] = none
 digits-go-on (d ∷ ds) = more (hex-goes-on (d .byte) (d .hex)) (digits-go-on ds)
 
+-- and none of them is a capital letter
 pub digits-small : (ds : List HexDigit) → map lower (digitBytes ds) ≡ digitBytes ds
 unfolding digitBytes
 digits-small [] = refl
