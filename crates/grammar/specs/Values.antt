@@ -10,7 +10,7 @@ use Rattle.combinators.specs.Choice.{is}
 use Rattle.unicode.specs.Literal.{text}
 use Rattle.lexer.specs.Token.{Token}
 use Rattle.grammar.specs.Nth.{Blanks}
-use Rattle.grammar.specs.Tokens.{Atom, word, string, hash, number, percentage, dimension, comma, colon, semicolon, delimiter, Opening, function, round, square, brace, writtenAtom, writtenOpening, closer, meansAtom, meansOpening, meansCloser, MayFollow}
+use Rattle.grammar.specs.Tokens.{Ident, folded, Atom, word, string, hash, number, percentage, dimension, comma, colon, semicolon, delimiter, Opening, function, round, square, brace, writtenAtom, writtenOpening, closer, meansAtom, meansOpening, meansCloser, MayFollow}
 
 -- ---- what is written: tokens and blocks, with white space and comments or none before each and at the end
 pub data Values : Type 0 where
@@ -99,15 +99,15 @@ pub record DeclarationValue (v : Values) : Type 0 where
   pub unmarked : Unmarked v
 
 -- ---- what may stand behind a declaration's value: nothing, or the mark `!important`, with white space or none before both its tokens (5.4.6, "the
--- last two non-<whitespace-token>s in the declaration's value"). The document reads `important` in letters of either case.
+-- last two non-<whitespace-token>s in the declaration's value"), in letters of either case.
 pub data Importance : Type 0 where
   normal : Importance
-  important : Blanks → Blanks → Importance
+  important : Blanks → Blanks → (n : Ident) → folded n ≡ text "important" → Importance
 
 unfoldable pub writtenImportance : Importance → List ℕ
 writtenImportance normal = []
-writtenImportance (important b c) = b .bytes ++ (ascii.exclamationMark ∷ (c .bytes ++ text "important"))
+writtenImportance (important b c n h) = b .bytes ++ (ascii.exclamationMark ∷ (c .bytes ++ n .bytes))
 
 unfoldable pub isMarked : Importance → Bool
 isMarked normal = false
-isMarked (important b c) = true
+isMarked (important b c n h) = true
