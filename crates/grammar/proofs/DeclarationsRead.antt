@@ -1,6 +1,6 @@
 -- A declaration of the grammar is read whole, before what may stand behind a value.
 use mathlib.Core.Path.{_≡_, refl, ap, sym, subst, _∙_}
-use mathlib.Core.List.{List, [], _∷_, _++_, append-assoc, append-nil}
+use mathlib.Core.List.{List, _∷_, _++_, append-assoc, append-nil}
 use Prim.Native.Nat.{ℕ, suc, _+_}
 use native.Mathlib.Omega.{arith}
 use lib.ListN.{length, drop, length-append}
@@ -17,9 +17,9 @@ use Rattle.values.specs.Value.{valueOf}
 use Rattle.declarations.specs.Rules.{colonBehind, propertyOf, valueBehind, declarationOf}
 use Rattle.grammar.specs.Nth.{Blanks}
 use Rattle.grammar.specs.Selectors.{Name}
-use Rattle.grammar.specs.Tokens.{writtenAtom, writtenOpening, closer, meansAtom, meansOpening}
+use Rattle.grammar.specs.Tokens.{closer}
 use Rattle.grammar.specs.Values.{Values, end, then, block, writtenValues, meansValues, Apart, Outermost, Unmarked, Some, DeclarationValue, Importance, normal, important, writtenImportance, isMarked}
-use Rattle.grammar.specs.Declarations.{property, valuesOf, meansDeclared}
+use Rattle.grammar.specs.Declarations.{property, valuesOf}
 use Rattle.grammar.specs.Sheets.{Item, writtenItem, meansItem}
 use Rattle.grammar.proofs.ComponentsRead.{Ended, name-read}
 use Rattle.grammar.proofs.SelectorsRead.{blank-ended}
@@ -28,12 +28,13 @@ use Rattle.grammar.proofs.ValuesRead.{unspaced, Halts, halts, at-bang, 
 use Rattle.grammar.proofs.DeclarationsMeant.{declared-value, declared-meant}
 
 -- ---- white space before a value
--- which the reader skips with the colon, so that what is left is the value without it
+-- which the reader skips with the colon
 unfoldable lead : Values → Blanks
 lead (end b) = b
 lead (then b a v) = b
 lead (block b o w v) = b
 
+-- what is left is the value without it
 unfoldable unled : Values → Values
 unled (end b) = end unspaced
 unled (then b a v) = then unspaced a v

@@ -1,6 +1,6 @@
 -- Sheets of the grammar are read to their end, and the rules that are read are what they mean.
 use mathlib.Core.Path.{_≡_, refl, ap, sym, subst, _∙_}
-use mathlib.Core.Bool.{Bool, true, false, not}
+use mathlib.Core.Bool.{true, false}
 use mathlib.Core.List.{List, [], _∷_, _++_, map, append-assoc, append-nil}
 use Prim.Native.Nat.{ℕ, zero, suc, _+_, _-_, _≤_}
 use native.Mathlib.Nat.{zero-add, add-zero}
@@ -12,24 +12,24 @@ use Rattle.combinators.specs.Choice.{pick, or, and, is, within}
 use Rattle.combinators.specs.Parsed.{ok, onParsed}
 use Rattle.combinators.specs.Parsed as parser
 use Rattle.combinators.specs.Repeat.{many, took}
-use Rattle.combinators.proofs.Rules.{never, is-no}
+use Rattle.combinators.proofs.Rules.{never}
 use Rattle.lexer.specs.Name.{isNmstart, foldedChar, nmstartCharOf, identEscapeOf, either, nmstartOf, nameFrom, dash, nameOf, identOf}
 use Rattle.lexer.specs.Token.{Token, tokenOf, coded}
 use Rattle.lexer.specs.Token as tokens
 use Rattle.lexer.specs.Whitespace.{isWhitespace, commentOf, whitespaceItem, skipWhitespace}
-use Rattle.lexer.proofs.SyntaxName.{identCodePoint, sequence-unskipped, ident-sequence}
+use Rattle.lexer.proofs.SyntaxName.{identCodePoint, ident-sequence}
 use Rattle.lexer.proofs.SyntaxWhitespace.{none, skips-blank}
 use Rattle.syntax.specs.Declaration.{Declaration}
 use Rattle.syntax.specs.Selector.{Selector, RuleSet}
-use Rattle.values.specs.Value.{Placed, bracketBy, bracketOf, Step, next, closing, ending, stepOf, Statement, stop, cons, onStep, scan, statementOf}
+use Rattle.values.specs.Value.{Placed, bracketBy, bracketOf, closing, ending, stepOf, Statement, stop, cons, onStep, scan, statementOf}
 use Rattle.values.specs.Value as values
 use Rattle.declarations.specs.Rules.{startsAt}
-use Rattle.selectors.specs.Outcome.{Outcome, reads, fails, onOutcome, behind, parsed, orElse}
+use Rattle.selectors.specs.Outcome.{reads, fails, onOutcome, behind, parsed, orElse}
 use Rattle.selectors.specs.Selector.{classOf, attrOf, hashOf, pseudoClassOf, marked, blankOf, componentOf, componentsOf, componentsFrom, someOf, withElementOf, withoutElementOf, bodyOf, selectorOf}
 use Rattle.selectors.specs.SelectorList.{selectorsOf}
 use Rattle.sheets.specs.Sheet.{spaced, blockOf, rulesetOf, statementEnd, atRuleOf, statementsOf, movedBy, sheetFrom, sheetOf}
 use Rattle.grammar.specs.Nth.{Blanks}
-use Rattle.grammar.specs.Selectors.{Name, Group, writtenGroup, meansGroup}
+use Rattle.grammar.specs.Selectors.{writtenGroup, meansGroup}
 use Rattle.grammar.specs.Tokens.{brace, writtenOpening, closer, meansOpening, meansCloser, endsName}
 use Rattle.grammar.specs.Values.{Values, writtenValues, Apart, Outermost}
 use Rattle.grammar.specs.Sheets.{Block, empty, filled, Rule, AtEnd, semicolon, braces, AtRule, Sheet, rule, atRule, writtenItem, writtenBlock, writtenRule, writtenAtEnd, writtenAt, writtenStatement, writtenStatements, writtenSheet, meansBlock, meansRule, meansStatements, meansSheet, unreadBehind, unread, SheetRead}
@@ -37,17 +37,12 @@ use Rattle.grammar.specs.Sheets as sheets
 use Rattle.grammar.proofs.ComponentsRead.{behind-blank}
 use Rattle.grammar.proofs.Places.{rest-on, rest-one, byte-on, spaced-on, spaced-none}
 use Rattle.grammar.proofs.GroupsRead.{group-item, group-read}
-use Rattle.grammar.proofs.TokensRead.{token-read, semicolon-token, opening-begins, closer-read}
-use Rattle.grammar.proofs.ValuesRead.{unspaced, conses, Passes, passes-on, passes-token, Within, opening-goes, neither, Halts, halts, at-semicolon, at-brace, closer-halts, halts-ends, trail, values-pass, outer-pass}
+use Rattle.grammar.proofs.TokensRead.{token-read, untrue, neither, semicolon-token, opening-begins, closer-read}
+use Rattle.grammar.proofs.ValuesRead.{unspaced, conses, Passes, passes-on, passes-token, Within, opening-goes, Halts, halts, at-semicolon, at-brace, closer-halts, halts-ends, trail, values-pass, outer-pass}
 use Rattle.grammar.proofs.DeclarationsRead.{name-item, block-items}
 use Rattle.grammar.proofs.BlocksRead.{block-read, moved-item, moved-nexts}
 
 -- ---- at-rules
--- a test that does not hold
-untrue : (b : Bool) → not b ≡ true → b ≡ false
-untrue true e = sym e
-untrue false e = refl
-
 -- the token that a statement ends with
 behind-scan : (l : ℕ) (t : List ℕ) (at n : ℕ) (k : Token) (cs : List ℕ) → tokenOf t ≡ ok n k → stepOf true (bracketOf k) cs ≡ values.behind
     → scan (suc l) true t at cs ≡ cons (record { token = k; start = at + skipWhitespace t }) (stop (at + n) true)
