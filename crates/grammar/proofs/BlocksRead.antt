@@ -22,7 +22,7 @@ use Rattle.grammar.specs.Nth.{Blanks}
 use Rattle.grammar.proofs.Places.{Unblank, white-first, comment-first, blank-first, rest-on, rest-one, byte-on, spaced-on, spaced-none}
 use Rattle.grammar.specs.Values.{writtenValues, writtenImportance}
 use Rattle.grammar.specs.Declarations.{property, valuesOf}
-use Rattle.grammar.specs.Sheets.{Item, Next, End, closed, parted, Block, empty, filled, writtenItem, writtenNext, writtenNexts, writtenEnd, writtenBlock, meansItem, meansNexts, meansBlock}
+use Rattle.grammar.specs.Sheets.{Item, Next, Shut, closed, parted, End, Block, empty, filled, writtenItem, writtenNext, writtenNexts, writtenShut, writtenEnd, writtenBlock, meansItem, meansNexts, meansBlock}
 use Rattle.grammar.proofs.ValuesRead.{unspaced, ValueEnds, before-semicolon, before-brace}
 use Rattle.grammar.proofs.DeclarationsRead.{name-item, block-items, declaration-read}
 
@@ -36,21 +36,25 @@ unmarked = record { of-space = refl; of-tab = refl; of-line-feed = refl; of-carr
 blank-unmarked : {b : List ℕ} (t : List ℕ) → Blank b → is (getD t 0 0) ascii.semicolon ≡ false → is (getD (b ++ t) 0 0) ascii.semicolon ≡ false
 blank-unmarked t h e = blank-first (λ x. is x ascii.semicolon) unmarked t h e
 
--- the end, with r behind it
-closed-onto : (b : Blanks) (r : List ℕ) → (b .bytes ++ (ascii.rightCurlyBracket ∷ [])) ++ r ≡ b .bytes ++ (ascii.rightCurlyBracket ∷ r)
-closed-onto b r = append-assoc (b .bytes) (ascii.rightCurlyBracket ∷ []) r
+-- a semicolon, white space and the brace, with r behind them
+parted-onto : (c : Blanks) (r : List ℕ) → writtenShut (parted c) ++ r ≡ ascii.semicolon ∷ (c .bytes ++ (ascii.rightCurlyBracket ∷ r))
+unfolding writtenShut
+parted-onto c r = ap (λ (l : List ℕ). ascii.semicolon ∷ l) (append-assoc (c .bytes) (ascii.rightCurlyBracket ∷ []) r)
 
-parted-onto : (b c : Blanks) (r : List ℕ)
-    → (b .bytes ++ (ascii.semicolon ∷ (c .bytes ++ (ascii.rightCurlyBracket ∷ [])))) ++ r ≡ b .bytes ++ (ascii.semicolon ∷ (c .bytes ++ (ascii.rightCurlyBracket ∷ r)))
-parted-onto b c r =
-    append-assoc (b .bytes) (ascii.semicolon ∷ (c .bytes ++ (ascii.rightCurlyBracket ∷ []))) r
-    ∙ ap (λ (l : List ℕ). b .bytes ++ (ascii.semicolon ∷ l)) (closed-onto c r)
+-- the end, with r behind it
+end-onto : (q : End) (r : List ℕ) → writtenEnd q ++ r ≡ q .gap .bytes ++ (writtenShut (q .shut) ++ r)
+unfolding writtenEnd
+end-onto q r = append-assoc (q .gap .bytes) (writtenShut (q .shut)) r
 
 -- a value ends before it
-end-value : (e : End) (r : List ℕ) → ValueEnds (writtenEnd e ++ r)
-unfolding writtenEnd
-end-value (closed b) r = subst ValueEnds (sym (closed-onto b r)) (before-brace b r)
-end-value (parted b c) r = subst ValueEnds (sym (parted-onto b c r)) (before-semicolon b (c .bytes ++ (ascii.rightCurlyBracket ∷ r)))
+shut-value : (b : Blanks) (s : Shut) (r : List ℕ) → ValueEnds (b .bytes ++ (writtenShut s ++ r))
+unfolding writtenShut
+shut-value b closed r = before-brace b r
+shut-value b (parted c) r = before-semicolon b ((c .bytes ++ (ascii.rightCurlyBracket ∷ [])) ++ r)
+
+-- with the white space before it
+end-value : (q : End) (r : List ℕ) → ValueEnds (writtenEnd q ++ r)
+end-value q r = subst ValueEnds (sym (end-onto q r)) (shut-value (q .gap) (q .shut) r)
 
 -- and before more declarations
 nexts-value : (ms : List Next) (t : List ℕ) → ValueEnds t → ValueEnds (writtenNexts ms ++ t)
@@ -91,12 +95,14 @@ spaced-stops c r l at (comment y b w h) k =
     (ap (λ (t : List ℕ). is (getD t 0 0) ascii.semicolon) (append-assoc y b z) ∙ comment-first (λ x. is x ascii.semicolon) unmarked (b ++ z) w)
 
 -- so at the end of the block
-end-stops : (e : End) (r : List ℕ) (l at : ℕ) → moreRules l (writtenEnd e ++ r) at ≡ record { declarations = []; taken = at }
-unfolding writtenEnd
-end-stops (parted b c) r l at = ap (λ (t : List ℕ). moreRules l t at) (parted-onto b c r) ∙ spaced-stops (c .bytes) r l at (b .blank) (c .blank)
-end-stops (closed b) r l at =
-    ap (λ (t : List ℕ). moreRules l t at) (closed-onto b r)
-    ∙ unmarked-stops l (b .bytes ++ (ascii.rightCurlyBracket ∷ r)) at (blank-unmarked (ascii.rightCurlyBracket ∷ r) (b .blank) (unfold is in refl))
+shut-stops : (b : Blanks) (s : Shut) (r : List ℕ) (l at : ℕ) → moreRules l (b .bytes ++ (writtenShut s ++ r)) at ≡ record { declarations = []; taken = at }
+shut-stops b closed r l at =
+    unfold writtenShut in unmarked-stops l (b .bytes ++ (ascii.rightCurlyBracket ∷ r)) at (blank-unmarked (ascii.rightCurlyBracket ∷ r) (b .blank) (unfold is in refl))
+shut-stops b (parted c) r l at = ap (λ (t : List ℕ). moreRules l (b .bytes ++ t) at) (parted-onto c r) ∙ spaced-stops (c .bytes) r l at (b .blank) (c .blank)
+
+-- with the white space before it
+end-stops : (q : End) (r : List ℕ) (l at : ℕ) → moreRules l (writtenEnd q ++ r) at ≡ record { declarations = []; taken = at }
+end-stops q r l at = ap (λ (t : List ℕ). moreRules l t at) (end-onto q r) ∙ shut-stops (q .gap) (q .shut) r l at
 
 -- one, and others behind it
 next-step : (l : ℕ) (b d t : List ℕ) (at : ℕ) (x : Declaration) (ds : List Declaration) (n : ℕ) → skipWhitespace (b ++ (d ++ t)) ≡ length b → declarationOf (d ++ t) ≡ ok (length d) x
@@ -232,12 +238,20 @@ marked-brace t i e c z p h =
     (spaced-on t (e + 1) (c .bytes) (ascii.rightCurlyBracket ∷ z) (c .blank) (block-items z .0) (rest-one t e ascii.semicolon x h))
 
 -- so the end stands where it was written
-end-at : (t : List ℕ) (i : ℕ) (q : End) (z : List ℕ) → drop i t ≡ writtenEnd q ++ z → EndAt t i q z
-unfolding writtenEnd
-end-at t i (parted b c) z h =
+shut-at : (t : List ℕ) (i : ℕ) (b : Blanks) (s : Shut) (z : List ℕ) → drop i t ≡ b .bytes ++ (writtenShut s ++ z) → EndAt t i (record { gap = b; shut = s }) z
+unfolding writtenShut writtenEnd
+shut-at t i b closed z h =
+    let k = rest-on t i (b .bytes) (ascii.rightCurlyBracket ∷ z) h in
+    record {
+      f = i + length (b .bytes);
+      brace-to = unmarked-brace t i (i + length (b .bytes)) z (spaced-on t i (b .bytes) (ascii.rightCurlyBracket ∷ z) (b .blank) (block-items z .0) h) k;
+      brace = k;
+      last = omega (arith, length-append (b .bytes) (ascii.rightCurlyBracket ∷ []));
+    }
+shut-at t i b (parted c) z h =
     let x = c .bytes ++ (ascii.rightCurlyBracket ∷ z) in
     let e = i + length (b .bytes) in
-    let k : drop i t ≡ b .bytes ++ (ascii.semicolon ∷ x) = h ∙ parted-onto b c z in
+    let k : drop i t ≡ b .bytes ++ (ascii.semicolon ∷ x) = h ∙ ap (λ (l : List ℕ). b .bytes ++ l) (parted-onto c z) in
     let j = rest-on t i (b .bytes) (ascii.semicolon ∷ x) k in
     record {
       f = e + 1 + length (c .bytes);
@@ -250,52 +264,21 @@ end-at t i (parted b c) z h =
             length-append (c .bytes) (ascii.rightCurlyBracket ∷ []),
           );
     }
-end-at t i (closed c) z h =
-    let k : drop i t ≡ c .bytes ++ (ascii.rightCurlyBracket ∷ z) = h ∙ closed-onto c z in
-    let b = rest-on t i (c .bytes) (ascii.rightCurlyBracket ∷ z) k in
-    record {
-      f = i + length (c .bytes);
-      brace-to = unmarked-brace t i (i + length (c .bytes)) z (spaced-on t i (c .bytes) (ascii.rightCurlyBracket ∷ z) (c .blank) (block-items z .0) k) b;
-      brace = b;
-      last = omega (arith, length-append (c .bytes) (ascii.rightCurlyBracket ∷ []));
-    }
 
--- the white space before the end of a block, and no declaration there
-unfoldable before : End → Blanks
-before (closed b) = b
-before (parted b c) = b
+-- with the white space before it
+end-at : (t : List ℕ) (i : ℕ) (q : End) (z : List ℕ) → drop i t ≡ writtenEnd q ++ z → EndAt t i q z
+end-at t i q z h = shut-at t i (q .gap) (q .shut) z (h ∙ end-onto q z)
 
--- what stands behind that white space
-unfoldable shut : End → List ℕ
-shut (closed b) = ascii.rightCurlyBracket ∷ []
-shut (parted b c) = ascii.semicolon ∷ (c .bytes ++ (ascii.rightCurlyBracket ∷ []))
+-- how long the white space and what closes the block are
+end-length : (q : End) → length (writtenEnd q) ≡ length (q .gap .bytes) + length (writtenEnd (record { gap = unspaced; shut = q .shut }))
+unfolding writtenEnd
+end-length q = length-append (q .gap .bytes) (writtenShut (q .shut))
 
-shut-onto : (q : End) (z : List ℕ) → writtenEnd q ++ z ≡ before q .bytes ++ (shut q ++ z)
-unfolding writtenEnd before shut
-shut-onto (closed b) z = append-assoc (b .bytes) (ascii.rightCurlyBracket ∷ []) z
-shut-onto (parted b c) z = append-assoc (b .bytes) (ascii.semicolon ∷ (c .bytes ++ (ascii.rightCurlyBracket ∷ []))) z
-
-shut-first : (q : End) (z : List ℕ) → (whitespaceItem (shut q ++ z) ≡ 0) × (declarationOf (shut q ++ z) ≡ err)
-unfolding shut
-shut-first (closed b) z = (block-items z .0, undeclared z .0)
-shut-first (parted b c) z =
-    let x = (c .bytes ++ (ascii.rightCurlyBracket ∷ [])) ++ z in
-    (block-items x .1, undeclared x .1)
-
--- the same end where its first white space was passed over
-unfoldable unledEnd : End → End
-unledEnd (closed b) = closed unspaced
-unledEnd (parted b c) = parted unspaced c
-
-unled-end : (q : End) → writtenEnd (unledEnd q) ≡ shut q
-unfolding writtenEnd unledEnd shut
-unled-end (closed b) = refl
-unled-end (parted b c) = refl
-
-end-length : (q : End) → length (writtenEnd q) ≡ length (before q .bytes) + length (shut q)
-unfolding writtenEnd before shut
-end-length (closed b) = length-append (b .bytes) (ascii.rightCurlyBracket ∷ [])
-end-length (parted b c) = length-append (b .bytes) (ascii.semicolon ∷ (c .bytes ++ (ascii.rightCurlyBracket ∷ [])))
+-- what closes a block begins no white space and no declaration
+shut-first : (s : Shut) (z : List ℕ) → (whitespaceItem (writtenShut s ++ z) ≡ 0) × (declarationOf (writtenShut s ++ z) ≡ err)
+unfolding writtenShut
+shut-first closed z = (block-items z .0, undeclared z .0)
+shut-first (parted c) z = let x = (c .bytes ++ (ascii.rightCurlyBracket ∷ [])) ++ z in (block-items x .1, undeclared x .1)
 
 -- a block and the white space behind it are read whole
 module _ (c : Blanks) (r : List ℕ) (hr : whitespaceItem r ≡ 0) (t : List ℕ) (n : ℕ) where
@@ -308,14 +291,16 @@ module _ (c : Blanks) (r : List ℕ) (hr : whitespaceItem r ≡ 0) (t : List ℕ
   empty-read : (q : End) → drop n t ≡ ascii.leftCurlyBracket ∷ (writtenEnd q ++ (c .bytes ++ r)) → blockOf t n ≡ reads (n + 1 + length (writtenEnd q) + length (c .bytes)) []
   empty-read q h =
       let z = c .bytes ++ r in
-      let d = n + 1 + length (before q .bytes) in
+      let b = q .gap .bytes in
+      let y = writtenShut (q .shut) ++ z in
+      let d = n + 1 + length b in
       let o = opens (writtenEnd q ++ z) h in
-      let y : drop (n + 1) t ≡ before q .bytes ++ (shut q ++ z) = o .2 ∙ shut-onto q z in
-      let k : drop d t ≡ shut q ++ z = rest-on t (n + 1) (before q .bytes) (shut q ++ z) y in
-      let g = end-at t (d + 0) (unledEnd q) z (ap (λ (i : ℕ). drop i t) (add-zero d) ∙ k ∙ ap (λ (l : List ℕ). l ++ z) (sym (unled-end q))) in
-      let j : g .f + 1 + length (c .bytes) ≡ n + 1 + length (writtenEnd q) + length (c .bytes) = omega (arith, g .last, ap length (unled-end q), end-length q) in
-      parts-read t n d (g .f) (g .f + 1 + length (c .bytes)) [] 0 (o .0) (o .1) (spaced-on t (n + 1) (before q .bytes) (shut q ++ z) (before q .blank) (shut-first q z .0) y)
-      (ap declarationsOf k ∙ none-read (shut q ++ z) (shut-first q z .1)) (g .brace-to) (byte-on t (g .f) ascii.rightCurlyBracket z (g .brace))
+      let e : drop (n + 1) t ≡ b ++ y = o .2 ∙ end-onto q z in
+      let k : drop d t ≡ y = rest-on t (n + 1) b y e in
+      let g = shut-at t (d + 0) unspaced (q .shut) z (ap (λ (i : ℕ). drop i t) (add-zero d) ∙ k) in
+      let j : g .f + 1 + length (c .bytes) ≡ n + 1 + length (writtenEnd q) + length (c .bytes) = omega (arith, g .last, end-length q) in
+      parts-read t n d (g .f) (g .f + 1 + length (c .bytes)) [] 0 (o .0) (o .1) (spaced-on t (n + 1) b y (q .gap .blank) (shut-first (q .shut) z .0) e)
+      (ap declarationsOf k ∙ none-read y (shut-first (q .shut) z .1)) (g .brace-to) (byte-on t (g .f) ascii.rightCurlyBracket z (g .brace))
       (spaced-on t (g .f + 1) (c .bytes) r (c .blank) hr (rest-one t (g .f) ascii.rightCurlyBracket z (g .brace)))
       ∙ ap (λ (i : ℕ). reads i []) j
 

@@ -16,7 +16,7 @@ use Rattle.lexer.proofs.SyntaxWhitespace.{skips-blank}
 use Rattle.values.specs.Value.{valueOf}
 use Rattle.declarations.specs.Rules.{colonBehind, propertyOf, valueBehind, declarationOf}
 use Rattle.grammar.specs.Nth.{Blanks}
-use Rattle.grammar.specs.Tokens.{Ident, folded, closer}
+use Rattle.grammar.specs.Tokens.{closer, Ident, folded}
 use Rattle.grammar.specs.Values.{Values, end, then, block, writtenValues, meansValues, Apart, Outermost, Unmarked, Some, DeclarationValue, Importance, normal, important, writtenImportance, isMarked}
 use Rattle.grammar.specs.Declarations.{property, valuesOf}
 use Rattle.grammar.specs.Sheets.{Item, writtenItem, meansItem}
@@ -27,12 +27,13 @@ use Rattle.grammar.proofs.ValuesRead.{unspaced, Halts, halts, at-bang, 
 use Rattle.grammar.proofs.DeclarationsMeant.{declared-value, declared-meant}
 
 -- ---- white space before a value
--- which the reader skips with the colon, so that what is left is the value without it
+-- which the reader skips with the colon
 unfoldable lead : Values → Blanks
 lead (end b) = b
 lead (then b a v) = b
 lead (block b o w v) = b
 
+-- what is left is the value without it
 unfoldable unled : Values → Values
 unled (end b) = end unspaced
 unled (then b a v) = then unspaced a v

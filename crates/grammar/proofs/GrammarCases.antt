@@ -24,10 +24,10 @@ use Rattle.grammar.proofs.SelectorsRead.{block, selector-read}
 
 -- ---- parts
 -- nothing, and one blank
-abbrev nothing : Blanks
+abbrev pub nothing : Blanks
 nothing = record { bytes = []; blank = blanks.none }
 
-abbrev blank : Blanks
+abbrev pub blank : Blanks
 blank = record { bytes = ascii.space ∷ []; blank = white ascii.space [] blank-space blanks.none }
 
 -- the names `a` and `b`
@@ -40,7 +40,7 @@ unfolding identStart letter or and within is lower pick text utf8
 b = record { bytes = text "b"; sequence = started refl each.none; small = refl }
 
 -- the digits `2` and `3`
-unfoldable two : Count
+unfoldable pub two : Count
 unfolding isDigit and within worth numeral text utf8 pick
 two = record { bytes = text "2"; digits = more refl each.none; fits = omega arith }
 

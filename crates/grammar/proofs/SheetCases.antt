@@ -31,24 +31,19 @@ use Rattle.selectors.specs.Selector.{signed}
 use Rattle.sheets.specs.Sheet.{sheetOf}
 use Rattle.grammar.specs.Nth.{Blanks, unsigned, Count, sum, writtenSign, signByte, writtenArgument, negative, worth, meansArgument}
 use Rattle.grammar.specs.Selectors.{Quoted, unprocessed, class, nthChild, typed, child, one, joined, writtenSimple, writtenSimples, writtenCompound, writtenCombinator, written, meansSimple, meansCompound, meansCombinator, inOrder, Agrees, writtenPseudo, Tight, last, several, writtenChosen, writtenGroup, meansChosen, meansGroup}
-use Rattle.grammar.specs.Tokens.{Numeral, folded, Hashed, isExponent, isDelimiter, word, string, hash, dimension, colon, semicolon, delimiter, function, square, brace, meansAtom, meansOpening, meansCloser, writtenStop, writtenNumeral, writtenAtom, writtenOpening, closer, endsName, mayFollow}
+use Rattle.grammar.specs.Tokens.{Numeral, Hashed, isExponent, isDelimiter, word, string, hash, dimension, colon, semicolon, delimiter, function, square, brace, meansAtom, meansOpening, meansCloser, writtenStop, writtenNumeral, writtenAtom, writtenOpening, closer, endsName, mayFollow, folded}
 use Rattle.grammar.specs.Values.{Values, end, then, block, writtenValues, meansValues, isBrace, Follows, Apart, isSemicolon, isBang, Outermost, Unmarked, Some, normal, important, writtenImportance, isMarked}
 use Rattle.grammar.specs.HexDigits.{HexDigit, digitBytes, hashed}
 use Rattle.grammar.specs.Declarations.{named, three, shade, isZero, bare, color, backgroundColor, height, display, content, Declared, known, other, knownName, property, shadeValues, colourValues, lengthValues, stringValues, knownValues, valuesOf, pair, meansShade, meansColour, meansLength, meansStrings, meansKnown, meansDeclared}
 use Rattle.grammar.specs.Declarations as declarations
-use Rattle.grammar.specs.Sheets.{Item, filled, Rule, braces, AtRule, rule, atRule, Sheet, writtenItem, writtenNext, writtenNexts, writtenEnd, writtenBlock, writtenRule, writtenAtEnd, writtenAt, writtenStatement, writtenStatements, writtenSheet, meansItem, meansNexts, meansBlock, meansRule, meansStatements, meansSheet, unreadBehind, unread}
+use Rattle.grammar.specs.Sheets.{Item, filled, Rule, braces, AtRule, rule, atRule, Sheet, writtenItem, writtenNext, writtenNexts, writtenShut, writtenEnd, writtenBlock, writtenRule, writtenAtEnd, writtenAt, writtenStatement, writtenStatements, writtenSheet, meansItem, meansNexts, meansBlock, meansRule, meansStatements, meansSheet, unreadBehind, unread}
 use Rattle.grammar.specs.Sheets as sheets
 use Rattle.grammar.proofs.Spelling.{isSpelt, ident, spelt}
 use Rattle.grammar.proofs.ValuesRead.{before-semicolon, Stated, value-ends}
 use Rattle.grammar.proofs.SheetsRead.{sheet-whole}
+use Rattle.grammar.proofs.GrammarCases.{nothing, blank, two}
 
 -- ---- white space and a comment
-abbrev nothing : Blanks
-nothing = record { bytes = []; blank = blanks.none }
-
-abbrev blank : Blanks
-blank = record { bytes = ascii.space ∷ []; blank = white ascii.space [] blank-space blanks.none }
-
 abbrev line : Blanks
 line = record { bytes = ascii.lineFeed ∷ []; blank = white ascii.lineFeed [] (newline line-feed) blanks.none }
 
@@ -126,7 +121,7 @@ unfolding Agrees isSpelt allOf spelt pick or and is within text utf8 ident folde
 body =
     record {
       selectors = last (record { selector = one (typed (spelt (text "body") refl refl) []); agrees = tt; pseudo = syntax.none; gap = blank });
-      block = filled blank (item dark) (record { lead = blank; item = item bright } ∷ []) (sheets.closed blank);
+      block = filled blank (item dark) (record { lead = blank; item = item bright } ∷ []) (record { gap = blank; shut = sheets.closed });
       behind = line;
     }
 
@@ -142,7 +137,7 @@ away =
       selectors =
           several (record { selector = one (typed (spelt (text "nav") refl refl) []); agrees = tt; pseudo = syntax.none; gap = nothing }) tt blank
           (last (record { selector = one (typed (spelt (text "a") refl refl) []); agrees = tt; pseudo = syntax.before; gap = blank }));
-      block = filled blank (record { declared = hidden; before-colon = nothing; importance = important blank nothing (ident (text "important") refl) refl }) [] (sheets.parted nothing blank);
+      block = filled blank (record { declared = hidden; before-colon = nothing; importance = important blank nothing (ident (text "important") refl) refl }) [] (record { gap = nothing; shut = sheets.parted blank });
       behind = line;
     }
 
@@ -192,15 +187,11 @@ unfolding Agrees isSpelt allOf spelt pick or and is within text utf8 ident folde
 note =
     record {
       selectors = last (record { selector = one (typed (spelt (text "p") refl refl) (class (spelt (text "note") refl refl) ∷ [])); agrees = tt; pseudo = syntax.none; gap = blank });
-      block = filled indent (item border) (record { lead = indent; item = item flat } ∷ []) (sheets.closed line);
+      block = filled indent (item border) (record { lead = indent; item = item flat } ∷ []) (record { gap = line; shut = sheets.closed });
       behind = line;
     }
 
 -- ---- `ul > li:nth-child(2n+1) { content: "* " }`
-unfoldable two : Count
-unfolding isDigit and within worth numeral text utf8 pick
-two = record { bytes = text "2"; digits = more refl each.none; fits = omega arith }
-
 unfoldable odd : Count
 unfolding isDigit and within worth numeral text utf8 pick
 odd = record { bytes = text "1"; digits = more refl each.none; fits = omega arith }
@@ -226,7 +217,7 @@ items =
             pseudo = syntax.none;
             gap = blank;
           });
-      block = filled blank (item bullet) [] (sheets.closed blank);
+      block = filled blank (item bullet) [] (record { gap = blank; shut = sheets.closed });
       behind = line;
     }
 
@@ -240,7 +231,7 @@ pageText =
     text "@charset \"utf-8\";\n/* page */\nbody { color: #333; background-color: white }\nnav, a::before { display: none !important; }\n@media print { nav > a { color: blue; } }\np.note {\n  border: 1px solid #ccc;\n  height: 0\n}\nul > li:nth-child(2n+1) { content: \"* \" }\n"
 
 test-text : writtenSheet page ≡ pageText
-unfolding pageText page charset encoding remark body dark bright digit3 away hidden media note border pixel gray flat items two odd star bullet ident spelt folded lower hashed digitBytes writtenSheet writtenStatements writtenStatement writtenRule writtenAt writtenAtEnd writtenBlock writtenEnd writtenNexts writtenNext writtenItem writtenImportance writtenGroup writtenChosen writtenPseudo written writtenCompound writtenCombinator writtenSimples writtenSimple writtenArgument writtenSign signByte property knownName valuesOf knownValues colourValues shadeValues lengthValues stringValues writtenValues writtenAtom writtenNumeral writtenStop writtenOpening closer text utf8 continuation pick
+unfolding pageText page charset encoding remark body dark bright digit3 away hidden media note border pixel gray flat items two odd star bullet ident spelt folded lower hashed digitBytes writtenSheet writtenStatements writtenStatement writtenRule writtenAt writtenAtEnd writtenBlock writtenEnd writtenShut writtenNexts writtenNext writtenItem writtenImportance writtenGroup writtenChosen writtenPseudo written writtenCompound writtenCombinator writtenSimples writtenSimple writtenArgument writtenSign signByte property knownName valuesOf knownValues colourValues shadeValues lengthValues stringValues writtenValues writtenAtom writtenNumeral writtenStop writtenOpening closer text utf8 continuation pick
 test-text = refl
 
 -- what it is read as
@@ -272,7 +263,7 @@ test-sheet : sheetOf pageText
       start = 211;
     }
     ∷ [])
-unfolding page charset encoding remark body dark bright digit3 away hidden media note border pixel gray flat items two odd star bullet ident spelt folded lower hashed digitBytes writtenSheet writtenStatements writtenStatement writtenRule writtenAt writtenAtEnd writtenBlock writtenEnd writtenNexts writtenNext writtenItem writtenImportance writtenGroup writtenChosen writtenPseudo written writtenCompound writtenCombinator writtenSimples writtenSimple writtenArgument writtenSign signByte property knownName valuesOf knownValues colourValues shadeValues lengthValues stringValues writtenValues writtenAtom writtenNumeral writtenStop writtenOpening closer text utf8 continuation pick meansSheet meansStatements meansRule meansBlock meansNexts meansItem isMarked meansDeclared meansKnown meansColour meansShade pair hexDigit meansLength meansStrings meansGroup meansChosen inOrder meansCompound meansCombinator meansSimple meansArgument negative worth numeral signed unread unreadBehind and is within
+unfolding page charset encoding remark body dark bright digit3 away hidden media note border pixel gray flat items two odd star bullet ident spelt folded lower hashed digitBytes writtenSheet writtenStatements writtenStatement writtenRule writtenAt writtenAtEnd writtenBlock writtenEnd writtenShut writtenNexts writtenNext writtenItem writtenImportance writtenGroup writtenChosen writtenPseudo written writtenCompound writtenCombinator writtenSimples writtenSimple writtenArgument writtenSign signByte property knownName valuesOf knownValues colourValues shadeValues lengthValues stringValues writtenValues writtenAtom writtenNumeral writtenStop writtenOpening closer text utf8 continuation pick meansSheet meansStatements meansRule meansBlock meansNexts meansItem isMarked meansDeclared meansKnown meansColour meansShade pair hexDigit meansLength meansStrings meansGroup meansChosen inOrder meansCompound meansCombinator meansSimple meansArgument negative worth numeral signed unread unreadBehind and is within
 test-sheet = ap sheetOf (sym test-text) ∙ sheet-whole page refl
 
 -- ---- `b("};"/*;}*/[;])` before ` ;c`: the marks in the string, in the comment and in the brackets do not end it

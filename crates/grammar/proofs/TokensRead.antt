@@ -71,12 +71,12 @@ unfolding tokenAt
 begins-by x l n k e h p = record { item = e; reads = rw (ascii-scalar x l h, p) }
 
 -- a test that does not hold
-untrue : (b : Bool) → not b ≡ true → b ≡ false
+pub untrue : (b : Bool) → not b ≡ true → b ≡ false
 untrue true e = sym e
 untrue false e = refl
 
 -- neither of two tests holds
-neither : (a b : Bool) → or a b ≡ false → (a ≡ false) × (b ≡ false)
+pub neither : (a b : Bool) → or a b ≡ false → (a ≡ false) × (b ≡ false)
 unfolding or
 neither true b e = absurd (never (sym e))
 neither false b e = (refl, e)

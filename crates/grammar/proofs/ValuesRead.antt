@@ -29,7 +29,7 @@ use Rattle.grammar.specs.Nth.{Blanks}
 use Rattle.grammar.specs.Tokens.{Ident, folded, isDelimiter, Atom, word, string, hash, number, percentage, dimension, comma, colon, semicolon, delimiter, Opening, function, round, square, brace, writtenAtom, writtenOpening, closer, meansAtom, meansOpening, meansCloser, endsName, beginsName, mayFollow, MayFollow, EndsBefore}
 use Rattle.grammar.specs.Values.{Values, end, then, block, writtenValues, meansValues, Follows, Apart, isSemicolon, isBang, isBrace, Outermost, Unmarked, DeclarationValue, Importance, normal, important, writtenImportance, isMarked}
 use Rattle.grammar.proofs.Places.{Unblank, blank-first}
-use Rattle.grammar.proofs.TokensRead.{Begins, token-read, semicolon-token, closer-token, atom-begins, opening-begins, closer-read, ends-behind}
+use Rattle.grammar.proofs.TokensRead.{Begins, token-read, neither, semicolon-token, closer-token, atom-begins, opening-begins, closer-read, ends-behind}
 
 -- no white space
 abbrev pub unspaced : Blanks
@@ -63,6 +63,7 @@ unfolding conses
 conses-append [] qs r = refl
 conses-append (p ∷ ps) qs r = ap (cons p) (conses-append ps qs r)
 
+-- and the tokens of both
 tokens-append : (ps qs : List Placed) → tokensOf (ps ++ qs) ≡ tokensOf ps ++ tokensOf qs
 unfolding tokensOf
 tokens-append [] qs = refl
@@ -178,6 +179,7 @@ pub data Closes : List ℕ → Type 0 where
   at-bang : (r : List ℕ) → Closes (ascii.exclamationMark ∷ r)
   at-brace : (r : List ℕ) → Closes (ascii.leftCurlyBracket ∷ r)
 
+-- with the white space before it
 pub data Halts : List ℕ → Type 0 where
   halts : {l t : List ℕ} → Blank l → Closes t → Halts (l ++ t)
 
@@ -187,12 +189,6 @@ continues x =
     or (identCodePoint x)
     (or (is x ascii.reverseSolidus)
     (or (is x ascii.leftParenthesis) (or (is x ascii.fullStop) (or (is x ascii.percentSign) (or (is x ascii.plusSign) (is x ascii.asterisk))))))
-
--- neither of two tests holds
-pub neither : (a b : Bool) → or a b ≡ false → (a ≡ false) × (b ≡ false)
-unfolding or
-neither true b e = never (sym e)
-neither false b e = (refl, e)
 
 -- none of them: each test by itself
 record Quiet (x : ℕ) : Type 0 where
@@ -204,6 +200,7 @@ record Quiet (x : ℕ) : Type 0 where
   no-plus : is x ascii.plusSign ≡ false
   no-asterisk : is x ascii.asterisk ≡ false
 
+-- where the test of all does not hold
 quiet : (x : ℕ) → continues x ≡ false → Quiet x
 unfolding continues
 quiet x e =
@@ -295,6 +292,7 @@ unfolding writtenValues
 then-onto b a v z =
     append-assoc (b .bytes) (writtenAtom a ++ writtenValues v) z ∙ ap (λ (l : List ℕ). b .bytes ++ l) (append-assoc (writtenAtom a) (writtenValues v) z)
 
+-- the same of a block
 pub block-onto : (b : Blanks) (o : Opening) (w v : Values) (z : List ℕ)
     → writtenValues (block b o w v) ++ z ≡ b .bytes ++ (writtenOpening o ++ (writtenValues w ++ (closer o ∷ (writtenValues v ++ z))))
 unfolding writtenValues

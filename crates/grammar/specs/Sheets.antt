@@ -30,10 +30,15 @@ pub record Next : Type 0 where
   pub lead : Blanks
   pub item : Item
 
--- the end of a block: `}`, with a `;` before it or none, and white space or none before each
-pub data End : Type 0 where
-  closed : Blanks → End
-  parted : Blanks → Blanks → End
+-- what closes a block: `}`, or `;`, white space or none, and `}`
+pub data Shut : Type 0 where
+  closed : Shut
+  parted : Blanks → Shut
+
+-- with white space or none before it
+pub record End : Type 0 where
+  pub gap : Blanks
+  pub shut : Shut
 
 -- `{`, declarations parted by `;`, and the end
 pub data Block : Type 0 where
@@ -84,9 +89,12 @@ unfoldable pub writtenNexts : List Next → List ℕ
 writtenNexts [] = []
 writtenNexts (m ∷ ms) = writtenNext m ++ writtenNexts ms
 
+unfoldable pub writtenShut : Shut → List ℕ
+writtenShut closed = ascii.rightCurlyBracket ∷ []
+writtenShut (parted b) = ascii.semicolon ∷ (b .bytes ++ (ascii.rightCurlyBracket ∷ []))
+
 unfoldable pub writtenEnd : End → List ℕ
-writtenEnd (closed b) = b .bytes ++ (ascii.rightCurlyBracket ∷ [])
-writtenEnd (parted b c) = b .bytes ++ (ascii.semicolon ∷ (c .bytes ++ (ascii.rightCurlyBracket ∷ [])))
+writtenEnd e = e .gap .bytes ++ writtenShut (e .shut)
 
 unfoldable pub writtenBlock : Block → List ℕ
 writtenBlock (empty e) = ascii.leftCurlyBracket ∷ writtenEnd e
