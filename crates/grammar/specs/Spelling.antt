@@ -27,13 +27,14 @@ unfoldable pub isSpelt : List ℕ → Bool
 isSpelt [] = false
 isSpelt (x ∷ r) = and (smallLetter x) (allOf spells r)
 
+-- a small letter is no capital one
+not-capital : (x : ℕ) → within x ascii.smallA ascii.smallZ ≡ true → within x ascii.capitalA ascii.capitalZ ≡ false
+not-capital x h = within-past x ascii.capitalA ascii.capitalZ (let p = within-true x ascii.smallA ascii.smallZ h .0 in omega arith)
+
 -- a small letter starts a name
 small-starts : (x : ℕ) → smallLetter x ≡ true → identStart x ≡ true
 unfolding smallLetter identStart letter
-small-starts x h = or-left _ _ (or-right _ _ (sym (within-past-small x h)) h)
-  where
-    within-past-small : (x : ℕ) → within x ascii.smallA ascii.smallZ ≡ true → false ≡ within x ascii.capitalA ascii.capitalZ
-    within-past-small x h = sym (within-past x ascii.capitalA ascii.capitalZ (let p = within-true x ascii.smallA ascii.smallZ h .0 in omega arith))
+small-starts x h = or-left _ _ (or-right _ _ (not-capital x h) h)
 
 -- both go on with one
 spells-goes-on : (x : ℕ) → spells x ≡ true → identCodePoint x ≡ true
@@ -48,7 +49,7 @@ unfolding spells smallLetter lower
 spells-small x h =
     sym (pick-false _ _ _ _
     (either (within x ascii.capitalA ascii.capitalZ ≡ false) _ _ h
-    (λ s. within-past x ascii.capitalA ascii.capitalZ (let p = within-true x ascii.smallA ascii.smallZ s .0 in omega arith))
+    (not-capital x)
     (λ d. sym (within-false x ascii.capitalA ascii.capitalZ (let p = is-true x ascii.hyphenMinus d in omega arith)))) refl)
 
 -- all bytes of such a text go on with a name
