@@ -12,3 +12,4 @@ pub mod BlocksRead
 pub mod SheetsRead
 pub mod DeclarationCases
 pub mod GrammarCases
+pub mod SheetCases
