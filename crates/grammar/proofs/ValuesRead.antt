@@ -30,11 +30,11 @@ use Rattle.values.specs.Value.{Placed, Bracket, bracketBy, bracketOf, Step, nex
 use Rattle.values.specs.Words.{kindOf, firstOf, isKind, isWord, isDelim}
 use Rattle.grammar.specs.Nth.{Blanks}
 use Rattle.grammar.specs.Selectors.{Name}
-use Rattle.grammar.specs.Tokens.{isDelimiter, Atom, word, string, hash, number, percentage, dimension, comma, colon, semicolon, delimiter, Opening, function, round, square, brace, writtenAtom, writtenOpening, closer, meansAtom, meansOpening, meansCloser, endsName, beginsName, mayFollow, MayFollow, EndsBefore}
+use Rattle.grammar.specs.Tokens.{isDelimiter, Atom, word, string, hash, number, percentage, dimension, comma, colon, semicolon, delimiter, point, hyphen, whole, spaced, Opening, function, round, square, brace, writtenAtom, writtenOpening, closer, meansAtom, meansOpening, meansCloser, endsName, beginsName, mayFollow, MayFollow, EndsBefore}
 use Rattle.grammar.specs.Values.{Values, end, then, block, writtenValues, meansValues, Follows, Apart, isSemicolon, isBang, isBrace, Outermost, Unmarked, DeclarationValue, Importance, normal, important, writtenImportance, isMarked}
 use Rattle.grammar.proofs.ComponentsRead.{behind-blank}
 use Rattle.grammar.proofs.Places.{Unblank, blank-first}
-use Rattle.grammar.proofs.TokensRead.{Begins, token-skips, token-read, semicolon-token, closer-token, atom-begins, opening-begins, closer-read, ends-behind}
+use Rattle.grammar.proofs.TokensRead.{ended-digit, Begins, token-skips, token-read, semicolon-token, closer-token, atom-begins, opening-begins, closer-read, ends-behind}
 
 -- no white space
 abbrev pub unspaced : Blanks
@@ -154,6 +154,10 @@ module _ (include : Bool) (b : Blanks) where
   atom-goes semicolon v [] h = never (sym (h .0))
   atom-goes semicolon v (c ∷ cs) h = refl
   atom-goes (delimiter c d) v cs h = refl
+  atom-goes point v cs h = refl
+  atom-goes hyphen v cs h = refl
+  atom-goes (whole n) v cs h = refl
+  atom-goes (spaced n s w) v cs h = refl
 
   -- an opening token awaits its closing one
   pub opening-goes : (o : Opening) (cs : List ℕ) → stepOf include (bracketOf (meansOpening o)) cs ≡ next (closer o ∷ cs)
@@ -233,6 +237,10 @@ atom-ends comma x y e d = refl
 atom-ends colon x y e d = refl
 atom-ends semicolon x y e d = refl
 atom-ends (delimiter c h) x y e d = ap not (and-right (is c ascii.solidus) (is x ascii.asterisk) (quiet x e .no-asterisk))
+atom-ends point x y e d = ap not (ended-digit x (quiet x e .no-code-point))
+atom-ends hyphen x y e d = let q = quiet x e in rw (q .no-code-point, q .no-escape, q .no-stop)
+atom-ends (whole n) x y e d = let q = quiet x e in rw (q .no-code-point, q .no-escape, q .no-percent, d)
+atom-ends (spaced n s w) x y e d = let q = quiet x e in rw (q .no-code-point, q .no-escape)
 
 -- white space and comments begin with none of them
 unblank : Unblank continues
@@ -348,6 +356,10 @@ atom-plain comma e = refl
 atom-plain colon e = refl
 atom-plain semicolon e = refl
 atom-plain (delimiter c d) e = e
+atom-plain point e = refl
+atom-plain hyphen e = refl
+atom-plain (whole n) e = refl
+atom-plain (spaced n s w) e = refl
 
 -- nor is a bracket, which is no word either
 brackets-plain : (o : Opening) → (isDelim ascii.exclamationMark (meansOpening o) ≡ false) × (isDelim ascii.exclamationMark (meansCloser o) ≡ false)

@@ -19,7 +19,7 @@ use Rattle.lexer.specs.Token.{Token}
 use Rattle.lexer.specs.Whitespace.{skipWhitespace}
 use Rattle.lexer.proofs.SyntaxName.{Each, none, more, started, letter, identStart, identCodePoint}
 use Rattle.grammar.specs.Nth.{Sign, unsigned, plus, minus, writtenSign}
-use Rattle.grammar.specs.Selectors.{Name, Quoted}
+use Rattle.grammar.specs.Selectors.{Name, Spaces, Quoted}
 
 -- ---- what is written
 -- a number (4.3.12, Consume a number) without an exponent: a sign or none, and digits, or a full stop and digits. Digits on both sides of
@@ -63,6 +63,14 @@ pub data Atom : Type 0 where
   colon : Atom
   semicolon : Atom
   delimiter : (c : ℕ) → isDelimiter c ≡ true → Atom
+  -- a full stop and a '-' that begin no number and no name, which are delimiters too
+  point : Atom
+  hyphen : Atom
+  -- what the document parts otherwise: digits before a full stop, where it reads one number (4.3.12) and the reader two; and a number, white space
+  -- and a name, where it reads two tokens (4.3.3) and the reader one. Both go on behind them alike. The grammar has them where nobody looks into
+  -- tokens: in values of properties that the engine does not know, and in at-rules.
+  whole : Numeral → Atom
+  spaced : Numeral → Spaces → Name → Atom
 
 -- a token that opens a block (5.4.8, Consume a simple block; 5.4.9, Consume a function). Behind `url(` the document has a <url-token> (4.3.4).
 pub data Opening : Type 0 where
@@ -90,6 +98,10 @@ writtenAtom comma = ascii.comma ∷ []
 writtenAtom colon = ascii.colon ∷ []
 writtenAtom semicolon = ascii.semicolon ∷ []
 writtenAtom (delimiter c d) = c ∷ []
+writtenAtom point = ascii.fullStop ∷ []
+writtenAtom hyphen = ascii.hyphenMinus ∷ []
+writtenAtom (whole n) = writtenNumeral n
+writtenAtom (spaced n s w) = writtenNumeral n ++ (s .space ∷ (s .more .bytes ++ w .bytes))
 
 unfoldable pub writtenOpening : Opening → List ℕ
 writtenOpening (function n d) = n .bytes ++ (ascii.leftParenthesis ∷ [])
@@ -125,6 +137,10 @@ meansAtom comma = tokens.comma
 meansAtom colon = tokens.colon
 meansAtom semicolon = tokens.semicolon
 meansAtom (delimiter c d) = tokens.delim c
+meansAtom point = tokens.delim ascii.fullStop
+meansAtom hyphen = tokens.delim ascii.hyphenMinus
+meansAtom (whole n) = tokens.number (meansNumeral n)
+meansAtom (spaced n s w) = tokens.dimension (meansNumeral n) (w .bytes)
 
 unfoldable pub meansOpening : Opening → Token
 meansOpening (function n d) = tokens.function (n .bytes)
@@ -160,6 +176,10 @@ mayFollow comma x y = true
 mayFollow colon x y = true
 mayFollow semicolon x y = true
 mayFollow (delimiter c d) x y = not (and (is c ascii.solidus) (is x ascii.asterisk))
+mayFollow point x y = not (isDigit x)
+mayFollow hyphen x y = and (endsName x) (not (is x ascii.fullStop))
+mayFollow (whole n) x y = and (endsName x) (and (not (is x ascii.percentSign)) (not (beginsName y)))
+mayFollow (spaced n s w) x y = endsName x
 
 abbrev pub MayFollow : Atom → ℕ → ℕ → Type 0
 MayFollow a x y = mayFollow a x y ≡ true

@@ -10,7 +10,7 @@ use Rattle.combinators.specs.Choice.{is}
 use Rattle.unicode.specs.Literal.{text}
 use Rattle.lexer.specs.Token.{Token}
 use Rattle.grammar.specs.Nth.{Blanks}
-use Rattle.grammar.specs.Tokens.{Atom, word, string, hash, number, percentage, dimension, comma, colon, semicolon, delimiter, Opening, function, round, square, brace, writtenAtom, writtenOpening, closer, meansAtom, meansOpening, meansCloser, MayFollow}
+use Rattle.grammar.specs.Tokens.{Atom, word, string, hash, number, percentage, dimension, comma, colon, semicolon, delimiter, point, hyphen, whole, spaced, Opening, function, round, square, brace, writtenAtom, writtenOpening, closer, meansAtom, meansOpening, meansCloser, MayFollow}
 
 -- ---- what is written: tokens and blocks, with white space and comments or none before each and at the end
 pub data Values : Type 0 where
@@ -53,6 +53,10 @@ isSemicolon comma = false
 isSemicolon colon = false
 isSemicolon semicolon = true
 isSemicolon (delimiter c d) = false
+isSemicolon point = false
+isSemicolon hyphen = false
+isSemicolon (whole n) = false
+isSemicolon (spaced n s w) = false
 
 unfoldable pub isBang : Atom → Bool
 isBang (word n) = false
@@ -65,6 +69,10 @@ isBang comma = false
 isBang colon = false
 isBang semicolon = false
 isBang (delimiter c d) = is c ascii.exclamationMark
+isBang point = false
+isBang hyphen = false
+isBang (whole n) = false
+isBang (spaced n s w) = false
 
 unfoldable pub isBrace : Opening → Bool
 isBrace (function n d) = false
