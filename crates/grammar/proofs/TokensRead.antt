@@ -39,7 +39,7 @@ use Rattle.lexer.proofs.CharacterRuns.{chars-step, chars-text-step}
 use Rattle.lexer.proofs.Idents.{char-plain, name-none}
 use Rattle.grammar.specs.Nth.{Blanks, Sign, unsigned, plus, minus, writtenSign}
 use Rattle.grammar.specs.Selectors.{Name, Spaces, Quoted}
-use Rattle.grammar.specs.Tokens.{Numeral, Hashed, isDelimiter, Atom, word, string, hash, number, percentage, dimension, comma, colon, semicolon, delimiter, point, hyphen, whole, spaced, Opening, function, round, square, brace, writtenStop, writtenNumeral, writtenAtom, writtenOpening, closer, meansSign, meansNumeral, meansAtom, meansOpening, meansCloser, endsName, beginsName, mayFollow, MayFollow, EndsBefore}
+use Rattle.grammar.specs.Tokens.{Numeral, Hashed, isDelimiter, Atom, word, string, hash, number, percentage, dimension, comma, colon, semicolon, delimiter, point, hyphen, whole, spaced, Opening, function, link, round, square, brace, writtenStop, writtenNumeral, writtenAtom, writtenOpening, closer, meansSign, meansNumeral, meansAtom, meansOpening, meansCloser, endsName, beginsName, mayFollow, MayFollow, EndsBefore}
 use Rattle.grammar.proofs.Places.{differs, Unblank, unblank-item}
 use Rattle.grammar.proofs.NthRead.{digits-read, starts-not}
 use Rattle.grammar.proofs.ComponentsRead.{behind-blank, string-closed}
@@ -685,6 +685,7 @@ brace-token t = mark-begins ascii.leftCurlyBracket t refl (omega arith) refl
 pub closer-token : (o : Opening) (t : List ℕ) → Begins (closer o ∷ t) 1 (meansCloser o)
 unfolding closer meansCloser whitespaceItem isWhitespace commentOf startOf isQuote isIdentStart isDigit markOf pick or and within is
 closer-token (function n d) t = mark-begins ascii.rightParenthesis t refl (omega arith) refl
+closer-token link t = mark-begins ascii.rightParenthesis t refl (omega arith) refl
 closer-token round t = mark-begins ascii.rightParenthesis t refl (omega arith) refl
 closer-token square t = mark-begins ascii.rightSquareBracket t refl (omega arith) refl
 closer-token brace t = mark-begins ascii.rightCurlyBracket t refl (omega arith) refl
@@ -812,13 +813,24 @@ atom-begins (spaced n s w) t e =
     (subst (λ (r : List ℕ). Begins r (length m + (length g + length b)) (tokens.dimension (meansNumeral n) b)) (sym (append-assoc m (g ++ b) t ∙ ap (λ (l : List ℕ). m ++ l) (append-assoc g b t)))
     (spaced-token n s w t e))
 
--- and so is every token that opens a block
-pub opening-begins : (o : Opening) (t : List ℕ) → Begins (writtenOpening o ++ t) (length (writtenOpening o)) (meansOpening o)
-unfolding writtenOpening meansOpening
-opening-begins (function n d) t =
+-- a function's name and its bracket
+function-begins : (n : Name) (t : List ℕ)
+    → Begins ((n .bytes ++ (ascii.leftParenthesis ∷ [])) ++ t) (length (n .bytes ++ (ascii.leftParenthesis ∷ []))) (tokens.function (n .bytes))
+function-begins n t =
     let b = n .bytes in
     subst (λ (i : ℕ). Begins ((b ++ (ascii.leftParenthesis ∷ [])) ++ t) i (tokens.function b)) (sym (length-append b (ascii.leftParenthesis ∷ [])))
     (subst (λ (r : List ℕ). Begins r (length b + 1) (tokens.function b)) (sym (append-assoc b (ascii.leftParenthesis ∷ []) t)) (function-token n t))
+
+-- `url` is one
+unfoldable url : Name
+unfolding identStart identCodePoint letter lower or and within is text utf8 pick
+url = record { bytes = text "url"; sequence = started refl (more refl (more refl none)); small = refl }
+
+-- and so is every token that opens a block
+pub opening-begins : (o : Opening) (t : List ℕ) → Begins (writtenOpening o ++ t) (length (writtenOpening o)) (meansOpening o)
+unfolding writtenOpening meansOpening url
+opening-begins (function n d) t = function-begins n t
+opening-begins link t = function-begins url t
 opening-begins round t = round-token t
 opening-begins square t = square-token t
 opening-begins brace t = brace-token t

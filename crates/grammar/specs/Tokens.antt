@@ -72,9 +72,11 @@ pub data Atom : Type 0 where
   whole : Numeral → Atom
   spaced : Numeral → Spaces → Name → Atom
 
--- a token that opens a block (5.4.8, Consume a simple block; 5.4.9, Consume a function). Behind `url(` the document has a <url-token> (4.3.4).
+-- a token that opens a block (5.4.8, Consume a simple block; 5.4.9, Consume a function)
 pub data Opening : Type 0 where
   function : (n : Name) → sameText (n .bytes) (text "url") ≡ false → Opening
+  -- `url(`, which the document takes for a function only where a string follows; else all up to `)` is one <url-token> (4.3.4, 4.3.6)
+  link : Opening
   round : Opening
   square : Opening
   brace : Opening
@@ -105,6 +107,7 @@ writtenAtom (spaced n s w) = writtenNumeral n ++ (s .space ∷ (s .more .bytes +
 
 unfoldable pub writtenOpening : Opening → List ℕ
 writtenOpening (function n d) = n .bytes ++ (ascii.leftParenthesis ∷ [])
+writtenOpening link = text "url" ++ (ascii.leftParenthesis ∷ [])
 writtenOpening round = ascii.leftParenthesis ∷ []
 writtenOpening square = ascii.leftSquareBracket ∷ []
 writtenOpening brace = ascii.leftCurlyBracket ∷ []
@@ -112,6 +115,7 @@ writtenOpening brace = ascii.leftCurlyBracket ∷ []
 -- the byte that closes what it opens: the ending token is the mirror of the opening one
 unfoldable pub closer : Opening → ℕ
 closer (function n d) = ascii.rightParenthesis
+closer link = ascii.rightParenthesis
 closer round = ascii.rightParenthesis
 closer square = ascii.rightSquareBracket
 closer brace = ascii.rightCurlyBracket
@@ -144,12 +148,14 @@ meansAtom (spaced n s w) = tokens.dimension (meansNumeral n) (w .bytes)
 
 unfoldable pub meansOpening : Opening → Token
 meansOpening (function n d) = tokens.function (n .bytes)
+meansOpening link = tokens.function (text "url")
 meansOpening round = tokens.openRound
 meansOpening square = tokens.openSquare
 meansOpening brace = tokens.openBrace
 
 unfoldable pub meansCloser : Opening → Token
 meansCloser (function n d) = tokens.closeRound
+meansCloser link = tokens.closeRound
 meansCloser round = tokens.closeRound
 meansCloser square = tokens.closeSquare
 meansCloser brace = tokens.closeBrace
