@@ -11,11 +11,11 @@ use lib.ListN.{length, getD, drop, length-append}
 use lib.Seq.{drop-append-seam, take-append-seam}
 use Rattle.combinators.specs.Ascii as ascii
 use Rattle.combinators.specs.Choice.{pick, or, and, is, within}
-use Rattle.combinators.specs.Parsed.{ok, err, onParsed, behind, orElse}
+use Rattle.combinators.specs.Parsed.{Parsed, ok, err, onParsed, behind, orElse}
 use Rattle.combinators.specs.Repeat.{many, took}
 use Rattle.combinators.specs.Word.{startsWith}
 use Rattle.combinators.proofs.Lists.{first}
-use Rattle.combinators.proofs.Rules.{never, pick-true, pick-false, either, and-true, is-yes, is-no, is-true, or-false, within-true, within-false, within-past}
+use Rattle.combinators.proofs.Rules.{never, pick-true, pick-false, either, and-true, and-both, is-yes, is-no, is-true, or-false, within-true, within-false, within-past}
 use Rattle.combinators.proofs.Repeats.{many-stop, texts-stop}
 use Rattle.unicode.specs.Literal.{text}
 use Rattle.unicode.specs.Utf8.{utf8, scalarOf, scalarBy, leadOf, takenOf}
@@ -38,10 +38,10 @@ use Rattle.lexer.proofs.Characters.{lower-byte}
 use Rattle.lexer.proofs.CharacterRuns.{chars-step, chars-text-step}
 use Rattle.lexer.proofs.Idents.{char-plain, name-none}
 use Rattle.grammar.specs.Nth.{Blanks, Sign, unsigned, plus, minus, writtenSign}
-use Rattle.grammar.specs.Selectors.{Quoted}
-use Rattle.grammar.specs.Tokens.{Numeral, Ident, folded, Hashed, isDelimiter, Atom, word, string, hash, number, percentage, dimension, comma, colon, semicolon, delimiter, Opening, function, round, square, brace, writtenStop, writtenNumeral, writtenAtom, writtenOpening, closer, meansSign, meansNumeral, meansAtom, meansOpening, meansCloser, endsName, beginsName, mayFollow, MayFollow, EndsBefore}
+use Rattle.grammar.specs.Selectors.{Spaces, Quoted}
+use Rattle.grammar.specs.Tokens.{Numeral, Hashed, isDelimiter, Atom, word, string, hash, number, percentage, dimension, comma, colon, semicolon, delimiter, point, hyphen, whole, spaced, Opening, function, link, round, square, brace, writtenStop, writtenNumeral, writtenAtom, writtenOpening, closer, meansSign, meansNumeral, meansAtom, meansOpening, meansCloser, endsName, beginsName, mayFollow, MayFollow, EndsBefore, Ident, folded}
 use Rattle.grammar.proofs.Places.{differs, Unblank, unblank-item}
-use Rattle.grammar.proofs.NthRead.{digits-read}
+use Rattle.grammar.proofs.NthRead.{digits-read, starts-not}
 use Rattle.grammar.proofs.ComponentsRead.{behind-blank, string-closed}
 
 -- ---- a token at the start of a text
@@ -129,16 +129,21 @@ start-between x e =
     (λ w. let h = is-true x ascii.lowLine w in (omega arith, omega arith))
 
 -- nothing that is neither a digit nor a full stop begins a number without a sign
-no-unsigned : (x : ℕ) (l : List ℕ) → isDigit x ≡ false → is x ascii.fullStop ≡ false → numbers.unsigned (x ∷ l) ≡ 0
-unfolding numbers.unsigned numbers.decimal digits oneDigit many took pick is
-no-unsigned x l d e = rw (d, e)
+no-unsigned : (t : List ℕ) → isDigit (getD t 0 0) ≡ false → is (getD t 0 0) ascii.fullStop ≡ false → numbers.unsigned t ≡ 0
+unfolding numbers.unsigned numbers.decimal pick is
+no-unsigned t d e = rw (digits-read none t d, e)
 
--- so a '-' before an ident-start code point begins none
-dashed-number : (x : ℕ) (l : List ℕ) → identStart x ≡ true → numericOf (ascii.hyphenMinus ∷ x ∷ l) ≡ err
+-- so behind a '-' there is none
+minus-none : (t : List ℕ) → isDigit (getD t 0 0) ≡ false → is (getD t 0 0) ascii.fullStop ≡ false → numericOf (ascii.hyphenMinus ∷ t) ≡ err
 unfolding numericOf numbers.number numbers.signed numbers.sign skipWhitespace whitespaceItem isWhitespace commentOf many took pick or is
+minus-none t d e = rw (no-unsigned t d e)
+
+-- as before an ident-start code point
+dashed-number : (x : ℕ) (l : List ℕ) → identStart x ≡ true → numericOf (ascii.hyphenMinus ∷ x ∷ l) ≡ err
+unfolding isDigit
 dashed-number x l e =
     let b = start-between x e .1 in
-    rw (no-unsigned x l (unfold isDigit in within-past x ascii.digitZero ascii.digitNine (omega arith)) (is-no x ascii.fullStop (λ q. omega arith)))
+    minus-none (x ∷ l) (within-past x ascii.digitZero ascii.digitNine (omega arith)) (is-no x ascii.fullStop (λ q. omega arith))
 
 -- what an ident-start code point begins is what the reader of names reads
 letter-begins : (x : ℕ) (l : List ℕ) (n : ℕ) (k : Token) → identStart x ≡ true → identLikeOf (x ∷ l) ≡ ok n k → Begins (x ∷ l) n k
@@ -158,9 +163,9 @@ name-begins _ t n k (started {x} {r} e s) p = letter-begins x (r ++ t) n k e p
 name-begins _ t n k (dashed {x} {r} e s) p = dash-begins x (r ++ t) n k e p
 
 -- a name ends before t
-record NameEnds (t : List ℕ) : Type 0 where
-  no-character : identCodePoint (getD t 0 0) ≡ false
-  no-escape : ¬ (getD t 0 0 ≡ ascii.reverseSolidus)
+pub record NameEnds (t : List ℕ) : Type 0 where
+  pub no-character : identCodePoint (getD t 0 0) ≡ false
+  pub no-escape : ¬ (getD t 0 0 ≡ ascii.reverseSolidus)
 
 -- by the grammar's test
 name-ends : (t : List ℕ) → endsName (getD t 0 0) ≡ true → NameEnds t
@@ -276,7 +281,7 @@ digit-code-point x e = middle (identStart x) _ _ e
     middle false b c e = unfold or in rw e
 
 -- so where a name ends no digit stands
-ended-digit : (x : ℕ) → identCodePoint x ≡ false → isDigit x ≡ false
+pub ended-digit : (x : ℕ) → identCodePoint x ≡ false → isDigit x ≡ false
 unfolding isDigit identCodePoint
 ended-digit x e = neither _ _ (neither _ _ e .1) .0
 
@@ -529,29 +534,43 @@ numeral-begins : (n : Numeral) (u : List ℕ) (j : ℕ) (k : Token) → numericO
 unfolding meansNumeral writtenNumeral
 numeral-begins n u j k p = signed-begins (n .sign) (n .fraction) (n .digits) u j k (n .are) (n .some) p
 
--- what may follow a number: no digit, full stop or percent sign, and behind white space no unit
+-- what may follow a number: no digit and no percent sign, and behind white space no unit
 record NumberEnds (t : List ℕ) : Type 0 where
   no-digit : isDigit (getD t 0 0) ≡ false
   no-percent : is (getD t 0 0) ascii.percentSign ≡ false
   no-name-behind : beginsName (getD t (skipWhitespace t) 0) ≡ false
 
--- by the grammar's test
+-- by the grammar's test of digits before a full stop
+whole-ends : (n : Numeral) (t : List ℕ) → EndsBefore (whole n) t → NumberEnds t
+unfolding mayFollow
+whole-ends n t e =
+    let a = and-true (endsName (getD t 0 0)) _ e in
+    let c = and-true (not (is (getD t 0 0) ascii.percentSign)) _ (a .1) in
+    record { no-digit = ended-digit _ (name-ends t (a .0) .no-character); no-percent = untrue _ (c .0); no-name-behind = untrue _ (c .1) }
+
+-- and by that of a number, behind which no full stop stands
 number-ends : (n : Numeral) (t : List ℕ) → EndsBefore (number n) t → NumberEnds t
 unfolding mayFollow
 number-ends n t e =
     let a = and-true (endsName (getD t 0 0)) _ e in
     let b = and-true (not (is (getD t 0 0) ascii.fullStop)) _ (a .1) in
-    let c = and-true (not (is (getD t 0 0) ascii.percentSign)) _ (b .1) in
-    record { no-digit = ended-digit _ (name-ends t (a .0) .no-character); no-percent = untrue _ (c .0); no-name-behind = untrue _ (c .1) }
+    whole-ends n t (and-both _ _ (a .0) (b .1))
 
 -- "Otherwise, create a <number-token> with the same value", where nothing goes on with it
-pub number-token : (n : Numeral) (t : List ℕ) → EndsBefore (number n) t → Begins (writtenNumeral n ++ t) (length (writtenNumeral n)) (tokens.number (meansNumeral n))
-number-token n t e =
-    let h = number-ends n t e in
+number-alone : (n : Numeral) (t : List ℕ) → NumberEnds t → Begins (writtenNumeral n ++ t) (length (writtenNumeral n)) (tokens.number (meansNumeral n))
+number-alone n t h =
     let k = tokens.number (meansNumeral n) in
     let r = numeric-from n t (h .no-digit) ∙ from-none (meansNumeral n) t (h .no-percent) (no-unit t (h .no-name-behind)) in
     subst (λ (i : ℕ). Begins (writtenNumeral n ++ t) i k) (add-zero (length (writtenNumeral n)))
     (numeral-begins n t 0 k (r ∙ ap (λ (i : ℕ). ok i k) (sym (add-zero (length (meansNumeral n))))))
+
+-- a number that the document reads too
+pub number-token : (n : Numeral) (t : List ℕ) → EndsBefore (number n) t → Begins (writtenNumeral n ++ t) (length (writtenNumeral n)) (tokens.number (meansNumeral n))
+number-token n t e = number-alone n t (number-ends n t e)
+
+-- and the digits before a full stop
+pub whole-token : (n : Numeral) (t : List ℕ) → EndsBefore (whole n) t → Begins (writtenNumeral n ++ t) (length (writtenNumeral n)) (tokens.number (meansNumeral n))
+whole-token n t e = number-alone n t (whole-ends n t e)
 
 -- a percent sign is no digit
 percent-digit : isDigit ascii.percentSign ≡ false
@@ -576,6 +595,56 @@ dimension-token n w t e =
         let h = start-between x e .1 in
         (unfold isDigit in within-past x ascii.digitZero ascii.digitNine (omega arith), is-no x ascii.percentSign (λ q. omega arith))
     unit-first _ t (dashed e s) = unfold isDigit and within is in (refl, refl)
+
+-- ---- what the reader takes for a dimension: a number, white space and a name
+-- nothing is added to what was read
+behind-zero : {A : Type 0} (p : Parsed A) → behind 0 p ≡ p
+unfolding behind
+behind-zero (ok n a) = ap (λ (i : ℕ). ok i a) (zero-add n)
+behind-zero err = refl
+
+-- where nothing is skipped, a name is read from the start
+name-at : (s : List ℕ) → skipWhitespace s ≡ 0 → identOf s ≡ nameOf s
+unfolding identOf
+name-at s z = rw z (behind-zero (nameOf s))
+
+-- a name behind white space
+name-behind : (b : Blanks) (s : List ℕ) (n : ℕ) (w : List ℕ) → whitespaceItem s ≡ 0 → identOf s ≡ ok n w → identOf (b .bytes ++ s) ≡ ok (length (b .bytes) + n) w
+unfolding identOf behind
+name-behind b s n w z p =
+    rw (skips-blank (b .bytes) s (b .blank) z, drop-append-seam (b .bytes) s, sym (name-at s (skips-blank [] s blanks.none z)) ∙ p)
+
+-- a name begins no white space
+name-item : (n : Ident) (t : List ℕ) → whitespaceItem (n .bytes ++ t) ≡ 0
+name-item n t = by-start (n .bytes) (n .sequence)
+  where
+    by-start : (bytes : List ℕ) → IdentSequence bytes → whitespaceItem (bytes ++ t) ≡ 0
+    by-start _ (started {x} {r} e s) = code-point-item x (r ++ t) (start-code-point x e)
+    by-start _ (dashed {x} {r} e s) = code-point-item ascii.hyphenMinus (x ∷ (r ++ t)) hyphen-code-point
+
+-- one white space or more
+unfoldable gapOf : Spaces → Blanks
+gapOf s = record { bytes = s .space ∷ s .more .bytes; blank = blanks.white (s .space) (s .more .bytes) (s .white) (s .more .blank) }
+
+-- no white space is a digit or a percent sign
+white-quiet : {x : ℕ} → blanks.White x → (isDigit x ≡ false) × (is x ascii.percentSign ≡ false)
+unfolding isDigit and within is
+white-quiet (blanks.newline blanks.line-feed) = (refl, refl)
+white-quiet (blanks.newline blanks.carriage-return) = (refl, refl)
+white-quiet (blanks.newline blanks.form-feed) = (refl, refl)
+white-quiet blanks.tab = (refl, refl)
+white-quiet blanks.blank-space = (refl, refl)
+
+-- so it is one token
+pub spaced-token : (n : Numeral) (s : Spaces) (w : Ident) (t : List ℕ) → endsName (getD t 0 0) ≡ true
+    → Begins (writtenNumeral n ++ (s .space ∷ (s .more .bytes ++ (w .bytes ++ t)))) (length (writtenNumeral n) + (suc (length (s .more .bytes)) + length (w .bytes)))
+    (tokens.dimension (meansNumeral n) (folded w))
+unfolding gapOf
+spaced-token n s w t e =
+    let u = s .space ∷ (s .more .bytes ++ (w .bytes ++ t)) in
+    let q = white-quiet (s .white) in
+    numeral-begins n u (suc (length (s .more .bytes)) + length (w .bytes)) _
+    (numeric-from n u (q .0) ∙ from-unit (meansNumeral n) u _ _ (q .1) (name-behind (gapOf s) (w .bytes ++ t) _ _ (name-item w t) (name-whole w t (name-ends t e))))
 
 -- ---- code points that are tokens by themselves: 4.3.1, Consume a token
 -- what selects no other reader is a mark or a delimiter
@@ -616,6 +685,7 @@ brace-token t = mark-begins ascii.leftCurlyBracket t refl (omega arith) refl
 pub closer-token : (o : Opening) (t : List ℕ) → Begins (closer o ∷ t) 1 (meansCloser o)
 unfolding closer meansCloser whitespaceItem isWhitespace commentOf startOf isQuote isIdentStart isDigit markOf pick or and within is
 closer-token (function n d) t = mark-begins ascii.rightParenthesis t refl (omega arith) refl
+closer-token (link n d) t = mark-begins ascii.rightParenthesis t refl (omega arith) refl
 closer-token round t = mark-begins ascii.rightParenthesis t refl (omega arith) refl
 closer-token square t = mark-begins ascii.rightSquareBracket t refl (omega arith) refl
 closer-token brace t = mark-begins ascii.rightCurlyBracket t refl (omega arith) refl
@@ -670,6 +740,41 @@ delim-token c d t e =
     let p = delimiter-plain c d in
     subst (λ (k : Token). Begins (c ∷ t) 1 k) (p .2) (mark-begins c t (no-comment c t (p .3) (untrue _ e)) (p .0) (p .1))
 
+-- a full stop begins no number where no digit follows
+stop-none : (t : List ℕ) → isDigit (getD t 0 0) ≡ false → numericOf (ascii.fullStop ∷ t) ≡ err
+unfolding numericOf numbers.number numbers.signed numbers.sign numbers.unsigned numbers.decimal skipWhitespace whitespaceItem isWhitespace commentOf many took pick or is
+stop-none t e = rw (stop-digits t, digits-read none t e)
+
+-- "If the input stream starts with a number ..; otherwise, return a <delim-token>": U+002E FULL STOP
+pub point-token : (t : List ℕ) → isDigit (getD t 0 0) ≡ false → Begins (ascii.fullStop ∷ t) 1 (tokens.delim ascii.fullStop)
+unfolding whitespaceItem isWhitespace commentOf tokenBy startOf isQuote orElse pick or is
+point-token t e = begins-by ascii.fullStop t 1 (tokens.delim ascii.fullStop) refl (omega arith) (rw (stop-none t e))
+
+-- no name begins with a '-' that nothing of a name follows
+hyphen-unnamed : (t : List ℕ) → NameEnds t → identLikeOf (ascii.hyphenMinus ∷ t) ≡ err
+unfolding identLikeOf onParsed
+hyphen-unnamed t h = rw (name-at (ascii.hyphenMinus ∷ t) (skips-blank [] (ascii.hyphenMinus ∷ t) blanks.none (code-point-item ascii.hyphenMinus t hyphen-code-point)), unnamed t h)
+  where
+    no-first : (x : ℕ) → identCodePoint x ≡ false → identStart x ≡ false
+    no-first x e = unfold identCodePoint in neither _ _ e .0
+
+    unnamed : (t : List ℕ) → NameEnds t → nameOf (ascii.hyphenMinus ∷ t) ≡ err
+    unnamed t h = name-none (ascii.hyphenMinus ∷ t) (unfold dash pick is in no-start t (no-first (getD t 0 0) (h .no-character)) (is-no _ _ (h .no-escape)))
+
+-- nor the mark `-->`
+hyphen-unmarked : (t : List ℕ) → NameEnds t → startsWith tokens.cdcMark (ascii.hyphenMinus ∷ t) ≡ false
+hyphen-unmarked t h = unfold startsWith and is in starts-not ascii.hyphenMinus (ascii.greaterThanSign ∷ []) t (is-no _ _ (λ q. never (sym (h .no-character) ∙ ap identCodePoint q ∙ hyphen-code-point)))
+
+-- "Otherwise, return a <delim-token>": U+002D HYPHEN-MINUS
+pub hyphen-token : (t : List ℕ) → NameEnds t → is (getD t 0 0) ascii.fullStop ≡ false → Begins (ascii.hyphenMinus ∷ t) 1 (tokens.delim ascii.hyphenMinus)
+hyphen-token t h e =
+    begins-by ascii.hyphenMinus t 1 (tokens.delim ascii.hyphenMinus) (code-point-item ascii.hyphenMinus t hyphen-code-point) (omega arith)
+    (by-minus t (minus-none t (ended-digit _ (h .no-character)) e) (hyphen-unmarked t h) (hyphen-unnamed t h))
+  where
+    by-minus : (t : List ℕ) → numericOf (ascii.hyphenMinus ∷ t) ≡ err → startsWith tokens.cdcMark (ascii.hyphenMinus ∷ t) ≡ false → identLikeOf (ascii.hyphenMinus ∷ t) ≡ err
+        → tokenBy (startOf ascii.hyphenMinus) 1 ascii.hyphenMinus (ascii.hyphenMinus ∷ t) ≡ ok 1 (tokens.delim ascii.hyphenMinus)
+    by-minus t p q r = unfold tokenBy startOf isQuote minusOf orElse pick or is in rw (p, q, r)
+
 -- ---- all of them
 -- every token of the grammar is read whole, where what follows it may follow
 pub atom-begins : (a : Atom) (t : List ℕ) → EndsBefore a t → Begins (writtenAtom a ++ t) (length (writtenAtom a)) (meansAtom a)
@@ -698,14 +803,31 @@ atom-begins comma t e = comma-token t
 atom-begins colon t e = colon-token t
 atom-begins semicolon t e = semicolon-token t
 atom-begins (delimiter c d) t e = delim-token c d t e
+atom-begins point t e = point-token t (untrue _ e)
+atom-begins hyphen t e = let a = and-true (endsName (getD t 0 0)) _ e in hyphen-token t (name-ends t (a .0)) (untrue _ (a .1))
+atom-begins (whole n) t e = whole-token n t e
+atom-begins (spaced n s w) t e =
+    let m = writtenNumeral n in
+    let g = s .space ∷ s .more .bytes in
+    let b = w .bytes in
+    let k = tokens.dimension (meansNumeral n) (folded w) in
+    subst (λ (i : ℕ). Begins ((m ++ (g ++ b)) ++ t) i k) (omega (arith, length-append m (g ++ b), length-append g b))
+    (subst (λ (r : List ℕ). Begins r (length m + (length g + length b)) k) (sym (append-assoc m (g ++ b) t ∙ ap (λ (l : List ℕ). m ++ l) (append-assoc g b t)))
+    (spaced-token n s w t e))
+
+-- a function's name and its bracket
+function-begins : (n : Ident) (t : List ℕ)
+    → Begins ((n .bytes ++ (ascii.leftParenthesis ∷ [])) ++ t) (length (n .bytes ++ (ascii.leftParenthesis ∷ []))) (tokens.function (folded n))
+function-begins n t =
+    let b = n .bytes in
+    subst (λ (i : ℕ). Begins ((b ++ (ascii.leftParenthesis ∷ [])) ++ t) i (tokens.function (folded n))) (sym (length-append b (ascii.leftParenthesis ∷ [])))
+    (subst (λ (r : List ℕ). Begins r (length b + 1) (tokens.function (folded n))) (sym (append-assoc b (ascii.leftParenthesis ∷ []) t)) (function-token n t))
 
 -- and so is every token that opens a block
 pub opening-begins : (o : Opening) (t : List ℕ) → Begins (writtenOpening o ++ t) (length (writtenOpening o)) (meansOpening o)
 unfolding writtenOpening meansOpening
-opening-begins (function n d) t =
-    let b = n .bytes in
-    subst (λ (i : ℕ). Begins ((b ++ (ascii.leftParenthesis ∷ [])) ++ t) i (tokens.function (folded n))) (sym (length-append b (ascii.leftParenthesis ∷ [])))
-    (subst (λ (r : List ℕ). Begins r (length b + 1) (tokens.function (folded n))) (sym (append-assoc b (ascii.leftParenthesis ∷ []) t)) (function-token n t))
+opening-begins (function n d) t = function-begins n t
+opening-begins (link n d) t = function-begins n t
 opening-begins round t = round-token t
 opening-begins square t = square-token t
 opening-begins brace t = brace-token t

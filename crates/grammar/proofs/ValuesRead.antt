@@ -26,10 +26,10 @@ use Rattle.lexer.proofs.TokenBounds.{token-fits}
 use Rattle.values.specs.Value.{Placed, bracketBy, bracketOf, next, before, behind, closing, ending, stepOf, Statement, stop, cons, onStep, scan, statementOf, tokensOf, isMark, isImportant, withoutMark, valueFrom, valueOf}
 use Rattle.values.specs.Words.{kindOf, firstOf, isKind, isWord, isDelim}
 use Rattle.grammar.specs.Nth.{Blanks}
-use Rattle.grammar.specs.Tokens.{Ident, folded, isDelimiter, Atom, word, string, hash, number, percentage, dimension, comma, colon, semicolon, delimiter, Opening, function, round, square, brace, writtenAtom, writtenOpening, closer, meansAtom, meansOpening, meansCloser, endsName, beginsName, mayFollow, MayFollow, EndsBefore}
-use Rattle.grammar.specs.Values.{Values, end, then, block, writtenValues, meansValues, Follows, Apart, isSemicolon, isBang, isBrace, Outermost, Unmarked, DeclarationValue, Importance, normal, important, writtenImportance, isMarked}
+use Rattle.grammar.specs.Tokens.{isDelimiter, Atom, word, string, hash, number, percentage, dimension, comma, colon, semicolon, delimiter, point, hyphen, whole, spaced, Opening, function, link, round, square, brace, writtenAtom, writtenOpening, closer, meansAtom, meansOpening, meansCloser, endsName, beginsName, mayFollow, MayFollow, EndsBefore, Ident, folded}
+use Rattle.grammar.specs.Values.{Values, end, then, block, writtenValues, meansValues, Follows, Address, Inside, Apart, isSemicolon, isBang, isBrace, Outermost, Unmarked, DeclarationValue, Importance, normal, important, writtenImportance, isMarked}
 use Rattle.grammar.proofs.Places.{Unblank, blank-first}
-use Rattle.grammar.proofs.TokensRead.{Begins, token-read, neither, semicolon-token, closer-token, atom-begins, opening-begins, closer-read, ends-behind}
+use Rattle.grammar.proofs.TokensRead.{ended-digit, Begins, token-read, semicolon-token, closer-token, atom-begins, opening-begins, closer-read, ends-behind, neither}
 
 -- no white space
 abbrev pub unspaced : Blanks
@@ -150,11 +150,16 @@ module _ (include : Bool) (b : Blanks) where
   atom-goes semicolon v [] h = never (sym (h .0))
   atom-goes semicolon v (c ∷ cs) h = refl
   atom-goes (delimiter c d) v cs h = refl
+  atom-goes point v cs h = refl
+  atom-goes hyphen v cs h = refl
+  atom-goes (whole n) v cs h = refl
+  atom-goes (spaced n s w) v cs h = refl
 
   -- an opening token awaits its closing one
   pub opening-goes : (o : Opening) (cs : List ℕ) → stepOf include (bracketOf (meansOpening o)) cs ≡ next (closer o ∷ cs)
   unfolding stepOf bracketOf bracketBy coded meansOpening closer
   opening-goes (function n d) cs = refl
+  opening-goes (link n d) cs = refl
   opening-goes round cs = refl
   opening-goes square cs = refl
   opening-goes brace cs = refl
@@ -164,6 +169,8 @@ module _ (include : Bool) (b : Blanks) where
   unfolding stepOf bracketOf bracketBy coded meansCloser closer closing pick is Within Outermost isBrace
   closing-goes (function n d) w v [] h = refl
   closing-goes (function n d) w v (c ∷ cs) h = refl
+  closing-goes (link n d) w v [] h = refl
+  closing-goes (link n d) w v (c ∷ cs) h = refl
   closing-goes round w v [] h = refl
   closing-goes round w v (c ∷ cs) h = refl
   closing-goes square w v [] h = refl
@@ -225,6 +232,10 @@ atom-ends comma x y e d = refl
 atom-ends colon x y e d = refl
 atom-ends semicolon x y e d = refl
 atom-ends (delimiter c h) x y e d = ap not (and-right (is c ascii.solidus) (is x ascii.asterisk) (quiet x e .no-asterisk))
+atom-ends point x y e d = ap not (ended-digit x (quiet x e .no-code-point))
+atom-ends hyphen x y e d = let q = quiet x e in rw (q .no-code-point, q .no-escape, q .no-stop)
+atom-ends (whole n) x y e d = let q = quiet x e in rw (q .no-code-point, q .no-escape, q .no-percent, d)
+atom-ends (spaced n s w) x y e d = let q = quiet x e in rw (q .no-code-point, q .no-escape)
 
 -- white space and comments begin with none of them
 unblank : Unblank continues
@@ -236,6 +247,7 @@ closes-first : {t : List ℕ} → Closes t → (continues (getD t 0 0) ≡ false
 unfolding continues beginsName identCodePoint identStart letter closer whitespaceItem isWhitespace commentOf pick or and within is
 closes-first nothing = (refl, refl, refl)
 closes-first (closed (function n d) r) = (refl, refl, refl)
+closes-first (closed (link n d) r) = (refl, refl, refl)
 closes-first (closed round r) = (refl, refl, refl)
 closes-first (closed square r) = (refl, refl, refl)
 closes-first (closed brace r) = (refl, refl, refl)
@@ -341,12 +353,17 @@ atom-plain comma e = refl
 atom-plain colon e = refl
 atom-plain semicolon e = refl
 atom-plain (delimiter c d) e = e
+atom-plain point e = refl
+atom-plain hyphen e = refl
+atom-plain (whole n) e = refl
+atom-plain (spaced n s w) e = refl
 
 -- nor is a bracket, which is no word either
 brackets-plain : (o : Opening) → (isDelim ascii.exclamationMark (meansOpening o) ≡ false) × (isDelim ascii.exclamationMark (meansCloser o) ≡ false)
     × (isWord (text "important") (meansCloser o) ≡ false)
 unfolding meansOpening meansCloser isDelim isWord isKind kindOf columnsOf coded and is
 brackets-plain (function n d) = (refl, refl, refl)
+brackets-plain (link n d) = (refl, refl, refl)
 brackets-plain round = (refl, refl, refl)
 brackets-plain square = (refl, refl, refl)
 brackets-plain brace = (refl, refl, refl)
@@ -400,6 +417,14 @@ follows a (block b o w v) z f h g =
     subst (EndsBefore a) (sym (block-onto b o w v z))
     (token-ends a b (writtenOpening o) (writtenValues w ++ (closer o ∷ (writtenValues v ++ z))) (meansOpening o) (opening-begins o (writtenValues w ++ (closer o ∷ (writtenValues v ++ z)))) f)
 
+-- what stands in brackets is told apart
+inside-apart : (o : Opening) (address apart : Type 0) → Inside o address apart → apart
+inside-apart (function n d) address apart h = h
+inside-apart (link n d) address apart h = h .1
+inside-apart round address apart h = h
+inside-apart square address apart h = h
+inside-apart brace address apart h = h
+
 module _ {include : Bool} where
   -- a token behind white space
   pub passes-token : (b : Blanks) (w r : List ℕ) (at : ℕ) (k : Token) (cs ds : List ℕ) → Begins (w ++ r) (length w) k → stepOf include (bracketOf k) cs ≡ next ds
@@ -426,7 +451,7 @@ module _ {include : Bool} where
       let r = writtenValues v ++ z in
       let q = closer o ∷ r in
       let p = passes-token b (writtenOpening o) (writtenValues w ++ q) at (meansOpening o) cs (closer o ∷ cs) (opening-begins o (writtenValues w ++ q)) (opening-goes include b o cs) in
-      let m = values-pass w q (at + p .taken) (closer o ∷ cs) (h .0) (closer-halts o r) (unfold Within in tt) in
+      let m = values-pass w q (at + p .taken) (closer o ∷ cs) (inside-apart o (Address w) (Apart w) (h .0)) (closer-halts o r) (unfold Within in tt) in
       let e = passes-token (trail w) (closer o ∷ []) r (at + p .taken + m .taken) (meansCloser o) (closer o ∷ cs) cs (closer-token o r) (closing-goes include b o w v cs i) in
       passes-as (block-onto b o w v z)
       (passes-on p (passes-on m (passes-on e (values-pass v z (at + p .taken + m .taken + e .taken) cs (h .1) g (within-block cs b o w v i)))))

@@ -19,7 +19,7 @@ use Rattle.lexer.specs.Token.{Token}
 use Rattle.lexer.specs.Whitespace.{skipWhitespace}
 use Rattle.lexer.proofs.SyntaxName.{Each, none, more, IdentSequence, started, letter, identStart, identCodePoint}
 use Rattle.grammar.specs.Nth.{Sign, unsigned, plus, minus, writtenSign}
-use Rattle.grammar.specs.Selectors.{Quoted}
+use Rattle.grammar.specs.Selectors.{Spaces, Quoted}
 
 -- ---- what is written
 -- a number (4.3.12, Consume a number) without an exponent: a sign or none, and digits, or a full stop and digits. Digits on both sides of
@@ -71,10 +71,20 @@ pub data Atom : Type 0 where
   colon : Atom
   semicolon : Atom
   delimiter : (c : ℕ) → isDelimiter c ≡ true → Atom
+  -- a full stop and a '-' that begin no number and no name, which are delimiters too
+  point : Atom
+  hyphen : Atom
+  -- what the document parts otherwise: digits before a full stop, where it reads one number (4.3.12) and the reader two; and a number, white space
+  -- and a name, where it reads two tokens (4.3.3) and the reader one. Both go on behind them alike. The grammar has them where nobody looks into
+  -- tokens: in values of properties that the engine does not know, and in at-rules.
+  whole : Numeral → Atom
+  spaced : Numeral → Spaces → Ident → Atom
 
--- a token that opens a block (5.4.8, Consume a simple block; 5.4.9, Consume a function). Behind `url(` the document has a <url-token> (4.3.4).
+-- a token that opens a block (5.4.8, Consume a simple block; 5.4.9, Consume a function)
 pub data Opening : Type 0 where
   function : (n : Ident) → sameText (folded n) (text "url") ≡ false → Opening
+  -- `url(`, which the document takes for a function only where a string follows; else all up to `)` is one <url-token> (4.3.4, 4.3.6)
+  link : (n : Ident) → folded n ≡ text "url" → Opening
   round : Opening
   square : Opening
   brace : Opening
@@ -98,9 +108,14 @@ writtenAtom comma = ascii.comma ∷ []
 writtenAtom colon = ascii.colon ∷ []
 writtenAtom semicolon = ascii.semicolon ∷ []
 writtenAtom (delimiter c d) = c ∷ []
+writtenAtom point = ascii.fullStop ∷ []
+writtenAtom hyphen = ascii.hyphenMinus ∷ []
+writtenAtom (whole n) = writtenNumeral n
+writtenAtom (spaced n s w) = writtenNumeral n ++ (s .space ∷ (s .more .bytes ++ w .bytes))
 
 unfoldable pub writtenOpening : Opening → List ℕ
 writtenOpening (function n d) = n .bytes ++ (ascii.leftParenthesis ∷ [])
+writtenOpening (link n d) = n .bytes ++ (ascii.leftParenthesis ∷ [])
 writtenOpening round = ascii.leftParenthesis ∷ []
 writtenOpening square = ascii.leftSquareBracket ∷ []
 writtenOpening brace = ascii.leftCurlyBracket ∷ []
@@ -108,6 +123,7 @@ writtenOpening brace = ascii.leftCurlyBracket ∷ []
 -- the byte that closes what it opens: the ending token is the mirror of the opening one
 unfoldable pub closer : Opening → ℕ
 closer (function n d) = ascii.rightParenthesis
+closer (link n d) = ascii.rightParenthesis
 closer round = ascii.rightParenthesis
 closer square = ascii.rightSquareBracket
 closer brace = ascii.rightCurlyBracket
@@ -133,15 +149,21 @@ meansAtom comma = tokens.comma
 meansAtom colon = tokens.colon
 meansAtom semicolon = tokens.semicolon
 meansAtom (delimiter c d) = tokens.delim c
+meansAtom point = tokens.delim ascii.fullStop
+meansAtom hyphen = tokens.delim ascii.hyphenMinus
+meansAtom (whole n) = tokens.number (meansNumeral n)
+meansAtom (spaced n s w) = tokens.dimension (meansNumeral n) (folded w)
 
 unfoldable pub meansOpening : Opening → Token
 meansOpening (function n d) = tokens.function (folded n)
+meansOpening (link n d) = tokens.function (folded n)
 meansOpening round = tokens.openRound
 meansOpening square = tokens.openSquare
 meansOpening brace = tokens.openBrace
 
 unfoldable pub meansCloser : Opening → Token
 meansCloser (function n d) = tokens.closeRound
+meansCloser (link n d) = tokens.closeRound
 meansCloser round = tokens.closeRound
 meansCloser square = tokens.closeSquare
 meansCloser brace = tokens.closeBrace
@@ -168,6 +190,10 @@ mayFollow comma x y = true
 mayFollow colon x y = true
 mayFollow semicolon x y = true
 mayFollow (delimiter c d) x y = not (and (is c ascii.solidus) (is x ascii.asterisk))
+mayFollow point x y = not (isDigit x)
+mayFollow hyphen x y = and (endsName x) (not (is x ascii.fullStop))
+mayFollow (whole n) x y = and (endsName x) (and (not (is x ascii.percentSign)) (not (beginsName y)))
+mayFollow (spaced n s w) x y = endsName x
 
 abbrev pub MayFollow : Atom → ℕ → ℕ → Type 0
 MayFollow a x y = mayFollow a x y ≡ true
