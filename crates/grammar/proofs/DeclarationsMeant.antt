@@ -2,7 +2,7 @@
 use mathlib.Core.Path.{_≡_, refl, ap, sym, subst, _∙_}
 use mathlib.Core.Bool.{Bool, true, false, not}
 use mathlib.Core.List.{List, [], _∷_, _++_, map, append-nil}
-use Prim.Native.Nat.{ℕ}
+use Prim.Native.Nat.{ℕ, _+_}
 use native.Mathlib.Omega.{arith}
 use lib.ListN.{length, getD}
 use lib.Seq.{drop-append-seam, take-append-seam}
@@ -10,10 +10,11 @@ use Rattle.combinators.specs.All.{All}
 use Rattle.combinators.specs.Ascii as ascii
 use Rattle.combinators.specs.Choice.{pick, or, and, is, within}
 use Rattle.combinators.specs.Word.{sameText}
-use Rattle.combinators.proofs.Rules.{never, or-left}
+use Rattle.combinators.proofs.Rules.{never, either, pick-true, or-left, within-true, within-yes, within-false, within-past}
 use Rattle.combinators.proofs.Words.{same-is}
 use Rattle.unicode.specs.Literal.{text}
 use Rattle.unicode.specs.Utf8.{utf8, continuation}
+use Rattle.lexer.specs.Name.{caseDistance, lower, isHexDigit, hexDigit}
 use Rattle.lexer.specs.Token as tokens
 use Rattle.lexer.specs.Token.{Token, ident, coded, textOf}
 use Rattle.lexer.specs.TokenRow.{columnsOf}
@@ -21,14 +22,14 @@ use Rattle.lexer.proofs.SyntaxName.{letter, identStart, identCodePoint}
 use Rattle.syntax.specs.Declaration as syntax
 use Rattle.syntax.specs.Declaration.{Colour, Overflow, WhiteSpace}
 use Rattle.values.specs.Words.{Entry, Found, found, missing, foundOr, lookup, onFound, kindOf, firstOf, numberOf, unitOf, isKind}
-use Rattle.values.specs.Colour.{colours, oneToken, colourOf, hashColour, behindComma, backgroundOf}
+use Rattle.values.specs.Colour.{rgb, colours, oneToken, colourOf, hashColour, behindComma, backgroundOf}
 use Rattle.values.specs.Property.{numberZero, units, anyOf, heightOf, firstWord, overflowOf, displayOf, whiteSpaceOf, contentOf, properties, declOf}
 use Rattle.values.proofs.CssColour.{six-digits, replicated, functional}
 use Rattle.grammar.specs.Nth.{Blanks}
-use Rattle.grammar.specs.Selectors.{Name, Quoted}
-use Rattle.grammar.specs.Tokens.{Numeral, Atom, word, string, number, dimension, comma, writtenAtom, meansAtom, meansOpening, meansCloser, meansNumeral, endsName, beginsName, mayFollow, MayFollow}
+use Rattle.grammar.specs.Selectors.{Quoted}
+use Rattle.grammar.specs.Tokens.{Numeral, Ident, folded, Atom, word, string, number, dimension, comma, writtenAtom, meansAtom, meansOpening, meansCloser, meansNumeral, endsName, beginsName, mayFollow, MayFollow}
 use Rattle.grammar.specs.Values.{Values, end, then, block, meansValues, Follows, Apart, isSemicolon, isBang, isBrace, Outermost, Unmarked, Some, DeclarationValue}
-use Rattle.grammar.specs.Spelling.{spelt, digitBytes, hashed}
+use Rattle.grammar.specs.HexDigits.{HexDigit, digitBytes, hashed}
 use Rattle.grammar.specs.Declarations.{Keyword, colourNames, Shade, named, three, six, ColourValue, shade, parts, lengthUnits, isZero, Length, measured, bare, overflowWords, displayWords, whiteSpaceWords, Strings, last, more, Known, color, backgroundColor, background, height, maxHeight, overflow, overflowY, display, whiteSpace, content, knownNames, Declared, known, other, knownName, property, alone, shadeValues, partValues, colourValues, lengthValues, stringValues, knownValues, valuesOf, pair, meansShade, meansColour, meansLength, meansStrings, meansKnown, meansDeclared}
 use Rattle.grammar.proofs.Places.{Unblank, blank-first}
 use Rattle.grammar.proofs.NumbersMeant.{part-integer, numeral-zero}
@@ -89,25 +90,85 @@ hash-colour : (b : List ℕ) → colourOf (tokens.hash b ∷ []) ≡ hashColour 
 unfolding colourOf oneToken isKind kindOf columnsOf coded textOf pick is
 hash-colour b = refl
 
+-- a hexadecimal digit is one in small letters too, of the same worth
+record Small (x : ℕ) : Type 0 where
+  hex : isHexDigit (lower x) ≡ true
+  same : hexDigit (lower x) ≡ hexDigit x
+
+-- a small letter and a decimal digit stay
+stays : (x : ℕ) → isHexDigit x ≡ true → within x ascii.capitalA ascii.capitalZ ≡ false → Small x
+unfolding lower pick
+stays x h e = record { hex = rw e h; same = rw e }
+
+-- a capital letter is folded
+turned : (x : ℕ) → within x ascii.capitalA ascii.capitalF ≡ true → Small x
+unfolding lower
+turned x h =
+    let p = within-true x ascii.capitalA ascii.capitalF h in
+    let e : lower x ≡ x + caseDistance = sym (pick-true _ _ _ _ (within-yes x ascii.capitalA ascii.capitalZ (p .0) (omega arith)) refl) in
+    let y = x + caseDistance in
+    let s = within-yes y ascii.smallA ascii.smallF (omega arith) (omega arith) in
+    record {
+      hex = ap isHexDigit e ∙ (unfold isHexDigit or in rw (within-past y ascii.digitZero ascii.digitNine (omega arith), s));
+      same =
+          ap hexDigit e
+          ∙ (unfold hexDigit pick in
+          rw (
+            within-past y ascii.digitZero ascii.digitNine (omega arith),
+            s,
+            within-past x ascii.digitZero ascii.digitNine (omega arith),
+            sym (within-false x ascii.smallA ascii.smallF (omega arith)),
+            h,
+          ) (omega arith));
+    }
+
+-- so with each digit
+small-digit : (d : HexDigit) → Small (d .byte)
+unfolding isHexDigit
+small-digit d =
+    let x = d .byte in
+    either (Small x) _ _ (d .hex)
+    (λ e. let p = within-true x ascii.digitZero ascii.digitNine e in stays x (d .hex) (sym (within-false x ascii.capitalA ascii.capitalZ (omega arith))))
+    (λ l. either (Small x) _ _ l
+    (λ e. let p = within-true x ascii.smallA ascii.smallF e in stays x (d .hex) (within-past x ascii.capitalA ascii.capitalZ (omega arith)))
+    (λ e. turned x e))
+
+-- six digits in letters of either case
+six-small : (p q x y z w : HexDigit) → hashColour (map lower (digitBytes (p ∷ q ∷ x ∷ y ∷ z ∷ w ∷ []))) ≡ found (rgb (pair p q) (pair x y) (pair z w))
+unfolding digitBytes pair
+six-small p q x y z w =
+    let a = small-digit p in
+    let b = small-digit q in
+    let c = small-digit x in
+    let d = small-digit y in
+    let e = small-digit z in
+    let f = small-digit w in
+    six-digits (lower (p .byte)) (lower (q .byte)) (lower (x .byte)) (lower (y .byte)) (lower (z .byte)) (lower (w .byte)) (a .hex) (b .hex) (c .hex) (d .hex) (e .hex) (f .hex)
+    ∙ rw (a .same, b .same, c .same, d .same, e .same, f .same)
+
+-- three are replicated
+three-small : (x y z : HexDigit) → hashColour (map lower (digitBytes (x ∷ y ∷ z ∷ []))) ≡ found (rgb (pair x x) (pair y y) (pair z z))
+unfolding digitBytes
+three-small x y z =
+    replicated (lower (x .byte)) (lower (y .byte)) (lower (z .byte)) (small-digit x .hex) (small-digit y .hex) (small-digit z .hex) ∙ six-small x x y y z z
+
 -- a colour in one token is what it means
 shade-meant : (b : Blanks) (s : Shade) → colourOf (meansValues (shadeValues b s)) ≡ found (meansShade s)
 unfolding meansValues shadeValues meansAtom meansShade pair hashed digitBytes
 shade-meant b (named k) =
-    ident-colour (k .name .bytes)
-    ∙ row-holds (λ (w : List ℕ) (a : Colour). lookup w colours ≡ found a) (k .name .bytes) (k .means) colourNames (names-agree .0) (k .listed)
-shade-meant b (three x y z) =
-    hash-colour _ ∙ replicated (x .byte) (y .byte) (z .byte) (x .hex) (y .hex) (z .hex)
-    ∙ six-digits (x .byte) (x .byte) (y .byte) (y .byte) (z .byte) (z .byte) (x .hex) (x .hex) (y .hex) (y .hex) (z .hex) (z .hex)
-shade-meant b (six p q x y z w) =
-    hash-colour _ ∙ six-digits (p .byte) (q .byte) (x .byte) (y .byte) (z .byte) (w .byte) (p .hex) (q .hex) (x .hex) (y .hex) (z .hex) (w .hex)
+    ident-colour (folded (k .name))
+    ∙ row-holds (λ (w : List ℕ) (a : Colour). lookup w colours ≡ found a) (folded (k .name)) (k .means) colourNames (names-agree .0) (k .listed)
+shade-meant b (three x y z) = hash-colour _ ∙ three-small x y z
+shade-meant b (six p q x y z w) = hash-colour _ ∙ six-small p q x y z w
 
 -- so is any other
 colour-meant : (b : Blanks) (v : ColourValue) → colourOf (meansValues (colourValues b v)) ≡ found (meansColour v)
 unfolding colourValues meansColour
 colour-meant b (shade s) = shade-meant b s
-colour-meant b (parts x y z) =
-    unfold meansValues partValues meansAtom meansOpening meansCloser spelt in
-    functional (meansNumeral (x .numeral)) (meansNumeral (y .numeral)) (meansNumeral (z .numeral)) _ _ _ (part-integer x) (part-integer y) (part-integer z)
+colour-meant b (parts n h x y z) =
+    unfold meansValues partValues meansAtom meansOpening meansCloser in
+    rw h
+    (functional (meansNumeral (x .numeral)) (meansNumeral (y .numeral)) (meansNumeral (z .numeral)) _ _ _ (part-integer x) (part-integer y) (part-integer z))
 
 -- in one token there is no comma
 shade-background : (b : Blanks) (s : Shade) → backgroundOf (meansValues (shadeValues b s)) ≡ found (meansShade s)
@@ -138,23 +199,23 @@ number-height t e = rw e
 length-meant : (b : Blanks) (l : Length) → heightOf (meansValues (lengthValues b l)) ≡ found (meansLength l)
 unfolding meansValues lengthValues meansAtom meansLength
 length-meant b (measured m) =
-    dimension-height (meansNumeral (m .numeral)) (m .unit .name .bytes) (isZero (m .numeral))
-    (word-holds (λ (w : List ℕ). anyOf w units ≡ true) (m .unit .name .bytes) lengthUnits units-agree (m .listed)) (numeral-zero (m .numeral) (m .exact))
+    dimension-height (meansNumeral (m .numeral)) (folded (m .unit .name)) (isZero (m .numeral))
+    (word-holds (λ (w : List ℕ). anyOf w units ≡ true) (folded (m .unit .name)) lengthUnits units-agree (m .listed)) (numeral-zero (m .numeral) (m .exact))
 length-meant b (bare n z) = number-height (meansNumeral n) (numeral-zero n (or-left _ _ z) ∙ z)
 
 -- ---- keywords
 -- each of `overflow` means to the engine what the document says
-overflow-meant : (k : Keyword overflowWords) → overflowOf (ident (k .name .bytes) ∷ []) ≡ found (k .means)
+overflow-meant : (k : Keyword overflowWords) → overflowOf (ident (folded (k .name)) ∷ []) ≡ found (k .means)
 overflow-meant k =
-    row-holds (λ (w : List ℕ) (a : Overflow). overflowOf (ident w ∷ []) ≡ found a) (k .name .bytes) (k .means) overflowWords rows (k .listed)
+    row-holds (λ (w : List ℕ) (a : Overflow). overflowOf (ident w ∷ []) ≡ found a) (folded (k .name)) (k .means) overflowWords rows (k .listed)
   where
     rows : All (λ (e : Entry Overflow). overflowOf (ident (e .word) ∷ []) ≡ found (e .means)) overflowWords
     rows = unfold overflowOf firstWord lookup foundOr onFound isKind kindOf columnsOf coded textOf sameText text utf8 continuation pick and is in (refl, (refl, (refl, (refl, tt))))
 
 -- each of `display`
-display-meant : (k : Keyword displayWords) → displayOf (ident (k .name .bytes) ∷ []) ≡ k .means
+display-meant : (k : Keyword displayWords) → displayOf (ident (folded (k .name)) ∷ []) ≡ k .means
 display-meant k =
-    row-holds (λ (w : List ℕ) (a : Bool). displayOf (ident w ∷ []) ≡ a) (k .name .bytes) (k .means) displayWords rows (k .listed)
+    row-holds (λ (w : List ℕ) (a : Bool). displayOf (ident w ∷ []) ≡ a) (folded (k .name)) (k .means) displayWords rows (k .listed)
   where
     rows : All (λ (e : Entry Bool). displayOf (ident (e .word) ∷ []) ≡ e .means) displayWords
     rows =
@@ -162,9 +223,9 @@ display-meant k =
         (refl, (refl, (refl, (refl, (refl, (refl, (refl, (refl, (refl, (refl, (refl, (refl, (refl, (refl, (refl, tt)))))))))))))))
 
 -- each of `white-space`
-white-space-meant : (k : Keyword whiteSpaceWords) → whiteSpaceOf (ident (k .name .bytes) ∷ []) ≡ k .means
+white-space-meant : (k : Keyword whiteSpaceWords) → whiteSpaceOf (ident (folded (k .name)) ∷ []) ≡ k .means
 white-space-meant k =
-    row-holds (λ (w : List ℕ) (a : WhiteSpace). whiteSpaceOf (ident w ∷ []) ≡ a) (k .name .bytes) (k .means) whiteSpaceWords rows (k .listed)
+    row-holds (λ (w : List ℕ) (a : WhiteSpace). whiteSpaceOf (ident w ∷ []) ≡ a) (folded (k .name)) (k .means) whiteSpaceWords rows (k .listed)
   where
     rows : All (λ (e : Entry WhiteSpace). whiteSpaceOf (ident (e .word) ∷ []) ≡ e .means) whiteSpaceWords
     rows = unfold whiteSpaceOf firstWord lookup foundOr onFound isKind kindOf columnsOf coded textOf sameText text utf8 continuation pick and is in (refl, (refl, (refl, tt)))
@@ -183,8 +244,8 @@ strings-meant b (more q d s) = string-content (q .body) _ (meansStrings s) (stri
 
 -- ---- properties
 -- of the properties that the engine knows the name selects the reader of the value
-known-meant : (b : Blanks) (k : Known) → declOf (knownName k .bytes) (meansValues (knownValues b k)) ≡ meansKnown k
-unfolding knownName spelt knownValues meansKnown declOf lookup foundOr onFound sameText text utf8 continuation pick and is
+known-meant : (b : Blanks) (k : Known) → declOf (knownName k) (meansValues (knownValues b k)) ≡ meansKnown k
+unfolding knownName knownValues meansKnown declOf lookup foundOr onFound sameText text utf8 continuation pick and is
 known-meant b (color v) = rw (colour-meant b v)
 known-meant b (backgroundColor v) = rw (colour-meant b v)
 known-meant b (background s) = rw (shade-background b s)
@@ -197,15 +258,15 @@ known-meant b (whiteSpace k) = unfold meansValues meansAtom in rw (white-space-m
 known-meant b (content s) = rw (strings-meant b s)
 
 -- any other is unknown, whatever its value
-other-meant : (n : Name) (ks : List Token) → anyOf (n .bytes) knownNames ≡ false → declOf (n .bytes) ks ≡ syntax.unknown (n .bytes)
+other-meant : (w : List ℕ) (ks : List Token) → anyOf w knownNames ≡ false → declOf w ks ≡ syntax.unknown w
 unfolding declOf onFound
-other-meant n ks h = rw (unlisted (n .bytes) properties h)
+other-meant w ks h = rw (unlisted w properties h)
 
 -- a declaration of the grammar is to the engine what it means
-pub declared-meant : (d : Declared) → declOf (property d .bytes) (meansValues (valuesOf d)) ≡ meansDeclared d
+pub declared-meant : (d : Declared) → declOf (folded (property d)) (meansValues (valuesOf d)) ≡ meansDeclared d
 unfolding property valuesOf meansDeclared
-declared-meant (known b k) = known-meant b k
-declared-meant (other n h v d) = other-meant n (meansValues v) h
+declared-meant (known n b k h) = ap (λ (w : List ℕ). declOf w (meansValues (knownValues b k))) h ∙ known-meant b k
+declared-meant (other n h v d) = other-meant (folded n) (meansValues v) h
 
 -- ---- the value is one that a declaration may have
 -- one token, that is neither a semicolon nor `!`
@@ -214,7 +275,7 @@ unfolding Some Apart Follows Outermost Unmarked
 alone-value b a s m = record { some = tt; apart = (tt, tt); outermost = (s, refl); unmarked = (m, tt) }
 
 -- a name
-word-value : (b : Blanks) (n : Name) → DeclarationValue (alone b (word n))
+word-value : (b : Blanks) (n : Ident) → DeclarationValue (alone b (word n))
 unfolding isSemicolon isBang
 word-value b n = alone-value b (word n) refl refl
 
@@ -247,7 +308,7 @@ comma-follows n b =
 colour-value : (b : Blanks) (v : ColourValue) → DeclarationValue (colourValues b v)
 unfolding colourValues partValues Some Apart Follows Outermost Unmarked isBrace mayFollow
 colour-value b (shade s) = shade-value b s
-colour-value b (parts x y z) =
+colour-value b (parts n h x y z) =
     record {
       some = tt;
       apart = ((comma-follows (x .numeral) (x .behind), (refl, (comma-follows (y .numeral) (y .behind), (refl, (tt, tt))))), tt);
@@ -296,5 +357,5 @@ known-value b (content s) = strings-value b s
 -- and of any
 pub declared-value : (d : Declared) → DeclarationValue (valuesOf d)
 unfolding valuesOf
-declared-value (known b k) = known-value b k
+declared-value (known n b k h) = known-value b k
 declared-value (other n h v d) = d

@@ -4,6 +4,7 @@ pub mod ComponentsRead
 pub mod TokensRead
 pub mod SelectorsRead
 pub mod GroupsRead
+pub mod Spelling
 pub mod ValuesRead
 pub mod NumbersMeant
 pub mod DeclarationsMeant

@@ -1,11 +1,10 @@
 -- A sheet and a value as derivations of the grammar: their texts, and what the reader makes of them by the laws for all sheets and values.
 use mathlib.Core.Path.{_≡_, refl, ap, sym, _∙_}
 use mathlib.Core.Bool.{Bool, true, false, not}
-use mathlib.Core.List.{List, [], _∷_, _++_, reverse}
+use mathlib.Core.List.{List, [], _∷_, _++_}
 use Prim.Native.Nat.{ℕ}
 use native.Mathlib.Omega.{arith}
 use lib.IntN.{pos}
-use lib.ListN.{getD}
 use Rattle.combinators.specs.Ascii as ascii
 use Rattle.combinators.specs.Choice.{pick, or, and, is, within}
 use Rattle.combinators.specs.Word.{startsWith, sameText}
@@ -31,14 +30,15 @@ use Rattle.selectors.specs.Outcome.{reads}
 use Rattle.selectors.specs.Selector.{signed}
 use Rattle.sheets.specs.Sheet.{sheetOf}
 use Rattle.grammar.specs.Nth.{Blanks, unsigned, Count, sum, writtenSign, signByte, writtenArgument, negative, worth, meansArgument}
-use Rattle.grammar.specs.Selectors.{Name, Quoted, unprocessed, class, nthChild, typed, child, one, joined, writtenSimple, writtenSimples, writtenCompound, writtenCombinator, written, meansSimple, meansCompound, meansCombinator, inOrder, Agrees, writtenPseudo, Tight, Group, last, several, writtenChosen, writtenGroup, meansChosen, meansGroup}
-use Rattle.grammar.specs.Tokens.{Numeral, Hashed, isExponent, isDelimiter, word, string, hash, dimension, colon, semicolon, delimiter, function, square, brace, meansAtom, meansOpening, meansCloser, writtenStop, writtenNumeral, writtenAtom, writtenOpening, closer, endsName, mayFollow}
+use Rattle.grammar.specs.Selectors.{Quoted, unprocessed, class, nthChild, typed, child, one, joined, writtenSimple, writtenSimples, writtenCompound, writtenCombinator, written, meansSimple, meansCompound, meansCombinator, inOrder, Agrees, writtenPseudo, Tight, last, several, writtenChosen, writtenGroup, meansChosen, meansGroup}
+use Rattle.grammar.specs.Tokens.{Numeral, folded, Hashed, isExponent, isDelimiter, word, string, hash, dimension, colon, semicolon, delimiter, function, square, brace, meansAtom, meansOpening, meansCloser, writtenStop, writtenNumeral, writtenAtom, writtenOpening, closer, endsName, mayFollow}
 use Rattle.grammar.specs.Values.{Values, end, then, block, writtenValues, meansValues, isBrace, Follows, Apart, isSemicolon, isBang, Outermost, Unmarked, Some, normal, important, writtenImportance, isMarked}
-use Rattle.grammar.specs.Spelling.{smallLetter, spells, isSpelt, spelt, HexDigit, digitBytes, hashed}
+use Rattle.grammar.specs.HexDigits.{HexDigit, digitBytes, hashed}
 use Rattle.grammar.specs.Declarations.{named, three, shade, isZero, bare, color, backgroundColor, height, display, content, Declared, known, other, knownName, property, shadeValues, colourValues, lengthValues, stringValues, knownValues, valuesOf, pair, meansShade, meansColour, meansLength, meansStrings, meansKnown, meansDeclared}
 use Rattle.grammar.specs.Declarations as declarations
 use Rattle.grammar.specs.Sheets.{Item, filled, Rule, braces, AtRule, rule, atRule, Sheet, writtenItem, writtenNext, writtenNexts, writtenEnd, writtenBlock, writtenRule, writtenAtEnd, writtenAt, writtenStatement, writtenStatements, writtenSheet, meansItem, meansNexts, meansBlock, meansRule, meansStatements, meansSheet, unreadBehind, unread}
 use Rattle.grammar.specs.Sheets as sheets
+use Rattle.grammar.proofs.Spelling.{isSpelt, ident, spelt}
 use Rattle.grammar.proofs.ValuesRead.{before-semicolon, Stated, value-ends}
 use Rattle.grammar.proofs.SheetsRead.{sheet-whole}
 
@@ -91,10 +91,10 @@ encoding =
     }
 
 unfoldable charset : AtRule
-unfolding Follows Apart Outermost isSemicolon writtenValues writtenAtom endsName identCodePoint identStart letter isSpelt smallLetter spells allOf spelt pick or and is within text utf8
+unfolding Follows Apart Outermost isSemicolon writtenValues writtenAtom endsName identCodePoint identStart letter isSpelt allOf spelt pick or and is within text utf8 ident folded lower knownName
 charset =
     record {
-      name = spelt (text "charset") refl;
+      name = ident (text "charset") refl;
       prelude = then blank (string encoding) (end nothing);
       ends = refl;
       apart = (tt, tt);
@@ -107,60 +107,61 @@ charset =
 -- ---- `body { color: #333; background-color: white }`
 unfoldable digit3 : HexDigit
 unfolding isHexDigit lower pick or and within
-digit3 = record { byte = 0x33; hex = refl; small = refl }
+digit3 = record { byte = 0x33; hex = refl }
 
 unfoldable dark : Declared
-dark = known blank (color (shade (three digit3 digit3 digit3)))
+unfolding isSpelt allOf ident folded lower identStart identCodePoint letter knownName text utf8 pick or and is within
+dark = known (ident (text "color") refl) blank (color (shade (three digit3 digit3 digit3))) refl
 
 unfoldable bright : Declared
-unfolding isSpelt smallLetter spells allOf spelt lookup foundOr sameText text utf8 continuation pick or and is within
-bright = known blank (backgroundColor (shade (named (record { name = spelt (text "white") refl; means = rgb 255 255 255; listed = refl }))))
+unfolding isSpelt allOf spelt lookup foundOr sameText text utf8 continuation pick or and is within ident folded lower identStart identCodePoint letter knownName
+bright = known (ident (text "background-color") refl) blank (backgroundColor (shade (named (record { name = ident (text "white") refl; means = rgb 255 255 255; listed = refl })))) refl
 
 -- a declaration without a mark
 abbrev item : Declared → Item
 item d = record { declared = d; before-colon = nothing; importance = normal }
 
 unfoldable body : Rule
-unfolding Agrees isSpelt smallLetter spells allOf spelt pick or and is within text utf8
+unfolding Agrees isSpelt allOf spelt pick or and is within text utf8 ident folded lower identStart identCodePoint letter knownName
 body =
     record {
-      selectors = last (record { selector = one (typed (spelt (text "body") refl) []); agrees = tt; pseudo = syntax.none; gap = blank });
+      selectors = last (record { selector = one (typed (spelt (text "body") refl refl) []); agrees = tt; pseudo = syntax.none; gap = blank });
       block = filled blank (item dark) (record { lead = blank; item = item bright } ∷ []) (sheets.closed blank);
       behind = line;
     }
 
 -- ---- `nav, a::before { display: none !important; }`
 unfoldable hidden : Declared
-unfolding isSpelt smallLetter spells allOf spelt lookup foundOr sameText text utf8 continuation pick or and is within
-hidden = known blank (display (record { name = spelt (text "none") refl; means = true; listed = refl }))
+unfolding isSpelt allOf spelt lookup foundOr sameText text utf8 continuation pick or and is within ident folded lower identStart identCodePoint letter knownName
+hidden = known (ident (text "display") refl) blank (display (record { name = ident (text "none") refl; means = true; listed = refl })) refl
 
 unfoldable away : Rule
-unfolding Agrees Tight isSpelt smallLetter spells allOf spelt pick or and is within text utf8
+unfolding Agrees Tight isSpelt allOf spelt pick or and is within text utf8 ident folded lower identStart identCodePoint letter knownName
 away =
     record {
       selectors =
-          several (record { selector = one (typed (spelt (text "nav") refl) []); agrees = tt; pseudo = syntax.none; gap = nothing }) tt blank
-          (last (record { selector = one (typed (spelt (text "a") refl) []); agrees = tt; pseudo = syntax.before; gap = blank }));
-      block = filled blank (record { declared = hidden; before-colon = nothing; importance = important blank nothing }) [] (sheets.parted nothing blank);
+          several (record { selector = one (typed (spelt (text "nav") refl refl) []); agrees = tt; pseudo = syntax.none; gap = nothing }) tt blank
+          (last (record { selector = one (typed (spelt (text "a") refl refl) []); agrees = tt; pseudo = syntax.before; gap = blank }));
+      block = filled blank (record { declared = hidden; before-colon = nothing; importance = important blank nothing (ident (text "important") refl) refl }) [] (sheets.parted nothing blank);
       behind = line;
     }
 
 -- ---- `@media print { nav > a { color: blue; } }`
 unfoldable media : AtRule
-unfolding Follows Apart Outermost isSemicolon writtenValues writtenAtom writtenOpening mayFollow endsName identCodePoint identStart letter isDelimiter member isSpelt smallLetter spells allOf spelt pick or and is within text utf8
+unfolding Follows Apart Outermost isSemicolon writtenValues writtenAtom writtenOpening mayFollow endsName identCodePoint identStart letter isDelimiter member isSpelt allOf spelt pick or and is within text utf8 ident folded lower knownName
 media =
     record {
-      name = spelt (text "media") refl;
-      prelude = then blank (word (spelt (text "print") refl)) (end nothing);
+      name = ident (text "media") refl;
+      prelude = then blank (word (ident (text "print") refl)) (end nothing);
       ends = refl;
       apart = (tt, tt);
       outermost = (refl, refl);
       gap = blank;
       end =
           braces
-          (then blank (word (spelt (text "nav") refl)) (then blank (delimiter ascii.greaterThanSign refl) (then blank (word (spelt (text "a") refl))
+          (then blank (word (ident (text "nav") refl)) (then blank (delimiter ascii.greaterThanSign refl) (then blank (word (ident (text "a") refl))
           (block blank brace
-          (then blank (word (spelt (text "color") refl)) (then nothing colon (then blank (word (spelt (text "blue") refl)) (then nothing semicolon (end blank)))))
+          (then blank (word (ident (text "color") refl)) (then nothing colon (then blank (word (ident (text "blue") refl)) (then nothing semicolon (end blank)))))
           (end blank)))))
           (refl, (refl, (refl, ((refl, (refl, (refl, (tt, tt)))), tt))));
       behind = line;
@@ -173,24 +174,24 @@ pixel = record { sign = unsigned; fraction = false; digits = text "1"; are = mor
 
 unfoldable gray : Hashed
 unfolding identCodePoint identStart letter lower text utf8 pick or and is within
-gray = record { bytes = text "ccc"; are = more refl (more refl (more refl each.none)); some = omega arith; small = refl }
+gray = record { bytes = text "ccc"; are = more refl (more refl (more refl each.none)); some = omega arith }
 
 unfoldable border : Declared
-unfolding pixel gray Follows Apart Outermost Unmarked Some isSemicolon isBang writtenAtom writtenNumeral writtenSign writtenStop mayFollow endsName identCodePoint identStart letter isExponent startsWith anyOf sameText isSpelt smallLetter spells allOf spelt pick or and is within text utf8 continuation
+unfolding pixel gray Follows Apart Outermost Unmarked Some isSemicolon isBang writtenAtom writtenNumeral writtenSign writtenStop mayFollow endsName identCodePoint identStart letter isExponent startsWith anyOf sameText isSpelt allOf spelt pick or and is within text utf8 continuation ident folded lower knownName
 border =
-    other (spelt (text "border") refl) refl
-    (then blank (dimension pixel (record { name = spelt (text "px") refl; no-exponent = refl })) (then blank (word (spelt (text "solid") refl)) (then blank (hash gray) (end nothing))))
+    other (ident (text "border") refl) refl
+    (then blank (dimension pixel (record { name = ident (text "px") refl; no-exponent = refl })) (then blank (word (ident (text "solid") refl)) (then blank (hash gray) (end nothing))))
     (record { some = tt; apart = (refl, (refl, (tt, tt))); outermost = (refl, (refl, (refl, refl))); unmarked = (refl, (refl, (refl, tt))) })
 
 unfoldable flat : Declared
-unfolding isDigit isZero allOf text utf8 continuation pick and is within
-flat = known blank (height (bare (record { sign = unsigned; fraction = false; digits = text "0"; are = more refl each.none; some = omega arith }) refl))
+unfolding isDigit isZero allOf text utf8 continuation pick and is within isSpelt ident folded lower identStart identCodePoint letter knownName or
+flat = known (ident (text "height") refl) blank (height (bare (record { sign = unsigned; fraction = false; digits = text "0"; are = more refl each.none; some = omega arith }) refl)) refl
 
 unfoldable note : Rule
-unfolding Agrees isSpelt smallLetter spells allOf spelt pick or and is within text utf8
+unfolding Agrees isSpelt allOf spelt pick or and is within text utf8 ident folded lower identStart identCodePoint letter knownName
 note =
     record {
-      selectors = last (record { selector = one (typed (spelt (text "p") refl) (class (spelt (text "note") refl) ∷ [])); agrees = tt; pseudo = syntax.none; gap = blank });
+      selectors = last (record { selector = one (typed (spelt (text "p") refl refl) (class (spelt (text "note") refl refl) ∷ [])); agrees = tt; pseudo = syntax.none; gap = blank });
       block = filled indent (item border) (record { lead = indent; item = item flat } ∷ []) (sheets.closed line);
       behind = line;
     }
@@ -209,17 +210,18 @@ unfolding isQuote plain ordinary unprocessed text utf8 continuation pick or and 
 star = record { quote = ascii.quotationMark; body = text "* "; quotes = refl; ordinary = refl; unchanged = more refl (more refl each.none) }
 
 unfoldable bullet : Declared
-bullet = known blank (content (declarations.last star))
+unfolding isSpelt allOf ident folded lower identStart identCodePoint letter knownName text utf8 pick or and is within
+bullet = known (ident (text "content") refl) blank (content (declarations.last star)) refl
 
 unfoldable items : Rule
-unfolding odd Agrees isSpelt smallLetter spells allOf spelt pick or and is within text utf8
+unfolding odd Agrees isSpelt allOf spelt pick or and is within text utf8 ident folded lower identStart identCodePoint letter knownName
 items =
     record {
       selectors =
           last (record {
             selector =
-                joined (typed (spelt (text "ul") refl) []) (child blank blank)
-                (one (typed (spelt (text "li") refl) (nthChild nothing (sum unsigned two nothing false (record { count = odd; some = omega arith })) nothing ∷ [])));
+                joined (typed (spelt (text "ul") refl refl) []) (child blank blank)
+                (one (typed (spelt (text "li") refl refl) (nthChild nothing (sum unsigned two nothing false (record { count = odd; some = omega arith })) nothing ∷ [])));
             agrees = tt;
             pseudo = syntax.none;
             gap = blank;
@@ -238,7 +240,7 @@ pageText =
     text "@charset \"utf-8\";\n/* page */\nbody { color: #333; background-color: white }\nnav, a::before { display: none !important; }\n@media print { nav > a { color: blue; } }\np.note {\n  border: 1px solid #ccc;\n  height: 0\n}\nul > li:nth-child(2n+1) { content: \"* \" }\n"
 
 test-text : writtenSheet page ≡ pageText
-unfolding pageText page charset encoding remark body dark bright digit3 away hidden media note border pixel gray flat items two odd star bullet spelt hashed digitBytes writtenSheet writtenStatements writtenStatement writtenRule writtenAt writtenAtEnd writtenBlock writtenEnd writtenNexts writtenNext writtenItem writtenImportance writtenGroup writtenChosen writtenPseudo written writtenCompound writtenCombinator writtenSimples writtenSimple writtenArgument writtenSign signByte property knownName valuesOf knownValues colourValues shadeValues lengthValues stringValues writtenValues writtenAtom writtenNumeral writtenStop writtenOpening closer text utf8 continuation pick
+unfolding pageText page charset encoding remark body dark bright digit3 away hidden media note border pixel gray flat items two odd star bullet ident spelt folded lower hashed digitBytes writtenSheet writtenStatements writtenStatement writtenRule writtenAt writtenAtEnd writtenBlock writtenEnd writtenNexts writtenNext writtenItem writtenImportance writtenGroup writtenChosen writtenPseudo written writtenCompound writtenCombinator writtenSimples writtenSimple writtenArgument writtenSign signByte property knownName valuesOf knownValues colourValues shadeValues lengthValues stringValues writtenValues writtenAtom writtenNumeral writtenStop writtenOpening closer text utf8 continuation pick
 test-text = refl
 
 -- what it is read as
@@ -270,7 +272,7 @@ test-sheet : sheetOf pageText
       start = 211;
     }
     ∷ [])
-unfolding page charset encoding remark body dark bright digit3 away hidden media note border pixel gray flat items two odd star bullet spelt hashed digitBytes writtenSheet writtenStatements writtenStatement writtenRule writtenAt writtenAtEnd writtenBlock writtenEnd writtenNexts writtenNext writtenItem writtenImportance writtenGroup writtenChosen writtenPseudo written writtenCompound writtenCombinator writtenSimples writtenSimple writtenArgument writtenSign signByte property knownName valuesOf knownValues colourValues shadeValues lengthValues stringValues writtenValues writtenAtom writtenNumeral writtenStop writtenOpening closer text utf8 continuation pick meansSheet meansStatements meansRule meansBlock meansNexts meansItem isMarked meansDeclared meansKnown meansColour meansShade pair hexDigit meansLength meansStrings meansGroup meansChosen inOrder meansCompound meansCombinator meansSimple meansArgument negative worth numeral signed unread unreadBehind and is within
+unfolding page charset encoding remark body dark bright digit3 away hidden media note border pixel gray flat items two odd star bullet ident spelt folded lower hashed digitBytes writtenSheet writtenStatements writtenStatement writtenRule writtenAt writtenAtEnd writtenBlock writtenEnd writtenNexts writtenNext writtenItem writtenImportance writtenGroup writtenChosen writtenPseudo written writtenCompound writtenCombinator writtenSimples writtenSimple writtenArgument writtenSign signByte property knownName valuesOf knownValues colourValues shadeValues lengthValues stringValues writtenValues writtenAtom writtenNumeral writtenStop writtenOpening closer text utf8 continuation pick meansSheet meansStatements meansRule meansBlock meansNexts meansItem isMarked meansDeclared meansKnown meansColour meansShade pair hexDigit meansLength meansStrings meansGroup meansChosen inOrder meansCompound meansCombinator meansSimple meansArgument negative worth numeral signed unread unreadBehind and is within
 test-sheet = ap sheetOf (sym test-text) ∙ sheet-whole page refl
 
 -- ---- `b("};"/*;}*/[;])` before ` ;c`: the marks in the string, in the comment and in the brackets do not end it
@@ -287,10 +289,10 @@ aside =
     }
 
 unfoldable guarded : Values
-unfolding sameText isSpelt smallLetter spells allOf spelt pick or and is within text utf8
-guarded = block nothing (function (spelt (text "b") refl) refl) (then nothing (string marks) (block aside square (then nothing semicolon (end nothing)) (end nothing))) (end nothing)
+unfolding sameText isSpelt allOf spelt pick or and is within text utf8 ident folded lower identStart identCodePoint letter knownName
+guarded = block nothing (function (ident (text "b") refl) refl) (then nothing (string marks) (block aside square (then nothing semicolon (end nothing)) (end nothing))) (end nothing)
 
 test-ends : Stated false (text "b(\"};\"/*;}*/[;]) ;c") 16
     (tokens.function (text "b") ∷ tokens.string (text "};") ∷ tokens.openSquare ∷ tokens.semicolon ∷ tokens.closeSquare ∷ tokens.closeRound ∷ [])
-unfolding guarded marks aside spelt Follows Apart Outermost isBrace writtenValues meansValues writtenAtom writtenOpening closer meansAtom meansOpening meansCloser mayFollow text utf8 pick
+unfolding guarded marks aside ident spelt folded lower Follows Apart Outermost isBrace writtenValues meansValues writtenAtom writtenOpening closer meansAtom meansOpening meansCloser mayFollow text utf8 pick
 test-ends = value-ends guarded (text " ;c") ((refl, ((tt, tt), tt)), tt) (refl, refl) (before-semicolon blank (text "c"))

@@ -38,8 +38,8 @@ use Rattle.lexer.proofs.Characters.{lower-byte}
 use Rattle.lexer.proofs.CharacterRuns.{chars-step, chars-text-step}
 use Rattle.lexer.proofs.Idents.{char-plain, name-none}
 use Rattle.grammar.specs.Nth.{Blanks, Sign, unsigned, plus, minus, writtenSign}
-use Rattle.grammar.specs.Selectors.{Name, Spaces, Quoted}
-use Rattle.grammar.specs.Tokens.{Numeral, Hashed, isDelimiter, Atom, word, string, hash, number, percentage, dimension, comma, colon, semicolon, delimiter, point, hyphen, whole, spaced, Opening, function, link, round, square, brace, writtenStop, writtenNumeral, writtenAtom, writtenOpening, closer, meansSign, meansNumeral, meansAtom, meansOpening, meansCloser, endsName, beginsName, mayFollow, MayFollow, EndsBefore}
+use Rattle.grammar.specs.Selectors.{Spaces, Quoted}
+use Rattle.grammar.specs.Tokens.{Numeral, Ident, folded, Hashed, isDelimiter, Atom, word, string, hash, number, percentage, dimension, comma, colon, semicolon, delimiter, point, hyphen, whole, spaced, Opening, function, link, round, square, brace, writtenStop, writtenNumeral, writtenAtom, writtenOpening, closer, meansSign, meansNumeral, meansAtom, meansOpening, meansCloser, endsName, beginsName, mayFollow, MayFollow, EndsBefore}
 use Rattle.grammar.proofs.Places.{differs, Unblank, unblank-item}
 use Rattle.grammar.proofs.NthRead.{digits-read, starts-not}
 use Rattle.grammar.proofs.ComponentsRead.{behind-blank, string-closed}
@@ -174,18 +174,19 @@ name-ends t e =
     let n = neither _ _ (untrue _ e) in
     record { no-character = n .0; no-escape = λ q. never (sym (n .1) ∙ is-yes _ _ q) }
 
--- a name is read as it is written
-name-whole : (n : Name) (t : List ℕ) → NameEnds t → identOf (n .bytes ++ t) ≡ ok (length (n .bytes)) (n .bytes)
-name-whole n t h = ident-sequence (n .bytes) t (n .sequence) (h .no-character) (h .no-escape) ∙ rw (n .small)
+-- a name is read whole, in small letters
+name-whole : (n : Ident) (t : List ℕ) → NameEnds t → identOf (n .bytes ++ t) ≡ ok (length (n .bytes)) (folded n)
+unfolding folded
+name-whole n t h = ident-sequence (n .bytes) t (n .sequence) (h .no-character) (h .no-escape)
 
 -- no bracket follows the name
-like-ident : (n : Name) (t : List ℕ) → NameEnds t → is (getD t 0 0) ascii.leftParenthesis ≡ false → identLikeOf (n .bytes ++ t) ≡ ok (length (n .bytes)) (tokens.ident (n .bytes))
+like-ident : (n : Ident) (t : List ℕ) → NameEnds t → is (getD t 0 0) ascii.leftParenthesis ≡ false → identLikeOf (n .bytes ++ t) ≡ ok (length (n .bytes)) (tokens.ident (folded n))
 unfolding identLikeOf onParsed pick
 like-ident n t h d = rw (name-whole n t h, behind-blank (n .bytes) t, d)
 
 -- "Otherwise, return an <ident-token> with its value set to string"
-pub ident-token : (n : Name) (t : List ℕ) → endsName (getD t 0 0) ≡ true → is (getD t 0 0) ascii.leftParenthesis ≡ false
-    → Begins (n .bytes ++ t) (length (n .bytes)) (tokens.ident (n .bytes))
+pub ident-token : (n : Ident) (t : List ℕ) → endsName (getD t 0 0) ≡ true → is (getD t 0 0) ascii.leftParenthesis ≡ false
+    → Begins (n .bytes ++ t) (length (n .bytes)) (tokens.ident (folded n))
 ident-token n t e d = name-begins (n .bytes) t _ _ (n .sequence) (like-ident n t (name-ends t e) d)
 
 -- a name ends before a round bracket
@@ -194,12 +195,12 @@ unfolding identCodePoint identStart letter or and within is
 round-ends t = record { no-character = refl; no-escape = λ q. omega arith }
 
 -- where one does
-like-function : (n : Name) (t : List ℕ) → identLikeOf (n .bytes ++ (ascii.leftParenthesis ∷ t)) ≡ ok (length (n .bytes) + 1) (tokens.function (n .bytes))
+like-function : (n : Ident) (t : List ℕ) → identLikeOf (n .bytes ++ (ascii.leftParenthesis ∷ t)) ≡ ok (length (n .bytes) + 1) (tokens.function (folded n))
 unfolding identLikeOf onParsed pick is
 like-function n t = rw (name-whole n (ascii.leftParenthesis ∷ t) (round-ends t), behind-blank (n .bytes) (ascii.leftParenthesis ∷ t))
 
 -- "if the next input code point is U+0028 LEFT PARENTHESIS, consume it. Return a <function-token> with its value set to string"
-pub function-token : (n : Name) (t : List ℕ) → Begins (n .bytes ++ (ascii.leftParenthesis ∷ t)) (length (n .bytes) + 1) (tokens.function (n .bytes))
+pub function-token : (n : Ident) (t : List ℕ) → Begins (n .bytes ++ (ascii.leftParenthesis ∷ t)) (length (n .bytes) + 1) (tokens.function (folded n))
 function-token n t = name-begins (n .bytes) (ascii.leftParenthesis ∷ t) _ _ (n .sequence) (like-function n t)
 
 -- ---- hashes: 4.3.1, U+0023 NUMBER SIGN
@@ -245,7 +246,7 @@ characters t h (more {x} {r} e es) =
     (chars-step _ 1 _ k ∙ omega (arith, g .0), chars-text-step _ 1 _ k ∙ ap (λ b. b ++ charsText (r ++ t)) (lower-byte x c) ∙ ap (λ l. lower x ∷ l) (g .1))
 
 -- where there are some, they are read from the start
-hash-named : (h : Hashed) (t : List ℕ) → NameEnds t → identstringOf (h .bytes ++ t) ≡ ok (length (h .bytes)) (h .bytes)
+hash-named : (h : Hashed) (t : List ℕ) → NameEnds t → identstringOf (h .bytes ++ t) ≡ ok (length (h .bytes)) (map lower (h .bytes))
 unfolding identstringOf charsOf behind pick
 hash-named h t e =
     let c = characters t e (h .are) in
@@ -254,7 +255,6 @@ hash-named h t e =
       c .0,
       is-no (length (h .bytes)) 0 (λ z. omega (arith, h .some)),
       c .1,
-      h .small,
       zero-add (length (h .bytes)),
     )
   where
@@ -268,7 +268,7 @@ unfolding whitespaceItem isWhitespace commentOf tokenBy startOf isQuote hashOf o
 hash-begins l m b p = begins-by ascii.numberSign l (1 + m) (tokens.hash b) refl (omega arith) (rw p)
 
 -- "If the next input code point is an ident code point ..: Consume an ident sequence, and set the <hash-token>'s value to the returned string"
-pub hash-token : (h : Hashed) (t : List ℕ) → endsName (getD t 0 0) ≡ true → Begins (ascii.numberSign ∷ (h .bytes ++ t)) (1 + length (h .bytes)) (tokens.hash (h .bytes))
+pub hash-token : (h : Hashed) (t : List ℕ) → endsName (getD t 0 0) ≡ true → Begins (ascii.numberSign ∷ (h .bytes ++ t)) (1 + length (h .bytes)) (tokens.hash (map lower (h .bytes)))
 hash-token h t e = hash-begins (h .bytes ++ t) _ _ (hash-named h t (name-ends t e))
 
 -- a digit is an ident code point
@@ -583,8 +583,8 @@ percentage-token n t = numeral-begins n (ascii.percentSign ∷ t) 1 _ (numeric-f
 
 -- "Create a <dimension-token> with the same value, and a unit set initially to the empty string. Consume an ident sequence. Set the
 -- <dimension-token>'s unit to the returned value"
-pub dimension-token : (n : Numeral) (w : Name) (t : List ℕ) → endsName (getD t 0 0) ≡ true
-    → Begins (writtenNumeral n ++ (w .bytes ++ t)) (length (writtenNumeral n) + length (w .bytes)) (tokens.dimension (meansNumeral n) (w .bytes))
+pub dimension-token : (n : Numeral) (w : Ident) (t : List ℕ) → endsName (getD t 0 0) ≡ true
+    → Begins (writtenNumeral n ++ (w .bytes ++ t)) (length (writtenNumeral n) + length (w .bytes)) (tokens.dimension (meansNumeral n) (folded w))
 dimension-token n w t e =
     let g = unit-first (w .bytes) t (w .sequence) in
     numeral-begins n (w .bytes ++ t) (length (w .bytes)) _
@@ -615,7 +615,7 @@ name-behind b s n w z p =
     rw (skips-blank (b .bytes) s (b .blank) z, drop-append-seam (b .bytes) s, sym (name-at s (skips-blank [] s blanks.none z)) ∙ p)
 
 -- a name begins no white space
-name-item : (n : Name) (t : List ℕ) → whitespaceItem (n .bytes ++ t) ≡ 0
+name-item : (n : Ident) (t : List ℕ) → whitespaceItem (n .bytes ++ t) ≡ 0
 name-item n t = by-start (n .bytes) (n .sequence)
   where
     by-start : (bytes : List ℕ) → IdentSequence bytes → whitespaceItem (bytes ++ t) ≡ 0
@@ -636,9 +636,9 @@ white-quiet blanks.tab = (refl, refl)
 white-quiet blanks.blank-space = (refl, refl)
 
 -- so it is one token
-pub spaced-token : (n : Numeral) (s : Spaces) (w : Name) (t : List ℕ) → endsName (getD t 0 0) ≡ true
+pub spaced-token : (n : Numeral) (s : Spaces) (w : Ident) (t : List ℕ) → endsName (getD t 0 0) ≡ true
     → Begins (writtenNumeral n ++ (s .space ∷ (s .more .bytes ++ (w .bytes ++ t)))) (length (writtenNumeral n) + (suc (length (s .more .bytes)) + length (w .bytes)))
-    (tokens.dimension (meansNumeral n) (w .bytes))
+    (tokens.dimension (meansNumeral n) (folded w))
 unfolding gapOf
 spaced-token n s w t e =
     let u = s .space ∷ (s .more .bytes ++ (w .bytes ++ t)) in
@@ -685,7 +685,7 @@ brace-token t = mark-begins ascii.leftCurlyBracket t refl (omega arith) refl
 pub closer-token : (o : Opening) (t : List ℕ) → Begins (closer o ∷ t) 1 (meansCloser o)
 unfolding closer meansCloser whitespaceItem isWhitespace commentOf startOf isQuote isIdentStart isDigit markOf pick or and within is
 closer-token (function n d) t = mark-begins ascii.rightParenthesis t refl (omega arith) refl
-closer-token link t = mark-begins ascii.rightParenthesis t refl (omega arith) refl
+closer-token (link n d) t = mark-begins ascii.rightParenthesis t refl (omega arith) refl
 closer-token round t = mark-begins ascii.rightParenthesis t refl (omega arith) refl
 closer-token square t = mark-begins ascii.rightSquareBracket t refl (omega arith) refl
 closer-token brace t = mark-begins ascii.rightCurlyBracket t refl (omega arith) refl
@@ -786,7 +786,7 @@ atom-begins (string q) t e =
     let l : length (q .quote ∷ (q .body ++ (q .quote ∷ []))) ≡ 1 + length (q .body) + 1 = omega (arith, length-append (q .body) (q .quote ∷ [])) in
     subst (λ (i : ℕ). Begins ((q .quote ∷ (q .body ++ (q .quote ∷ []))) ++ t) i (tokens.string (q .body))) (sym l)
     (subst (λ (r : List ℕ). Begins (q .quote ∷ r) (1 + length (q .body) + 1) (tokens.string (q .body))) (sym (append-assoc (q .body) (q .quote ∷ []) t)) (string-token q t))
-atom-begins (hash h) t e = subst (λ (i : ℕ). Begins (ascii.numberSign ∷ (h .bytes ++ t)) i (tokens.hash (h .bytes))) (omega arith) (hash-token h t e)
+atom-begins (hash h) t e = subst (λ (i : ℕ). Begins (ascii.numberSign ∷ (h .bytes ++ t)) i (tokens.hash (map lower (h .bytes)))) (omega arith) (hash-token h t e)
 atom-begins (number n) t e = number-token n t e
 atom-begins (percentage n) t e =
     let m = writtenNumeral n in
@@ -796,8 +796,9 @@ atom-begins (dimension n u) t e =
     let m = writtenNumeral n in
     let w = u .name .bytes in
     let a = and-true (endsName (getD t 0 0)) _ e in
-    subst (λ (i : ℕ). Begins ((m ++ w) ++ t) i (tokens.dimension (meansNumeral n) w)) (sym (length-append m w))
-    (subst (λ (r : List ℕ). Begins r (length m + length w) (tokens.dimension (meansNumeral n) w)) (sym (append-assoc m w t)) (dimension-token n (u .name) t (a .0)))
+    let k = tokens.dimension (meansNumeral n) (folded (u .name)) in
+    subst (λ (i : ℕ). Begins ((m ++ w) ++ t) i k) (sym (length-append m w))
+    (subst (λ (r : List ℕ). Begins r (length m + length w) k) (sym (append-assoc m w t)) (dimension-token n (u .name) t (a .0)))
 atom-begins comma t e = comma-token t
 atom-begins colon t e = colon-token t
 atom-begins semicolon t e = semicolon-token t
@@ -809,28 +810,24 @@ atom-begins (spaced n s w) t e =
     let m = writtenNumeral n in
     let g = s .space ∷ s .more .bytes in
     let b = w .bytes in
-    subst (λ (i : ℕ). Begins ((m ++ (g ++ b)) ++ t) i (tokens.dimension (meansNumeral n) b)) (omega (arith, length-append m (g ++ b), length-append g b))
-    (subst (λ (r : List ℕ). Begins r (length m + (length g + length b)) (tokens.dimension (meansNumeral n) b)) (sym (append-assoc m (g ++ b) t ∙ ap (λ (l : List ℕ). m ++ l) (append-assoc g b t)))
+    let k = tokens.dimension (meansNumeral n) (folded w) in
+    subst (λ (i : ℕ). Begins ((m ++ (g ++ b)) ++ t) i k) (omega (arith, length-append m (g ++ b), length-append g b))
+    (subst (λ (r : List ℕ). Begins r (length m + (length g + length b)) k) (sym (append-assoc m (g ++ b) t ∙ ap (λ (l : List ℕ). m ++ l) (append-assoc g b t)))
     (spaced-token n s w t e))
 
 -- a function's name and its bracket
-function-begins : (n : Name) (t : List ℕ)
-    → Begins ((n .bytes ++ (ascii.leftParenthesis ∷ [])) ++ t) (length (n .bytes ++ (ascii.leftParenthesis ∷ []))) (tokens.function (n .bytes))
+function-begins : (n : Ident) (t : List ℕ)
+    → Begins ((n .bytes ++ (ascii.leftParenthesis ∷ [])) ++ t) (length (n .bytes ++ (ascii.leftParenthesis ∷ []))) (tokens.function (folded n))
 function-begins n t =
     let b = n .bytes in
-    subst (λ (i : ℕ). Begins ((b ++ (ascii.leftParenthesis ∷ [])) ++ t) i (tokens.function b)) (sym (length-append b (ascii.leftParenthesis ∷ [])))
-    (subst (λ (r : List ℕ). Begins r (length b + 1) (tokens.function b)) (sym (append-assoc b (ascii.leftParenthesis ∷ []) t)) (function-token n t))
-
--- `url` is one
-unfoldable url : Name
-unfolding identStart identCodePoint letter lower or and within is text utf8 pick
-url = record { bytes = text "url"; sequence = started refl (more refl (more refl none)); small = refl }
+    subst (λ (i : ℕ). Begins ((b ++ (ascii.leftParenthesis ∷ [])) ++ t) i (tokens.function (folded n))) (sym (length-append b (ascii.leftParenthesis ∷ [])))
+    (subst (λ (r : List ℕ). Begins r (length b + 1) (tokens.function (folded n))) (sym (append-assoc b (ascii.leftParenthesis ∷ []) t)) (function-token n t))
 
 -- and so is every token that opens a block
 pub opening-begins : (o : Opening) (t : List ℕ) → Begins (writtenOpening o ++ t) (length (writtenOpening o)) (meansOpening o)
-unfolding writtenOpening meansOpening url
+unfolding writtenOpening meansOpening
 opening-begins (function n d) t = function-begins n t
-opening-begins link t = function-begins url t
+opening-begins (link n d) t = function-begins n t
 opening-begins round t = round-token t
 opening-begins square t = square-token t
 opening-begins brace t = brace-token t

@@ -4,7 +4,6 @@ use mathlib.Core.Bool.{Bool, true, false, not}
 use mathlib.Core.List.{List, [], _∷_, _++_, append-assoc, append-nil}
 use Prim.Native.Nat.{ℕ, zero, suc, _+_, _-_, _≤_}
 use native.Mathlib.Nat.{zero-add, add-zero}
-use native.Mathlib.Numerals.{add-one}
 use native.Mathlib.Omega.{arith}
 use lib.ListN.{length, getD, drop, length-append, drop-of-length-le}
 use lib.Seq.{drop-append-add, drop-append-seam}
@@ -17,24 +16,20 @@ use Rattle.combinators.proofs.Rules.{never, and-right}
 use Rattle.unicode.specs.Literal.{text}
 use Rattle.unicode.specs.Utf8.{utf8, scalarOf, scalarBy}
 use Rattle.unicode.specs.WhiteSpace.{member}
-use Rattle.lexer.specs.Name.{lower}
 use Rattle.lexer.specs.Token as tokens
 use Rattle.lexer.specs.Token.{Token, tokenAt, tokenOf, coded, textOf}
 use Rattle.lexer.specs.TokenRow.{columnsOf}
 use Rattle.lexer.specs.Whitespace.{isWhitespace, commentOf, whitespaceItem, skipWhitespace}
-use Rattle.lexer.proofs.SyntaxName.{started, more, identStart, identCodePoint, letter}
-use Rattle.lexer.proofs.SyntaxName as each
+use Rattle.lexer.proofs.SyntaxName.{identStart, identCodePoint, letter}
 use Rattle.lexer.proofs.SyntaxWhitespace.{Blank, none, white, comment, skips-blank}
 use Rattle.lexer.proofs.TokenBounds.{token-fits}
-use Rattle.values.specs.Value.{Placed, Bracket, bracketBy, bracketOf, Step, next, before, behind, closing, ending, stepOf, Statement, stop, cons, onStep, scan, statementOf, tokensOf, isMark, isImportant, withoutMark, valueFrom, valueOf}
+use Rattle.values.specs.Value.{Placed, bracketBy, bracketOf, next, before, behind, closing, ending, stepOf, Statement, stop, cons, onStep, scan, statementOf, tokensOf, isMark, isImportant, withoutMark, valueFrom, valueOf}
 use Rattle.values.specs.Words.{kindOf, firstOf, isKind, isWord, isDelim}
 use Rattle.grammar.specs.Nth.{Blanks}
-use Rattle.grammar.specs.Selectors.{Name}
-use Rattle.grammar.specs.Tokens.{isDelimiter, Atom, word, string, hash, number, percentage, dimension, comma, colon, semicolon, delimiter, point, hyphen, whole, spaced, Opening, function, link, round, square, brace, writtenAtom, writtenOpening, closer, meansAtom, meansOpening, meansCloser, endsName, beginsName, mayFollow, MayFollow, EndsBefore}
+use Rattle.grammar.specs.Tokens.{Ident, folded, isDelimiter, Atom, word, string, hash, number, percentage, dimension, comma, colon, semicolon, delimiter, point, hyphen, whole, spaced, Opening, function, link, round, square, brace, writtenAtom, writtenOpening, closer, meansAtom, meansOpening, meansCloser, endsName, beginsName, mayFollow, MayFollow, EndsBefore}
 use Rattle.grammar.specs.Values.{Values, end, then, block, writtenValues, meansValues, Follows, Address, Inside, Apart, isSemicolon, isBang, isBrace, Outermost, Unmarked, DeclarationValue, Importance, normal, important, writtenImportance, isMarked}
-use Rattle.grammar.proofs.ComponentsRead.{behind-blank}
 use Rattle.grammar.proofs.Places.{Unblank, blank-first}
-use Rattle.grammar.proofs.TokensRead.{ended-digit, Begins, token-skips, token-read, semicolon-token, closer-token, atom-begins, opening-begins, closer-read, ends-behind}
+use Rattle.grammar.proofs.TokensRead.{ended-digit, Begins, token-read, semicolon-token, closer-token, atom-begins, opening-begins, closer-read, ends-behind}
 
 -- no white space
 abbrev pub unspaced : Blanks
@@ -163,7 +158,7 @@ module _ (include : Bool) (b : Blanks) where
   pub opening-goes : (o : Opening) (cs : List ℕ) → stepOf include (bracketOf (meansOpening o)) cs ≡ next (closer o ∷ cs)
   unfolding stepOf bracketOf bracketBy coded meansOpening closer
   opening-goes (function n d) cs = refl
-  opening-goes link cs = refl
+  opening-goes (link n d) cs = refl
   opening-goes round cs = refl
   opening-goes square cs = refl
   opening-goes brace cs = refl
@@ -173,8 +168,8 @@ module _ (include : Bool) (b : Blanks) where
   unfolding stepOf bracketOf bracketBy coded meansCloser closer closing pick is Within Outermost isBrace
   closing-goes (function n d) w v [] h = refl
   closing-goes (function n d) w v (c ∷ cs) h = refl
-  closing-goes link w v [] h = refl
-  closing-goes link w v (c ∷ cs) h = refl
+  closing-goes (link n d) w v [] h = refl
+  closing-goes (link n d) w v (c ∷ cs) h = refl
   closing-goes round w v [] h = refl
   closing-goes round w v (c ∷ cs) h = refl
   closing-goes square w v [] h = refl
@@ -255,7 +250,7 @@ closes-first : {t : List ℕ} → Closes t → (continues (getD t 0 0) ≡ false
 unfolding continues beginsName identCodePoint identStart letter closer whitespaceItem isWhitespace commentOf pick or and within is
 closes-first nothing = (refl, refl, refl)
 closes-first (closed (function n d) r) = (refl, refl, refl)
-closes-first (closed link r) = (refl, refl, refl)
+closes-first (closed (link n d) r) = (refl, refl, refl)
 closes-first (closed round r) = (refl, refl, refl)
 closes-first (closed square r) = (refl, refl, refl)
 closes-first (closed brace r) = (refl, refl, refl)
@@ -370,7 +365,7 @@ brackets-plain : (o : Opening) → (isDelim ascii.exclamationMark (meansOpening 
     × (isWord (text "important") (meansCloser o) ≡ false)
 unfolding meansOpening meansCloser isDelim isWord isKind kindOf columnsOf coded and is
 brackets-plain (function n d) = (refl, refl, refl)
-brackets-plain link = (refl, refl, refl)
+brackets-plain (link n d) = (refl, refl, refl)
 brackets-plain round = (refl, refl, refl)
 brackets-plain square = (refl, refl, refl)
 brackets-plain brace = (refl, refl, refl)
@@ -427,7 +422,7 @@ follows a (block b o w v) z f h g =
 -- what stands in brackets is told apart
 inside-apart : (o : Opening) (address apart : Type 0) → Inside o address apart → apart
 inside-apart (function n d) address apart h = h
-inside-apart link address apart h = h .1
+inside-apart (link n d) address apart h = h .1
 inside-apart round address apart h = h
 inside-apart square address apart h = h
 inside-apart brace address apart h = h
@@ -563,39 +558,35 @@ value-ends v z h o e =
     subst (λ (n : ℕ). Stated false (writtenValues v ++ z) n (meansValues v)) (passed-length (writtenValues v) refl p) (stated p (value-stops e))
 
 -- ---- the mark `!important`
--- the name `important`
-unfoldable importantName : Name
-unfolding identCodePoint identStart letter or and within is lower pick text utf8
-importantName = record { bytes = text "important"; sequence = started refl (more refl (more refl (more refl (more refl (more refl (more refl (more refl (more refl each.none)))))))); small = refl }
-
 -- the '!' is a delimiter
 bang-begins : (t : List ℕ) → Begins (ascii.exclamationMark ∷ t) 1 (tokens.delim ascii.exclamationMark)
 unfolding isDelimiter member text utf8 writtenAtom meansAtom mayFollow or and is pick
 bang-begins t = atom-begins (delimiter ascii.exclamationMark refl) t refl
 
 -- and the word ends before what closes
-important-begins : (z : List ℕ) → Halts z → Begins (text "important" ++ z) (length (text "important")) (tokens.ident (text "important"))
-unfolding importantName writtenAtom meansAtom
-important-begins _ (halts {l} {t} h c) = atom-begins (word importantName) (l ++ t) (blank-ends (word importantName) t h c)
+important-begins : (n : Ident) → folded n ≡ text "important" → (z : List ℕ) → Halts z → Begins (n .bytes ++ z) (length (n .bytes)) (tokens.ident (text "important"))
+unfolding writtenAtom meansAtom
+important-begins n e _ (halts {l} {t} h c) =
+    subst (λ (w : List ℕ). Begins (n .bytes ++ (l ++ t)) (length (n .bytes)) (tokens.ident w)) e (atom-begins (word n) (l ++ t) (blank-ends (word n) t h c))
 
--- a value and its mark, with z behind it
-marked-onto : (v : Values) (b c : Blanks) (z : List ℕ)
-    → (writtenValues v ++ writtenImportance (important b c)) ++ z ≡ writtenValues v ++ (b .bytes ++ (ascii.exclamationMark ∷ (c .bytes ++ (text "important" ++ z))))
-unfolding writtenImportance
-marked-onto v b c z =
-    append-assoc (writtenValues v) (b .bytes ++ (ascii.exclamationMark ∷ (c .bytes ++ text "important"))) z
-    ∙ ap (λ (l : List ℕ). writtenValues v ++ l)
-    (append-assoc (b .bytes) (ascii.exclamationMark ∷ (c .bytes ++ text "important")) z
-    ∙ ap (λ (l : List ℕ). b .bytes ++ (ascii.exclamationMark ∷ l)) (append-assoc (c .bytes) (text "important") z))
+module _ (v : Values) (b c : Blanks) (n : Ident) (i : folded n ≡ text "important") (z : List ℕ) where
+  -- a value and its mark, with z behind it
+  marked-onto : (writtenValues v ++ writtenImportance (important b c n i)) ++ z ≡ writtenValues v ++ (b .bytes ++ (ascii.exclamationMark ∷ (c .bytes ++ (n .bytes ++ z))))
+  unfolding writtenImportance
+  marked-onto =
+      append-assoc (writtenValues v) (b .bytes ++ (ascii.exclamationMark ∷ (c .bytes ++ n .bytes))) z
+      ∙ ap (λ (l : List ℕ). writtenValues v ++ l)
+      (append-assoc (b .bytes) (ascii.exclamationMark ∷ (c .bytes ++ n .bytes)) z
+      ∙ ap (λ (l : List ℕ). b .bytes ++ (ascii.exclamationMark ∷ l)) (append-assoc (c .bytes) (n .bytes) z))
 
--- both pass
-marked-pass : (v : Values) (b c : Blanks) (z : List ℕ) → Apart v → Outermost v → Halts z
-    → Passes false (writtenValues v ++ (b .bytes ++ (ascii.exclamationMark ∷ (c .bytes ++ (text "important" ++ z))))) z 0 [] [] (meansValues v ++ markTokens)
-marked-pass v b c z h o g =
-    let x = c .bytes ++ (text "important" ++ z) in
-    let p = outer-pass {include = false} v (b .bytes ++ (ascii.exclamationMark ∷ x)) h o (halts (b .blank) (at-bang x)) in
-    let q = passes-token {include = false} b (ascii.exclamationMark ∷ []) x (0 + p .taken) (tokens.delim ascii.exclamationMark) [] [] (bang-begins x) (mark-goes .0) in
-    passes-on p (passes-on q (passes-token {include = false} c (text "important") z (0 + p .taken + q .taken) (tokens.ident (text "important")) [] [] (important-begins z g) (mark-goes .1)))
+  -- both pass
+  marked-pass : Apart v → Outermost v → Halts z
+      → Passes false (writtenValues v ++ (b .bytes ++ (ascii.exclamationMark ∷ (c .bytes ++ (n .bytes ++ z))))) z 0 [] [] (meansValues v ++ markTokens)
+  marked-pass h o g =
+      let x = c .bytes ++ (n .bytes ++ z) in
+      let p = outer-pass {include = false} v (b .bytes ++ (ascii.exclamationMark ∷ x)) h o (halts (b .blank) (at-bang x)) in
+      let q = passes-token {include = false} b (ascii.exclamationMark ∷ []) x (0 + p .taken) (tokens.delim ascii.exclamationMark) [] [] (bang-begins x) (mark-goes .0) in
+      passes-on p (passes-on q (passes-token {include = false} c (n .bytes) z (0 + p .taken + q .taken) (tokens.ident (text "important")) [] [] (important-begins n i z g) (mark-goes .1)))
 
 -- ---- `valueOf`
 -- by what the statement says
@@ -613,11 +604,11 @@ value-read v normal z h e =
     let k = values-unmarked v (h .unmarked) in
     ap (λ (l : List ℕ). valueOf (l ++ z)) w ∙ value-by (writtenValues v ++ z) _ (meansValues v) _ _ (value-ends v z (h .apart) (h .outermost) e) (unmarked-whole (meansValues v) k) k
     ∙ ap (λ (l : List ℕ). ok (length l) (record { tokens = meansValues v; important = false })) (sym w)
-value-read v (important b c) z h e =
-    let s = writtenValues v ++ writtenImportance (important b c) in
-    let p = marked-pass v b c z (h .apart) (h .outermost) (ends-halt e) in
-    let d = sym (marked-onto v b c z) in
+value-read v (important b c n i) z h e =
+    let s = writtenValues v ++ writtenImportance (important b c n i) in
+    let p = marked-pass v b c n i z (h .apart) (h .outermost) (ends-halt e) in
+    let d = sym (marked-onto v b c n i z) in
     value-by (s ++ z) (length s) (meansValues v ++ markTokens) (meansValues v) true
     (subst (λ (l : List ℕ). Stated false l (length s) (meansValues v ++ markTokens)) d
-    (subst (λ (n : ℕ). Stated false (writtenValues v ++ (b .bytes ++ (ascii.exclamationMark ∷ (c .bytes ++ (text "important" ++ z))))) n (meansValues v ++ markTokens)) (passed-length s d p) (stated p (value-stops e))))
+    (subst (λ (m : ℕ). Stated false (writtenValues v ++ (b .bytes ++ (ascii.exclamationMark ∷ (c .bytes ++ (n .bytes ++ z))))) m (meansValues v ++ markTokens)) (passed-length s d p) (stated p (value-stops e))))
     (marked-without (meansValues v)) (marked-is (meansValues v))

@@ -2,6 +2,6 @@ pub mod Nth
 pub mod Selectors
 pub mod Tokens
 pub mod Values
-pub mod Spelling
+pub mod HexDigits
 pub mod Declarations
 pub mod Sheets

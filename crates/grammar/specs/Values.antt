@@ -12,7 +12,7 @@ use Rattle.unicode.specs.Literal.{text}
 use Rattle.lexer.specs.Token.{Token, isQuote}
 use Rattle.lexer.proofs.SyntaxName.{Each}
 use Rattle.grammar.specs.Nth.{Blanks}
-use Rattle.grammar.specs.Tokens.{Atom, word, string, hash, number, percentage, dimension, comma, colon, semicolon, delimiter, point, hyphen, whole, spaced, Opening, function, link, round, square, brace, writtenAtom, writtenOpening, closer, meansAtom, meansOpening, meansCloser, MayFollow}
+use Rattle.grammar.specs.Tokens.{Ident, folded, Atom, word, string, hash, number, percentage, dimension, comma, colon, semicolon, delimiter, point, hyphen, whole, spaced, Opening, function, link, round, square, brace, writtenAtom, writtenOpening, closer, meansAtom, meansOpening, meansCloser, MayFollow}
 
 -- ---- what is written: tokens and blocks, with white space and comments or none before each and at the end
 pub data Values : Type 0 where
@@ -55,7 +55,7 @@ Address w = (isQuote (getD (writtenValues w) 0 0) ≡ true) ⊎ Each urlCodePoin
 -- it is asked of that bracket alone
 abbrev pub Inside : Opening → Type 0 → Type 0 → Type 0
 Inside (function n d) address apart = apart
-Inside link address apart = address × apart
+Inside (link n d) address apart = address × apart
 Inside round address apart = apart
 Inside square address apart = apart
 Inside brace address apart = apart
@@ -100,7 +100,7 @@ isBang (spaced n s w) = false
 
 unfoldable pub isBrace : Opening → Bool
 isBrace (function n d) = false
-isBrace link = false
+isBrace (link n d) = false
 isBrace round = false
 isBrace square = false
 isBrace brace = true
@@ -132,15 +132,15 @@ pub record DeclarationValue (v : Values) : Type 0 where
   pub unmarked : Unmarked v
 
 -- ---- what may stand behind a declaration's value: nothing, or the mark `!important`, with white space or none before both its tokens (5.4.6, "the
--- last two non-<whitespace-token>s in the declaration's value"). The document reads `important` in letters of either case.
+-- last two non-<whitespace-token>s in the declaration's value"), in letters of either case.
 pub data Importance : Type 0 where
   normal : Importance
-  important : Blanks → Blanks → Importance
+  important : Blanks → Blanks → (n : Ident) → folded n ≡ text "important" → Importance
 
 unfoldable pub writtenImportance : Importance → List ℕ
 writtenImportance normal = []
-writtenImportance (important b c) = b .bytes ++ (ascii.exclamationMark ∷ (c .bytes ++ text "important"))
+writtenImportance (important b c n h) = b .bytes ++ (ascii.exclamationMark ∷ (c .bytes ++ n .bytes))
 
 unfoldable pub isMarked : Importance → Bool
 isMarked normal = false
-isMarked (important b c) = true
+isMarked (important b c n h) = true
