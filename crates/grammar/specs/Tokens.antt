@@ -84,7 +84,7 @@ pub data Atom : Type 0 where
 pub data Opening : Type 0 where
   function : (n : Ident) → sameText (folded n) (text "url") ≡ false → Opening
   -- `url(`, which the document takes for a function only where a string follows; else all up to `)` is one <url-token> (4.3.4, 4.3.6)
-  link : (n : Ident) → folded n ≡ text "url" → Opening
+  link : (n : Ident) → sameText (folded n) (text "url") ≡ true → Opening
   round : Opening
   square : Opening
   brace : Opening
