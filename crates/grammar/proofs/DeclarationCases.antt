@@ -31,29 +31,20 @@ use Rattle.grammar.specs.Selectors.{Quoted, unprocessed, typed, universa
 use Rattle.grammar.specs.Selectors as selectors
 use Rattle.grammar.specs.Tokens.{Numeral, folded, isExponent, writtenStop, writtenNumeral, writtenAtom, writtenOpening, closer}
 use Rattle.grammar.specs.Values.{writtenValues}
-use Rattle.grammar.specs.HexDigits.{HexDigit, digitBytes, hashed}
 use Rattle.grammar.specs.Declarations.{named, three, shade, parts, isZero, measured, bare, last, color, background, height, maxHeight, content, Declared, known, knownName, property, shadeValues, partValues, colourValues, lengthValues, stringValues, knownValues, valuesOf, pair, meansShade, meansColour, meansLength, meansStrings, meansKnown, meansDeclared}
 use Rattle.grammar.specs.Declarations as declarations
-use Rattle.grammar.proofs.Spelling.{isSpelt, ident, spelt}
+use Rattle.grammar.proofs.Spelling.{isSpelt, ident, spelt, hashed}
 use Rattle.grammar.proofs.GrammarCases.{nothing, blank}
-
--- ---- parts
--- hexadecimal digits
-unfoldable digit0 : HexDigit
-unfolding isHexDigit or and within
-digit0 = record { byte = ascii.digitZero; hex = refl }
-
-unfoldable digitF : HexDigit
-unfolding isHexDigit or and within
-digitF = record { byte = ascii.capitalF; hex = refl }
 
 -- `Color: #0F0`
 unfoldable green : Declared
-unfolding isSpelt allOf ident folded lower identStart identCodePoint letter knownName text utf8 pick or and is within
-green = known (ident (text "Color") refl) blank (color (shade (three digit0 digitF digit0))) refl
+unfolding isSpelt allOf ident hashed folded lower isHexDigit identStart identCodePoint letter knownName text utf8 pick or and is within
+green =
+    known (ident (text "Color") refl) blank
+    (color (shade (three (hashed (text "0F0") refl (omega arith)) ascii.digitZero ascii.capitalF ascii.digitZero refl refl))) refl
 
 test-green : (property green .bytes ≡ text "Color") × (writtenValues (valuesOf green) ≡ text " #0F0") × (meansDeclared green ≡ syntax.color (rgb 0 255 0))
-unfolding green digit0 digitF property ident valuesOf knownValues colourValues shadeValues hashed digitBytes writtenValues writtenAtom meansDeclared meansKnown meansColour meansShade pair hexDigit text utf8 continuation pick and within
+unfolding green property ident valuesOf knownValues colourValues shadeValues hashed writtenValues writtenAtom meansDeclared meansKnown meansColour meansShade pair hexDigit text utf8 continuation pick and within
 test-green = (refl, refl, refl)
 
 -- `background:Orange`

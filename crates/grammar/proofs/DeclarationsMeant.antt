@@ -10,7 +10,7 @@ use Rattle.combinators.specs.All.{All}
 use Rattle.combinators.specs.Ascii as ascii
 use Rattle.combinators.specs.Choice.{pick, or, and, is, within}
 use Rattle.combinators.specs.Word.{sameText}
-use Rattle.combinators.proofs.Rules.{never, either, pick-true, or-left, within-true, within-yes, within-false, within-past}
+use Rattle.combinators.proofs.Rules.{never, and-true, either, pick-true, or-left, within-true, within-yes, within-false, within-past}
 use Rattle.combinators.proofs.Words.{same-is}
 use Rattle.unicode.specs.Literal.{text}
 use Rattle.unicode.specs.Utf8.{utf8, continuation}
@@ -22,14 +22,13 @@ use Rattle.lexer.proofs.SyntaxName.{letter, identStart, identCodePoint}
 use Rattle.syntax.specs.Declaration as syntax
 use Rattle.syntax.specs.Declaration.{Colour, Overflow, WhiteSpace}
 use Rattle.values.specs.Words.{Entry, Found, found, missing, foundOr, lookup, onFound, kindOf, firstOf, numberOf, unitOf, isKind}
-use Rattle.values.specs.Colour.{rgb, colours, oneToken, colourOf, hashColour, behindComma, backgroundOf}
+use Rattle.values.specs.Colour.{rgb, colours, allOf, oneToken, colourOf, hashColour, behindComma, backgroundOf}
 use Rattle.values.specs.Property.{numberZero, units, anyOf, heightOf, firstWord, overflowOf, displayOf, whiteSpaceOf, contentOf, properties, declOf}
 use Rattle.values.proofs.CssColour.{six-digits, replicated, functional}
 use Rattle.grammar.specs.Nth.{Blanks}
 use Rattle.grammar.specs.Selectors.{Quoted}
 use Rattle.grammar.specs.Tokens.{Numeral, Ident, folded, Atom, word, string, number, dimension, comma, writtenAtom, meansAtom, meansOpening, meansCloser, meansNumeral, endsName, beginsName, mayFollow, MayFollow}
 use Rattle.grammar.specs.Values.{Values, end, then, block, meansValues, Follows, Apart, isSemicolon, isBang, isBrace, Outermost, Unmarked, Some, DeclarationValue}
-use Rattle.grammar.specs.HexDigits.{HexDigit, digitBytes, hashed}
 use Rattle.grammar.specs.Declarations.{Keyword, colourNames, Shade, named, three, six, ColourValue, shade, parts, lengthUnits, isZero, Length, measured, bare, overflowWords, displayWords, whiteSpaceWords, Strings, last, more, Known, color, backgroundColor, background, height, maxHeight, overflow, overflowY, display, whiteSpace, content, knownNames, Declared, known, other, knownName, property, alone, shadeValues, partValues, colourValues, lengthValues, stringValues, knownValues, valuesOf, pair, meansShade, meansColour, meansLength, meansStrings, meansKnown, meansDeclared}
 use Rattle.grammar.proofs.Places.{Unblank, blank-first}
 use Rattle.grammar.proofs.NumbersMeant.{part-integer, numeral-zero}
@@ -123,43 +122,57 @@ turned x h =
     }
 
 -- so with each digit
-small-digit : (d : HexDigit) → Small (d .byte)
+small-digit : (x : ℕ) → isHexDigit x ≡ true → Small x
 unfolding isHexDigit
-small-digit d =
-    let x = d .byte in
-    either (Small x) _ _ (d .hex)
-    (λ e. let p = within-true x ascii.digitZero ascii.digitNine e in stays x (d .hex) (sym (within-false x ascii.capitalA ascii.capitalZ (omega arith))))
+small-digit x h =
+    either (Small x) _ _ h
+    (λ e. let p = within-true x ascii.digitZero ascii.digitNine e in stays x h (sym (within-false x ascii.capitalA ascii.capitalZ (omega arith))))
     (λ l. either (Small x) _ _ l
-    (λ e. let p = within-true x ascii.smallA ascii.smallF e in stays x (d .hex) (within-past x ascii.capitalA ascii.capitalZ (omega arith)))
+    (λ e. let p = within-true x ascii.smallA ascii.smallF e in stays x h (within-past x ascii.capitalA ascii.capitalZ (omega arith)))
     (λ e. turned x e))
 
+-- and with the first of several
+first-digit : (x : ℕ) (r : List ℕ) → allOf isHexDigit (x ∷ r) ≡ true → Small x × (allOf isHexDigit r ≡ true)
+unfolding allOf
+first-digit x r h = let p = and-true (isHexDigit x) (allOf isHexDigit r) h in (small-digit x (p .0), p .1)
+
 -- six digits in letters of either case
-six-small : (p q x y z w : HexDigit) → hashColour (map lower (digitBytes (p ∷ q ∷ x ∷ y ∷ z ∷ w ∷ []))) ≡ found (rgb (pair p q) (pair x y) (pair z w))
-unfolding digitBytes pair
-six-small p q x y z w =
-    let a = small-digit p in
-    let b = small-digit q in
-    let c = small-digit x in
-    let d = small-digit y in
-    let e = small-digit z in
-    let f = small-digit w in
-    six-digits (lower (p .byte)) (lower (q .byte)) (lower (x .byte)) (lower (y .byte)) (lower (z .byte)) (lower (w .byte)) (a .hex) (b .hex) (c .hex) (d .hex) (e .hex) (f .hex)
+six-small : (p q x y z w : ℕ) → Small p → Small q → Small x → Small y → Small z → Small w
+    → hashColour (map lower (p ∷ q ∷ x ∷ y ∷ z ∷ w ∷ [])) ≡ found (rgb (pair p q) (pair x y) (pair z w))
+unfolding pair
+six-small p q x y z w a b c d e f =
+    six-digits (lower p) (lower q) (lower x) (lower y) (lower z) (lower w) (a .hex) (b .hex) (c .hex) (d .hex) (e .hex) (f .hex)
     ∙ rw (a .same, b .same, c .same, d .same, e .same, f .same)
 
+-- by one test of them all
+six-meant : (p q x y z w : ℕ) → allOf isHexDigit (p ∷ q ∷ x ∷ y ∷ z ∷ w ∷ []) ≡ true
+    → hashColour (map lower (p ∷ q ∷ x ∷ y ∷ z ∷ w ∷ [])) ≡ found (rgb (pair p q) (pair x y) (pair z w))
+six-meant p q x y z w h =
+    let a = first-digit p (q ∷ x ∷ y ∷ z ∷ w ∷ []) h in
+    let b = first-digit q (x ∷ y ∷ z ∷ w ∷ []) (a .1) in
+    let c = first-digit x (y ∷ z ∷ w ∷ []) (b .1) in
+    let d = first-digit y (z ∷ w ∷ []) (c .1) in
+    let e = first-digit z (w ∷ []) (d .1) in
+    six-small p q x y z w (a .0) (b .0) (c .0) (d .0) (e .0) (first-digit w [] (e .1) .0)
+
 -- three are replicated
-three-small : (x y z : HexDigit) → hashColour (map lower (digitBytes (x ∷ y ∷ z ∷ []))) ≡ found (rgb (pair x x) (pair y y) (pair z z))
-unfolding digitBytes
-three-small x y z =
-    replicated (lower (x .byte)) (lower (y .byte)) (lower (z .byte)) (small-digit x .hex) (small-digit y .hex) (small-digit z .hex) ∙ six-small x x y y z z
+three-meant : (x y z : ℕ) → allOf isHexDigit (x ∷ y ∷ z ∷ []) ≡ true → hashColour (map lower (x ∷ y ∷ z ∷ [])) ≡ found (rgb (pair x x) (pair y y) (pair z z))
+three-meant x y z h =
+    let a = first-digit x (y ∷ z ∷ []) h in
+    let b = first-digit y (z ∷ []) (a .1) in
+    let c = first-digit z [] (b .1) in
+    replicated (lower x) (lower y) (lower z) (a .0 .hex) (b .0 .hex) (c .0 .hex) ∙ six-small x x y y z z (a .0) (a .0) (b .0) (b .0) (c .0) (c .0)
 
 -- a colour in one token is what it means
 shade-meant : (b : Blanks) (s : Shade) → colourOf (meansValues (shadeValues b s)) ≡ found (meansShade s)
-unfolding meansValues shadeValues meansAtom meansShade pair hashed digitBytes
+unfolding meansValues shadeValues meansAtom meansShade
 shade-meant b (named k) =
     ident-colour (folded (k .name))
     ∙ row-holds (λ (w : List ℕ) (a : Colour). lookup w colours ≡ found a) (folded (k .name)) (k .means) colourNames (names-agree .0) (k .listed)
-shade-meant b (three x y z) = hash-colour _ ∙ three-small x y z
-shade-meant b (six p q x y z w) = hash-colour _ ∙ six-small p q x y z w
+shade-meant b (three h x y z e d) =
+    hash-colour _ ∙ ap (λ (l : List ℕ). hashColour (map lower l)) e ∙ three-meant x y z (ap (λ (l : List ℕ). allOf isHexDigit l) (sym e) ∙ d)
+shade-meant b (six h p q x y z w e d) =
+    hash-colour _ ∙ ap (λ (l : List ℕ). hashColour (map lower l)) e ∙ six-meant p q x y z w (ap (λ (l : List ℕ). allOf isHexDigit l) (sym e) ∙ d)
 
 -- so is any other
 colour-meant : (b : Blanks) (v : ColourValue) → colourOf (meansValues (colourValues b v)) ≡ found (meansColour v)
@@ -176,8 +189,8 @@ shade-background b s = without-comma b s ∙ shade-meant b s
   where
     without-comma : (b : Blanks) (s : Shade) → backgroundOf (meansValues (shadeValues b s)) ≡ colourOf (meansValues (shadeValues b s))
     without-comma b (named k) = unfold backgroundOf behindComma meansValues shadeValues meansAtom isKind kindOf columnsOf coded pick is in refl
-    without-comma b (three x y z) = unfold backgroundOf behindComma meansValues shadeValues meansAtom isKind kindOf columnsOf coded pick is in refl
-    without-comma b (six p q x y z w) = unfold backgroundOf behindComma meansValues shadeValues meansAtom isKind kindOf columnsOf coded pick is in refl
+    without-comma b (three h x y z w d) = unfold backgroundOf behindComma meansValues shadeValues meansAtom isKind kindOf columnsOf coded pick is in refl
+    without-comma b (six h p q x y z w e d) = unfold backgroundOf behindComma meansValues shadeValues meansAtom isKind kindOf columnsOf coded pick is in refl
 
 -- ---- lengths
 -- the units of the document are the engine's
@@ -283,8 +296,8 @@ word-value b n = alone-value b (word n) refl refl
 shade-value : (b : Blanks) (s : Shade) → DeclarationValue (shadeValues b s)
 unfolding shadeValues isSemicolon isBang
 shade-value b (named k) = word-value b (k .name)
-shade-value b (three x y z) = alone-value b _ refl refl
-shade-value b (six p q x y z w) = alone-value b _ refl refl
+shade-value b (three h x y z w d) = alone-value b _ refl refl
+shade-value b (six h p q x y z w e d) = alone-value b _ refl refl
 
 -- a number may stand before a comma, with white space or none between them
 comma-follows : (n : Numeral) (b : Blanks) → MayFollow (number n) (getD (b .bytes ++ writtenAtom comma) 0 0) (getD (writtenAtom comma) 0 0)

@@ -33,12 +33,11 @@ use Rattle.grammar.specs.Nth.{Blanks, unsigned, Count, sum, writtenSign,
 use Rattle.grammar.specs.Selectors.{Quoted, unprocessed, class, nthChild, typed, child, one, joined, writtenSimple, writtenSimples, writtenCompound, writtenCombinator, written, meansSimple, meansCompound, meansCombinator, inOrder, Agrees, writtenPseudo, Tight, last, several, writtenChosen, writtenGroup, meansChosen, meansGroup}
 use Rattle.grammar.specs.Tokens.{Numeral, Hashed, isExponent, isDelimiter, word, string, hash, dimension, colon, semicolon, delimiter, function, square, brace, meansAtom, meansOpening, meansCloser, writtenStop, writtenNumeral, writtenAtom, writtenOpening, closer, endsName, mayFollow, folded}
 use Rattle.grammar.specs.Values.{Values, end, then, block, writtenValues, meansValues, isBrace, Follows, Apart, isSemicolon, isBang, Outermost, Unmarked, Some, normal, important, writtenImportance, isMarked}
-use Rattle.grammar.specs.HexDigits.{HexDigit, digitBytes, hashed}
 use Rattle.grammar.specs.Declarations.{named, three, shade, isZero, bare, color, backgroundColor, height, display, content, Declared, known, other, knownName, property, shadeValues, colourValues, lengthValues, stringValues, knownValues, valuesOf, pair, meansShade, meansColour, meansLength, meansStrings, meansKnown, meansDeclared}
 use Rattle.grammar.specs.Declarations as declarations
 use Rattle.grammar.specs.Sheets.{Item, filled, Rule, braces, AtRule, rule, atRule, Sheet, writtenItem, writtenNext, writtenNexts, writtenShut, writtenEnd, writtenBlock, writtenRule, writtenAtEnd, writtenAt, writtenStatement, writtenStatements, writtenSheet, meansItem, meansNexts, meansBlock, meansRule, meansStatements, meansSheet, unreadBehind, unread}
 use Rattle.grammar.specs.Sheets as sheets
-use Rattle.grammar.proofs.Spelling.{isSpelt, ident, spelt}
+use Rattle.grammar.proofs.Spelling.{isSpelt, ident, spelt, hashed}
 use Rattle.grammar.proofs.ValuesRead.{before-semicolon, Stated, value-ends}
 use Rattle.grammar.proofs.SheetsRead.{sheet-whole}
 use Rattle.grammar.proofs.GrammarCases.{nothing, blank, two}
@@ -100,13 +99,9 @@ charset =
     }
 
 -- ---- `body { color: #333; background-color: white }`
-unfoldable digit3 : HexDigit
-unfolding isHexDigit lower pick or and within
-digit3 = record { byte = 0x33; hex = refl }
-
 unfoldable dark : Declared
-unfolding isSpelt allOf ident folded lower identStart identCodePoint letter knownName text utf8 pick or and is within
-dark = known (ident (text "color") refl) blank (color (shade (three digit3 digit3 digit3))) refl
+unfolding isSpelt allOf ident hashed folded lower isHexDigit identStart identCodePoint letter knownName text utf8 pick or and is within
+dark = known (ident (text "color") refl) blank (color (shade (three (hashed (text "333") refl (omega arith)) 0x33 0x33 0x33 refl refl))) refl
 
 unfoldable bright : Declared
 unfolding isSpelt allOf spelt lookup foundOr sameText text utf8 continuation pick or and is within ident folded lower identStart identCodePoint letter knownName
@@ -231,7 +226,7 @@ pageText =
     text "@charset \"utf-8\";\n/* page */\nbody { color: #333; background-color: white }\nnav, a::before { display: none !important; }\n@media print { nav > a { color: blue; } }\np.note {\n  border: 1px solid #ccc;\n  height: 0\n}\nul > li:nth-child(2n+1) { content: \"* \" }\n"
 
 test-text : writtenSheet page ≡ pageText
-unfolding pageText page charset encoding remark body dark bright digit3 away hidden media note border pixel gray flat items two odd star bullet ident spelt folded lower hashed digitBytes writtenSheet writtenStatements writtenStatement writtenRule writtenAt writtenAtEnd writtenBlock writtenEnd writtenShut writtenNexts writtenNext writtenItem writtenImportance writtenGroup writtenChosen writtenPseudo written writtenCompound writtenCombinator writtenSimples writtenSimple writtenArgument writtenSign signByte property knownName valuesOf knownValues colourValues shadeValues lengthValues stringValues writtenValues writtenAtom writtenNumeral writtenStop writtenOpening closer text utf8 continuation pick
+unfolding pageText page charset encoding remark body dark bright away hidden media note border pixel gray flat items two odd star bullet ident spelt folded lower hashed writtenSheet writtenStatements writtenStatement writtenRule writtenAt writtenAtEnd writtenBlock writtenEnd writtenShut writtenNexts writtenNext writtenItem writtenImportance writtenGroup writtenChosen writtenPseudo written writtenCompound writtenCombinator writtenSimples writtenSimple writtenArgument writtenSign signByte property knownName valuesOf knownValues colourValues shadeValues lengthValues stringValues writtenValues writtenAtom writtenNumeral writtenStop writtenOpening closer text utf8 continuation pick
 test-text = refl
 
 -- what it is read as
@@ -263,7 +258,7 @@ test-sheet : sheetOf pageText
       start = 211;
     }
     ∷ [])
-unfolding page charset encoding remark body dark bright digit3 away hidden media note border pixel gray flat items two odd star bullet ident spelt folded lower hashed digitBytes writtenSheet writtenStatements writtenStatement writtenRule writtenAt writtenAtEnd writtenBlock writtenEnd writtenShut writtenNexts writtenNext writtenItem writtenImportance writtenGroup writtenChosen writtenPseudo written writtenCompound writtenCombinator writtenSimples writtenSimple writtenArgument writtenSign signByte property knownName valuesOf knownValues colourValues shadeValues lengthValues stringValues writtenValues writtenAtom writtenNumeral writtenStop writtenOpening closer text utf8 continuation pick meansSheet meansStatements meansRule meansBlock meansNexts meansItem isMarked meansDeclared meansKnown meansColour meansShade pair hexDigit meansLength meansStrings meansGroup meansChosen inOrder meansCompound meansCombinator meansSimple meansArgument negative worth numeral signed unread unreadBehind and is within
+unfolding page charset encoding remark body dark bright away hidden media note border pixel gray flat items two odd star bullet ident spelt folded lower hashed writtenSheet writtenStatements writtenStatement writtenRule writtenAt writtenAtEnd writtenBlock writtenEnd writtenShut writtenNexts writtenNext writtenItem writtenImportance writtenGroup writtenChosen writtenPseudo written writtenCompound writtenCombinator writtenSimples writtenSimple writtenArgument writtenSign signByte property knownName valuesOf knownValues colourValues shadeValues lengthValues stringValues writtenValues writtenAtom writtenNumeral writtenStop writtenOpening closer text utf8 continuation pick meansSheet meansStatements meansRule meansBlock meansNexts meansItem isMarked meansDeclared meansKnown meansColour meansShade pair hexDigit meansLength meansStrings meansGroup meansChosen inOrder meansCompound meansCombinator meansSimple meansArgument negative worth numeral signed unread unreadBehind and is within
 test-sheet = ap sheetOf (sym test-text) ∙ sheet-whole page refl
 
 -- ---- `b("};"/*;}*/[;])` before ` ;c`: the marks in the string, in the comment and in the brackets do not end it

@@ -2,14 +2,15 @@
 use mathlib.Core.Path.{_≡_}
 use mathlib.Core.Bool.{Bool, true, false}
 use mathlib.Core.List.{List, [], _∷_, map}
-use Prim.Native.Nat.{ℕ}
+use Prim.Native.Nat.{ℕ, _≤_}
+use lib.ListN.{length}
 use Rattle.combinators.specs.Choice.{and}
 use Rattle.combinators.proofs.Rules.{never, and-true}
 use Rattle.lexer.specs.Name.{lower}
 use Rattle.lexer.proofs.SyntaxName.{Each, none, more, IdentSequence, started, identStart, identCodePoint}
 use Rattle.values.specs.Colour.{allOf}
 use Rattle.grammar.specs.Selectors.{Name}
-use Rattle.grammar.specs.Tokens.{Ident}
+use Rattle.grammar.specs.Tokens.{Ident, Hashed}
 
 -- an ident-start code point, and ident code points behind it
 unfoldable pub isSpelt : List ℕ → Bool
@@ -35,3 +36,7 @@ ident w h = record { bytes = w; sequence = spelt-sequence w h }
 -- one without capital letters
 unfoldable pub spelt : (w : List ℕ) → isSpelt w ≡ true → map lower w ≡ w → Name
 spelt w h s = record { bytes = w; sequence = spelt-sequence w h; small = s }
+
+-- a hash of ident code points
+unfoldable pub hashed : (w : List ℕ) → allOf identCodePoint w ≡ true → 1 ≤ length w → Hashed
+hashed w h s = record { bytes = w; are = each-of identCodePoint w h; some = s }

@@ -13,7 +13,7 @@ use Rattle.combinators.specs.Choice.{pick, or, and, is}
 use Rattle.combinators.specs.Word.{sameText}
 use Rattle.unicode.specs.Literal.{text}
 use Rattle.unicode.specs.Utf8.{utf8}
-use Rattle.lexer.specs.Name.{hexDigit}
+use Rattle.lexer.specs.Name.{isHexDigit, hexDigit}
 use Rattle.lexer.proofs.SyntaxWhitespace.{none}
 use Rattle.syntax.specs.Declaration as syntax
 use Rattle.syntax.specs.Declaration.{Colour, Overflow, WhiteSpace, Decl}
@@ -22,9 +22,8 @@ use Rattle.values.specs.Colour.{rgb, allOf}
 use Rattle.values.specs.Property.{anyOf}
 use Rattle.grammar.specs.Nth.{Blanks, negative, worth}
 use Rattle.grammar.specs.Selectors.{Quoted}
-use Rattle.grammar.specs.Tokens.{Numeral, Ident, folded, UnitName, Atom, word, string, hash, number, dimension, comma, function}
+use Rattle.grammar.specs.Tokens.{Numeral, Ident, folded, Hashed, UnitName, Atom, word, string, hash, number, dimension, comma, function}
 use Rattle.grammar.specs.Values.{Values, end, then, block, DeclarationValue}
-use Rattle.grammar.specs.HexDigits.{HexDigit, hashed}
 
 -- ---- keywords
 -- a name that a table of the document has, and what it means there
@@ -68,8 +67,8 @@ pub record Part : Type 0 where
 -- a colour in one token: a keyword, `#rgb` or `#rrggbb`
 pub data Shade : Type 0 where
   named : Keyword colourNames → Shade
-  three : HexDigit → HexDigit → HexDigit → Shade
-  six : HexDigit → HexDigit → HexDigit → HexDigit → HexDigit → HexDigit → Shade
+  three : (h : Hashed) (a b c : ℕ) → h .bytes ≡ a ∷ b ∷ c ∷ [] → allOf isHexDigit (h .bytes) ≡ true → Shade
+  six : (h : Hashed) (a b c d e f : ℕ) → h .bytes ≡ a ∷ b ∷ c ∷ d ∷ e ∷ f ∷ [] → allOf isHexDigit (h .bytes) ≡ true → Shade
 
 -- or `rgb(` red `,` green `,` blue `)`
 pub data ColourValue : Type 0 where
@@ -191,8 +190,8 @@ alone b a = then b a nothing
 
 unfoldable pub shadeValues : Blanks → Shade → Values
 shadeValues b (named k) = alone b (word (k .name))
-shadeValues b (three x y z) = alone b (hash (hashed x (y ∷ z ∷ [])))
-shadeValues b (six p q x y z w) = alone b (hash (hashed p (q ∷ x ∷ y ∷ z ∷ w ∷ [])))
+shadeValues b (three h x y z w d) = alone b (hash h)
+shadeValues b (six h p q x y z w e d) = alone b (hash h)
 
 unfoldable pub partValues : Part → Values → Values
 partValues p v = then (p .before) (number (p .numeral)) v
@@ -235,14 +234,14 @@ valuesOf (other n d v h) = v
 
 -- ---- what it means
 -- two digits, of one part of a colour
-unfoldable pub pair : HexDigit → HexDigit → ℕ
-pair x y = hexDigit (x .byte) * 16 + hexDigit (y .byte)
+unfoldable pub pair : ℕ → ℕ → ℕ
+pair x y = hexDigit x * 16 + hexDigit y
 
 -- `the three-digit RGB notation is converted into six-digit form by replicating digits, not by adding zeros'
 unfoldable pub meansShade : Shade → Colour
 meansShade (named k) = k .means
-meansShade (three x y z) = rgb (pair x x) (pair y y) (pair z z)
-meansShade (six p q x y z w) = rgb (pair p q) (pair x y) (pair z w)
+meansShade (three h x y z w d) = rgb (pair x x) (pair y y) (pair z z)
+meansShade (six h p q x y z w e d) = rgb (pair p q) (pair x y) (pair z w)
 
 unfoldable pub meansColour : ColourValue → Colour
 meansColour (shade s) = meansShade s

@@ -2,6 +2,5 @@ pub mod Nth
 pub mod Selectors
 pub mod Tokens
 pub mod Values
-pub mod HexDigits
 pub mod Declarations
 pub mod Sheets
