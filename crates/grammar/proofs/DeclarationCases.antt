@@ -20,15 +20,13 @@ use Rattle.lexer.specs.Whitespace.{isWhitespace, commentOf, whitespaceItem, ski
 use Rattle.lexer.proofs.SyntaxName.{more, letter, identStart, identCodePoint}
 use Rattle.lexer.proofs.SyntaxName as each
 use Rattle.lexer.proofs.SyntaxString.{ordinary, plain}
-use Rattle.lexer.proofs.SyntaxWhitespace.{blank-space, white}
-use Rattle.lexer.proofs.SyntaxWhitespace as blanks
 use Rattle.syntax.specs.Declaration as syntax
 use Rattle.syntax.specs.Selector as pseudo
 use Rattle.values.specs.Colour.{rgb, numeral, allOf}
 use Rattle.values.specs.Property.{unsignedZero, numberZero, anyOf, heightOf, firstWord, overflowOf, displayOf, whiteSpaceOf, declOf}
 use Rattle.values.specs.Words.{kindOf, firstOf, numberOf, unitOf, isKind, lookup, foundOr, onFound}
 use Rattle.selectors.specs.Selector.{pseudoOf}
-use Rattle.grammar.specs.Nth.{Blanks, unsigned, plus, minus, writtenSign, negative, worth}
+use Rattle.grammar.specs.Nth.{unsigned, plus, minus, writtenSign, negative, worth}
 use Rattle.grammar.specs.Selectors.{Quoted, unprocessed, typed, universal, one, writtenSimples, writtenCompound, written, meansCompound, inOrder, Agrees, writtenPseudo, Tight, Group, several, writtenChosen, writtenGroup, meansChosen, meansGroup}
 use Rattle.grammar.specs.Selectors as selectors
 use Rattle.grammar.specs.Tokens.{Numeral, folded, isExponent, writtenStop, writtenNumeral, writtenAtom, writtenOpening, closer}
@@ -37,14 +35,9 @@ use Rattle.grammar.specs.HexDigits.{HexDigit, digitBytes, hashed}
 use Rattle.grammar.specs.Declarations.{named, three, shade, parts, isZero, measured, bare, last, color, background, height, maxHeight, content, Declared, known, knownName, property, shadeValues, partValues, colourValues, lengthValues, stringValues, knownValues, valuesOf, pair, meansShade, meansColour, meansLength, meansStrings, meansKnown, meansDeclared}
 use Rattle.grammar.specs.Declarations as declarations
 use Rattle.grammar.proofs.Spelling.{isSpelt, ident, spelt}
+use Rattle.grammar.proofs.GrammarCases.{nothing, blank}
 
 -- ---- parts
-abbrev nothing : Blanks
-nothing = record { bytes = []; blank = blanks.none }
-
-abbrev blank : Blanks
-blank = record { bytes = ascii.space ∷ []; blank = white ascii.space [] blank-space blanks.none }
-
 -- hexadecimal digits
 unfoldable digit0 : HexDigit
 unfolding isHexDigit or and within

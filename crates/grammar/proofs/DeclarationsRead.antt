@@ -11,7 +11,7 @@ use Rattle.combinators.specs.Parsed.{ok, onParsed}
 use Rattle.lexer.specs.Name.{identOf}
 use Rattle.lexer.specs.Token.{Token}
 use Rattle.lexer.specs.Whitespace.{isWhitespace, commentOf, whitespaceItem, skipWhitespace}
-use Rattle.lexer.proofs.SyntaxName.{IdentSequence, started, dashed, start-code-point, hyphen-code-point, code-point-item, identStart, identCodePoint, letter, sequence-unskipped, ident-sequence}
+use Rattle.lexer.proofs.SyntaxName.{identStart, identCodePoint, letter, sequence-unskipped, ident-sequence}
 use Rattle.lexer.proofs.SyntaxWhitespace.{skips-blank}
 use Rattle.values.specs.Value.{valueOf}
 use Rattle.declarations.specs.Rules.{colonBehind, propertyOf, valueBehind, declarationOf}
@@ -76,15 +76,7 @@ mark-halts (important b c n i) z h =
     subst Halts (sym (append-assoc (b .bytes) (ascii.exclamationMark ∷ (c .bytes ++ n .bytes)) z)) (halts (b .blank) (at-bang ((c .bytes ++ n .bytes) ++ z)))
 
 -- ---- a declaration
--- a name begins no white space
-pub name-item : (n : Ident) (t : List ℕ) → whitespaceItem (n .bytes ++ t) ≡ 0
-name-item n t = by-start (n .bytes) (n .sequence)
-  where
-    by-start : (bytes : List ℕ) → IdentSequence bytes → whitespaceItem (bytes ++ t) ≡ 0
-    by-start _ (started {x} {r} e h) = code-point-item x (r ++ t) (start-code-point x e)
-    by-start _ (dashed {x} {r} e h) = code-point-item ascii.hyphenMinus (x ∷ (r ++ t)) hyphen-code-point
-
--- and is read whole, in small letters, where it ends
+-- its name is read whole, in small letters, where it ends
 ident-read : (n : Ident) (t : List ℕ) → Ended t → identOf (n .bytes ++ t) ≡ ok (length (n .bytes)) (folded n)
 unfolding folded
 ident-read n t h = ident-sequence (n .bytes) t (n .sequence) (h .no-character) (h .no-escape)

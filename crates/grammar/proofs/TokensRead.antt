@@ -646,7 +646,7 @@ name-behind b s n w z p =
     rw (skips-blank (b .bytes) s (b .blank) z, drop-append-seam (b .bytes) s, sym (name-at s (skips-blank [] s blanks.none z)) ∙ p)
 
 -- a name begins no white space
-name-item : (n : Ident) (t : List ℕ) → whitespaceItem (n .bytes ++ t) ≡ 0
+pub name-item : (n : Ident) (t : List ℕ) → whitespaceItem (n .bytes ++ t) ≡ 0
 name-item n t = by-start (n .bytes) (n .sequence)
   where
     by-start : (bytes : List ℕ) → IdentSequence bytes → whitespaceItem (bytes ++ t) ≡ 0
