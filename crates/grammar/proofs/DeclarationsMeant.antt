@@ -300,19 +300,19 @@ shade-value b (three h x y z w d) = alone-value b _ refl refl
 shade-value b (six h p q x y z w e d) = alone-value b _ refl refl
 
 -- a number may stand before a comma, with white space or none between them
-comma-follows : (n : Numeral) (b : Blanks) → MayFollow (number n) (getD (b .bytes ++ writtenAtom comma) 0 0) (getD (writtenAtom comma) 0 0)
+comma-follows : (n : Numeral) (b : Blanks) → MayFollow (number n) (getD (b .bytes ++ writtenAtom comma) 0 0) (getD (writtenAtom comma) 0 0) (getD (writtenAtom comma) 1 0)
 unfolding writtenAtom
 comma-follows n b =
-    holds _ (blank-first (λ (x : ℕ). not (mayFollow (number n) x ascii.comma)) unblank (ascii.comma ∷ []) (b .blank) ends)
+    holds _ (blank-first (λ (x : ℕ). not (mayFollow (number n) x ascii.comma 0)) unblank (ascii.comma ∷ []) (b .blank) ends)
   where
     holds : (t : Bool) → not t ≡ false → t ≡ true
     holds true e = refl
     holds false e = sym e
 
-    ends : not (mayFollow (number n) ascii.comma ascii.comma) ≡ false
+    ends : not (mayFollow (number n) ascii.comma ascii.comma 0) ≡ false
     ends = unfold mayFollow endsName beginsName identCodePoint identStart letter or and within is in refl
 
-    unblank : Unblank (λ (x : ℕ). not (mayFollow (number n) x ascii.comma))
+    unblank : Unblank (λ (x : ℕ). not (mayFollow (number n) x ascii.comma 0))
     unblank =
         unfold mayFollow endsName beginsName identCodePoint identStart letter or and within is in
         record { of-space = refl; of-tab = refl; of-line-feed = refl; of-carriage-return = refl; of-form-feed = refl; of-solidus = refl }

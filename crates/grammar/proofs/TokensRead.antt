@@ -8,14 +8,14 @@ use native.Mathlib.Nat.{zero-add, add-zero}
 use native.Mathlib.Omega.{arith}
 use borrow.Author.Tests.{le-leb, lt-leb}
 use lib.ListN.{length, getD, drop, length-append}
-use lib.Seq.{drop-append-seam, take-append-seam}
+use lib.Seq.{getD-drop, getD-append-add, drop-append-seam, take-append-seam}
 use Rattle.combinators.specs.Ascii as ascii
 use Rattle.combinators.specs.Choice.{pick, or, and, is, within}
 use Rattle.combinators.specs.Parsed.{Parsed, ok, err, onParsed, behind, orElse}
 use Rattle.combinators.specs.Repeat.{many, took}
 use Rattle.combinators.specs.Word.{startsWith}
 use Rattle.combinators.proofs.Lists.{first}
-use Rattle.combinators.proofs.Rules.{never, pick-true, pick-false, either, and-true, and-both, is-yes, is-no, is-true, or-false, within-true, within-false, within-past}
+use Rattle.combinators.proofs.Rules.{never, pick-true, pick-false, either, and-true, and-both, is-yes, is-no, is-true, or-none, or-false, within-true, within-false, within-past}
 use Rattle.combinators.proofs.Repeats.{many-stop, texts-stop}
 use Rattle.unicode.specs.Literal.{text}
 use Rattle.unicode.specs.Utf8.{utf8, scalarOf, scalarBy, leadOf, takenOf}
@@ -39,7 +39,7 @@ use Rattle.lexer.proofs.CharacterRuns.{chars-step, chars-text-step}
 use Rattle.lexer.proofs.Idents.{char-plain, name-none}
 use Rattle.grammar.specs.Nth.{Blanks, Sign, unsigned, plus, minus, writtenSign}
 use Rattle.grammar.specs.Selectors.{Spaces, Quoted}
-use Rattle.grammar.specs.Tokens.{Numeral, Hashed, isDelimiter, Atom, word, string, hash, number, percentage, dimension, comma, colon, semicolon, delimiter, point, hyphen, whole, spaced, Opening, function, link, round, square, brace, writtenStop, writtenNumeral, writtenAtom, writtenOpening, closer, meansSign, meansNumeral, meansAtom, meansOpening, meansCloser, endsName, beginsName, mayFollow, MayFollow, EndsBefore, Ident, folded}
+use Rattle.grammar.specs.Tokens.{Numeral, Hashed, isDelimiter, Atom, word, string, hash, number, percentage, dimension, comma, colon, semicolon, delimiter, point, hyphen, addition, whole, spaced, Opening, function, link, round, square, brace, writtenStop, writtenNumeral, writtenAtom, writtenOpening, closer, meansSign, meansNumeral, meansAtom, meansOpening, meansCloser, endsName, beginsName, beginsNumber, mayFollow, MayFollow, EndsBefore, Ident, folded}
 use Rattle.grammar.proofs.Places.{differs, Unblank, unblank-item}
 use Rattle.grammar.proofs.NthRead.{digits-read, starts-not}
 use Rattle.grammar.proofs.ComponentsRead.{behind-blank, string-closed}
@@ -436,21 +436,52 @@ no-start t e d =
     let p = char-no isNmstart t _ refl _ refl (sym (start-nmstart (getD t 0 0)) ∙ e) in
     sym (either-second _ _ _ p refl _ (escape-no t _ refl d))
 
+-- a digit and a full stop start no name and no escape
+number-goes-on : (z : ℕ) → or (isDigit z) (is z ascii.fullStop) ≡ true → (identStart z ≡ false) × (is z ascii.reverseSolidus ≡ false)
+unfolding isDigit
+number-goes-on z e =
+    let h = below z e in
+    (not-start z h, is-no z ascii.reverseSolidus (λ q. omega arith))
+  where
+    below : (z : ℕ) → or (within z ascii.digitZero ascii.digitNine) (is z ascii.fullStop) ≡ true → z ≤ ascii.digitNine
+    below z e = either (z ≤ ascii.digitNine) _ _ e (λ w. within-true z ascii.digitZero ascii.digitNine w .1) (λ w. let q = is-true z ascii.fullStop w in omega arith)
+
+    not-start : (z : ℕ) → z ≤ ascii.digitNine → identStart z ≡ false
+    not-start z h =
+        unfold identStart letter in
+        or-none _ _ (or-none _ _ (sym (within-false z ascii.capitalA ascii.capitalZ (omega arith))) (sym (within-false z ascii.smallA ascii.smallZ (omega arith)))) (is-no z ascii.lowLine (λ q. omega arith))
+
 -- what does not begin a name is none
-no-name : (t : List ℕ) → beginsName (getD t 0 0) ≡ false → nameOf t ≡ err
+no-name : (t : List ℕ) → beginsName (getD t 0 0) (getD t 1 0) ≡ false → nameOf t ≡ err
 unfolding beginsName
 no-name t e =
     let n = neither (identStart (getD t 0 0)) _ e in
-    let m = neither (is (getD t 0 0) ascii.hyphenMinus) _ (n .1) in
-    name-none t (undashed t (m .0) (no-start t (n .0) (m .1)))
+    let m = neither (is (getD t 0 0) ascii.reverseSolidus) _ (n .1) in
+    name-none t (by-dash t (is (getD t 0 0) ascii.hyphenMinus) refl (no-start t (n .0) (m .0)) (m .1))
   where
     undashed : (t : List ℕ) → is (getD t 0 0) ascii.hyphenMinus ≡ false → nmstartOf t ≡ NoScalar → nmstartOf (drop (dash t) t) ≡ NoScalar
     undashed t e p = unfold dash pick in rw e p
 
+    dashes : (t : List ℕ) → is (getD t 0 0) ascii.hyphenMinus ≡ true → nmstartOf (drop 1 t) ≡ NoScalar → nmstartOf (drop (dash t) t) ≡ NoScalar
+    dashes t e p = unfold dash pick in rw e p
+
+    goes-on : (b : Bool) → and true (not b) ≡ false → b ≡ true
+    goes-on true e = refl
+    goes-on false e = unfold and in never (sym e)
+
+    by-dash : (t : List ℕ) (d : Bool) → is (getD t 0 0) ascii.hyphenMinus ≡ d → nmstartOf t ≡ NoScalar
+        → and d (not (or (isDigit (getD t 1 0)) (is (getD t 1 0) ascii.fullStop))) ≡ false → nmstartOf (drop (dash t) t) ≡ NoScalar
+    by-dash t true d p e =
+        let g = number-goes-on (getD t 1 0) (goes-on _ e) in
+        dashes t d (no-start (drop 1 t) (ap identStart (first t 1) ∙ g .0) (ap (λ (z : ℕ). is z ascii.reverseSolidus) (first t 1) ∙ g .1))
+    by-dash t false d p e = undashed t d p
+
 -- so no unit is read where white space and comments end before it
-no-unit : (t : List ℕ) → beginsName (getD t (skipWhitespace t) 0) ≡ false → identOf t ≡ err
+no-unit : (t : List ℕ) → beginsName (getD t (skipWhitespace t) 0) (getD t (skipWhitespace t + 1) 0) ≡ false → identOf t ≡ err
 unfolding identOf behind
-no-unit t e = rw (no-name (drop (skipWhitespace t) t) (ap beginsName (first t (skipWhitespace t)) ∙ e))
+no-unit t e =
+    let w = skipWhitespace t in
+    rw (no-name (drop w t) (ap (λ (y : ℕ). beginsName y (getD (drop w t) 1 0)) (first t w) ∙ ap (beginsName (getD t w 0)) (getD-drop w t 1 0) ∙ e))
 
 -- no mark is a digit
 digit-marks : (isDigit ascii.quotationMark ≡ false) × (isDigit ascii.apostrophe ≡ false) × (isDigit ascii.numberSign ≡ false) × (isDigit ascii.plusSign ≡ false)
@@ -538,7 +569,7 @@ numeral-begins n u j k p = signed-begins (n .sign) (n .fraction) (n .digits) u j
 record NumberEnds (t : List ℕ) : Type 0 where
   no-digit : isDigit (getD t 0 0) ≡ false
   no-percent : is (getD t 0 0) ascii.percentSign ≡ false
-  no-name-behind : beginsName (getD t (skipWhitespace t) 0) ≡ false
+  no-name-behind : beginsName (getD t (skipWhitespace t) 0) (getD t (skipWhitespace t + 1) 0) ≡ false
 
 -- by the grammar's test of digits before a full stop
 whole-ends : (n : Numeral) (t : List ℕ) → EndsBefore (whole n) t → NumberEnds t
@@ -775,6 +806,30 @@ hyphen-token t h e =
         → tokenBy (startOf ascii.hyphenMinus) 1 ascii.hyphenMinus (ascii.hyphenMinus ∷ t) ≡ ok 1 (tokens.delim ascii.hyphenMinus)
     by-minus t p q r = unfold tokenBy startOf isQuote minusOf orElse pick or is in rw (p, q, r)
 
+-- nothing is signed where no sign and no number stands
+unsigned-none : (s : List ℕ) → numbers.unsigned s ≡ 0 → is (getD s 0 0) ascii.hyphenMinus ≡ false → is (getD s 0 0) ascii.plusSign ≡ false → numbers.signed s ≡ 0
+unfolding numbers.signed numbers.sign pick or is
+unsigned-none s u m p = rw (m, p, u)
+
+-- as where none begins
+signed-none : (s : List ℕ) → beginsNumber (getD s 0 0) ≡ false → numbers.signed s ≡ 0
+unfolding beginsNumber
+signed-none s e =
+    let a = neither (isDigit (getD s 0 0)) _ e in
+    let b = neither (is (getD s 0 0) ascii.fullStop) _ (a .1) in
+    let c = neither (is (getD s 0 0) ascii.plusSign) _ (b .1) in
+    unsigned-none s (no-unsigned s (a .0) (b .0)) (c .1) (c .0)
+
+-- so no number is read where none begins behind white space
+no-number : (t : List ℕ) → beginsNumber (getD t (skipWhitespace t) 0) ≡ false → numericOf t ≡ err
+unfolding numericOf numbers.number pick is
+no-number t e = rw (signed-none (drop (skipWhitespace t) t) (ap beginsNumber (first t (skipWhitespace t)) ∙ e))
+
+-- "Otherwise, return a <delim-token>": U+002B PLUS SIGN
+pub addition-token : (t : List ℕ) → beginsNumber (getD t (skipWhitespace t) 0) ≡ false → Begins (ascii.plusSign ∷ t) 1 (tokens.delim ascii.plusSign)
+unfolding whitespaceItem isWhitespace commentOf tokenBy startOf isQuote plusOf orElse behind pick or is
+addition-token t e = begins-by ascii.plusSign t 1 (tokens.delim ascii.plusSign) refl (omega arith) (rw (no-number t e))
+
 -- ---- all of them
 -- every token of the grammar is read whole, where what follows it may follow
 pub atom-begins : (a : Atom) (t : List ℕ) → EndsBefore a t → Begins (writtenAtom a ++ t) (length (writtenAtom a)) (meansAtom a)
@@ -805,6 +860,7 @@ atom-begins semicolon t e = semicolon-token t
 atom-begins (delimiter c d) t e = delim-token c d t e
 atom-begins point t e = point-token t (untrue _ e)
 atom-begins hyphen t e = let a = and-true (endsName (getD t 0 0)) _ e in hyphen-token t (name-ends t (a .0)) (untrue _ (a .1))
+atom-begins addition t e = addition-token t (untrue _ e)
 atom-begins (whole n) t e = whole-token n t e
 atom-begins (spaced n s w) t e =
     let m = writtenNumeral n in
@@ -846,5 +902,5 @@ module _ (b : Blanks) where
   closer-read o t = token-read b (closer o ∷ t) _ _ (closer-token o t)
 
 -- what may follow, where white space and comments stand before the next token
-pub ends-behind : (a : Atom) (b : Blanks) (t : List ℕ) → whitespaceItem t ≡ 0 → MayFollow a (getD (b .bytes ++ t) 0 0) (getD t 0 0) → EndsBefore a (b .bytes ++ t)
-ends-behind a b t z e = rw (skips-blank (b .bytes) t (b .blank) z, behind-blank (b .bytes) t) e
+pub ends-behind : (a : Atom) (b : Blanks) (t : List ℕ) → whitespaceItem t ≡ 0 → MayFollow a (getD (b .bytes ++ t) 0 0) (getD t 0 0) (getD t 1 0) → EndsBefore a (b .bytes ++ t)
+ends-behind a b t z e = rw (skips-blank (b .bytes) t (b .blank) z, behind-blank (b .bytes) t, getD-append-add (b .bytes) t 1 0) e

@@ -3,7 +3,7 @@
 use mathlib.Core.Path.{_≡_, refl}
 use mathlib.Core.Bool.{Bool, true, false, not}
 use mathlib.Core.List.{List, [], _∷_, _++_, map}
-use Prim.Native.Nat.{ℕ, _≤_}
+use Prim.Native.Nat.{ℕ, _+_, _≤_}
 use native.Mathlib.Omega.{arith}
 use lib.ListN.{length, getD}
 use Rattle.combinators.specs.Ascii as ascii
@@ -71,9 +71,10 @@ pub data Atom : Type 0 where
   colon : Atom
   semicolon : Atom
   delimiter : (c : ℕ) → isDelimiter c ≡ true → Atom
-  -- a full stop and a '-' that begin no number and no name, which are delimiters too
+  -- a full stop, a '-' and a '+' that begin no number and no name, which are delimiters too
   point : Atom
   hyphen : Atom
+  addition : Atom
   -- what the document parts otherwise: digits before a full stop, where it reads one number (4.3.12) and the reader two; and a number, white space
   -- and a name, where it reads two tokens (4.3.3) and the reader one. Both go on behind them alike. The grammar has them where nobody looks into
   -- tokens: in values of properties that the engine does not know, and in at-rules.
@@ -110,6 +111,7 @@ writtenAtom semicolon = ascii.semicolon ∷ []
 writtenAtom (delimiter c d) = c ∷ []
 writtenAtom point = ascii.fullStop ∷ []
 writtenAtom hyphen = ascii.hyphenMinus ∷ []
+writtenAtom addition = ascii.plusSign ∷ []
 writtenAtom (whole n) = writtenNumeral n
 writtenAtom (spaced n s w) = writtenNumeral n ++ (s .space ∷ (s .more .bytes ++ w .bytes))
 
@@ -151,6 +153,7 @@ meansAtom semicolon = tokens.semicolon
 meansAtom (delimiter c d) = tokens.delim c
 meansAtom point = tokens.delim ascii.fullStop
 meansAtom hyphen = tokens.delim ascii.hyphenMinus
+meansAtom addition = tokens.delim ascii.plusSign
 meansAtom (whole n) = tokens.number (meansNumeral n)
 meansAtom (spaced n s w) = tokens.dimension (meansNumeral n) (folded w)
 
@@ -173,34 +176,40 @@ meansCloser brace = tokens.closeBrace
 unfoldable pub endsName : ℕ → Bool
 endsName x = not (or (identCodePoint x) (is x ascii.reverseSolidus))
 
--- what an ident sequence begins with (4.3.9): an ident-start code point, a '-' or an escape
-unfoldable pub beginsName : ℕ → Bool
-beginsName y = or (identStart y) (or (is y ascii.hyphenMinus) (is y ascii.reverseSolidus))
+-- y and z behind it would start an ident sequence (4.3.9): an ident-start code point, an escape, or a '-' behind which no number goes on
+unfoldable pub beginsName : ℕ → ℕ → Bool
+beginsName y z = or (identStart y) (or (is y ascii.reverseSolidus) (and (is y ascii.hyphenMinus) (not (or (isDigit z) (is z ascii.fullStop)))))
 
--- the token ends where the byte x stands behind it and y is the first byte behind white space and comments; each is 0 at the end of the
--- text. The reader takes a name behind white space for a number's unit, so y must not begin one there: to the document `0 auto` is two tokens.
-unfoldable pub mayFollow : Atom → ℕ → ℕ → Bool
-mayFollow (word n) x y = and (endsName x) (not (is x ascii.leftParenthesis))
-mayFollow (string q) x y = true
-mayFollow (hash h) x y = endsName x
-mayFollow (number n) x y = and (endsName x) (and (not (is x ascii.fullStop)) (and (not (is x ascii.percentSign)) (not (beginsName y))))
-mayFollow (percentage n) x y = true
-mayFollow (dimension n u) x y = and (endsName x) (not (is x ascii.plusSign))
-mayFollow comma x y = true
-mayFollow colon x y = true
-mayFollow semicolon x y = true
-mayFollow (delimiter c d) x y = not (and (is c ascii.solidus) (is x ascii.asterisk))
-mayFollow point x y = not (isDigit x)
-mayFollow hyphen x y = and (endsName x) (not (is x ascii.fullStop))
-mayFollow (whole n) x y = and (endsName x) (and (not (is x ascii.percentSign)) (not (beginsName y)))
-mayFollow (spaced n s w) x y = endsName x
+-- what a number begins with (4.3.10): a digit, a full stop or a sign
+unfoldable pub beginsNumber : ℕ → Bool
+beginsNumber y = or (isDigit y) (or (is y ascii.fullStop) (or (is y ascii.plusSign) (is y ascii.hyphenMinus)))
 
-abbrev pub MayFollow : Atom → ℕ → ℕ → Type 0
-MayFollow a x y = mayFollow a x y ≡ true
+-- the token ends where the byte x stands behind it, and behind white space and comments the bytes y and z; each is 0 where there is none. The reader
+-- takes a name behind white space for a number's unit, so none may begin there: to the document `0 auto` is two tokens. It takes a number behind a
+-- '+' and white space with the '+'.
+unfoldable pub mayFollow : Atom → ℕ → ℕ → ℕ → Bool
+mayFollow (word n) x y z = and (endsName x) (not (is x ascii.leftParenthesis))
+mayFollow (string q) x y z = true
+mayFollow (hash h) x y z = endsName x
+mayFollow (number n) x y z = and (endsName x) (and (not (is x ascii.fullStop)) (and (not (is x ascii.percentSign)) (not (beginsName y z))))
+mayFollow (percentage n) x y z = true
+mayFollow (dimension n u) x y z = and (endsName x) (not (is x ascii.plusSign))
+mayFollow comma x y z = true
+mayFollow colon x y z = true
+mayFollow semicolon x y z = true
+mayFollow (delimiter c d) x y z = not (and (is c ascii.solidus) (is x ascii.asterisk))
+mayFollow point x y z = not (isDigit x)
+mayFollow hyphen x y z = and (endsName x) (not (is x ascii.fullStop))
+mayFollow addition x y z = not (beginsNumber y)
+mayFollow (whole n) x y z = and (endsName x) (and (not (is x ascii.percentSign)) (not (beginsName y z)))
+mayFollow (spaced n s w) x y z = endsName x
+
+abbrev pub MayFollow : Atom → ℕ → ℕ → ℕ → Type 0
+MayFollow a x y z = mayFollow a x y z ≡ true
 
 -- the same of the text behind it
 abbrev pub EndsBefore : Atom → List ℕ → Type 0
-EndsBefore a t = MayFollow a (getD t 0 0) (getD t (skipWhitespace t) 0)
+EndsBefore a t = MayFollow a (getD t 0 0) (getD t (skipWhitespace t) 0) (getD t (skipWhitespace t + 1) 0)
 
 -- `+.5` and `eM`
 unfoldable half : Numeral
@@ -211,10 +220,11 @@ unfoldable em : UnitName
 unfolding isExponent isDigit startsWith identCodePoint identStart letter folded lower or and within is text utf8 pick
 em = record { name = record { bytes = text "eM"; sequence = started refl (more refl none) }; no-exponent = refl }
 
--- `+.5eM` is a dimension of `.5` and `em`; `0` ends before `,` and not before ` auto` or `%`; `e3` is an exponent and `em` is none
+-- `+.5eM` is a dimension of `.5` and `em`; `.5` ends before `,` and ` -9`, and not before ` a`, ` -a` or `%`; `e3` is an exponent and `em` is none
 test-tokens : (writtenAtom (dimension half em) ≡ text "+.5eM") × (meansAtom (dimension half em) ≡ tokens.dimension (text ".5") (text "em"))
-    × (mayFollow (number half) ascii.comma ascii.comma ≡ true) × (mayFollow (number half) ascii.space ascii.smallA ≡ false)
-    × (mayFollow (number half) ascii.percentSign ascii.percentSign ≡ false)
+    × (mayFollow (number half) ascii.comma ascii.comma 0 ≡ true) × (mayFollow (number half) ascii.space ascii.smallA 0 ≡ false)
+    × (mayFollow (number half) ascii.space ascii.hyphenMinus ascii.digitNine ≡ true) × (mayFollow (number half) ascii.space ascii.hyphenMinus ascii.smallA ≡ false)
+    × (mayFollow (number half) ascii.percentSign ascii.percentSign 0 ≡ false)
     × (isExponent (text "e3") ≡ true) × (isExponent (text "e-3") ≡ true) × (isExponent (text "em") ≡ false)
 unfolding writtenAtom writtenNumeral writtenSign writtenStop meansAtom meansNumeral meansSign mayFollow endsName beginsName isExponent isDigit identCodePoint identStart letter startsWith half em folded lower text utf8 continuation pick or and within is
-test-tokens = (refl, refl, refl, refl, refl, refl, refl, refl)
+test-tokens = (refl, refl, refl, refl, refl, refl, refl, refl, refl, refl)

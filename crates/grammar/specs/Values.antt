@@ -12,7 +12,7 @@ use Rattle.unicode.specs.Literal.{text}
 use Rattle.lexer.specs.Token.{Token, isQuote}
 use Rattle.lexer.proofs.SyntaxName.{Each}
 use Rattle.grammar.specs.Nth.{Blanks}
-use Rattle.grammar.specs.Tokens.{Atom, word, string, hash, number, percentage, dimension, comma, colon, semicolon, delimiter, point, hyphen, whole, spaced, Opening, function, link, round, square, brace, writtenAtom, writtenOpening, closer, meansAtom, meansOpening, meansCloser, MayFollow, Ident, folded}
+use Rattle.grammar.specs.Tokens.{Atom, word, string, hash, number, percentage, dimension, comma, colon, semicolon, delimiter, point, hyphen, addition, whole, spaced, Opening, function, link, round, square, brace, writtenAtom, writtenOpening, closer, meansAtom, meansOpening, meansCloser, MayFollow, Ident, folded}
 
 -- ---- what is written: tokens and blocks, with white space and comments or none before each and at the end
 pub data Values : Type 0 where
@@ -35,8 +35,8 @@ meansValues (block b o w v) = meansOpening o ∷ (meansValues w ++ (meansCloser 
 -- ---- where its tokens are told apart (section 9, Serialization): each but the last of a block ends before what stands behind it
 unfoldable pub Follows : Atom → Values → Type 0
 Follows a (end b) = Unit
-Follows a (then b n v) = MayFollow a (getD (b .bytes ++ writtenAtom n) 0 0) (getD (writtenAtom n) 0 0)
-Follows a (block b o w v) = MayFollow a (getD (b .bytes ++ writtenOpening o) 0 0) (getD (writtenOpening o) 0 0)
+Follows a (then b n v) = MayFollow a (getD (b .bytes ++ writtenAtom n) 0 0) (getD (writtenAtom n) 0 0) (getD (writtenAtom n) 1 0)
+Follows a (block b o w v) = MayFollow a (getD (b .bytes ++ writtenOpening o) 0 0) (getD (writtenOpening o) 0 0) (getD (writtenOpening o) 1 0)
 
 -- U+007E
 abbrev lastPrintable : ℕ
@@ -79,6 +79,7 @@ isSemicolon semicolon = true
 isSemicolon (delimiter c d) = false
 isSemicolon point = false
 isSemicolon hyphen = false
+isSemicolon addition = false
 isSemicolon (whole n) = false
 isSemicolon (spaced n s w) = false
 
@@ -95,6 +96,7 @@ isBang semicolon = false
 isBang (delimiter c d) = is c ascii.exclamationMark
 isBang point = false
 isBang hyphen = false
+isBang addition = false
 isBang (whole n) = false
 isBang (spaced n s w) = false
 
