@@ -28,10 +28,10 @@ use Rattle.syntax.specs.Selector.{Component, star, class, element, hash, child,
 use Rattle.values.specs.Words.{isKind, kindOf}
 use Rattle.selectors.specs.Outcome.{reads, fails, parsed, orElse}
 use Rattle.selectors.specs.Selector.{classOf, hashOf, closed, quotedOf, valueOf, attrOf, pseudoClassOf, marked, blankOf, componentOf}
-use Rattle.grammar.proofs.NthGrammar.{Blanks, Argument, writtenArgument, meansArgument}
+use Rattle.grammar.specs.Nth.{Blanks, Argument, writtenArgument, meansArgument}
 use Rattle.grammar.proofs.NthRead.{args-read, pseudo-by}
 use Rattle.grammar.proofs.Places.{differs}
-use Rattle.grammar.proofs.SelectorGrammar.{Name, Quoted}
+use Rattle.grammar.specs.Selectors.{Name, Quoted}
 
 -- a name ends before t, and is not a function's
 pub record Ended (t : List ℕ) : Type 0 where
@@ -224,7 +224,7 @@ unfolding quotedOf stringOf isQuote onParsed pick or
 unquoted s e = rw (differs identCodePoint (getD s 0 0) ascii.quotationMark e (quotes .0), differs identCodePoint (getD s 0 0) ascii.apostrophe e (quotes .1))
 
 -- a string that its quote ends
-string-closed : (q : ℕ) (body u : List ℕ) → isQuote q ≡ true → stringEnd q (body ++ (q ∷ u)) ≡ length body → stringText q (body ++ (q ∷ u)) ≡ body
+pub string-closed : (q : ℕ) (body u : List ℕ) → isQuote q ≡ true → stringEnd q (body ++ (q ∷ u)) ≡ length body → stringText q (body ++ (q ∷ u)) ≡ body
     → stringOf (q ∷ (body ++ (q ∷ u))) ≡ ok (1 + length body + 1) (string body)
 unfolding stringOf stringFrom pick
 string-closed q body u h e x =

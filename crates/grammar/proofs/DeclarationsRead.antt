@@ -1,129 +1,85 @@
--- Declarations of a plain form, `name: value` with a name for its value, parted by semicolons: CSS Syntax Level 3 (section 5.4.6, Consume a
--- declaration, and 5.4.4, Consume a style block's contents) and the reader agree on them.
-use mathlib.Core.Path.{_≡_, refl, ap, sym, _∙_}
-use mathlib.Core.Bool.{Bool, true, false}
-use mathlib.Core.List.{List, [], _∷_, _++_, append-assoc}
-use Prim.Native.Nat.{ℕ, zero, suc, _+_, _≤_}
-use native.Mathlib.Nat.{zero-add}
-use native.Mathlib.Numerals.{add-one}
+-- A declaration of the grammar is read whole, before what may stand behind a value.
+use mathlib.Core.Path.{_≡_, refl, ap, sym, subst, _∙_}
+use mathlib.Core.List.{List, _∷_, _++_, append-assoc, append-nil}
+use Prim.Native.Nat.{ℕ, suc, _+_}
 use native.Mathlib.Omega.{arith}
-use borrow.Author.Tests.{le-leb}
-use lib.ListN.{length, getD, drop, length-append}
+use lib.ListN.{length, drop, length-append}
 use lib.Seq.{getD-append-seam, getD-append-add, drop-append-add, drop-append-seam}
 use Rattle.combinators.specs.Ascii as ascii
 use Rattle.combinators.specs.Choice.{pick, or, and, is, within}
-use Rattle.combinators.specs.Parsed.{ok, onParsed, behind}
-use Rattle.combinators.proofs.Rules.{never, is-no, is-true, either, within-true}
-use Rattle.unicode.specs.Utf8.{scalarOf, scalarBy, leadOf}
-use Rattle.unicode.specs.declared.utf8.Scalar.the-variants.{Value}
-use Rattle.lexer.specs.Number.{isDigit}
-use Rattle.lexer.specs.Token.{Token, ident, semicolon, identLikeOf, isQuote, isIdentStart, startOf, markOf, tokenBy, tokenAt, tokenOf, coded}
+use Rattle.combinators.specs.Parsed.{ok, onParsed}
+use Rattle.lexer.specs.Name.{identOf}
+use Rattle.lexer.specs.Token.{Token}
 use Rattle.lexer.specs.Whitespace.{isWhitespace, commentOf, whitespaceItem, skipWhitespace}
-use Rattle.lexer.specs.declared.tokens.Start.the-variants.{Letter, Other}
-use Rattle.lexer.proofs.SyntaxName.{IdentSequence, started, dashed, identStart, identCodePoint, letter, start-code-point, code-point-item, sequence-unskipped}
-use Rattle.lexer.proofs.SyntaxWhitespace.{Blank, none, skips-blank}
-use Rattle.values.specs.Value.{bracketBy, bracketOf, before, closing, ending, stepOf, stop, cons, onStep, scan, statementOf, tokensOf, isImportant, withoutMark, valueFrom, valueOf}
+use Rattle.lexer.proofs.SyntaxName.{identStart, identCodePoint, letter, sequence-unskipped, ident-sequence}
+use Rattle.lexer.proofs.SyntaxWhitespace.{skips-blank}
+use Rattle.values.specs.Value.{valueOf}
 use Rattle.declarations.specs.Rules.{colonBehind, propertyOf, valueBehind, declarationOf}
-use Rattle.grammar.proofs.NthGrammar.{Blanks}
-use Rattle.grammar.proofs.SelectorGrammar.{Name}
-use Rattle.grammar.proofs.Places.{differs}
-use Rattle.grammar.proofs.RuleGrammar.{Word, Declared, writtenDeclared, meansDeclared}
-use Rattle.grammar.proofs.ComponentsRead.{Ended, name-read, behind-blank}
+use Rattle.grammar.specs.Nth.{Blanks}
+use Rattle.grammar.specs.Tokens.{closer, Ident, folded}
+use Rattle.grammar.specs.Values.{Values, end, then, block, writtenValues, meansValues, Apart, Outermost, Unmarked, Some, DeclarationValue, Importance, normal, important, writtenImportance, isMarked}
+use Rattle.grammar.specs.Declarations.{property, valuesOf}
+use Rattle.grammar.specs.Sheets.{Item, writtenItem, meansItem}
+use Rattle.grammar.proofs.ComponentsRead.{Ended}
 use Rattle.grammar.proofs.SelectorsRead.{blank-ended}
+use Rattle.grammar.proofs.TokensRead.{atom-begins, opening-begins}
+use Rattle.grammar.proofs.ValuesRead.{unspaced, Halts, halts, at-bang, follows, then-onto, block-onto, ValueEnds, ends-halt, value-read}
+use Rattle.grammar.proofs.DeclarationsMeant.{declared-value, declared-meant}
 
--- ---- a name as a token
--- no mark is an ident-start code point
-others : (identStart ascii.quotationMark ≡ false) × (identStart ascii.apostrophe ≡ false) × (identStart ascii.numberSign ≡ false) × (identStart ascii.plusSign ≡ false)
-    × (identStart ascii.hyphenMinus ≡ false) × (identStart ascii.fullStop ≡ false) × (identStart ascii.lessThanSign ≡ false) × (identStart ascii.reverseSolidus ≡ false)
-unfolding identStart letter or and within is
-others = (refl, refl, refl, refl, refl, refl, refl, refl)
+-- ---- white space before a value
+-- which the reader skips with the colon
+unfoldable lead : Values → Blanks
+lead (end b) = b
+lead (then b a v) = b
+lead (block b o w v) = b
 
--- the crate's own test of a first character holds of it
-or-among : (a b c d : Bool) → or (or a b) c ≡ true → or b (or a (or c d)) ≡ true
-unfolding or
-or-among true true c d e = refl
-or-among true false c d e = refl
-or-among false true c d e = refl
-or-among false false true d e = refl
-or-among false false false d e = never e
+-- what is left is the value without it
+unfoldable unled : Values → Values
+unled (end b) = end unspaced
+unled (then b a v) = then unspaced a v
+unled (block b o w v) = block unspaced o w v
 
--- so where the document says it is one
-crate-start : (x : ℕ) → identStart x ≡ true → isIdentStart x ≡ true
-unfolding identStart letter isIdentStart
-crate-start x e = or-among _ _ _ _ e
+-- both make up what is written
+lead-onto : (v : Values) → writtenValues v ≡ lead v .bytes ++ writtenValues (unled v)
+unfolding writtenValues lead unled
+lead-onto (end b) = sym (append-nil (b .bytes))
+lead-onto (then b a v) = refl
+lead-onto (block b o w v) = refl
 
--- it selects the reader of names
-selects : (x : ℕ) → identStart x ≡ true → startOf x ≡ Letter
-unfolding startOf isQuote pick or
-selects x e =
-    rw (
-      differs identStart x ascii.quotationMark e (others .0),
-      differs identStart x ascii.apostrophe e (others .1),
-      differs identStart x ascii.numberSign e (others .2),
-      differs identStart x ascii.plusSign e (others .3),
-      differs identStart x ascii.hyphenMinus e (others .4),
-      differs identStart x ascii.fullStop e (others .5),
-      differs identStart x ascii.lessThanSign e (others .6),
-      differs identStart x ascii.reverseSolidus e (others .7),
-      crate-start x e,
-    )
+-- the tokens stay
+unled-means : (v : Values) → meansValues (unled v) ≡ meansValues v
+unfolding meansValues unled
+unled-means (end b) = refl
+unled-means (then b a v) = refl
+unled-means (block b o w v) = refl
 
--- it is of ASCII
-start-ascii : (x : ℕ) → identStart x ≡ true → x ≤ 0x7f
-unfolding identStart letter
-start-ascii x e =
-    either (x ≤ 0x7f) _ _ e
-    (λ l. either (x ≤ 0x7f) _ _ l (λ w. omega (arith, within-true x ascii.capitalA ascii.capitalZ w)) (λ w. omega (arith, within-true x ascii.smallA ascii.smallZ w)))
-    (λ w. omega (arith, is-true x ascii.lowLine w))
+-- and it is a declaration's value still
+unled-value : (v : Values) → DeclarationValue v → DeclarationValue (unled v)
+unfolding Apart Outermost Unmarked Some unled
+unled-value (end b) h = absurd (h .some)
+unled-value (then b a v) h = record { some = tt; apart = h .apart; outermost = h .outermost; unmarked = h .unmarked }
+unled-value (block b o w v) h = record { some = tt; apart = h .apart; outermost = h .outermost; unmarked = h .unmarked }
 
--- so it is one byte
-ascii-scalar : (x : ℕ) (l : List ℕ) → x ≤ 0x7f → scalarOf (x ∷ l) ≡ Value 1 x
-unfolding scalarOf scalarBy leadOf pick is
-ascii-scalar x l h = rw (is-no (suc (length l)) 0 (λ z. omega arith), le-leb x 0x7f h)
+-- it begins with no white space
+unled-item : (v : Values) (z : List ℕ) → DeclarationValue v → Halts z → whitespaceItem (writtenValues (unled v) ++ z) ≡ 0
+unfolding Some Apart unled
+unled-item (end b) z h g = absurd (h .some)
+unled-item (then b a v) z h g =
+    ap whitespaceItem (then-onto unspaced a v z) ∙ atom-begins a (writtenValues v ++ z) (follows a v z (h .apart .0) (h .apart .1) g) .item
+unled-item (block b o w v) z h g = ap whitespaceItem (block-onto unspaced o w v z) ∙ opening-begins o (writtenValues w ++ (closer o ∷ (writtenValues v ++ z))) .item
 
--- the token that it begins
-name-token : (x : ℕ) (l : List ℕ) (n : ℕ) (k : Token) → identStart x ≡ true → skipWhitespace (x ∷ l) ≡ 0 → identLikeOf (x ∷ l) ≡ ok n k → tokenOf (x ∷ l) ≡ ok n k
-unfolding tokenOf behind tokenAt tokenBy
-name-token x l n k e z p = rw (z, ascii-scalar x l (start-ascii x e), selects x e, p, zero-add n)
+-- a mark may stand behind a value
+mark-halts : (m : Importance) (z : List ℕ) → Halts z → Halts (writtenImportance m ++ z)
+unfolding writtenImportance
+mark-halts normal z h = h
+mark-halts (important b c n i) z h =
+    subst Halts (sym (append-assoc (b .bytes) (ascii.exclamationMark ∷ (c .bytes ++ n .bytes)) z)) (halts (b .blank) (at-bang ((c .bytes ++ n .bytes) ++ z)))
 
--- a name before which it ends
-like-ident : (n : Name) (t : List ℕ) → Ended t → identLikeOf (n .bytes ++ t) ≡ ok (length (n .bytes)) (ident (n .bytes))
-unfolding identLikeOf onParsed pick
-like-ident n t h = rw (name-read n t h, behind-blank (n .bytes) t, h .no-round)
-
--- ---- a value
--- no ident-start code point is a '-'
-dash-start : identStart ascii.hyphenMinus ≡ true → ⊥
-dash-start e = never (sym (others .4) ∙ e)
-
--- a value is one token
-word-token : (w : Word) (t : List ℕ) → Ended t → tokenOf (w .name .bytes ++ t) ≡ ok (length (w .name .bytes)) (ident (w .name .bytes))
-word-token w t h = by-start (w .name .bytes) (w .name .sequence) (w .starts) (like-ident (w .name) t h)
-  where
-    by-start : (bytes : List ℕ) → IdentSequence bytes → identStart (getD bytes 0 0) ≡ true → identLikeOf (bytes ++ t) ≡ ok (length bytes) (ident bytes)
-        → tokenOf (bytes ++ t) ≡ ok (length bytes) (ident bytes)
-    by-start _ (started {x} {r} e s) _ q = name-token x (r ++ t) _ _ e (sequence-unskipped (started e s) t) q
-    by-start _ (dashed e s) d q = absurd (dash-start d)
-
--- where it ends: before a semicolon, or before the brace that closes the block, with white space or none before that
-pub data ValueEnds : List ℕ → Type 0 where
-  at-semicolon : (r : List ℕ) → ValueEnds (ascii.semicolon ∷ r)
-  at-brace : (b : Blanks) (r : List ℕ) → ValueEnds (b .bytes ++ (ascii.rightCurlyBracket ∷ r))
-
--- a name ends before a closing brace
-brace-ended : (r : List ℕ) → Ended (ascii.rightCurlyBracket ∷ r)
-unfolding identCodePoint identStart letter or and within is
-brace-ended r = record { no-character = refl; no-escape = λ q. omega arith; no-round = refl }
-
--- and before a semicolon
-semicolon-ended : (r : List ℕ) → Ended (ascii.semicolon ∷ r)
-unfolding identCodePoint identStart letter or and within is
-semicolon-ended r = record { no-character = refl; no-escape = λ q. omega arith; no-round = refl }
-
--- so where a value ends
-value-ended : {t : List ℕ} → ValueEnds t → Ended t
-value-ended (at-semicolon r) = semicolon-ended r
-value-ended (at-brace b r) = blank-ended (ascii.rightCurlyBracket ∷ r) (b .blank) (brace-ended r)
+-- ---- a declaration
+-- its name is read whole, in small letters, where it ends
+ident-read : (n : Ident) (t : List ℕ) → Ended t → identOf (n .bytes ++ t) ≡ ok (length (n .bytes)) (folded n)
+unfolding folded
+ident-read n t h = ident-sequence (n .bytes) t (n .sequence) (h .no-character) (h .no-escape)
 
 -- no white space begins with the marks of a block
 pub block-items : (r : List ℕ) → (whitespaceItem (ascii.rightCurlyBracket ∷ r) ≡ 0) × (whitespaceItem (ascii.semicolon ∷ r) ≡ 0) × (whitespaceItem (ascii.colon ∷ r) ≡ 0)
@@ -131,55 +87,6 @@ pub block-items : (r : List ℕ) → (whitespaceItem (ascii.rightCurlyBracket �
 unfolding whitespaceItem isWhitespace commentOf pick or is
 block-items r = (refl, refl, refl, refl)
 
--- a mark behind white space is a token
-mark-token : (b : List ℕ) (x : ℕ) (r : List ℕ) → Blank b → whitespaceItem (x ∷ r) ≡ 0 → x ≤ 0x7f → startOf x ≡ Other → tokenOf (b ++ (x ∷ r)) ≡ ok (length b + 1) (markOf x)
-unfolding tokenOf behind tokenAt tokenBy
-mark-token b x r h e l s = rw (skips-blank b (x ∷ r) h e, drop-append-seam b (x ∷ r), ascii-scalar x r l, s)
-
--- the two marks are tokens by themselves
-mark-starts : (startOf ascii.semicolon ≡ Other) × (startOf ascii.rightCurlyBracket ≡ Other)
-unfolding startOf isQuote isIdentStart isDigit within and or is pick
-mark-starts = (refl, refl)
-
--- a token that ends the statement
-stop-scan : (l : ℕ) (t : List ℕ) (at n : ℕ) (k : Token) → tokenOf t ≡ ok n k → stepOf false (bracketOf k) [] ≡ before → scan l false t at [] ≡ stop at true
-unfolding scan onParsed onStep
-stop-scan zero t at n k e p = refl
-stop-scan (suc l) t at n k e p = rw (e, p)
-
--- and end a statement
-mark-steps : (stepOf false (bracketOf (markOf ascii.semicolon)) [] ≡ before) × (stepOf false (bracketOf (markOf ascii.rightCurlyBracket)) [] ≡ before)
-unfolding stepOf bracketOf bracketBy coded markOf closing ending is pick
-mark-steps = (refl, refl)
-
--- so the tokens of a value stop where it ends
-value-stops : {t : List ℕ} → ValueEnds t → (l at : ℕ) → scan l false t at [] ≡ stop at true
-value-stops (at-semicolon r) l at =
-    stop-scan l (ascii.semicolon ∷ r) at _ _ (mark-token [] ascii.semicolon r none (block-items r .1) (omega arith) (mark-starts .0)) (mark-steps .0)
-value-stops (at-brace b r) l at =
-    stop-scan l (b .bytes ++ (ascii.rightCurlyBracket ∷ r)) at _ _ (mark-token (b .bytes) ascii.rightCurlyBracket r (b .blank) (block-items r .0) (omega arith) (mark-starts .1))
-    (mark-steps .1)
-
--- the statement is the name alone
-scan-word : (w : Word) (t : List ℕ) (l : ℕ) → ValueEnds t
-    → scan (suc l) false (w .name .bytes ++ t) 0 []
-    ≡ cons (record { token = ident (w .name .bytes); start = 0 + skipWhitespace (w .name .bytes ++ t) }) (stop (0 + length (w .name .bytes)) true)
-unfolding scan onParsed onStep stepOf bracketOf bracketBy coded
-scan-word w t l h = rw (word-token w t (value-ended h), drop-append-seam (w .name .bytes) t, value-stops h l (0 + length (w .name .bytes)))
-
--- what it is without a mark of importance
-word-value : (w : Word) (p n : ℕ) → valueFrom (cons (record { token = ident (w .name .bytes); start = p }) (stop (0 + n) true)) ≡ ok n (record { tokens = ident (w .name .bytes) ∷ []; important = false })
-unfolding valueFrom cons stop tokensOf withoutMark isImportant pick
-word-value w p n = rw (zero-add n)
-
--- a value of the grammar is read whole
-pub value-read : (w : Word) (t : List ℕ) → ValueEnds t → valueOf (w .name .bytes ++ t) ≡ ok (length (w .name .bytes)) (record { tokens = ident (w .name .bytes) ∷ []; important = false })
-unfolding valueOf statementOf
-value-read w t h =
-    ap (λ (l : ℕ). valueFrom (scan l false (w .name .bytes ++ t) 0 [])) (add-one (length (w .name .bytes ++ t)))
-    ∙ ap valueFrom (scan-word w t (length (w .name .bytes ++ t)) h) ∙ word-value w _ _
-
--- ---- a declaration
 -- the colon behind a name, with white space or none around it
 colon-read : (a g r name : List ℕ) → skipWhitespace (g ++ (ascii.colon ∷ r)) ≡ length g → (m : ℕ) → skipWhitespace r ≡ m
     → colonBehind (length a) name (a ++ (g ++ (ascii.colon ∷ r))) ≡ ok (length a + length g + 1 + m) name
@@ -203,66 +110,80 @@ colon-ended : (r : List ℕ) → Ended (ascii.colon ∷ r)
 unfolding identCodePoint identStart letter or and within is
 colon-ended r = record { no-character = refl; no-escape = λ q. omega arith; no-round = refl }
 
--- a word begins no white space
-word-item : (w : Word) (t : List ℕ) → whitespaceItem (w .name .bytes ++ t) ≡ 0
-word-item w t = by-start (w .name .bytes) (w .name .sequence) (w .starts)
-  where
-    by-start : (bytes : List ℕ) → IdentSequence bytes → identStart (getD bytes 0 0) ≡ true → whitespaceItem (bytes ++ t) ≡ 0
-    by-start _ (started {x} {r} e s) _ = code-point-item x (r ++ t) (start-code-point x e)
-    by-start _ (dashed e s) d = absurd (dash-start d)
-
-module _ (d : Declared) (t : List ℕ) where
-  -- the parts of a declaration: its name, the white space before the colon and behind it, its value
+module _ (d : Item) (t : List ℕ) where
+  -- the parts of a declaration: its name, the white space before the colon and behind it, its value with its mark
   abbrev a : List ℕ
-  a = d .property .bytes
+  a = property (d .declared) .bytes
 
   abbrev g : List ℕ
   g = d .before-colon .bytes
 
+  abbrev v : Values
+  v = valuesOf (d .declared)
+
   abbrev l : List ℕ
-  l = d .behind-colon .bytes
+  l = lead v .bytes
 
-  abbrev v : List ℕ
-  v = d .value .name .bytes
+  abbrev u : List ℕ
+  u = writtenValues (unled v) ++ writtenImportance (d .importance)
 
-  -- what is written, with t behind it
-  declared-onto : writtenDeclared d ++ t ≡ a ++ (g ++ (ascii.colon ∷ (l ++ (v ++ t))))
-  unfolding writtenDeclared
-  declared-onto =
-      append-assoc a (g ++ (ascii.colon ∷ (l ++ v))) t
-      ∙ ap (λ (r : List ℕ). a ++ r) (append-assoc g (ascii.colon ∷ (l ++ v)) t ∙ ap (λ (r : List ℕ). g ++ (ascii.colon ∷ r)) (append-assoc l v t))
+  -- the value with the white space before it
+  value-onto : writtenValues v ++ writtenImportance (d .importance) ≡ l ++ u
+  value-onto = ap (λ (r : List ℕ). r ++ writtenImportance (d .importance)) (lead-onto v) ∙ append-assoc l (writtenValues (unled v)) (writtenImportance (d .importance))
+
+  -- what is written
+  item-parts : writtenItem d ≡ a ++ (g ++ (ascii.colon ∷ (l ++ u)))
+  unfolding writtenItem
+  item-parts = ap (λ (r : List ℕ). a ++ (g ++ (ascii.colon ∷ r))) value-onto
+
+  -- with t behind it
+  item-onto : writtenItem d ++ t ≡ a ++ (g ++ (ascii.colon ∷ (l ++ (u ++ t))))
+  item-onto =
+      ap (λ (r : List ℕ). r ++ t) item-parts ∙ append-assoc a (g ++ (ascii.colon ∷ (l ++ u))) t
+      ∙ ap (λ (r : List ℕ). a ++ r) (append-assoc g (ascii.colon ∷ (l ++ u)) t ∙ ap (λ (r : List ℕ). g ++ (ascii.colon ∷ r)) (append-assoc l u t))
 
   -- and how long it is
-  declared-length : length (writtenDeclared d) ≡ length a + length g + 1 + length l + length v
-  unfolding writtenDeclared
-  declared-length = omega (arith, length-append a (g ++ (ascii.colon ∷ (l ++ v))), length-append g (ascii.colon ∷ (l ++ v)), length-append l v)
+  item-length : length (writtenItem d) ≡ length a + length g + 1 + length l + length u
+  item-length = omega (arith, ap length item-parts, length-append a (g ++ (ascii.colon ∷ (l ++ u))), length-append g (ascii.colon ∷ (l ++ u)), length-append l u)
+
+  -- the value begins with no white space
+  value-item : Halts t → whitespaceItem (u ++ t) ≡ 0
+  value-item h =
+      ap whitespaceItem (append-assoc (writtenValues (unled v)) (writtenImportance (d .importance)) t)
+      ∙ unled-item v (writtenImportance (d .importance) ++ t) (declared-value (d .declared)) (mark-halts (d .importance) t h)
 
   -- the name and the colon are read
-  property-read : propertyOf (a ++ (g ++ (ascii.colon ∷ (l ++ (v ++ t))))) ≡ ok (length a + length g + 1 + length l) a
+  property-read : Halts t → propertyOf (a ++ (g ++ (ascii.colon ∷ (l ++ (u ++ t))))) ≡ ok (length a + length g + 1 + length l) (folded (property (d .declared)))
   unfolding propertyOf onParsed
-  property-read =
-      let r = l ++ (v ++ t) in
-      rw (name-read (d .property) (g ++ (ascii.colon ∷ r)) (blank-ended (ascii.colon ∷ r) (d .before-colon .blank) (colon-ended r)))
-      (colon-read a g r a (skips-blank g (ascii.colon ∷ r) (d .before-colon .blank) (block-items r .2)) (length l)
-      (skips-blank l (v ++ t) (d .behind-colon .blank) (word-item (d .value) t)))
+  property-read h =
+      let r = l ++ (u ++ t) in
+      rw (ident-read (property (d .declared)) (g ++ (ascii.colon ∷ r)) (blank-ended (ascii.colon ∷ r) (d .before-colon .blank) (colon-ended r)))
+      (colon-read a g r (folded (property (d .declared))) (skips-blank g (ascii.colon ∷ r) (d .before-colon .blank) (block-items r .2)) (length l) (skips-blank l (u ++ t) (lead v .blank) (value-item h)))
 
   -- the value stands behind them
-  value-behind : drop (length a + length g + 1 + length l) (a ++ (g ++ (ascii.colon ∷ (l ++ (v ++ t))))) ≡ v ++ t
+  value-behind : drop (length a + length g + 1 + length l) (a ++ (g ++ (ascii.colon ∷ (l ++ (u ++ t))))) ≡ u ++ t
   value-behind =
       let e : length a + length g + 1 + length l ≡ length a + (length g + suc (length l)) = omega arith in
       rw e
-      (drop-append-add a (g ++ (ascii.colon ∷ (l ++ (v ++ t)))) (length g + suc (length l)) ∙ drop-append-add g (ascii.colon ∷ (l ++ (v ++ t))) (suc (length l))
-      ∙ drop-append-seam l (v ++ t))
+      (drop-append-add a (g ++ (ascii.colon ∷ (l ++ (u ++ t)))) (length g + suc (length l)) ∙ drop-append-add g (ascii.colon ∷ (l ++ (u ++ t))) (suc (length l))
+      ∙ drop-append-seam l (u ++ t))
+
+  -- a value of the grammar, and what it declares
+  meant-read : ValueEnds t → valueOf (u ++ t) ≡ ok (length u) (record { tokens = meansValues v; important = isMarked (d .importance) })
+  meant-read h =
+      value-read (unled v) (d .importance) t (unled-value v (declared-value (d .declared))) h
+      ∙ ap (λ (ks : List Token). ok (length u) (record { tokens = ks; important = isMarked (d .importance) })) (unled-means v)
 
   -- it is read whole
-  pub declaration-read : ValueEnds t → declarationOf (writtenDeclared d ++ t) ≡ ok (length (writtenDeclared d)) (meansDeclared 0 d)
-  unfolding declarationOf valueBehind onParsed meansDeclared
+  pub declaration-read : ValueEnds t → declarationOf (writtenItem d ++ t) ≡ ok (length (writtenItem d)) (meansItem 0 d)
+  unfolding declarationOf valueBehind onParsed meansItem
   declaration-read h =
       rw (
-        declared-onto,
-        property-read,
+        item-onto,
+        property-read (ends-halt h),
         value-behind,
-        value-read (d .value) t h,
-        sequence-unskipped (d .property .sequence) (g ++ (ascii.colon ∷ (l ++ (v ++ t)))),
-        declared-length,
+        meant-read h,
+        declared-meant (d .declared),
+        sequence-unskipped (property (d .declared) .sequence) (g ++ (ascii.colon ∷ (l ++ (u ++ t)))),
+        item-length,
       )

@@ -29,7 +29,7 @@ use Rattle.values.specs.Colour.{numeral}
 use Rattle.selectors.specs.Outcome as outcome
 use Rattle.selectors.specs.Outcome.{Outcome, reads, fails, onOutcome, orElse}
 use Rattle.selectors.specs.Selector.{Nth, isMinus, isSign, signTaken, signed, greatest, digitsWorth, converted, bothOf, justA, justB, worded, nthOf, nthArgsOf, nthChildArgs, pseudoClassOf}
-use Rattle.grammar.proofs.NthGrammar.{Blanks, Sign, unsigned, plus, minus, worth, Count, Integer, Argument, even, odd, multiple, sum, number, writtenSign, signByte, writtenArgument, negative, meansArgument}
+use Rattle.grammar.specs.Nth.{Blanks, Sign, unsigned, plus, minus, worth, Count, Integer, Argument, even, odd, multiple, sum, number, writtenSign, signByte, writtenArgument, negative, meansArgument}
 use Rattle.grammar.proofs.Places.{differs, Unblank, blank-first, unblank-item, rest-on, rest-one, byte-on}
 
 -- ---- digits
@@ -40,7 +40,7 @@ digits-from none t i e = many-stop oneDigit t i (unfold oneDigit pick in rw e) �
 digits-from (more {x} {r} h hs) t i e = rw h (digits-from hs t (i + 1) e ∙ omega arith)
 
 -- the same from the start
-digits-read : {ds : List ℕ} → Each isDigit ds → (t : List ℕ) → isDigit (getD t 0 0) ≡ false → digits (ds ++ t) ≡ length ds
+pub digits-read : {ds : List ℕ} → Each isDigit ds → (t : List ℕ) → isDigit (getD t 0 0) ≡ false → digits (ds ++ t) ≡ length ds
 unfolding digits
 digits-read h t e = digits-from h t 0 e ∙ zero-add _
 
@@ -50,7 +50,7 @@ unfolding isDigit hexDigit pick
 digit-worth x e = rw e
 
 -- so what digits write is the same number
-numeral-same : {ds : List ℕ} → Each isDigit ds → (a : ℕ) → numeral 10 hexDigit a ds ≡ numeral 10 (λ d. d - ascii.digitZero) a ds
+pub numeral-same : {ds : List ℕ} → Each isDigit ds → (a : ℕ) → numeral 10 hexDigit a ds ≡ numeral 10 (λ d. d - ascii.digitZero) a ds
 unfolding numeral
 numeral-same none a = refl
 numeral-same (more {x} {r} h hs) a = rw (digit-worth x h) (numeral-same hs (a * 10 + (x - ascii.digitZero)))
@@ -104,7 +104,7 @@ unfolding numericByte unsignedByte isDigit or and within is
 no-words = (refl, refl)
 
 -- a text with another first byte
-starts-not : (w : ℕ) (ws t : List ℕ) → is (getD t 0 0) w ≡ false → startsWith (w ∷ ws) t ≡ false
+pub starts-not : (w : ℕ) (ws t : List ℕ) → is (getD t 0 0) w ≡ false → startsWith (w ∷ ws) t ≡ false
 unfolding startsWith and
 starts-not w ws [] e = refl
 starts-not w ws (x ∷ t) e = rw e

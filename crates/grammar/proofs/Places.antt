@@ -57,13 +57,13 @@ module _ (p : ℕ → Bool) (u : Unblank p) where
   newline-first form-feed = u .of-form-feed
 
   -- no white space passes the test
-  white-first : {x : ℕ} → White x → p x ≡ false
+  pub white-first : {x : ℕ} → White x → p x ≡ false
   white-first (newline n) = newline-first n
   white-first tab = u .of-tab
   white-first blank-space = u .of-space
 
   -- the first byte of a comment does not pass the test
-  comment-first : {c : List ℕ} (l : List ℕ) → Comment c → p (getD (c ++ l) 0 0) ≡ false
+  pub comment-first : {c : List ℕ} (l : List ℕ) → Comment c → p (getD (c ++ l) 0 0) ≡ false
   comment-first l (closed body h) = u .of-solidus
 
   -- where it fails of what follows them

@@ -21,12 +21,12 @@ use Rattle.lexer.specs.Whitespace.{isWhitespace, commentOf, whitespaceItem, ski
 use Rattle.lexer.proofs.SyntaxName.{IdentSequence, started, dashed, identStart, identCodePoint, letter, start-code-point, hyphen-code-point, code-point-item}
 use Rattle.lexer.proofs.SyntaxWhitespace.{Newline, line-feed, carriage-return, form-feed, White, newline, tab, blank-space, Comment, closed, Blank, none, white, comment}
 use Rattle.syntax.specs.Selector as syntax
-use Rattle.syntax.specs.Selector.{Component}
+use Rattle.syntax.specs.Selector.{Component, PseudoElement}
 use Rattle.selectors.specs.Outcome.{reads, fails, onOutcome, behind, parsed, orElse}
 use Rattle.selectors.specs.Selector.{classOf, attrOf, hashOf, pseudoClassOf, marked, blankOf, componentOf, componentsOf, componentsFrom, someOf, withElementOf, withoutElementOf, bodyOf, isDescendant, withoutBlank, pseudoOf, pseudoTaken, selectorOf}
-use Rattle.grammar.proofs.NthGrammar.{Blanks, Argument, writtenArgument, meansArgument}
+use Rattle.grammar.specs.Nth.{Blanks, Argument, writtenArgument, meansArgument}
 use Rattle.grammar.proofs.Places.{differs}
-use Rattle.grammar.proofs.SelectorGrammar.{Name, Spaces, Quoted, Simple, id, class, attribute, attributeIs, attributeString, nthChild, Compound, typed, universal, untyped, Combinator, child, descendant, Complex, one, joined, writtenSimple, writtenSimples, writtenCompound, writtenCombinator, written, meansSimple, meansCompound, meansCombinator, inOrder, meaning, NoStarAtEnd, NoStarAtStart, firstCompound, Agrees}
+use Rattle.grammar.specs.Selectors.{Name, Spaces, Quoted, Simple, id, class, attribute, attributeIs, attributeString, nthChild, Compound, typed, universal, untyped, Combinator, child, descendant, Complex, one, joined, writtenSimple, writtenSimples, writtenCompound, writtenCombinator, written, meansSimple, meansCompound, meansCombinator, inOrder, meaning, NoStarAtEnd, NoStarAtStart, firstCompound, Agrees, writtenPseudo}
 use Rattle.grammar.proofs.ComponentsRead.{Ended, marks, name-read, class-read, id-read, attribute-read, attribute-is-read, attribute-string-read, nth-child-read, element-read, child-read, star-read, blank-read}
 
 -- ---- components one behind the other
@@ -280,21 +280,28 @@ pub data Ends : List ℕ → Type 0 where
   block : (t : List ℕ) → Ends (ascii.leftCurlyBracket ∷ t)
   another : (t : List ℕ) → Ends (ascii.comma ∷ t)
 
+-- there, or before a pseudo element, whatever its name
+data Stops : List ℕ → Type 0 where
+  ends : {t : List ℕ} → Ends t → Stops t
+  colons : (t : List ℕ) → Stops (ascii.colon ∷ ascii.colon ∷ t)
+
 -- no component begins there
-end-fails : {t : List ℕ} → Ends t → componentOf t ≡ fails
-unfolding componentOf marked blankOf classOf attrOf hashOf pseudoClassOf orElse parsed identOf nameOf nameFrom dash nmstartOf either nmstartCharOf foldedChar identEscapeOf isNmstart parser.behind skipWhitespace many took whitespaceItem isWhitespace commentOf pick or and within is
-end-fails text-ends = refl
-end-fails (block t) = refl
-end-fails (another t) = refl
+end-fails : {t : List ℕ} → Stops t → componentOf t ≡ fails
+unfolding componentOf marked blankOf classOf attrOf hashOf pseudoClassOf orElse parsed onParsed identOf nameOf nameFrom dash nmstartOf either nmstartCharOf foldedChar identEscapeOf isNmstart parser.behind skipWhitespace many took whitespaceItem isWhitespace commentOf pick or and within is
+end-fails (ends text-ends) = refl
+end-fails (ends (block t)) = refl
+end-fails (ends (another t)) = refl
+end-fails (colons t) = refl
 
--- no white space, and no pseudo element
-pub end-item : {t : List ℕ} → Ends t → Begins t
+-- no white space
+end-item : {t : List ℕ} → Stops t → Begins t
 unfolding whitespaceItem isWhitespace commentOf pick or is
-end-item text-ends = record { item = refl; no-greater = refl; no-star = refl }
-end-item (block t) = record { item = refl; no-greater = refl; no-star = refl }
-end-item (another t) = record { item = refl; no-greater = refl; no-star = refl }
+end-item (ends text-ends) = record { item = refl; no-greater = refl; no-star = refl }
+end-item (ends (block t)) = record { item = refl; no-greater = refl; no-star = refl }
+end-item (ends (another t)) = record { item = refl; no-greater = refl; no-star = refl }
+end-item (colons t) = record { item = refl; no-greater = refl; no-star = refl }
 
--- nor a pseudo element
+-- nor, at an end, a pseudo element
 end-pseudo : {t : List ℕ} → Ends t → pseudoOf t ≡ syntax.none
 unfolding pseudoOf startsWith pick and is text utf8 continuation
 end-pseudo text-ends = refl
@@ -302,11 +309,12 @@ end-pseudo (block t) = refl
 end-pseudo (another t) = refl
 
 -- and a name ends
-end-ended : {t : List ℕ} → Ends t → Ended t
+end-ended : {t : List ℕ} → Stops t → Ended t
 unfolding identCodePoint identStart letter or and within is
-end-ended text-ends = record { no-character = refl; no-escape = λ q. omega arith; no-round = refl }
-end-ended (block t) = record { no-character = refl; no-escape = λ q. omega arith; no-round = refl }
-end-ended (another t) = record { no-character = refl; no-escape = λ q. omega arith; no-round = refl }
+end-ended (ends text-ends) = record { no-character = refl; no-escape = λ q. omega arith; no-round = refl }
+end-ended (ends (block t)) = record { no-character = refl; no-escape = λ q. omega arith; no-round = refl }
+end-ended (ends (another t)) = record { no-character = refl; no-escape = λ q. omega arith; no-round = refl }
+end-ended (colons t) = record { no-character = refl; no-escape = λ q. omega arith; no-round = refl }
 
 -- white space before the end is read as a component, which is dropped
 pub data Trail : List Component → Type 0 where
@@ -319,7 +327,7 @@ record Trailing (s : List ℕ) (n : ℕ) (cs : List Component) : Type 0 where
   all : Comes s n (cs ++ trail)
 
 -- so the reader comes to the end
-end-comes : {b t : List ℕ} → Blank b → Ends t → Trailing (b ++ t) (length b) []
+end-comes : {b t : List ℕ} → Blank b → Stops t → Trailing (b ++ t) (length b) []
 end-comes {b} {t} h e = by-length b h
   where
     by-length : (b : List ℕ) → Blank b → Trailing (b ++ t) (length b) []
@@ -464,7 +472,7 @@ greater-item : (l : List ℕ) → whitespaceItem (ascii.greaterThanSign ∷ l) �
 unfolding whitespaceItem isWhitespace commentOf pick or is
 greater-item l = refl
 
-module _ {b t : List ℕ} (hb : Blank b) (ht : Ends t) where
+module _ {b t : List ℕ} (hb : Blank b) (ht : Stops t) where
   -- a `*` alone takes the white space behind it
   star-end : Trailing (written (one (universal [])) ++ (b ++ t)) (length (written (one (universal []))) + length b) (inOrder (one (universal [])))
   unfolding written writtenCompound writtenSimples inOrder meansCompound
@@ -582,7 +590,7 @@ record Body (s : List ℕ) (n : ℕ) (cs : List Component) : Type 0 where
   trails : Trail trail
   all : bodyOf s ≡ reads n (cs ++ trail)
 
-module _ {b t : List ℕ} (hb : Blank b) (ht : Ends t) where
+module _ {b t : List ℕ} (hb : Blank b) (ht : Stops t) where
   -- a compound selector alone is read whole
   one-body : (k : Compound) → NoStarAtEnd k → Body (written (one k) ++ (b ++ t)) (length (written (one k)) + length b) (inOrder (one k))
   unfolding written inOrder
@@ -733,19 +741,53 @@ reverse-solid cs h =
     (subst Solid (sym (reverse-cons (h .head) (h .rest))) (solid-onto (reverse (h .rest)) (h .head ∷ []) (last-solid (h .head) (h .solid))))
 
 -- ---- `selectorOf`
--- the components without blanks at both ends, and no pseudo element, are the selector
-selected : (s : List ℕ) (n : ℕ) (cs ds : List Component) → bodyOf s ≡ reads n cs → pseudoOf (drop n s) ≡ syntax.none → withoutBlank (reverse (withoutBlank cs)) ≡ ds
-    → selectorOf s ≡ reads n (record { components = ds; pseudo = syntax.none })
-unfolding selectorOf onOutcome pseudoTaken
-selected s n cs ds e p w = rw (e, p, w, add-zero n)
+-- the components without blanks at both ends, and the pseudo element behind them, are the selector
+selected : (s : List ℕ) (n : ℕ) (cs ds : List Component) (p : PseudoElement) → bodyOf s ≡ reads n cs → pseudoOf (drop n s) ≡ p → withoutBlank (reverse (withoutBlank cs)) ≡ ds
+    → selectorOf s ≡ reads (n + pseudoTaken p) (record { components = ds; pseudo = p })
+unfolding selectorOf onOutcome
+selected s n cs ds p e q w = rw (e, q, w)
 
--- a selector of the grammar on which both agree, with white space or none behind it and then a byte that cannot continue it, is read whole,
--- with that white space, and means what it says
+-- a selector of the grammar on which both agree, up to where it stops, and what stands there
+stopped : (g : Complex) (b t : List ℕ) (p : PseudoElement) → Agrees g → Blank b → Stops t → pseudoOf t ≡ p
+    → selectorOf (written g ++ (b ++ t)) ≡ reads (length (written g) + length b + pseudoTaken p) (record { components = reverse (inOrder g); pseudo = p })
+stopped g b t p a hb ht e =
+    let w = complex-body hb ht g a in
+    selected (written g ++ (b ++ t)) (length (written g) + length b) (inOrder g ++ w .trail) (reverse (inOrder g)) p (w .all)
+    (ap pseudoOf (drop-append-add (written g) (b ++ t) (length b) ∙ drop-append-seam b t) ∙ e)
+    (ap (λ (r : List Component). withoutBlank (reverse r)) (trail-dropped (inOrder g) (complex-solid g) (w .trails)) ∙ kept (reverse (inOrder g)) (reverse-solid (inOrder g) (complex-headed g)))
+
+-- with white space or none behind it and then a byte that cannot continue it, it is read whole, with that white space, and means what it says
 pub selector-read : (g : Complex) (b t : List ℕ) → Agrees g → Blank b → Ends t
     → selectorOf (written g ++ (b ++ t)) ≡ reads (length (written g) + length b) (meaning g)
-unfolding meaning
+unfolding meaning pseudoTaken
 selector-read g b t a hb ht =
-    let w = complex-body hb ht g a in
-    selected (written g ++ (b ++ t)) (length (written g) + length b) (inOrder g ++ w .trail) (reverse (inOrder g)) (w .all)
-    (ap pseudoOf (drop-append-add (written g) (b ++ t) (length b) ∙ drop-append-seam b t) ∙ end-pseudo ht)
-    (ap (λ (r : List Component). withoutBlank (reverse r)) (trail-dropped (inOrder g) (complex-solid g) (w .trails)) ∙ kept (reverse (inOrder g)) (reverse-solid (inOrder g) (complex-headed g)))
+    stopped g b t syntax.none a hb (ends ht) (end-pseudo ht) ∙ ap (λ (n : ℕ). reads n (meaning g)) (add-zero (length (written g) + length b))
+
+-- ---- pseudo elements
+-- each begins with two colons
+pseudo-stops : (p : PseudoElement) (t : List ℕ) → ¬ (p ≡ syntax.none) → Stops (writtenPseudo p ++ t)
+unfolding writtenPseudo text utf8 continuation pick
+pseudo-stops syntax.none t d = absurd (d refl)
+pseudo-stops syntax.before t d = colons _
+pseudo-stops syntax.after t d = colons _
+
+-- and is read as itself
+pseudo-found : (p : PseudoElement) (t : List ℕ) → ¬ (p ≡ syntax.none) → pseudoOf (writtenPseudo p ++ t) ≡ p
+unfolding writtenPseudo pseudoOf startsWith pick and is text utf8 continuation
+pseudo-found syntax.none t d = absurd (d refl)
+pseudo-found syntax.before t d = refl
+pseudo-found syntax.after t d = refl
+
+-- whole
+pseudo-taken : (p : PseudoElement) → pseudoTaken p ≡ length (writtenPseudo p)
+unfolding writtenPseudo pseudoTaken
+pseudo-taken syntax.none = refl
+pseudo-taken syntax.before = refl
+pseudo-taken syntax.after = refl
+
+-- a selector of the grammar and a pseudo element behind it are read, whatever follows
+pub pseudo-read : (g : Complex) (p : PseudoElement) (t : List ℕ) → Agrees g → ¬ (p ≡ syntax.none)
+    → selectorOf (written g ++ (writtenPseudo p ++ t)) ≡ reads (length (written g) + length (writtenPseudo p)) (record { components = reverse (inOrder g); pseudo = p })
+pseudo-read g p t a d =
+    stopped g [] (writtenPseudo p ++ t) p a none (pseudo-stops p t d) (pseudo-found p t d)
+    ∙ ap (λ (n : ℕ). reads n (record { components = reverse (inOrder g); pseudo = p })) (omega (arith, pseudo-taken p))

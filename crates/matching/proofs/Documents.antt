@@ -1,5 +1,5 @@
 -- Laws from Selectors Level 3: what each simple selector matches, as an 'exactly if', and what the document matches. Combinators, nth-child and specificities
--- are in proofs/Selectors.antt. The document's text is not at hand: a section is named, not quoted.
+-- are in proofs/Selectors.antt. The document's text is not at hand: the numbers of its sections are from memory, and nothing is quoted.
 use Prim.Native.Nat.{ℕ, zero, suc, _+_, _<_}
 use mathlib.Core.Bool.{Bool, true, false}
 use mathlib.Core.List.{List, [], _∷_, _++_}

@@ -170,7 +170,7 @@ module _ (white : ℕ → Bool) (w : List ℕ) where
         (λ q. ⊎-elim (λ (e : v ∷ p ≡ w). inl e) (λ (m : In ps). inr (h .1 (q .0, m))) (q .1)),
       )
 
-  -- by section 6.3.1 of Selectors Level 3: the words are what white space parts, none of them is empty, and none has white space in it
+  -- by section 6.3.1 of Selectors Level 3 (the number is from memory): the words are what white space parts, none of them is empty, and none has white space in it
   pub word-parted : (t : List ℕ) → Exactly (Some (λ x. x ≡ w) (words white t)) ((¬ (w ≡ [])) × Parted white w t)
   unfolding words
   word-parted t =

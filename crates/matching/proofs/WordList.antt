@@ -302,8 +302,8 @@ found w zero vs h l = ((λ p. never (no-turn ∙ p)), none-found w vs h l)
     no-turn = unfold wordAmong in refl
 found w (suc k) vs h l = found-by w k vs h l (found w k) _ refl
 
--- by section 6.3.1 of Selectors Level 3: a text is a whitespace-separated list of words, one of which is exactly w. White space is that of Unicode here,
--- as in the crate; a word has at least one character and no white space.
+-- by section 6.3.1 of Selectors Level 3 (the number is from memory): a text is a whitespace-separated list of words, one of which is exactly w. White space
+-- is that of Unicode here, as in the crate; a word has at least one character and no white space.
 pub has-word-exactly : (w vs : List ℕ) → Scalars vs → Exactly (hasWord w (encode vs) ≡ true) (Some (λ x. encode x ≡ w) (words isWhiteSpace vs))
 unfolding hasWord
 has-word-exactly w vs h = found w (length (encode vs)) vs h (omega arith)

@@ -1,6 +1,6 @@
 -- The words of Selectors Level 3 that the laws of proofs/Documents.antt use: white space (section 4), a whitespace-separated list of words (section
 -- 6.3.1), an attribute of an element (section 6.3), a simple selector (section 4). They speak of characters, as numbers of Unicode; a page has its texts
--- in UTF-8. The document's text is not at hand: a section is named, not quoted.
+-- in UTF-8. The document's text is not at hand: the numbers of its sections and its list of white space are from memory, and nothing is quoted.
 use Prim.Native.Nat.{ℕ}
 use mathlib.Core.Bool.{Bool, true, false}
 use mathlib.Core.List.{List, [], _∷_, _++_}
@@ -24,7 +24,7 @@ Some P (a ∷ l) = P a ⊎ Some P l
 
 -- ---- white space and words
 
--- by section 4: space, tab, line feed, carriage return and form feed
+-- by section 4, from memory: space, tab, line feed, carriage return and form feed
 unfoldable pub isSelectorsWhiteSpace : ℕ → Bool
 isSelectorsWhiteSpace v = member v (tabulation ∷ lineFeed ∷ formFeed ∷ carriageReturn ∷ space ∷ [])
 

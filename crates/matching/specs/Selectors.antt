@@ -1,4 +1,5 @@
 -- The words of Selectors Level 3 that the laws of proofs/Selectors.antt use: parent and ancestor (section 8), counts of selectors (section 9).
+-- The numbers of the sections are from memory.
 use Prim.Native.Nat.{ℕ, _+_}
 use mathlib.Core.Bool.{Bool}
 use mathlib.Core.List.{List, [], _∷_}

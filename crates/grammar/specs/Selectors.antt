@@ -13,8 +13,8 @@ use Rattle.lexer.proofs.SyntaxName.{Each, IdentSequence}
 use Rattle.lexer.proofs.SyntaxString.{plain}
 use Rattle.lexer.proofs.SyntaxWhitespace.{White}
 use Rattle.syntax.specs.Selector as syntax
-use Rattle.syntax.specs.Selector.{Component, Selector}
-use Rattle.grammar.proofs.NthGrammar.{Blanks, Argument, writtenArgument, meansArgument}
+use Rattle.syntax.specs.Selector.{Component, PseudoElement, Selector}
+use Rattle.grammar.specs.Nth.{Blanks, Argument, writtenArgument, meansArgument}
 
 -- ---- what is written
 -- IDENT, of ASCII and without escapes. The reader folds names to small letters, which the document leaves to the language of the page, so
@@ -141,3 +141,44 @@ unfoldable pub Agrees : Complex → Type 0
 Agrees (one k) = Unit
 Agrees (joined k (child b c) g) = Agrees g
 Agrees (joined k (descendant s) g) = NoStarAtEnd k × NoStarAtStart (firstCompound g) × Agrees g
+
+-- ---- pseudo elements (section 7): "Only one pseudo-element may appear per selector, and if present it must appear after the sequence of simple
+-- selectors that represents the subjects of the selector." The notation with one colon, `:before`, is left out: the reader does not read it. So is a
+-- pseudo element alone, which stands for `*` with it in the document.
+unfoldable pub writtenPseudo : PseudoElement → List ℕ
+writtenPseudo syntax.none = []
+writtenPseudo syntax.before = text "::before"
+writtenPseudo syntax.after = text "::after"
+
+-- a selector of the fragment on which both agree, its pseudo element, if it has one, and the white space behind it
+pub record Chosen : Type 0 where
+  pub selector : Complex
+  pub agrees : Agrees selector
+  pub pseudo : PseudoElement
+  pub gap : Blanks
+
+-- ---- groups of selectors (section 5)
+-- no white space stands between a pseudo element and a comma, where the document allows it: the reader stops there
+unfoldable pub Tight : PseudoElement → Blanks → Type 0
+Tight syntax.none b = Unit
+Tight syntax.before b = b .bytes ≡ []
+Tight syntax.after b = b .bytes ≡ []
+
+-- selectors parted by `,`, with white space or none behind it
+pub data Group : Type 0 where
+  last : Chosen → Group
+  several : (c : Chosen) → Tight (c .pseudo) (c .gap) → Blanks → Group → Group
+
+unfoldable pub writtenChosen : Chosen → List ℕ
+writtenChosen c = written (c .selector) ++ (writtenPseudo (c .pseudo) ++ c .gap .bytes)
+
+unfoldable pub writtenGroup : Group → List ℕ
+writtenGroup (last c) = writtenChosen c
+writtenGroup (several c h b g) = writtenChosen c ++ (ascii.comma ∷ (b .bytes ++ writtenGroup g))
+
+unfoldable pub meansChosen : Chosen → Selector
+meansChosen c = record { components = reverse (inOrder (c .selector)); pseudo = c .pseudo }
+
+unfoldable pub meansGroup : Group → List Selector
+meansGroup (last c) = meansChosen c ∷ []
+meansGroup (several c h b g) = meansChosen c ∷ meansGroup g
