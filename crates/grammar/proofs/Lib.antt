@@ -5,6 +5,7 @@ pub mod TokensRead
 pub mod SelectorsRead
 pub mod GroupsRead
 pub mod ValuesRead
+pub mod BalancedRead
 pub mod NumbersMeant
 pub mod DeclarationsMeant
 pub mod DeclarationsRead

@@ -66,7 +66,7 @@ unfolding scalarOf scalarBy leadOf pick is
 ascii-scalar x l h = rw (is-no (suc (length l)) 0 (λ z. omega arith), le-leb x 0x7f h)
 
 -- the reader that it selects
-begins-by : (x : ℕ) (l : List ℕ) (n : ℕ) (k : Token) → whitespaceItem (x ∷ l) ≡ 0 → x ≤ 0x7f → tokenBy (startOf x) 1 x (x ∷ l) ≡ ok n k → Begins (x ∷ l) n k
+pub begins-by : (x : ℕ) (l : List ℕ) (n : ℕ) (k : Token) → whitespaceItem (x ∷ l) ≡ 0 → x ≤ 0x7f → tokenBy (startOf x) 1 x (x ∷ l) ≡ ok n k → Begins (x ∷ l) n k
 unfolding tokenAt
 begins-by x l n k e h p = record { item = e; reads = rw (ascii-scalar x l h, p) }
 

@@ -2,6 +2,7 @@ pub mod Nth
 pub mod Selectors
 pub mod Tokens
 pub mod Values
+pub mod Balanced
 pub mod Spelling
 pub mod Declarations
 pub mod Sheets
