@@ -1,5 +1,6 @@
 pub mod Places
 pub mod NthRead
+pub mod StringsRead
 pub mod ComponentsRead
 pub mod TokensRead
 pub mod SelectorsRead

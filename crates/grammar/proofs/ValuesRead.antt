@@ -30,7 +30,8 @@ use Rattle.grammar.specs.Nth.{Blanks}
 use Rattle.grammar.specs.Tokens.{isDelimiter, Atom, word, string, hash, number, percentage, dimension, comma, colon, semicolon, delimiter, point, hyphen, addition, whole, spaced, Opening, function, link, round, square, brace, writtenAtom, writtenOpening, closer, meansAtom, meansOpening, meansCloser, endsName, beginsName, beginsNumber, mayFollow, MayFollow, EndsBefore, Ident, folded}
 use Rattle.grammar.specs.Values.{Values, end, then, block, writtenValues, meansValues, Follows, Address, Inside, Apart, isSemicolon, isBang, isBrace, Outermost, Unmarked, DeclarationValue, Importance, normal, important, writtenImportance, isMarked}
 use Rattle.grammar.proofs.Places.{Unblank, blank-first}
-use Rattle.grammar.proofs.TokensRead.{ended-digit, Begins, token-read, semicolon-token, closer-token, atom-begins, opening-begins, closer-read, ends-behind, neither, untrue}
+use Rattle.grammar.proofs.StringsRead.{untrue}
+use Rattle.grammar.proofs.TokensRead.{ended-digit, Begins, token-read, semicolon-token, closer-token, atom-begins, opening-begins, closer-read, ends-behind, neither}
 
 -- no white space
 abbrev pub unspaced : Blanks
