@@ -38,7 +38,7 @@ use Rattle.lexer.proofs.CharacterRuns.{chars-step, chars-text-step}
 use Rattle.lexer.proofs.Idents.{char-plain, name-none}
 use Rattle.grammar.specs.Nth.{Blanks, Sign, unsigned, plus, minus, writtenSign}
 use Rattle.grammar.specs.Selectors.{Spaces, Quoted}
-use Rattle.grammar.specs.Tokens.{Numeral, Hashed, isDelimiter, Atom, word, string, hash, number, percentage, dimension, comma, colon, semicolon, delimiter, point, hyphen, addition, whole, spaced, Opening, function, link, round, square, brace, writtenStop, writtenNumeral, writtenAtom, writtenOpening, closer, meansSign, meansNumeral, meansAtom, meansOpening, meansCloser, endsName, beginsName, beginsNumber, mayFollow, MayFollow, EndsBefore, Ident, folded}
+use Rattle.grammar.specs.Tokens.{Numeral, Hashed, isDelimiter, Atom, word, string, hash, number, percentage, dimension, comma, colon, semicolon, delimiter, point, hyphen, addition, whole, spaced, commercialAt, Opening, function, link, round, square, brace, writtenStop, writtenNumeral, writtenAtom, writtenOpening, closer, meansSign, meansNumeral, meansAtom, meansOpening, meansCloser, endsName, beginsName, beginsNumber, mayFollow, MayFollow, EndsBefore, Ident, folded}
 use Rattle.grammar.proofs.Places.{differs, Unblank, unblank-item}
 use Rattle.grammar.proofs.NthRead.{digits-read, starts-not}
 use Rattle.grammar.proofs.ComponentsRead.{behind-blank}
@@ -823,6 +823,11 @@ pub addition-token : (t : List ℕ) → beginsNumber (getD t (skipWhitespace t) 
 unfolding whitespaceItem isWhitespace commentOf tokenBy startOf isQuote plusOf orElse behind pick or is
 addition-token t e = begins-by ascii.plusSign t 1 (tokens.delim ascii.plusSign) refl (omega arith) (rw (no-number t e))
 
+-- an '@' is a token by itself to the reader
+pub at-token : (t : List ℕ) → Begins (ascii.commercialAt ∷ t) 1 (tokens.delim ascii.commercialAt)
+unfolding whitespaceItem isWhitespace commentOf startOf isQuote isIdentStart isDigit markOf pick or and within is
+at-token t = mark-begins ascii.commercialAt t refl (omega arith) refl
+
 -- ---- all of them
 -- every token of the grammar is read whole, where what follows it may follow
 pub atom-begins : (a : Atom) (t : List ℕ) → EndsBefore a t → Begins (writtenAtom a ++ t) (length (writtenAtom a)) (meansAtom a)
@@ -863,6 +868,7 @@ atom-begins (spaced n s w) t e =
     subst (λ (i : ℕ). Begins ((m ++ (g ++ b)) ++ t) i k) (omega (arith, length-append m (g ++ b), length-append g b))
     (subst (λ (r : List ℕ). Begins r (length m + (length g + length b)) k) (sym (append-assoc m (g ++ b) t ∙ ap (λ (l : List ℕ). m ++ l) (append-assoc g b t)))
     (spaced-token n s w t e))
+atom-begins commercialAt t e = at-token t
 
 -- a function's name and its bracket
 function-begins : (n : Ident) (t : List ℕ)

@@ -27,7 +27,7 @@ use Rattle.lexer.proofs.TokenBounds.{token-fits}
 use Rattle.values.specs.Value.{Placed, bracketBy, bracketOf, next, before, behind, closing, ending, stepOf, Statement, stop, cons, onStep, scan, statementOf, tokensOf, isMark, isImportant, withoutMark, valueFrom, valueOf}
 use Rattle.values.specs.Words.{kindOf, firstOf, isKind, isWord, isDelim}
 use Rattle.grammar.specs.Nth.{Blanks}
-use Rattle.grammar.specs.Tokens.{isDelimiter, Atom, word, string, hash, number, percentage, dimension, comma, colon, semicolon, delimiter, point, hyphen, addition, whole, spaced, Opening, function, link, round, square, brace, writtenAtom, writtenOpening, closer, meansAtom, meansOpening, meansCloser, endsName, beginsName, beginsNumber, mayFollow, MayFollow, EndsBefore, Ident, folded}
+use Rattle.grammar.specs.Tokens.{isDelimiter, Atom, word, string, hash, number, percentage, dimension, comma, colon, semicolon, delimiter, point, hyphen, addition, whole, spaced, commercialAt, Opening, function, link, round, square, brace, writtenAtom, writtenOpening, closer, meansAtom, meansOpening, meansCloser, endsName, beginsName, beginsNumber, mayFollow, MayFollow, EndsBefore, Ident, folded}
 use Rattle.grammar.specs.Values.{Values, end, then, block, writtenValues, meansValues, Follows, Address, Inside, Apart, isSemicolon, isBang, isBrace, Outermost, Unmarked, DeclarationValue, Importance, normal, important, writtenImportance, isMarked}
 use Rattle.grammar.proofs.Places.{Unblank, blank-first}
 use Rattle.grammar.proofs.StringsRead.{untrue}
@@ -157,6 +157,7 @@ module _ (include : Bool) (b : Blanks) where
   atom-goes addition v cs h = refl
   atom-goes (whole n) v cs h = refl
   atom-goes (spaced n s w) v cs h = refl
+  atom-goes commercialAt v cs h = refl
 
   -- an opening token awaits its closing one
   pub opening-goes : (o : Opening) (cs : List ℕ) → stepOf include (bracketOf (meansOpening o)) cs ≡ next (closer o ∷ cs)
@@ -240,6 +241,7 @@ atom-ends hyphen x y z e d f = let q = quiet x e in rw (q .no-code-point, q .no-
 atom-ends addition x y z e d f = ap not f
 atom-ends (whole n) x y z e d f = let q = quiet x e in rw (q .no-code-point, q .no-escape, q .no-percent, d)
 atom-ends (spaced n s w) x y z e d f = let q = quiet x e in rw (q .no-code-point, q .no-escape)
+atom-ends commercialAt x y z e d f = refl
 
 -- white space and comments begin with none of them
 unblank : Unblank continues
@@ -322,6 +324,7 @@ any-follows (whole n) x y e z =
     let c = and-true (not (is x ascii.percentSign)) _ (a .1) in
     and-both _ _ (a .0) (and-both _ _ (c .0) (ap not (any-second y (untrue _ (c .1)) z)))
 any-follows (spaced n s w) x y e z = e
+any-follows commercialAt x y e z = e
 
 -- of a text that is not empty the first two bytes, or the first alone
 second-follows : (a : Atom) (x : ℕ) (w r : List ℕ) → 1 ≤ length w → mayFollow a x (getD w 0 0) (getD w 1 0) ≡ true → mayFollow a x (getD (w ++ r) 0 0) (getD (w ++ r) 1 0) ≡ true
@@ -405,6 +408,7 @@ atom-plain hyphen e = refl
 atom-plain addition e = refl
 atom-plain (whole n) e = refl
 atom-plain (spaced n s w) e = refl
+atom-plain commercialAt e = refl
 
 -- nor is a bracket, which is no word either
 brackets-plain : (o : Opening) → (isDelim ascii.exclamationMark (meansOpening o) ≡ false) × (isDelim ascii.exclamationMark (meansCloser o) ≡ false)

@@ -75,11 +75,12 @@ pub data Atom : Type 0 where
   point : Atom
   hyphen : Atom
   addition : Atom
-  -- what the document parts otherwise: digits before a full stop, where it reads one number (4.3.12) and the reader two; and a number, white space
-  -- and a name, where it reads two tokens (4.3.3) and the reader one. Both go on behind them alike. The grammar has them where nobody looks into
+  -- what the document parts otherwise: digits before a full stop, where it reads one number (4.3.12) and the reader two; a number, white space
+  -- and a name, where it reads two tokens (4.3.3) and the reader one; an '@', which it reads with its name (4.3.1). Both go on behind them alike. The grammar has them where nobody looks into
   -- tokens: in values of properties that the engine does not know, and in at-rules.
   whole : Numeral → Atom
   spaced : Numeral → Spaces → Ident → Atom
+  commercialAt : Atom
 
 -- a token that opens a block (5.4.8, Consume a simple block; 5.4.9, Consume a function)
 pub data Opening : Type 0 where
@@ -114,6 +115,7 @@ writtenAtom hyphen = ascii.hyphenMinus ∷ []
 writtenAtom addition = ascii.plusSign ∷ []
 writtenAtom (whole n) = writtenNumeral n
 writtenAtom (spaced n s w) = writtenNumeral n ++ (s .space ∷ (s .more .bytes ++ w .bytes))
+writtenAtom commercialAt = ascii.commercialAt ∷ []
 
 unfoldable pub writtenOpening : Opening → List ℕ
 writtenOpening (function n d) = n .bytes ++ (ascii.leftParenthesis ∷ [])
@@ -156,6 +158,7 @@ meansAtom hyphen = tokens.delim ascii.hyphenMinus
 meansAtom addition = tokens.delim ascii.plusSign
 meansAtom (whole n) = tokens.number (meansNumeral n)
 meansAtom (spaced n s w) = tokens.dimension (meansNumeral n) (folded w)
+meansAtom commercialAt = tokens.delim ascii.commercialAt
 
 unfoldable pub meansOpening : Opening → Token
 meansOpening (function n d) = tokens.function (folded n)
@@ -203,6 +206,7 @@ mayFollow hyphen x y z = and (endsName x) (not (is x ascii.fullStop))
 mayFollow addition x y z = not (beginsNumber y)
 mayFollow (whole n) x y z = and (endsName x) (and (not (is x ascii.percentSign)) (not (beginsName y z)))
 mayFollow (spaced n s w) x y z = endsName x
+mayFollow commercialAt x y z = true
 
 abbrev pub MayFollow : Atom → ℕ → ℕ → ℕ → Type 0
 MayFollow a x y z = mayFollow a x y z ≡ true

@@ -12,7 +12,7 @@ use Rattle.unicode.specs.Literal.{text}
 use Rattle.lexer.specs.Token.{Token, isQuote}
 use Rattle.lexer.proofs.SyntaxName.{Each}
 use Rattle.grammar.specs.Nth.{Blanks}
-use Rattle.grammar.specs.Tokens.{Atom, word, string, hash, number, percentage, dimension, comma, colon, semicolon, delimiter, point, hyphen, addition, whole, spaced, Opening, function, link, round, square, brace, writtenAtom, writtenOpening, closer, meansAtom, meansOpening, meansCloser, MayFollow, Ident, folded}
+use Rattle.grammar.specs.Tokens.{Atom, word, string, hash, number, percentage, dimension, comma, colon, semicolon, delimiter, point, hyphen, addition, whole, spaced, commercialAt, Opening, function, link, round, square, brace, writtenAtom, writtenOpening, closer, meansAtom, meansOpening, meansCloser, MayFollow, Ident, folded}
 
 -- ---- what is written: tokens and blocks, with white space and comments or none before each and at the end
 pub data Values : Type 0 where
@@ -82,6 +82,7 @@ isSemicolon hyphen = false
 isSemicolon addition = false
 isSemicolon (whole n) = false
 isSemicolon (spaced n s w) = false
+isSemicolon commercialAt = false
 
 unfoldable pub isBang : Atom → Bool
 isBang (word n) = false
@@ -99,6 +100,7 @@ isBang hyphen = false
 isBang addition = false
 isBang (whole n) = false
 isBang (spaced n s w) = false
+isBang commercialAt = false
 
 unfoldable pub isBrace : Opening → Bool
 isBrace (function n d) = false
