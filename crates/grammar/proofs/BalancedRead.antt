@@ -43,8 +43,9 @@ use Rattle.values.specs.Words.{kindOf, firstOf, isKind, isDelim}
 use Rattle.grammar.specs.Nth.{Blanks}
 use Rattle.grammar.specs.Selectors.{Quoted}
 use Rattle.grammar.specs.Balanced.{tilde, isPlain, Bracket, round, square, curly, Balanced, end, space, remark, plain, quoted, semicolon, block, opens, closes, writtenBalanced, isMark, Clear, Outside, More, Tight}
+use Rattle.grammar.proofs.StringsRead.{untrue}
 use Rattle.grammar.proofs.Places.{differs, Unblank, white-first, comment-first, blank-first, unblank-item}
-use Rattle.grammar.proofs.TokensRead.{Begins, token-read, begins-by, untrue, neither, string-token, semicolon-token, opening-begins, closer-token}
+use Rattle.grammar.proofs.TokensRead.{Begins, token-read, begins-by, neither, string-token, semicolon-token, opening-begins, closer-token}
 use Rattle.grammar.proofs.ValuesRead.{Passes, passes-none, passes-one, passes-on, plain-first, blank-append, closer-halts, Closes, Halts, halts, nothing, closed, at-semicolon, at-bang, at-brace}
 use Rattle.grammar.specs.Tokens as grammar
 
@@ -187,6 +188,7 @@ halts-first p k (halts {l} {t} h c) = blank-first p (k .unblank) t h (closes-fir
     closes-first : {t : List ℕ} → Closes t → p (getD t 0 0) ≡ false
     closes-first nothing = k .of-zero
     closes-first (closed (grammar.function n d) r) = unfold grammar.closer closes in k .of-close round
+    closes-first (closed (grammar.link n d) r) = unfold grammar.closer closes in k .of-close round
     closes-first (closed grammar.round r) = unfold grammar.closer closes in k .of-close round
     closes-first (closed grammar.square r) = unfold grammar.closer closes in k .of-close square
     closes-first (closed grammar.brace r) = unfold grammar.closer closes in k .of-close curly
@@ -590,6 +592,7 @@ closes-unnamed : {c : List ℕ} → Closes c → (nameOf c ≡ err) × (charsOf 
 unfolding grammar.closer nameOf nameFrom dash nmstartOf either nmstartCharOf foldedChar identEscapeOf isNmstart charsOf charsEnd charTaken nmcharOf nmcharCharOf isNmchar takenOf numbers.signed numbers.sign numbers.unsigned numbers.decimal digits oneDigit isDigit many took whitespaceItem isWhitespace commentOf pick or and within is
 closes-unnamed nothing = (refl, refl, refl, refl)
 closes-unnamed (closed (grammar.function n d) r) = (refl, refl, refl, refl)
+closes-unnamed (closed (grammar.link n d) r) = (refl, refl, refl, refl)
 closes-unnamed (closed grammar.round r) = (refl, refl, refl, refl)
 closes-unnamed (closed grammar.square r) = (refl, refl, refl, refl)
 closes-unnamed (closed grammar.brace r) = (refl, refl, refl, refl)
@@ -729,6 +732,7 @@ closes-unrounded : {c : List ℕ} → Closes c → is (getD c 0 0) ascii.leftPar
 unfolding grammar.closer is
 closes-unrounded nothing = refl
 closes-unrounded (closed (grammar.function n d) r) = refl
+closes-unrounded (closed (grammar.link n d) r) = refl
 closes-unrounded (closed grammar.round r) = refl
 closes-unrounded (closed grammar.square r) = refl
 closes-unrounded (closed grammar.brace r) = refl
@@ -1268,9 +1272,9 @@ void-empty (semicolon v) o t = absurd (unfold Void in o)
 void-empty (block b w v) o t = absurd (unfold Void in o)
 
 -- a string, with t behind it
-quoted-onto : (q : Quoted) (v : Balanced) (t : List ℕ) → writtenBalanced (quoted q v) ++ t ≡ q .quote ∷ (q .body ++ (q .quote ∷ (writtenBalanced v ++ t)))
+quoted-onto : (q : Quoted) (v : Balanced) (t : List ℕ) → writtenBalanced (quoted q v) ++ t ≡ q .quote ∷ (q .bytes ++ (q .quote ∷ (writtenBalanced v ++ t)))
 unfolding writtenBalanced
-quoted-onto q v t = ap (λ (l : List ℕ). q .quote ∷ l) (append-assoc (q .body) (q .quote ∷ writtenBalanced v) t)
+quoted-onto q v t = ap (λ (l : List ℕ). q .quote ∷ l) (append-assoc (q .bytes) (q .quote ∷ writtenBalanced v) t)
 
 -- what stands behind it
 string-drop : (q : ℕ) (b t : List ℕ) → drop (1 + length b + 1) (q ∷ (b ++ (q ∷ t))) ≡ t
@@ -1322,11 +1326,11 @@ module _ (include : Bool) (z : List ℕ) (hz : Halts z) (l : ℕ)
       → AllClear (quoted q v) fs → Sound (quoted q v) fs → Through include (b .bytes ++ (writtenBalanced (quoted q v) ++ after fs z)) z at (stack fs)
   string-step b q v fs at h c s =
       let t = writtenBalanced v ++ after fs z in
-      let n = 1 + length (q .body) + 1 in
+      let n = 1 + length (q .bytes) + 1 in
       let e = quoted-onto q v (after fs z) in
       let k = subst (λ (u : List ℕ). Begins u n (tokens.string (q .body))) (sym e) (string-token q t) in
       token-step include z hz l b (writtenBalanced (quoted q v) ++ after fs z) t at n (tokens.string (q .body)) (stack fs) (stack fs) k
-      (ap (drop n) e ∙ string-drop (q .quote) (q .body) t) (string-goes include (q .body) (stack fs)) (others-unbanged (q .body) .0) h
+      (ap (drop n) e ∙ string-drop (q .quote) (q .bytes) t) (string-goes include (q .body) (stack fs)) (others-unbanged (q .body) .0) h
       (λ i w. ih v fs i w (string-clear q v fs c) (string-sound q v fs s))
 
   -- a semicolon inside brackets

@@ -24,7 +24,8 @@ use Rattle.grammar.specs.Values.{writtenValues, writtenImportance}
 use Rattle.grammar.specs.Declarations.{property, valuesOf}
 use Rattle.grammar.specs.Sheets.{Item, Next, Shut, closed, parted, End, Block, empty, filled, writtenItem, writtenNext, writtenNexts, writtenShut, writtenEnd, writtenBlock, meansItem, meansNexts, meansBlock}
 use Rattle.grammar.proofs.ValuesRead.{unspaced, ValueEnds, before-semicolon, before-brace}
-use Rattle.grammar.proofs.DeclarationsRead.{name-item, block-items, declaration-read}
+use Rattle.grammar.proofs.TokensRead.{name-item}
+use Rattle.grammar.proofs.DeclarationsRead.{block-items, declaration-read}
 
 -- ---- where declarations end
 -- no white space and no comment begins with a semicolon

@@ -2,7 +2,7 @@
 use mathlib.Core.Path.{_≡_, refl, ap, sym, subst, _∙_}
 use mathlib.Core.Bool.{Bool, true, false, not}
 use mathlib.Core.List.{List, [], _∷_, _++_, map, append-nil}
-use Prim.Native.Nat.{ℕ}
+use Prim.Native.Nat.{ℕ, _+_}
 use native.Mathlib.Omega.{arith}
 use lib.ListN.{length, getD}
 use lib.Seq.{drop-append-seam, take-append-seam}
@@ -10,10 +10,11 @@ use Rattle.combinators.specs.All.{All}
 use Rattle.combinators.specs.Ascii as ascii
 use Rattle.combinators.specs.Choice.{pick, or, and, is, within}
 use Rattle.combinators.specs.Word.{sameText}
-use Rattle.combinators.proofs.Rules.{never, or-left}
+use Rattle.combinators.proofs.Rules.{never, and-true, either, pick-true, or-left, within-true, within-yes, within-false, within-past}
 use Rattle.combinators.proofs.Words.{same-is}
 use Rattle.unicode.specs.Literal.{text}
 use Rattle.unicode.specs.Utf8.{utf8, continuation}
+use Rattle.lexer.specs.Name.{caseDistance, lower, isHexDigit, hexDigit}
 use Rattle.lexer.specs.Token as tokens
 use Rattle.lexer.specs.Token.{Token, ident, coded, textOf}
 use Rattle.lexer.specs.TokenRow.{columnsOf}
@@ -21,14 +22,13 @@ use Rattle.lexer.proofs.SyntaxName.{letter, identStart, identCodePoint}
 use Rattle.syntax.specs.Declaration as syntax
 use Rattle.syntax.specs.Declaration.{Colour, Overflow, WhiteSpace}
 use Rattle.values.specs.Words.{Entry, Found, found, missing, foundOr, lookup, onFound, kindOf, firstOf, numberOf, unitOf, isKind}
-use Rattle.values.specs.Colour.{colours, oneToken, colourOf, hashColour, behindComma, backgroundOf}
+use Rattle.values.specs.Colour.{rgb, colours, allOf, oneToken, colourOf, hashColour, behindComma, backgroundOf}
 use Rattle.values.specs.Property.{numberZero, units, anyOf, heightOf, firstWord, overflowOf, displayOf, whiteSpaceOf, contentOf, properties, declOf}
 use Rattle.values.proofs.CssColour.{six-digits, replicated, functional}
 use Rattle.grammar.specs.Nth.{Blanks}
-use Rattle.grammar.specs.Selectors.{Name, Quoted}
-use Rattle.grammar.specs.Tokens.{Numeral, Atom, word, string, number, dimension, comma, writtenAtom, meansAtom, meansOpening, meansCloser, meansNumeral, endsName, beginsName, mayFollow, MayFollow}
+use Rattle.grammar.specs.Selectors.{Quoted}
+use Rattle.grammar.specs.Tokens.{Numeral, Ident, folded, Atom, word, string, number, dimension, comma, writtenAtom, meansAtom, meansOpening, meansCloser, meansNumeral, endsName, beginsName, mayFollow, MayFollow}
 use Rattle.grammar.specs.Values.{Values, end, then, block, meansValues, Follows, Apart, isSemicolon, isBang, isBrace, Outermost, Unmarked, Some, DeclarationValue}
-use Rattle.grammar.specs.Spelling.{spelt, digitBytes, hashed}
 use Rattle.grammar.specs.Declarations.{Keyword, colourNames, Shade, named, three, six, ColourValue, shade, parts, lengthUnits, isZero, Length, measured, bare, overflowWords, displayWords, whiteSpaceWords, Strings, last, more, Known, color, backgroundColor, background, height, maxHeight, overflow, overflowY, display, whiteSpace, content, knownNames, Declared, known, other, knownName, property, alone, shadeValues, partValues, colourValues, lengthValues, stringValues, knownValues, valuesOf, pair, meansShade, meansColour, meansLength, meansStrings, meansKnown, meansDeclared}
 use Rattle.grammar.proofs.Places.{Unblank, blank-first}
 use Rattle.grammar.proofs.NumbersMeant.{part-integer, numeral-zero}
@@ -89,25 +89,99 @@ hash-colour : (b : List ℕ) → colourOf (tokens.hash b ∷ []) ≡ hashColour 
 unfolding colourOf oneToken isKind kindOf columnsOf coded textOf pick is
 hash-colour b = refl
 
+-- a hexadecimal digit is one in small letters too, of the same worth
+record Small (x : ℕ) : Type 0 where
+  hex : isHexDigit (lower x) ≡ true
+  same : hexDigit (lower x) ≡ hexDigit x
+
+-- a small letter and a decimal digit stay
+stays : (x : ℕ) → isHexDigit x ≡ true → within x ascii.capitalA ascii.capitalZ ≡ false → Small x
+unfolding lower pick
+stays x h e = record { hex = rw e h; same = rw e }
+
+-- a capital letter is folded
+turned : (x : ℕ) → within x ascii.capitalA ascii.capitalF ≡ true → Small x
+unfolding lower
+turned x h =
+    let p = within-true x ascii.capitalA ascii.capitalF h in
+    let e : lower x ≡ x + caseDistance = sym (pick-true _ _ _ _ (within-yes x ascii.capitalA ascii.capitalZ (p .0) (omega arith)) refl) in
+    let y = x + caseDistance in
+    let s = within-yes y ascii.smallA ascii.smallF (omega arith) (omega arith) in
+    record {
+      hex = ap isHexDigit e ∙ (unfold isHexDigit or in rw (within-past y ascii.digitZero ascii.digitNine (omega arith), s));
+      same =
+          ap hexDigit e
+          ∙ (unfold hexDigit pick in
+          rw (
+            within-past y ascii.digitZero ascii.digitNine (omega arith),
+            s,
+            within-past x ascii.digitZero ascii.digitNine (omega arith),
+            sym (within-false x ascii.smallA ascii.smallF (omega arith)),
+            h,
+          ) (omega arith));
+    }
+
+-- so with each digit
+small-digit : (x : ℕ) → isHexDigit x ≡ true → Small x
+unfolding isHexDigit
+small-digit x h =
+    either (Small x) _ _ h
+    (λ e. let p = within-true x ascii.digitZero ascii.digitNine e in stays x h (sym (within-false x ascii.capitalA ascii.capitalZ (omega arith))))
+    (λ l. either (Small x) _ _ l
+    (λ e. let p = within-true x ascii.smallA ascii.smallF e in stays x h (within-past x ascii.capitalA ascii.capitalZ (omega arith)))
+    (λ e. turned x e))
+
+-- and with the first of several
+first-digit : (x : ℕ) (r : List ℕ) → allOf isHexDigit (x ∷ r) ≡ true → Small x × (allOf isHexDigit r ≡ true)
+unfolding allOf
+first-digit x r h = let p = and-true (isHexDigit x) (allOf isHexDigit r) h in (small-digit x (p .0), p .1)
+
+-- six digits in letters of either case
+six-small : (p q x y z w : ℕ) → Small p → Small q → Small x → Small y → Small z → Small w
+    → hashColour (map lower (p ∷ q ∷ x ∷ y ∷ z ∷ w ∷ [])) ≡ found (rgb (pair p q) (pair x y) (pair z w))
+unfolding pair
+six-small p q x y z w a b c d e f =
+    six-digits (lower p) (lower q) (lower x) (lower y) (lower z) (lower w) (a .hex) (b .hex) (c .hex) (d .hex) (e .hex) (f .hex)
+    ∙ rw (a .same, b .same, c .same, d .same, e .same, f .same)
+
+-- by one test of them all
+six-meant : (p q x y z w : ℕ) → allOf isHexDigit (p ∷ q ∷ x ∷ y ∷ z ∷ w ∷ []) ≡ true
+    → hashColour (map lower (p ∷ q ∷ x ∷ y ∷ z ∷ w ∷ [])) ≡ found (rgb (pair p q) (pair x y) (pair z w))
+six-meant p q x y z w h =
+    let a = first-digit p (q ∷ x ∷ y ∷ z ∷ w ∷ []) h in
+    let b = first-digit q (x ∷ y ∷ z ∷ w ∷ []) (a .1) in
+    let c = first-digit x (y ∷ z ∷ w ∷ []) (b .1) in
+    let d = first-digit y (z ∷ w ∷ []) (c .1) in
+    let e = first-digit z (w ∷ []) (d .1) in
+    six-small p q x y z w (a .0) (b .0) (c .0) (d .0) (e .0) (first-digit w [] (e .1) .0)
+
+-- three are replicated
+three-meant : (x y z : ℕ) → allOf isHexDigit (x ∷ y ∷ z ∷ []) ≡ true → hashColour (map lower (x ∷ y ∷ z ∷ [])) ≡ found (rgb (pair x x) (pair y y) (pair z z))
+three-meant x y z h =
+    let a = first-digit x (y ∷ z ∷ []) h in
+    let b = first-digit y (z ∷ []) (a .1) in
+    let c = first-digit z [] (b .1) in
+    replicated (lower x) (lower y) (lower z) (a .0 .hex) (b .0 .hex) (c .0 .hex) ∙ six-small x x y y z z (a .0) (a .0) (b .0) (b .0) (c .0) (c .0)
+
 -- a colour in one token is what it means
 shade-meant : (b : Blanks) (s : Shade) → colourOf (meansValues (shadeValues b s)) ≡ found (meansShade s)
-unfolding meansValues shadeValues meansAtom meansShade pair hashed digitBytes
+unfolding meansValues shadeValues meansAtom meansShade
 shade-meant b (named k) =
-    ident-colour (k .name .bytes)
-    ∙ row-holds (λ (w : List ℕ) (a : Colour). lookup w colours ≡ found a) (k .name .bytes) (k .means) colourNames (names-agree .0) (k .listed)
-shade-meant b (three x y z) =
-    hash-colour _ ∙ replicated (x .byte) (y .byte) (z .byte) (x .hex) (y .hex) (z .hex)
-    ∙ six-digits (x .byte) (x .byte) (y .byte) (y .byte) (z .byte) (z .byte) (x .hex) (x .hex) (y .hex) (y .hex) (z .hex) (z .hex)
-shade-meant b (six p q x y z w) =
-    hash-colour _ ∙ six-digits (p .byte) (q .byte) (x .byte) (y .byte) (z .byte) (w .byte) (p .hex) (q .hex) (x .hex) (y .hex) (z .hex) (w .hex)
+    ident-colour (folded (k .name))
+    ∙ row-holds (λ (w : List ℕ) (a : Colour). lookup w colours ≡ found a) (folded (k .name)) (k .means) colourNames (names-agree .0) (k .listed)
+shade-meant b (three h x y z e d) =
+    hash-colour _ ∙ ap (λ (l : List ℕ). hashColour (map lower l)) e ∙ three-meant x y z (ap (λ (l : List ℕ). allOf isHexDigit l) (sym e) ∙ d)
+shade-meant b (six h p q x y z w e d) =
+    hash-colour _ ∙ ap (λ (l : List ℕ). hashColour (map lower l)) e ∙ six-meant p q x y z w (ap (λ (l : List ℕ). allOf isHexDigit l) (sym e) ∙ d)
 
 -- so is any other
 colour-meant : (b : Blanks) (v : ColourValue) → colourOf (meansValues (colourValues b v)) ≡ found (meansColour v)
 unfolding colourValues meansColour
 colour-meant b (shade s) = shade-meant b s
-colour-meant b (parts x y z) =
-    unfold meansValues partValues meansAtom meansOpening meansCloser spelt in
-    functional (meansNumeral (x .numeral)) (meansNumeral (y .numeral)) (meansNumeral (z .numeral)) _ _ _ (part-integer x) (part-integer y) (part-integer z)
+colour-meant b (parts n h x y z) =
+    unfold meansValues partValues meansAtom meansOpening meansCloser in
+    rw h
+    (functional (meansNumeral (x .numeral)) (meansNumeral (y .numeral)) (meansNumeral (z .numeral)) _ _ _ (part-integer x) (part-integer y) (part-integer z))
 
 -- in one token there is no comma
 shade-background : (b : Blanks) (s : Shade) → backgroundOf (meansValues (shadeValues b s)) ≡ found (meansShade s)
@@ -115,8 +189,8 @@ shade-background b s = without-comma b s ∙ shade-meant b s
   where
     without-comma : (b : Blanks) (s : Shade) → backgroundOf (meansValues (shadeValues b s)) ≡ colourOf (meansValues (shadeValues b s))
     without-comma b (named k) = unfold backgroundOf behindComma meansValues shadeValues meansAtom isKind kindOf columnsOf coded pick is in refl
-    without-comma b (three x y z) = unfold backgroundOf behindComma meansValues shadeValues meansAtom isKind kindOf columnsOf coded pick is in refl
-    without-comma b (six p q x y z w) = unfold backgroundOf behindComma meansValues shadeValues meansAtom isKind kindOf columnsOf coded pick is in refl
+    without-comma b (three h x y z w d) = unfold backgroundOf behindComma meansValues shadeValues meansAtom isKind kindOf columnsOf coded pick is in refl
+    without-comma b (six h p q x y z w e d) = unfold backgroundOf behindComma meansValues shadeValues meansAtom isKind kindOf columnsOf coded pick is in refl
 
 -- ---- lengths
 -- the units of the document are the engine's
@@ -138,23 +212,23 @@ number-height t e = rw e
 length-meant : (b : Blanks) (l : Length) → heightOf (meansValues (lengthValues b l)) ≡ found (meansLength l)
 unfolding meansValues lengthValues meansAtom meansLength
 length-meant b (measured m) =
-    dimension-height (meansNumeral (m .numeral)) (m .unit .name .bytes) (isZero (m .numeral))
-    (word-holds (λ (w : List ℕ). anyOf w units ≡ true) (m .unit .name .bytes) lengthUnits units-agree (m .listed)) (numeral-zero (m .numeral) (m .exact))
+    dimension-height (meansNumeral (m .numeral)) (folded (m .unit .name)) (isZero (m .numeral))
+    (word-holds (λ (w : List ℕ). anyOf w units ≡ true) (folded (m .unit .name)) lengthUnits units-agree (m .listed)) (numeral-zero (m .numeral) (m .exact))
 length-meant b (bare n z) = number-height (meansNumeral n) (numeral-zero n (or-left _ _ z) ∙ z)
 
 -- ---- keywords
 -- each of `overflow` means to the engine what the document says
-overflow-meant : (k : Keyword overflowWords) → overflowOf (ident (k .name .bytes) ∷ []) ≡ found (k .means)
+overflow-meant : (k : Keyword overflowWords) → overflowOf (ident (folded (k .name)) ∷ []) ≡ found (k .means)
 overflow-meant k =
-    row-holds (λ (w : List ℕ) (a : Overflow). overflowOf (ident w ∷ []) ≡ found a) (k .name .bytes) (k .means) overflowWords rows (k .listed)
+    row-holds (λ (w : List ℕ) (a : Overflow). overflowOf (ident w ∷ []) ≡ found a) (folded (k .name)) (k .means) overflowWords rows (k .listed)
   where
     rows : All (λ (e : Entry Overflow). overflowOf (ident (e .word) ∷ []) ≡ found (e .means)) overflowWords
     rows = unfold overflowOf firstWord lookup foundOr onFound isKind kindOf columnsOf coded textOf sameText text utf8 continuation pick and is in (refl, (refl, (refl, (refl, tt))))
 
 -- each of `display`
-display-meant : (k : Keyword displayWords) → displayOf (ident (k .name .bytes) ∷ []) ≡ k .means
+display-meant : (k : Keyword displayWords) → displayOf (ident (folded (k .name)) ∷ []) ≡ k .means
 display-meant k =
-    row-holds (λ (w : List ℕ) (a : Bool). displayOf (ident w ∷ []) ≡ a) (k .name .bytes) (k .means) displayWords rows (k .listed)
+    row-holds (λ (w : List ℕ) (a : Bool). displayOf (ident w ∷ []) ≡ a) (folded (k .name)) (k .means) displayWords rows (k .listed)
   where
     rows : All (λ (e : Entry Bool). displayOf (ident (e .word) ∷ []) ≡ e .means) displayWords
     rows =
@@ -162,9 +236,9 @@ display-meant k =
         (refl, (refl, (refl, (refl, (refl, (refl, (refl, (refl, (refl, (refl, (refl, (refl, (refl, (refl, (refl, tt)))))))))))))))
 
 -- each of `white-space`
-white-space-meant : (k : Keyword whiteSpaceWords) → whiteSpaceOf (ident (k .name .bytes) ∷ []) ≡ k .means
+white-space-meant : (k : Keyword whiteSpaceWords) → whiteSpaceOf (ident (folded (k .name)) ∷ []) ≡ k .means
 white-space-meant k =
-    row-holds (λ (w : List ℕ) (a : WhiteSpace). whiteSpaceOf (ident w ∷ []) ≡ a) (k .name .bytes) (k .means) whiteSpaceWords rows (k .listed)
+    row-holds (λ (w : List ℕ) (a : WhiteSpace). whiteSpaceOf (ident w ∷ []) ≡ a) (folded (k .name)) (k .means) whiteSpaceWords rows (k .listed)
   where
     rows : All (λ (e : Entry WhiteSpace). whiteSpaceOf (ident (e .word) ∷ []) ≡ e .means) whiteSpaceWords
     rows = unfold whiteSpaceOf firstWord lookup foundOr onFound isKind kindOf columnsOf coded textOf sameText text utf8 continuation pick and is in (refl, (refl, (refl, tt)))
@@ -183,8 +257,8 @@ strings-meant b (more q d s) = string-content (q .body) _ (meansStrings s) (stri
 
 -- ---- properties
 -- of the properties that the engine knows the name selects the reader of the value
-known-meant : (b : Blanks) (k : Known) → declOf (knownName k .bytes) (meansValues (knownValues b k)) ≡ meansKnown k
-unfolding knownName spelt knownValues meansKnown declOf lookup foundOr onFound sameText text utf8 continuation pick and is
+known-meant : (b : Blanks) (k : Known) → declOf (knownName k) (meansValues (knownValues b k)) ≡ meansKnown k
+unfolding knownName knownValues meansKnown declOf lookup foundOr onFound sameText text utf8 continuation pick and is
 known-meant b (color v) = rw (colour-meant b v)
 known-meant b (backgroundColor v) = rw (colour-meant b v)
 known-meant b (background s) = rw (shade-background b s)
@@ -197,15 +271,15 @@ known-meant b (whiteSpace k) = unfold meansValues meansAtom in rw (white-space-m
 known-meant b (content s) = rw (strings-meant b s)
 
 -- any other is unknown, whatever its value
-other-meant : (n : Name) (ks : List Token) → anyOf (n .bytes) knownNames ≡ false → declOf (n .bytes) ks ≡ syntax.unknown (n .bytes)
+other-meant : (w : List ℕ) (ks : List Token) → anyOf w knownNames ≡ false → declOf w ks ≡ syntax.unknown w
 unfolding declOf onFound
-other-meant n ks h = rw (unlisted (n .bytes) properties h)
+other-meant w ks h = rw (unlisted w properties h)
 
 -- a declaration of the grammar is to the engine what it means
-pub declared-meant : (d : Declared) → declOf (property d .bytes) (meansValues (valuesOf d)) ≡ meansDeclared d
+pub declared-meant : (d : Declared) → declOf (folded (property d)) (meansValues (valuesOf d)) ≡ meansDeclared d
 unfolding property valuesOf meansDeclared
-declared-meant (known b k) = known-meant b k
-declared-meant (other n h v d) = other-meant n (meansValues v) h
+declared-meant (known n b k h) = ap (λ (w : List ℕ). declOf w (meansValues (knownValues b k))) h ∙ known-meant b k
+declared-meant (other n h v d) = other-meant (folded n) (meansValues v) h
 
 -- ---- the value is one that a declaration may have
 -- one token, that is neither a semicolon nor `!`
@@ -214,7 +288,7 @@ unfolding Some Apart Follows Outermost Unmarked
 alone-value b a s m = record { some = tt; apart = (tt, tt); outermost = (s, refl); unmarked = (m, tt) }
 
 -- a name
-word-value : (b : Blanks) (n : Name) → DeclarationValue (alone b (word n))
+word-value : (b : Blanks) (n : Ident) → DeclarationValue (alone b (word n))
 unfolding isSemicolon isBang
 word-value b n = alone-value b (word n) refl refl
 
@@ -222,23 +296,23 @@ word-value b n = alone-value b (word n) refl refl
 shade-value : (b : Blanks) (s : Shade) → DeclarationValue (shadeValues b s)
 unfolding shadeValues isSemicolon isBang
 shade-value b (named k) = word-value b (k .name)
-shade-value b (three x y z) = alone-value b _ refl refl
-shade-value b (six p q x y z w) = alone-value b _ refl refl
+shade-value b (three h x y z w d) = alone-value b _ refl refl
+shade-value b (six h p q x y z w e d) = alone-value b _ refl refl
 
 -- a number may stand before a comma, with white space or none between them
-comma-follows : (n : Numeral) (b : Blanks) → MayFollow (number n) (getD (b .bytes ++ writtenAtom comma) 0 0) (getD (writtenAtom comma) 0 0)
+comma-follows : (n : Numeral) (b : Blanks) → MayFollow (number n) (getD (b .bytes ++ writtenAtom comma) 0 0) (getD (writtenAtom comma) 0 0) (getD (writtenAtom comma) 1 0)
 unfolding writtenAtom
 comma-follows n b =
-    holds _ (blank-first (λ (x : ℕ). not (mayFollow (number n) x ascii.comma)) unblank (ascii.comma ∷ []) (b .blank) ends)
+    holds _ (blank-first (λ (x : ℕ). not (mayFollow (number n) x ascii.comma 0)) unblank (ascii.comma ∷ []) (b .blank) ends)
   where
     holds : (t : Bool) → not t ≡ false → t ≡ true
     holds true e = refl
     holds false e = sym e
 
-    ends : not (mayFollow (number n) ascii.comma ascii.comma) ≡ false
+    ends : not (mayFollow (number n) ascii.comma ascii.comma 0) ≡ false
     ends = unfold mayFollow endsName beginsName identCodePoint identStart letter or and within is in refl
 
-    unblank : Unblank (λ (x : ℕ). not (mayFollow (number n) x ascii.comma))
+    unblank : Unblank (λ (x : ℕ). not (mayFollow (number n) x ascii.comma 0))
     unblank =
         unfold mayFollow endsName beginsName identCodePoint identStart letter or and within is in
         record { of-space = refl; of-tab = refl; of-line-feed = refl; of-carriage-return = refl; of-form-feed = refl; of-solidus = refl }
@@ -247,7 +321,7 @@ comma-follows n b =
 colour-value : (b : Blanks) (v : ColourValue) → DeclarationValue (colourValues b v)
 unfolding colourValues partValues Some Apart Follows Outermost Unmarked isBrace mayFollow
 colour-value b (shade s) = shade-value b s
-colour-value b (parts x y z) =
+colour-value b (parts n h x y z) =
     record {
       some = tt;
       apart = ((comma-follows (x .numeral) (x .behind), (refl, (comma-follows (y .numeral) (y .behind), (refl, (tt, tt))))), tt);
@@ -296,5 +370,5 @@ known-value b (content s) = strings-value b s
 -- and of any
 pub declared-value : (d : Declared) → DeclarationValue (valuesOf d)
 unfolding valuesOf
-declared-value (known b k) = known-value b k
+declared-value (known n b k h) = known-value b k
 declared-value (other n h v d) = d

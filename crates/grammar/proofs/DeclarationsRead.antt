@@ -8,20 +8,19 @@ use lib.Seq.{getD-append-seam, getD-append-add, drop-append-add, drop-append-sea
 use Rattle.combinators.specs.Ascii as ascii
 use Rattle.combinators.specs.Choice.{pick, or, and, is, within}
 use Rattle.combinators.specs.Parsed.{ok, onParsed}
-use Rattle.unicode.specs.Literal.{text}
+use Rattle.lexer.specs.Name.{identOf}
 use Rattle.lexer.specs.Token.{Token}
 use Rattle.lexer.specs.Whitespace.{isWhitespace, commentOf, whitespaceItem, skipWhitespace}
-use Rattle.lexer.proofs.SyntaxName.{IdentSequence, started, dashed, start-code-point, hyphen-code-point, code-point-item, identStart, identCodePoint, letter, sequence-unskipped}
+use Rattle.lexer.proofs.SyntaxName.{identStart, identCodePoint, letter, sequence-unskipped, ident-sequence}
 use Rattle.lexer.proofs.SyntaxWhitespace.{skips-blank}
 use Rattle.values.specs.Value.{valueOf}
 use Rattle.declarations.specs.Rules.{colonBehind, propertyOf, valueBehind, declarationOf}
 use Rattle.grammar.specs.Nth.{Blanks}
-use Rattle.grammar.specs.Selectors.{Name}
-use Rattle.grammar.specs.Tokens.{closer}
+use Rattle.grammar.specs.Tokens.{closer, Ident, folded}
 use Rattle.grammar.specs.Values.{Values, end, then, block, writtenValues, meansValues, Apart, Outermost, Unmarked, Some, DeclarationValue, Importance, normal, important, writtenImportance, isMarked}
 use Rattle.grammar.specs.Declarations.{property, valuesOf}
 use Rattle.grammar.specs.Sheets.{Item, writtenItem, meansItem}
-use Rattle.grammar.proofs.ComponentsRead.{Ended, name-read}
+use Rattle.grammar.proofs.ComponentsRead.{Ended}
 use Rattle.grammar.proofs.SelectorsRead.{blank-ended}
 use Rattle.grammar.proofs.TokensRead.{atom-begins, opening-begins}
 use Rattle.grammar.proofs.ValuesRead.{unspaced, Halts, halts, at-bang, follows, then-onto, block-onto, ValueEnds, ends-halt, value-read}
@@ -73,17 +72,14 @@ unled-item (block b o w v) z h g = ap whitespaceItem (block-onto unspaced o w v 
 mark-halts : (m : Importance) (z : List ℕ) → Halts z → Halts (writtenImportance m ++ z)
 unfolding writtenImportance
 mark-halts normal z h = h
-mark-halts (important b c) z h =
-    subst Halts (sym (append-assoc (b .bytes) (ascii.exclamationMark ∷ (c .bytes ++ text "important")) z)) (halts (b .blank) (at-bang ((c .bytes ++ text "important") ++ z)))
+mark-halts (important b c n i) z h =
+    subst Halts (sym (append-assoc (b .bytes) (ascii.exclamationMark ∷ (c .bytes ++ n .bytes)) z)) (halts (b .blank) (at-bang ((c .bytes ++ n .bytes) ++ z)))
 
 -- ---- a declaration
--- a name begins no white space
-pub name-item : (n : Name) (t : List ℕ) → whitespaceItem (n .bytes ++ t) ≡ 0
-name-item n t = by-start (n .bytes) (n .sequence)
-  where
-    by-start : (bytes : List ℕ) → IdentSequence bytes → whitespaceItem (bytes ++ t) ≡ 0
-    by-start _ (started {x} {r} e h) = code-point-item x (r ++ t) (start-code-point x e)
-    by-start _ (dashed {x} {r} e h) = code-point-item ascii.hyphenMinus (x ∷ (r ++ t)) hyphen-code-point
+-- its name is read whole, in small letters, where it ends
+ident-read : (n : Ident) (t : List ℕ) → Ended t → identOf (n .bytes ++ t) ≡ ok (length (n .bytes)) (folded n)
+unfolding folded
+ident-read n t h = ident-sequence (n .bytes) t (n .sequence) (h .no-character) (h .no-escape)
 
 -- no white space begins with the marks of a block
 pub block-items : (r : List ℕ) → (whitespaceItem (ascii.rightCurlyBracket ∷ r) ≡ 0) × (whitespaceItem (ascii.semicolon ∷ r) ≡ 0) × (whitespaceItem (ascii.colon ∷ r) ≡ 0)
@@ -157,12 +153,12 @@ module _ (d : Item) (t : List ℕ) where
       ∙ unled-item v (writtenImportance (d .importance) ++ t) (declared-value (d .declared)) (mark-halts (d .importance) t h)
 
   -- the name and the colon are read
-  property-read : Halts t → propertyOf (a ++ (g ++ (ascii.colon ∷ (l ++ (u ++ t))))) ≡ ok (length a + length g + 1 + length l) a
+  property-read : Halts t → propertyOf (a ++ (g ++ (ascii.colon ∷ (l ++ (u ++ t))))) ≡ ok (length a + length g + 1 + length l) (folded (property (d .declared)))
   unfolding propertyOf onParsed
   property-read h =
       let r = l ++ (u ++ t) in
-      rw (name-read (property (d .declared)) (g ++ (ascii.colon ∷ r)) (blank-ended (ascii.colon ∷ r) (d .before-colon .blank) (colon-ended r)))
-      (colon-read a g r a (skips-blank g (ascii.colon ∷ r) (d .before-colon .blank) (block-items r .2)) (length l) (skips-blank l (u ++ t) (lead v .blank) (value-item h)))
+      rw (ident-read (property (d .declared)) (g ++ (ascii.colon ∷ r)) (blank-ended (ascii.colon ∷ r) (d .before-colon .blank) (colon-ended r)))
+      (colon-read a g r (folded (property (d .declared))) (skips-blank g (ascii.colon ∷ r) (d .before-colon .blank) (block-items r .2)) (length l) (skips-blank l (u ++ t) (lead v .blank) (value-item h)))
 
   -- the value stands behind them
   value-behind : drop (length a + length g + 1 + length l) (a ++ (g ++ (ascii.colon ∷ (l ++ (u ++ t))))) ≡ u ++ t

@@ -1,9 +1,11 @@
 pub mod Places
 pub mod NthRead
+pub mod StringsRead
 pub mod ComponentsRead
 pub mod TokensRead
 pub mod SelectorsRead
 pub mod GroupsRead
+pub mod Spelling
 pub mod ValuesRead
 pub mod BalancedRead
 pub mod NumbersMeant
@@ -14,3 +16,4 @@ pub mod SheetsRead
 pub mod DeclarationCases
 pub mod GrammarCases
 pub mod SheetCases
+pub mod ValueCases

@@ -104,7 +104,7 @@ unfolding numericByte unsignedByte isDigit or and within is
 no-words = (refl, refl)
 
 -- a text with another first byte
-starts-not : (w : ℕ) (ws t : List ℕ) → is (getD t 0 0) w ≡ false → startsWith (w ∷ ws) t ≡ false
+pub starts-not : (w : ℕ) (ws t : List ℕ) → is (getD t 0 0) w ≡ false → startsWith (w ∷ ws) t ≡ false
 unfolding startsWith and
 starts-not w ws [] e = refl
 starts-not w ws (x ∷ t) e = rw e

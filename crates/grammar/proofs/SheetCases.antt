@@ -31,13 +31,13 @@ use Rattle.selectors.specs.Selector.{signed}
 use Rattle.sheets.specs.Sheet.{sheetOf}
 use Rattle.grammar.specs.Nth.{Blanks, unsigned, Count, sum, writtenSign, signByte, writtenArgument, negative, worth, meansArgument}
 use Rattle.grammar.specs.Selectors.{Quoted, unprocessed, class, nthChild, typed, child, one, joined, writtenSimple, writtenSimples, writtenCompound, writtenCombinator, written, meansSimple, meansCompound, meansCombinator, inOrder, Agrees, writtenPseudo, Tight, last, several, writtenChosen, writtenGroup, meansChosen, meansGroup}
-use Rattle.grammar.specs.Tokens.{Numeral, Hashed, isExponent, isDelimiter, word, string, hash, dimension, colon, semicolon, delimiter, function, square, brace, meansAtom, meansOpening, meansCloser, writtenStop, writtenNumeral, writtenAtom, writtenOpening, closer, endsName, mayFollow}
+use Rattle.grammar.specs.Tokens.{Numeral, Hashed, isExponent, isDelimiter, word, string, hash, dimension, colon, semicolon, delimiter, function, square, brace, meansAtom, meansOpening, meansCloser, writtenStop, writtenNumeral, writtenAtom, writtenOpening, closer, endsName, mayFollow, folded}
 use Rattle.grammar.specs.Values.{Values, end, then, block, writtenValues, meansValues, isBrace, Follows, Apart, isSemicolon, isBang, Outermost, Unmarked, Some, normal, important, writtenImportance, isMarked}
-use Rattle.grammar.specs.Spelling.{smallLetter, spells, isSpelt, spelt, HexDigit, digitBytes, hashed}
 use Rattle.grammar.specs.Declarations.{named, three, shade, isZero, bare, color, backgroundColor, height, display, content, Declared, known, other, knownName, property, shadeValues, colourValues, lengthValues, stringValues, knownValues, valuesOf, pair, meansShade, meansColour, meansLength, meansStrings, meansKnown, meansDeclared}
 use Rattle.grammar.specs.Declarations as declarations
 use Rattle.grammar.specs.Sheets.{Item, filled, Rule, braces, AtRule, rule, atRule, Sheet, writtenItem, writtenNext, writtenNexts, writtenShut, writtenEnd, writtenBlock, writtenRule, writtenAtEnd, writtenAt, writtenStatement, writtenStatements, writtenSheet, meansItem, meansNexts, meansBlock, meansRule, meansStatements, meansSheet, unreadBehind, unread}
 use Rattle.grammar.specs.Sheets as sheets
+use Rattle.grammar.proofs.Spelling.{isSpelt, ident, spelt, hashed, quoted}
 use Rattle.grammar.proofs.ValuesRead.{before-semicolon, Stated, value-ends}
 use Rattle.grammar.proofs.SheetsRead.{sheet-whole}
 use Rattle.grammar.proofs.GrammarCases.{nothing, blank, two}
@@ -74,21 +74,14 @@ remark =
 
 -- ---- `@charset "utf-8";`
 unfoldable encoding : Quoted
-unfolding isQuote plain ordinary unprocessed text utf8 continuation pick or and is
-encoding =
-    record {
-      quote = ascii.quotationMark;
-      body = text "utf-8";
-      quotes = refl;
-      ordinary = refl;
-      unchanged = more refl (more refl (more refl (more refl (more refl each.none))));
-    }
+unfolding isQuote plain ordinary unprocessed allOf text utf8 continuation pick or and is
+encoding = quoted ascii.quotationMark (text "utf-8") refl refl refl
 
 unfoldable charset : AtRule
-unfolding Follows Apart Outermost isSemicolon writtenValues writtenAtom endsName identCodePoint identStart letter isSpelt smallLetter spells allOf spelt pick or and is within text utf8
+unfolding Follows Apart Outermost isSemicolon writtenValues writtenAtom endsName identCodePoint identStart letter isSpelt allOf spelt pick or and is within text utf8 ident folded lower knownName
 charset =
     record {
-      name = spelt (text "charset") refl;
+      name = ident (text "charset") refl;
       prelude = then blank (string encoding) (end nothing);
       ends = refl;
       apart = (tt, tt);
@@ -99,62 +92,59 @@ charset =
     }
 
 -- ---- `body { color: #333; background-color: white }`
-unfoldable digit3 : HexDigit
-unfolding isHexDigit lower pick or and within
-digit3 = record { byte = 0x33; hex = refl; small = refl }
-
 unfoldable dark : Declared
-dark = known blank (color (shade (three digit3 digit3 digit3)))
+unfolding isSpelt allOf ident hashed folded lower isHexDigit identStart identCodePoint letter knownName text utf8 pick or and is within
+dark = known (ident (text "color") refl) blank (color (shade (three (hashed (text "333") refl (omega arith)) 0x33 0x33 0x33 refl refl))) refl
 
 unfoldable bright : Declared
-unfolding isSpelt smallLetter spells allOf spelt lookup foundOr sameText text utf8 continuation pick or and is within
-bright = known blank (backgroundColor (shade (named (record { name = spelt (text "white") refl; means = rgb 255 255 255; listed = refl }))))
+unfolding isSpelt allOf spelt lookup foundOr sameText text utf8 continuation pick or and is within ident folded lower identStart identCodePoint letter knownName
+bright = known (ident (text "background-color") refl) blank (backgroundColor (shade (named (record { name = ident (text "white") refl; means = rgb 255 255 255; listed = refl })))) refl
 
 -- a declaration without a mark
 abbrev item : Declared → Item
 item d = record { declared = d; before-colon = nothing; importance = normal }
 
 unfoldable body : Rule
-unfolding Agrees isSpelt smallLetter spells allOf spelt pick or and is within text utf8
+unfolding Agrees isSpelt allOf spelt pick or and is within text utf8 ident folded lower identStart identCodePoint letter knownName
 body =
     record {
-      selectors = last (record { selector = one (typed (spelt (text "body") refl) []); agrees = tt; pseudo = syntax.none; gap = blank });
+      selectors = last (record { selector = one (typed (spelt (text "body") refl refl) []); agrees = tt; pseudo = syntax.none; gap = blank });
       block = filled blank (item dark) (record { lead = blank; item = item bright } ∷ []) (record { gap = blank; shut = sheets.closed });
       behind = line;
     }
 
 -- ---- `nav, a::before { display: none !important; }`
 unfoldable hidden : Declared
-unfolding isSpelt smallLetter spells allOf spelt lookup foundOr sameText text utf8 continuation pick or and is within
-hidden = known blank (display (record { name = spelt (text "none") refl; means = true; listed = refl }))
+unfolding isSpelt allOf spelt lookup foundOr sameText text utf8 continuation pick or and is within ident folded lower identStart identCodePoint letter knownName
+hidden = known (ident (text "display") refl) blank (display (record { name = ident (text "none") refl; means = true; listed = refl })) refl
 
 unfoldable away : Rule
-unfolding Agrees Tight isSpelt smallLetter spells allOf spelt pick or and is within text utf8
+unfolding Agrees Tight isSpelt allOf spelt pick or and is within text utf8 ident folded lower identStart identCodePoint letter knownName
 away =
     record {
       selectors =
-          several (record { selector = one (typed (spelt (text "nav") refl) []); agrees = tt; pseudo = syntax.none; gap = nothing }) tt blank
-          (last (record { selector = one (typed (spelt (text "a") refl) []); agrees = tt; pseudo = syntax.before; gap = blank }));
-      block = filled blank (record { declared = hidden; before-colon = nothing; importance = important blank nothing }) [] (record { gap = nothing; shut = sheets.parted blank });
+          several (record { selector = one (typed (spelt (text "nav") refl refl) []); agrees = tt; pseudo = syntax.none; gap = nothing }) tt blank
+          (last (record { selector = one (typed (spelt (text "a") refl refl) []); agrees = tt; pseudo = syntax.before; gap = blank }));
+      block = filled blank (record { declared = hidden; before-colon = nothing; importance = important blank nothing (ident (text "important") refl) refl }) [] (record { gap = nothing; shut = sheets.parted blank });
       behind = line;
     }
 
 -- ---- `@media print { nav > a { color: blue; } }`
 unfoldable media : AtRule
-unfolding Follows Apart Outermost isSemicolon writtenValues writtenAtom writtenOpening mayFollow endsName identCodePoint identStart letter isDelimiter member isSpelt smallLetter spells allOf spelt pick or and is within text utf8
+unfolding Follows Apart Outermost isSemicolon writtenValues writtenAtom writtenOpening mayFollow endsName identCodePoint identStart letter isDelimiter member isSpelt allOf spelt pick or and is within text utf8 ident folded lower knownName
 media =
     record {
-      name = spelt (text "media") refl;
-      prelude = then blank (word (spelt (text "print") refl)) (end nothing);
+      name = ident (text "media") refl;
+      prelude = then blank (word (ident (text "print") refl)) (end nothing);
       ends = refl;
       apart = (tt, tt);
       outermost = (refl, refl);
       gap = blank;
       end =
           braces
-          (then blank (word (spelt (text "nav") refl)) (then blank (delimiter ascii.greaterThanSign refl) (then blank (word (spelt (text "a") refl))
+          (then blank (word (ident (text "nav") refl)) (then blank (delimiter ascii.greaterThanSign refl) (then blank (word (ident (text "a") refl))
           (block blank brace
-          (then blank (word (spelt (text "color") refl)) (then nothing colon (then blank (word (spelt (text "blue") refl)) (then nothing semicolon (end blank)))))
+          (then blank (word (ident (text "color") refl)) (then nothing colon (then blank (word (ident (text "blue") refl)) (then nothing semicolon (end blank)))))
           (end blank)))))
           (refl, (refl, (refl, ((refl, (refl, (refl, (tt, tt)))), tt))));
       behind = line;
@@ -167,24 +157,24 @@ pixel = record { sign = unsigned; fraction = false; digits = text "1"; are = mor
 
 unfoldable gray : Hashed
 unfolding identCodePoint identStart letter lower text utf8 pick or and is within
-gray = record { bytes = text "ccc"; are = more refl (more refl (more refl each.none)); some = omega arith; small = refl }
+gray = record { bytes = text "ccc"; are = more refl (more refl (more refl each.none)); some = omega arith }
 
 unfoldable border : Declared
-unfolding pixel gray Follows Apart Outermost Unmarked Some isSemicolon isBang writtenAtom writtenNumeral writtenSign writtenStop mayFollow endsName identCodePoint identStart letter isExponent startsWith anyOf sameText isSpelt smallLetter spells allOf spelt pick or and is within text utf8 continuation
+unfolding pixel gray Follows Apart Outermost Unmarked Some isSemicolon isBang writtenAtom writtenNumeral writtenSign writtenStop mayFollow endsName identCodePoint identStart letter isExponent startsWith anyOf sameText isSpelt allOf spelt pick or and is within text utf8 continuation ident folded lower knownName
 border =
-    other (spelt (text "border") refl) refl
-    (then blank (dimension pixel (record { name = spelt (text "px") refl; no-exponent = refl })) (then blank (word (spelt (text "solid") refl)) (then blank (hash gray) (end nothing))))
+    other (ident (text "border") refl) refl
+    (then blank (dimension pixel (record { name = ident (text "px") refl; no-exponent = refl })) (then blank (word (ident (text "solid") refl)) (then blank (hash gray) (end nothing))))
     (record { some = tt; apart = (refl, (refl, (tt, tt))); outermost = (refl, (refl, (refl, refl))); unmarked = (refl, (refl, (refl, tt))) })
 
 unfoldable flat : Declared
-unfolding isDigit isZero allOf text utf8 continuation pick and is within
-flat = known blank (height (bare (record { sign = unsigned; fraction = false; digits = text "0"; are = more refl each.none; some = omega arith }) refl))
+unfolding isDigit isZero allOf text utf8 continuation pick and is within isSpelt ident folded lower identStart identCodePoint letter knownName or
+flat = known (ident (text "height") refl) blank (height (bare (record { sign = unsigned; fraction = false; digits = text "0"; are = more refl each.none; some = omega arith }) refl)) refl
 
 unfoldable note : Rule
-unfolding Agrees isSpelt smallLetter spells allOf spelt pick or and is within text utf8
+unfolding Agrees isSpelt allOf spelt pick or and is within text utf8 ident folded lower identStart identCodePoint letter knownName
 note =
     record {
-      selectors = last (record { selector = one (typed (spelt (text "p") refl) (class (spelt (text "note") refl) ∷ [])); agrees = tt; pseudo = syntax.none; gap = blank });
+      selectors = last (record { selector = one (typed (spelt (text "p") refl refl) (class (spelt (text "note") refl refl) ∷ [])); agrees = tt; pseudo = syntax.none; gap = blank });
       block = filled indent (item border) (record { lead = indent; item = item flat } ∷ []) (record { gap = line; shut = sheets.closed });
       behind = line;
     }
@@ -195,21 +185,22 @@ unfolding isDigit and within worth numeral text utf8 pick
 odd = record { bytes = text "1"; digits = more refl each.none; fits = omega arith }
 
 unfoldable star : Quoted
-unfolding isQuote plain ordinary unprocessed text utf8 continuation pick or and is
-star = record { quote = ascii.quotationMark; body = text "* "; quotes = refl; ordinary = refl; unchanged = more refl (more refl each.none) }
+unfolding isQuote plain ordinary unprocessed allOf text utf8 continuation pick or and is
+star = quoted ascii.quotationMark (text "* ") refl refl refl
 
 unfoldable bullet : Declared
-bullet = known blank (content (declarations.last star))
+unfolding isSpelt allOf ident folded lower identStart identCodePoint letter knownName text utf8 pick or and is within
+bullet = known (ident (text "content") refl) blank (content (declarations.last star)) refl
 
 unfoldable items : Rule
-unfolding odd Agrees isSpelt smallLetter spells allOf spelt pick or and is within text utf8
+unfolding odd Agrees isSpelt allOf spelt pick or and is within text utf8 ident folded lower identStart identCodePoint letter knownName
 items =
     record {
       selectors =
           last (record {
             selector =
-                joined (typed (spelt (text "ul") refl) []) (child blank blank)
-                (one (typed (spelt (text "li") refl) (nthChild nothing (sum unsigned two nothing false (record { count = odd; some = omega arith })) nothing ∷ [])));
+                joined (typed (spelt (text "ul") refl refl) []) (child blank blank)
+                (one (typed (spelt (text "li") refl refl) (nthChild nothing (sum unsigned two nothing false (record { count = odd; some = omega arith })) nothing ∷ [])));
             agrees = tt;
             pseudo = syntax.none;
             gap = blank;
@@ -228,7 +219,7 @@ pageText =
     text "@charset \"utf-8\";\n/* page */\nbody { color: #333; background-color: white }\nnav, a::before { display: none !important; }\n@media print { nav > a { color: blue; } }\np.note {\n  border: 1px solid #ccc;\n  height: 0\n}\nul > li:nth-child(2n+1) { content: \"* \" }\n"
 
 test-text : writtenSheet page ≡ pageText
-unfolding pageText page charset encoding remark body dark bright digit3 away hidden media note border pixel gray flat items two odd star bullet spelt hashed digitBytes writtenSheet writtenStatements writtenStatement writtenRule writtenAt writtenAtEnd writtenBlock writtenEnd writtenShut writtenNexts writtenNext writtenItem writtenImportance writtenGroup writtenChosen writtenPseudo written writtenCompound writtenCombinator writtenSimples writtenSimple writtenArgument writtenSign signByte property knownName valuesOf knownValues colourValues shadeValues lengthValues stringValues writtenValues writtenAtom writtenNumeral writtenStop writtenOpening closer text utf8 continuation pick
+unfolding pageText page charset encoding remark body dark bright away hidden media note border pixel gray flat items two odd star bullet ident spelt folded lower hashed writtenSheet writtenStatements writtenStatement writtenRule writtenAt writtenAtEnd writtenBlock writtenEnd writtenShut writtenNexts writtenNext writtenItem writtenImportance writtenGroup writtenChosen writtenPseudo written writtenCompound writtenCombinator writtenSimples writtenSimple writtenArgument writtenSign signByte property knownName valuesOf knownValues colourValues shadeValues lengthValues stringValues writtenValues writtenAtom writtenNumeral writtenStop writtenOpening closer text utf8 continuation pick quoted
 test-text = refl
 
 -- what it is read as
@@ -260,13 +251,13 @@ test-sheet : sheetOf pageText
       start = 211;
     }
     ∷ [])
-unfolding page charset encoding remark body dark bright digit3 away hidden media note border pixel gray flat items two odd star bullet spelt hashed digitBytes writtenSheet writtenStatements writtenStatement writtenRule writtenAt writtenAtEnd writtenBlock writtenEnd writtenShut writtenNexts writtenNext writtenItem writtenImportance writtenGroup writtenChosen writtenPseudo written writtenCompound writtenCombinator writtenSimples writtenSimple writtenArgument writtenSign signByte property knownName valuesOf knownValues colourValues shadeValues lengthValues stringValues writtenValues writtenAtom writtenNumeral writtenStop writtenOpening closer text utf8 continuation pick meansSheet meansStatements meansRule meansBlock meansNexts meansItem isMarked meansDeclared meansKnown meansColour meansShade pair hexDigit meansLength meansStrings meansGroup meansChosen inOrder meansCompound meansCombinator meansSimple meansArgument negative worth numeral signed unread unreadBehind and is within
+unfolding page charset encoding remark body dark bright away hidden media note border pixel gray flat items two odd star bullet ident spelt folded lower hashed writtenSheet writtenStatements writtenStatement writtenRule writtenAt writtenAtEnd writtenBlock writtenEnd writtenShut writtenNexts writtenNext writtenItem writtenImportance writtenGroup writtenChosen writtenPseudo written writtenCompound writtenCombinator writtenSimples writtenSimple writtenArgument writtenSign signByte property knownName valuesOf knownValues colourValues shadeValues lengthValues stringValues writtenValues writtenAtom writtenNumeral writtenStop writtenOpening closer text utf8 continuation pick meansSheet meansStatements meansRule meansBlock meansNexts meansItem isMarked meansDeclared meansKnown meansColour meansShade pair hexDigit meansLength meansStrings meansGroup meansChosen inOrder meansCompound meansCombinator meansSimple meansArgument negative worth numeral signed unread unreadBehind and is within quoted
 test-sheet = ap sheetOf (sym test-text) ∙ sheet-whole page refl
 
 -- ---- `b("};"/*;}*/[;])` before ` ;c`: the marks in the string, in the comment and in the brackets do not end it
 unfoldable marks : Quoted
-unfolding isQuote plain ordinary unprocessed text utf8 continuation pick or and is
-marks = record { quote = ascii.quotationMark; body = text "};"; quotes = refl; ordinary = refl; unchanged = more refl (more refl each.none) }
+unfolding isQuote plain ordinary unprocessed allOf text utf8 continuation pick or and is
+marks = quoted ascii.quotationMark (text "};") refl refl refl
 
 unfoldable aside : Blanks
 unfolding allOf starless and is text utf8 pick
@@ -277,10 +268,10 @@ aside =
     }
 
 unfoldable guarded : Values
-unfolding sameText isSpelt smallLetter spells allOf spelt pick or and is within text utf8
-guarded = block nothing (function (spelt (text "b") refl) refl) (then nothing (string marks) (block aside square (then nothing semicolon (end nothing)) (end nothing))) (end nothing)
+unfolding sameText isSpelt allOf spelt pick or and is within text utf8 ident folded lower identStart identCodePoint letter knownName
+guarded = block nothing (function (ident (text "b") refl) refl) (then nothing (string marks) (block aside square (then nothing semicolon (end nothing)) (end nothing))) (end nothing)
 
 test-ends : Stated false (text "b(\"};\"/*;}*/[;]) ;c") 16
     (tokens.function (text "b") ∷ tokens.string (text "};") ∷ tokens.openSquare ∷ tokens.semicolon ∷ tokens.closeSquare ∷ tokens.closeRound ∷ [])
-unfolding guarded marks aside spelt Follows Apart Outermost isBrace writtenValues meansValues writtenAtom writtenOpening closer meansAtom meansOpening meansCloser mayFollow text utf8 pick
+unfolding guarded marks aside ident spelt folded lower Follows Apart Outermost isBrace writtenValues meansValues writtenAtom writtenOpening closer meansAtom meansOpening meansCloser mayFollow text utf8 pick quoted
 test-ends = value-ends guarded (text " ;c") ((refl, ((tt, tt), tt)), tt) (refl, refl) (before-semicolon blank (text "c"))

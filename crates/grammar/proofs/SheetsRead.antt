@@ -18,7 +18,7 @@ use Rattle.lexer.specs.Token.{Token, tokenOf, coded}
 use Rattle.lexer.specs.Token as tokens
 use Rattle.lexer.specs.Whitespace.{isWhitespace, commentOf, whitespaceItem, skipWhitespace}
 use Rattle.lexer.proofs.SyntaxName.{identCodePoint, ident-sequence}
-use Rattle.lexer.proofs.SyntaxWhitespace.{none, skips-blank}
+use Rattle.lexer.proofs.SyntaxWhitespace.{skips-blank}
 use Rattle.syntax.specs.Declaration.{Declaration}
 use Rattle.syntax.specs.Selector.{Selector, RuleSet}
 use Rattle.values.specs.Value.{Placed, bracketBy, bracketOf, closing, ending, stepOf, Statement, stop, cons, onStep, scan, statementOf}
@@ -30,16 +30,17 @@ use Rattle.selectors.specs.SelectorList.{selectorsOf}
 use Rattle.sheets.specs.Sheet.{spaced, blockOf, rulesetOf, statementEnd, atRuleOf, statementsOf, movedBy, sheetFrom, sheetOf}
 use Rattle.grammar.specs.Nth.{Blanks}
 use Rattle.grammar.specs.Selectors.{writtenGroup, meansGroup}
-use Rattle.grammar.specs.Tokens.{brace, writtenOpening, closer, meansOpening, meansCloser, endsName}
+use Rattle.grammar.specs.Tokens.{brace, writtenOpening, closer, meansOpening, meansCloser, endsName, folded}
 use Rattle.grammar.specs.Values.{Values, writtenValues, Apart, Outermost}
 use Rattle.grammar.specs.Sheets.{Block, empty, filled, Rule, AtEnd, semicolon, braces, AtRule, Sheet, rule, atRule, writtenItem, writtenBlock, writtenRule, writtenAtEnd, writtenAt, writtenStatement, writtenStatements, writtenSheet, meansBlock, meansRule, meansStatements, meansSheet, unreadBehind, unread, SheetRead}
 use Rattle.grammar.specs.Sheets as sheets
 use Rattle.grammar.proofs.ComponentsRead.{behind-blank}
 use Rattle.grammar.proofs.Places.{rest-on, rest-one, byte-on, spaced-on, spaced-none}
 use Rattle.grammar.proofs.GroupsRead.{group-item, group-read}
-use Rattle.grammar.proofs.TokensRead.{token-read, untrue, neither, semicolon-token, opening-begins, closer-read}
+use Rattle.grammar.proofs.StringsRead.{untrue}
+use Rattle.grammar.proofs.TokensRead.{name-item, token-read, neither, semicolon-token, opening-begins, closer-read}
 use Rattle.grammar.proofs.ValuesRead.{unspaced, conses, Passes, passes-on, passes-token, Within, opening-goes, Halts, halts, at-semicolon, at-brace, closer-halts, halts-ends, trail, values-pass, outer-pass}
-use Rattle.grammar.proofs.DeclarationsRead.{name-item, block-items}
+use Rattle.grammar.proofs.DeclarationsRead.{block-items}
 use Rattle.grammar.proofs.BlocksRead.{block-read, moved-item, moved-nexts}
 
 -- ---- at-rules
@@ -169,10 +170,10 @@ unfolding statementsOf behind onOutcome orElse
 at-statement t n e p = rw (e, p)
 
 -- by its parts: '@' at w, its name, and its body
-at-by : (t : List ℕ) (w : ℕ) (name body x : List ℕ) → skipWhitespace t ≡ w → getD t w 0 ≡ ascii.commercialAt → spaced t (w + 1) ≡ w + 1 → drop (w + 1) t ≡ name ++ (body ++ x)
-    → identOf (name ++ (body ++ x)) ≡ ok (length name) name → Ended body x → atRuleOf t ≡ reads (w + 1 + length name + length body) []
+at-by : (t : List ℕ) (w : ℕ) (name body x value : List ℕ) → skipWhitespace t ≡ w → getD t w 0 ≡ ascii.commercialAt → spaced t (w + 1) ≡ w + 1 → drop (w + 1) t ≡ name ++ (body ++ x)
+    → identOf (name ++ (body ++ x)) ≡ ok (length name) value → Ended body x → atRuleOf t ≡ reads (w + 1 + length name + length body) []
 unfolding atRuleOf pick is onParsed
-at-by t w name body x e b s d i h = rw (e, b, s, d, i) (end-by (w + 1 + length name) (rest-on t (w + 1) name (body ++ x) d))
+at-by t w name body x value e b s d i h = rw (e, b, s, d, i) (end-by (w + 1 + length name) (rest-on t (w + 1) name (body ++ x) d))
   where
     end-by : (n : ℕ) → drop n t ≡ body ++ x → statementEnd t n ≡ reads (n + length body) []
     end-by n k = unfold statementEnd pick in rw (k, h .balanced, h .taken)
@@ -188,13 +189,13 @@ unfolding writtenAt writtenBody
 at-length a = omega (arith, length-append (a .name .bytes) (writtenValues (a .prelude) ++ (a .gap .bytes ++ writtenAtEnd (a .end))))
 
 -- its name is read
-at-name : (a : AtRule) (x : List ℕ) → identOf (a .name .bytes ++ (writtenBody a ++ x)) ≡ ok (length (a .name .bytes)) (a .name .bytes)
-unfolding writtenBody
+at-name : (a : AtRule) (x : List ℕ) → identOf (a .name .bytes ++ (writtenBody a ++ x)) ≡ ok (length (a .name .bytes)) (folded (a .name))
+unfolding writtenBody folded
 at-name a x =
     let z = (a .gap .bytes ++ writtenAtEnd (a .end)) ++ x in
     let e = name-ends _ (ap (λ (l : List ℕ). endsName (getD l 0 0)) (append-assoc (writtenValues (a .prelude)) (a .gap .bytes ++ writtenAtEnd (a .end)) x)
     ∙ body-first (writtenValues (a .prelude)) z (a .ends) (at-halts (a .gap) (a .end) x)) in
-    ident-sequence (a .name .bytes) (writtenBody a ++ x) (a .name .sequence) (e .0) (e .1) ∙ ap (ok (length (a .name .bytes))) (a .name .small)
+    ident-sequence (a .name .bytes) (writtenBody a ++ x) (a .name .sequence) (e .0) (e .1)
 
 -- an at-rule of the grammar, behind white space or none, is read whole, and says nothing
 at-read : (b : Blanks) (a : AtRule) (x : List ℕ) → statementsOf (b .bytes ++ (writtenAt a ++ x)) ≡ reads (length (b .bytes) + length (writtenAt a)) []
@@ -211,7 +212,7 @@ at-read b a x =
     let p = spaced-none t (w + 1) y (name-item (a .name) (writtenBody a ++ x)) i in
     let m : w + 1 + length n + length (writtenBody a) ≡ w + length (writtenAt a) = omega (arith, at-length a) in
     at-statement t (w + length (writtenAt a)) (no-rule t w (ascii.commercialAt ∷ y) s d (f .1) (f .0) (ap (λ (j : ℕ). is j ascii.leftCurlyBracket) c ∙ (unfold is in refl)))
-    (at-by t w n (writtenBody a) x s c p i (at-name a x) (unfold writtenBody in body-ends (a .prelude) (a .apart) (a .outermost) (a .gap) x (a .end)) ∙ ap (λ (j : ℕ). reads j []) m)
+    (at-by t w n (writtenBody a) x (folded (a .name)) s c p i (at-name a x) (unfold writtenBody in body-ends (a .prelude) (a .apart) (a .outermost) (a .gap) x (a .end)) ∙ ap (λ (j : ℕ). reads j []) m)
 
 -- ---- rules
 -- a block begins with a brace

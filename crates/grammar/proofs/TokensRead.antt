@@ -8,14 +8,14 @@ use native.Mathlib.Nat.{zero-add, add-zero}
 use native.Mathlib.Omega.{arith}
 use borrow.Author.Tests.{le-leb, lt-leb}
 use lib.ListN.{length, getD, drop, length-append}
-use lib.Seq.{drop-append-seam, take-append-seam}
+use lib.Seq.{getD-drop, getD-append-add, drop-append-seam, take-append-seam}
 use Rattle.combinators.specs.Ascii as ascii
 use Rattle.combinators.specs.Choice.{pick, or, and, is, within}
-use Rattle.combinators.specs.Parsed.{ok, err, onParsed, behind, orElse}
+use Rattle.combinators.specs.Parsed.{Parsed, ok, err, onParsed, behind, orElse}
 use Rattle.combinators.specs.Repeat.{many, took}
 use Rattle.combinators.specs.Word.{startsWith}
 use Rattle.combinators.proofs.Lists.{first}
-use Rattle.combinators.proofs.Rules.{never, pick-true, pick-false, either, and-true, is-yes, is-no, is-true, or-false, within-true, within-false, within-past}
+use Rattle.combinators.proofs.Rules.{never, pick-true, pick-false, either, and-true, and-both, is-yes, is-no, is-true, or-none, or-false, within-true, within-false, within-past}
 use Rattle.combinators.proofs.Repeats.{many-stop, texts-stop}
 use Rattle.unicode.specs.Literal.{text}
 use Rattle.unicode.specs.Utf8.{utf8, scalarOf, scalarBy, leadOf, takenOf}
@@ -30,7 +30,6 @@ use Rattle.lexer.specs.Whitespace.{isWhitespace, commentOf, whitespaceItem, ski
 use Rattle.lexer.specs.declared.tokens.Start.{Start}
 use Rattle.lexer.specs.declared.tokens.Start.the-variants.{Quote, Letter, Digit, Other}
 use Rattle.lexer.proofs.SyntaxName.{Each, none, more, IdentSequence, started, dashed, identStart, identCodePoint, letter, start-code-point, code-point-item, hyphen-code-point, ident-sequence}
-use Rattle.lexer.proofs.SyntaxString.{string-quote}
 use Rattle.lexer.proofs.SyntaxWhitespace.{skips-blank}
 use Rattle.lexer.proofs.SyntaxWhitespace as blanks
 use Rattle.lexer.proofs.Escapes.{char-no, escape-no, either-second}
@@ -38,11 +37,12 @@ use Rattle.lexer.proofs.Characters.{lower-byte}
 use Rattle.lexer.proofs.CharacterRuns.{chars-step, chars-text-step}
 use Rattle.lexer.proofs.Idents.{char-plain, name-none}
 use Rattle.grammar.specs.Nth.{Blanks, Sign, unsigned, plus, minus, writtenSign}
-use Rattle.grammar.specs.Selectors.{Name, Quoted}
-use Rattle.grammar.specs.Tokens.{Numeral, Hashed, isDelimiter, Atom, word, string, hash, number, percentage, dimension, comma, colon, semicolon, delimiter, Opening, function, round, square, brace, writtenStop, writtenNumeral, writtenAtom, writtenOpening, closer, meansSign, meansNumeral, meansAtom, meansOpening, meansCloser, endsName, beginsName, mayFollow, MayFollow, EndsBefore}
+use Rattle.grammar.specs.Selectors.{Spaces, Quoted}
+use Rattle.grammar.specs.Tokens.{Numeral, Hashed, isDelimiter, Atom, word, string, hash, number, percentage, dimension, comma, colon, semicolon, delimiter, point, hyphen, addition, whole, spaced, commercialAt, Opening, function, link, round, square, brace, writtenStop, writtenNumeral, writtenAtom, writtenOpening, closer, meansSign, meansNumeral, meansAtom, meansOpening, meansCloser, endsName, beginsName, beginsNumber, mayFollow, MayFollow, EndsBefore, Ident, folded}
 use Rattle.grammar.proofs.Places.{differs, Unblank, unblank-item}
-use Rattle.grammar.proofs.NthRead.{digits-read}
-use Rattle.grammar.proofs.ComponentsRead.{behind-blank, string-closed}
+use Rattle.grammar.proofs.NthRead.{digits-read, starts-not}
+use Rattle.grammar.proofs.ComponentsRead.{behind-blank}
+use Rattle.grammar.proofs.StringsRead.{untrue, quoted-read}
 
 -- ---- a token at the start of a text
 -- a text that does not begin with white space begins with the token k, of n bytes
@@ -69,11 +69,6 @@ ascii-scalar x l h = rw (is-no (suc (length l)) 0 (λ z. omega arith), le-leb x 
 pub begins-by : (x : ℕ) (l : List ℕ) (n : ℕ) (k : Token) → whitespaceItem (x ∷ l) ≡ 0 → x ≤ 0x7f → tokenBy (startOf x) 1 x (x ∷ l) ≡ ok n k → Begins (x ∷ l) n k
 unfolding tokenAt
 begins-by x l n k e h p = record { item = e; reads = rw (ascii-scalar x l h, p) }
-
--- a test that does not hold
-pub untrue : (b : Bool) → not b ≡ true → b ≡ false
-untrue true e = sym e
-untrue false e = refl
 
 -- neither of two tests holds
 pub neither : (a b : Bool) → or a b ≡ false → (a ≡ false) × (b ≡ false)
@@ -129,16 +124,21 @@ start-between x e =
     (λ w. let h = is-true x ascii.lowLine w in (omega arith, omega arith))
 
 -- nothing that is neither a digit nor a full stop begins a number without a sign
-no-unsigned : (x : ℕ) (l : List ℕ) → isDigit x ≡ false → is x ascii.fullStop ≡ false → numbers.unsigned (x ∷ l) ≡ 0
-unfolding numbers.unsigned numbers.decimal digits oneDigit many took pick is
-no-unsigned x l d e = rw (d, e)
+no-unsigned : (t : List ℕ) → isDigit (getD t 0 0) ≡ false → is (getD t 0 0) ascii.fullStop ≡ false → numbers.unsigned t ≡ 0
+unfolding numbers.unsigned numbers.decimal pick is
+no-unsigned t d e = rw (digits-read none t d, e)
 
--- so a '-' before an ident-start code point begins none
-dashed-number : (x : ℕ) (l : List ℕ) → identStart x ≡ true → numericOf (ascii.hyphenMinus ∷ x ∷ l) ≡ err
+-- so behind a '-' there is none
+minus-none : (t : List ℕ) → isDigit (getD t 0 0) ≡ false → is (getD t 0 0) ascii.fullStop ≡ false → numericOf (ascii.hyphenMinus ∷ t) ≡ err
 unfolding numericOf numbers.number numbers.signed numbers.sign skipWhitespace whitespaceItem isWhitespace commentOf many took pick or is
+minus-none t d e = rw (no-unsigned t d e)
+
+-- as before an ident-start code point
+dashed-number : (x : ℕ) (l : List ℕ) → identStart x ≡ true → numericOf (ascii.hyphenMinus ∷ x ∷ l) ≡ err
+unfolding isDigit
 dashed-number x l e =
     let b = start-between x e .1 in
-    rw (no-unsigned x l (unfold isDigit in within-past x ascii.digitZero ascii.digitNine (omega arith)) (is-no x ascii.fullStop (λ q. omega arith)))
+    minus-none (x ∷ l) (within-past x ascii.digitZero ascii.digitNine (omega arith)) (is-no x ascii.fullStop (λ q. omega arith))
 
 -- what an ident-start code point begins is what the reader of names reads
 letter-begins : (x : ℕ) (l : List ℕ) (n : ℕ) (k : Token) → identStart x ≡ true → identLikeOf (x ∷ l) ≡ ok n k → Begins (x ∷ l) n k
@@ -158,9 +158,9 @@ name-begins _ t n k (started {x} {r} e s) p = letter-begins x (r ++ t) n k e p
 name-begins _ t n k (dashed {x} {r} e s) p = dash-begins x (r ++ t) n k e p
 
 -- a name ends before t
-record NameEnds (t : List ℕ) : Type 0 where
-  no-character : identCodePoint (getD t 0 0) ≡ false
-  no-escape : ¬ (getD t 0 0 ≡ ascii.reverseSolidus)
+pub record NameEnds (t : List ℕ) : Type 0 where
+  pub no-character : identCodePoint (getD t 0 0) ≡ false
+  pub no-escape : ¬ (getD t 0 0 ≡ ascii.reverseSolidus)
 
 -- by the grammar's test
 name-ends : (t : List ℕ) → endsName (getD t 0 0) ≡ true → NameEnds t
@@ -169,18 +169,19 @@ name-ends t e =
     let n = neither _ _ (untrue _ e) in
     record { no-character = n .0; no-escape = λ q. never (sym (n .1) ∙ is-yes _ _ q) }
 
--- a name is read as it is written
-name-whole : (n : Name) (t : List ℕ) → NameEnds t → identOf (n .bytes ++ t) ≡ ok (length (n .bytes)) (n .bytes)
-name-whole n t h = ident-sequence (n .bytes) t (n .sequence) (h .no-character) (h .no-escape) ∙ rw (n .small)
+-- a name is read whole, in small letters
+name-whole : (n : Ident) (t : List ℕ) → NameEnds t → identOf (n .bytes ++ t) ≡ ok (length (n .bytes)) (folded n)
+unfolding folded
+name-whole n t h = ident-sequence (n .bytes) t (n .sequence) (h .no-character) (h .no-escape)
 
 -- no bracket follows the name
-like-ident : (n : Name) (t : List ℕ) → NameEnds t → is (getD t 0 0) ascii.leftParenthesis ≡ false → identLikeOf (n .bytes ++ t) ≡ ok (length (n .bytes)) (tokens.ident (n .bytes))
+like-ident : (n : Ident) (t : List ℕ) → NameEnds t → is (getD t 0 0) ascii.leftParenthesis ≡ false → identLikeOf (n .bytes ++ t) ≡ ok (length (n .bytes)) (tokens.ident (folded n))
 unfolding identLikeOf onParsed pick
 like-ident n t h d = rw (name-whole n t h, behind-blank (n .bytes) t, d)
 
 -- "Otherwise, return an <ident-token> with its value set to string"
-pub ident-token : (n : Name) (t : List ℕ) → endsName (getD t 0 0) ≡ true → is (getD t 0 0) ascii.leftParenthesis ≡ false
-    → Begins (n .bytes ++ t) (length (n .bytes)) (tokens.ident (n .bytes))
+pub ident-token : (n : Ident) (t : List ℕ) → endsName (getD t 0 0) ≡ true → is (getD t 0 0) ascii.leftParenthesis ≡ false
+    → Begins (n .bytes ++ t) (length (n .bytes)) (tokens.ident (folded n))
 ident-token n t e d = name-begins (n .bytes) t _ _ (n .sequence) (like-ident n t (name-ends t e) d)
 
 -- a name ends before a round bracket
@@ -189,12 +190,12 @@ unfolding identCodePoint identStart letter or and within is
 round-ends t = record { no-character = refl; no-escape = λ q. omega arith }
 
 -- where one does
-like-function : (n : Name) (t : List ℕ) → identLikeOf (n .bytes ++ (ascii.leftParenthesis ∷ t)) ≡ ok (length (n .bytes) + 1) (tokens.function (n .bytes))
+like-function : (n : Ident) (t : List ℕ) → identLikeOf (n .bytes ++ (ascii.leftParenthesis ∷ t)) ≡ ok (length (n .bytes) + 1) (tokens.function (folded n))
 unfolding identLikeOf onParsed pick is
 like-function n t = rw (name-whole n (ascii.leftParenthesis ∷ t) (round-ends t), behind-blank (n .bytes) (ascii.leftParenthesis ∷ t))
 
 -- "if the next input code point is U+0028 LEFT PARENTHESIS, consume it. Return a <function-token> with its value set to string"
-pub function-token : (n : Name) (t : List ℕ) → Begins (n .bytes ++ (ascii.leftParenthesis ∷ t)) (length (n .bytes) + 1) (tokens.function (n .bytes))
+pub function-token : (n : Ident) (t : List ℕ) → Begins (n .bytes ++ (ascii.leftParenthesis ∷ t)) (length (n .bytes) + 1) (tokens.function (folded n))
 function-token n t = name-begins (n .bytes) (ascii.leftParenthesis ∷ t) _ _ (n .sequence) (like-function n t)
 
 -- ---- hashes: 4.3.1, U+0023 NUMBER SIGN
@@ -240,7 +241,7 @@ characters t h (more {x} {r} e es) =
     (chars-step _ 1 _ k ∙ omega (arith, g .0), chars-text-step _ 1 _ k ∙ ap (λ b. b ++ charsText (r ++ t)) (lower-byte x c) ∙ ap (λ l. lower x ∷ l) (g .1))
 
 -- where there are some, they are read from the start
-hash-named : (h : Hashed) (t : List ℕ) → NameEnds t → identstringOf (h .bytes ++ t) ≡ ok (length (h .bytes)) (h .bytes)
+hash-named : (h : Hashed) (t : List ℕ) → NameEnds t → identstringOf (h .bytes ++ t) ≡ ok (length (h .bytes)) (map lower (h .bytes))
 unfolding identstringOf charsOf behind pick
 hash-named h t e =
     let c = characters t e (h .are) in
@@ -249,7 +250,6 @@ hash-named h t e =
       c .0,
       is-no (length (h .bytes)) 0 (λ z. omega (arith, h .some)),
       c .1,
-      h .small,
       zero-add (length (h .bytes)),
     )
   where
@@ -263,7 +263,7 @@ unfolding whitespaceItem isWhitespace commentOf tokenBy startOf isQuote hashOf o
 hash-begins l m b p = begins-by ascii.numberSign l (1 + m) (tokens.hash b) refl (omega arith) (rw p)
 
 -- "If the next input code point is an ident code point ..: Consume an ident sequence, and set the <hash-token>'s value to the returned string"
-pub hash-token : (h : Hashed) (t : List ℕ) → endsName (getD t 0 0) ≡ true → Begins (ascii.numberSign ∷ (h .bytes ++ t)) (1 + length (h .bytes)) (tokens.hash (h .bytes))
+pub hash-token : (h : Hashed) (t : List ℕ) → endsName (getD t 0 0) ≡ true → Begins (ascii.numberSign ∷ (h .bytes ++ t)) (1 + length (h .bytes)) (tokens.hash (map lower (h .bytes)))
 hash-token h t e = hash-begins (h .bytes ++ t) _ _ (hash-named h t (name-ends t e))
 
 -- a digit is an ident code point
@@ -276,7 +276,7 @@ digit-code-point x e = middle (identStart x) _ _ e
     middle false b c e = unfold or in rw e
 
 -- so where a name ends no digit stands
-ended-digit : (x : ℕ) → identCodePoint x ≡ false → isDigit x ≡ false
+pub ended-digit : (x : ℕ) → identCodePoint x ≡ false → isDigit x ≡ false
 unfolding isDigit identCodePoint
 ended-digit x e = neither _ _ (neither _ _ e .1) .0
 
@@ -304,10 +304,8 @@ unfolding tokenBy
 quote-begins q l n k e p = let s = quote-selects q e in begins-by q l n k (s .2 l) (s .1) (rw (s .0, p))
 
 -- "ending code point: Return the <string-token>"
-pub string-token : (q : Quoted) (t : List ℕ) → Begins (q .quote ∷ (q .body ++ (q .quote ∷ t))) (1 + length (q .body) + 1) (tokens.string (q .body))
-string-token q t =
-    let g = string-quote (q .quote) (q .body) (q .ordinary) t in
-    quote-begins (q .quote) (q .body ++ (q .quote ∷ t)) _ _ (q .quotes) (string-closed (q .quote) (q .body) t (q .quotes) (g .0) (g .1))
+pub string-token : (q : Quoted) (t : List ℕ) → Begins (q .quote ∷ (q .bytes ++ (q .quote ∷ t))) (1 + length (q .bytes) + 1) (tokens.string (q .body))
+string-token q t = quote-begins (q .quote) (q .bytes ++ (q .quote ∷ t)) _ _ (q .quotes) (quoted-read q t)
 
 -- ---- numbers: 4.3.12, Consume a number; 4.3.3, Consume a numeric token
 -- no digit begins with a full stop
@@ -431,21 +429,52 @@ no-start t e d =
     let p = char-no isNmstart t _ refl _ refl (sym (start-nmstart (getD t 0 0)) ∙ e) in
     sym (either-second _ _ _ p refl _ (escape-no t _ refl d))
 
+-- a digit and a full stop start no name and no escape
+number-goes-on : (z : ℕ) → or (isDigit z) (is z ascii.fullStop) ≡ true → (identStart z ≡ false) × (is z ascii.reverseSolidus ≡ false)
+unfolding isDigit
+number-goes-on z e =
+    let h = below z e in
+    (not-start z h, is-no z ascii.reverseSolidus (λ q. omega arith))
+  where
+    below : (z : ℕ) → or (within z ascii.digitZero ascii.digitNine) (is z ascii.fullStop) ≡ true → z ≤ ascii.digitNine
+    below z e = either (z ≤ ascii.digitNine) _ _ e (λ w. within-true z ascii.digitZero ascii.digitNine w .1) (λ w. let q = is-true z ascii.fullStop w in omega arith)
+
+    not-start : (z : ℕ) → z ≤ ascii.digitNine → identStart z ≡ false
+    not-start z h =
+        unfold identStart letter in
+        or-none _ _ (or-none _ _ (sym (within-false z ascii.capitalA ascii.capitalZ (omega arith))) (sym (within-false z ascii.smallA ascii.smallZ (omega arith)))) (is-no z ascii.lowLine (λ q. omega arith))
+
 -- what does not begin a name is none
-no-name : (t : List ℕ) → beginsName (getD t 0 0) ≡ false → nameOf t ≡ err
+no-name : (t : List ℕ) → beginsName (getD t 0 0) (getD t 1 0) ≡ false → nameOf t ≡ err
 unfolding beginsName
 no-name t e =
     let n = neither (identStart (getD t 0 0)) _ e in
-    let m = neither (is (getD t 0 0) ascii.hyphenMinus) _ (n .1) in
-    name-none t (undashed t (m .0) (no-start t (n .0) (m .1)))
+    let m = neither (is (getD t 0 0) ascii.reverseSolidus) _ (n .1) in
+    name-none t (by-dash t (is (getD t 0 0) ascii.hyphenMinus) refl (no-start t (n .0) (m .0)) (m .1))
   where
     undashed : (t : List ℕ) → is (getD t 0 0) ascii.hyphenMinus ≡ false → nmstartOf t ≡ NoScalar → nmstartOf (drop (dash t) t) ≡ NoScalar
     undashed t e p = unfold dash pick in rw e p
 
+    dashes : (t : List ℕ) → is (getD t 0 0) ascii.hyphenMinus ≡ true → nmstartOf (drop 1 t) ≡ NoScalar → nmstartOf (drop (dash t) t) ≡ NoScalar
+    dashes t e p = unfold dash pick in rw e p
+
+    goes-on : (b : Bool) → and true (not b) ≡ false → b ≡ true
+    goes-on true e = refl
+    goes-on false e = unfold and in never (sym e)
+
+    by-dash : (t : List ℕ) (d : Bool) → is (getD t 0 0) ascii.hyphenMinus ≡ d → nmstartOf t ≡ NoScalar
+        → and d (not (or (isDigit (getD t 1 0)) (is (getD t 1 0) ascii.fullStop))) ≡ false → nmstartOf (drop (dash t) t) ≡ NoScalar
+    by-dash t true d p e =
+        let g = number-goes-on (getD t 1 0) (goes-on _ e) in
+        dashes t d (no-start (drop 1 t) (ap identStart (first t 1) ∙ g .0) (ap (λ (z : ℕ). is z ascii.reverseSolidus) (first t 1) ∙ g .1))
+    by-dash t false d p e = undashed t d p
+
 -- so no unit is read where white space and comments end before it
-no-unit : (t : List ℕ) → beginsName (getD t (skipWhitespace t) 0) ≡ false → identOf t ≡ err
+no-unit : (t : List ℕ) → beginsName (getD t (skipWhitespace t) 0) (getD t (skipWhitespace t + 1) 0) ≡ false → identOf t ≡ err
 unfolding identOf behind
-no-unit t e = rw (no-name (drop (skipWhitespace t) t) (ap beginsName (first t (skipWhitespace t)) ∙ e))
+no-unit t e =
+    let w = skipWhitespace t in
+    rw (no-name (drop w t) (ap (λ (y : ℕ). beginsName y (getD (drop w t) 1 0)) (first t w) ∙ ap (beginsName (getD t w 0)) (getD-drop w t 1 0) ∙ e))
 
 -- no mark is a digit
 digit-marks : (isDigit ascii.quotationMark ≡ false) × (isDigit ascii.apostrophe ≡ false) × (isDigit ascii.numberSign ≡ false) × (isDigit ascii.plusSign ≡ false)
@@ -529,29 +558,43 @@ numeral-begins : (n : Numeral) (u : List ℕ) (j : ℕ) (k : Token) → numericO
 unfolding meansNumeral writtenNumeral
 numeral-begins n u j k p = signed-begins (n .sign) (n .fraction) (n .digits) u j k (n .are) (n .some) p
 
--- what may follow a number: no digit, full stop or percent sign, and behind white space no unit
+-- what may follow a number: no digit and no percent sign, and behind white space no unit
 record NumberEnds (t : List ℕ) : Type 0 where
   no-digit : isDigit (getD t 0 0) ≡ false
   no-percent : is (getD t 0 0) ascii.percentSign ≡ false
-  no-name-behind : beginsName (getD t (skipWhitespace t) 0) ≡ false
+  no-name-behind : beginsName (getD t (skipWhitespace t) 0) (getD t (skipWhitespace t + 1) 0) ≡ false
 
--- by the grammar's test
+-- by the grammar's test of digits before a full stop
+whole-ends : (n : Numeral) (t : List ℕ) → EndsBefore (whole n) t → NumberEnds t
+unfolding mayFollow
+whole-ends n t e =
+    let a = and-true (endsName (getD t 0 0)) _ e in
+    let c = and-true (not (is (getD t 0 0) ascii.percentSign)) _ (a .1) in
+    record { no-digit = ended-digit _ (name-ends t (a .0) .no-character); no-percent = untrue _ (c .0); no-name-behind = untrue _ (c .1) }
+
+-- and by that of a number, behind which no full stop stands
 number-ends : (n : Numeral) (t : List ℕ) → EndsBefore (number n) t → NumberEnds t
 unfolding mayFollow
 number-ends n t e =
     let a = and-true (endsName (getD t 0 0)) _ e in
     let b = and-true (not (is (getD t 0 0) ascii.fullStop)) _ (a .1) in
-    let c = and-true (not (is (getD t 0 0) ascii.percentSign)) _ (b .1) in
-    record { no-digit = ended-digit _ (name-ends t (a .0) .no-character); no-percent = untrue _ (c .0); no-name-behind = untrue _ (c .1) }
+    whole-ends n t (and-both _ _ (a .0) (b .1))
 
 -- "Otherwise, create a <number-token> with the same value", where nothing goes on with it
-pub number-token : (n : Numeral) (t : List ℕ) → EndsBefore (number n) t → Begins (writtenNumeral n ++ t) (length (writtenNumeral n)) (tokens.number (meansNumeral n))
-number-token n t e =
-    let h = number-ends n t e in
+number-alone : (n : Numeral) (t : List ℕ) → NumberEnds t → Begins (writtenNumeral n ++ t) (length (writtenNumeral n)) (tokens.number (meansNumeral n))
+number-alone n t h =
     let k = tokens.number (meansNumeral n) in
     let r = numeric-from n t (h .no-digit) ∙ from-none (meansNumeral n) t (h .no-percent) (no-unit t (h .no-name-behind)) in
     subst (λ (i : ℕ). Begins (writtenNumeral n ++ t) i k) (add-zero (length (writtenNumeral n)))
     (numeral-begins n t 0 k (r ∙ ap (λ (i : ℕ). ok i k) (sym (add-zero (length (meansNumeral n))))))
+
+-- a number that the document reads too
+pub number-token : (n : Numeral) (t : List ℕ) → EndsBefore (number n) t → Begins (writtenNumeral n ++ t) (length (writtenNumeral n)) (tokens.number (meansNumeral n))
+number-token n t e = number-alone n t (number-ends n t e)
+
+-- and the digits before a full stop
+pub whole-token : (n : Numeral) (t : List ℕ) → EndsBefore (whole n) t → Begins (writtenNumeral n ++ t) (length (writtenNumeral n)) (tokens.number (meansNumeral n))
+whole-token n t e = number-alone n t (whole-ends n t e)
 
 -- a percent sign is no digit
 percent-digit : isDigit ascii.percentSign ≡ false
@@ -564,8 +607,8 @@ percentage-token n t = numeral-begins n (ascii.percentSign ∷ t) 1 _ (numeric-f
 
 -- "Create a <dimension-token> with the same value, and a unit set initially to the empty string. Consume an ident sequence. Set the
 -- <dimension-token>'s unit to the returned value"
-pub dimension-token : (n : Numeral) (w : Name) (t : List ℕ) → endsName (getD t 0 0) ≡ true
-    → Begins (writtenNumeral n ++ (w .bytes ++ t)) (length (writtenNumeral n) + length (w .bytes)) (tokens.dimension (meansNumeral n) (w .bytes))
+pub dimension-token : (n : Numeral) (w : Ident) (t : List ℕ) → endsName (getD t 0 0) ≡ true
+    → Begins (writtenNumeral n ++ (w .bytes ++ t)) (length (writtenNumeral n) + length (w .bytes)) (tokens.dimension (meansNumeral n) (folded w))
 dimension-token n w t e =
     let g = unit-first (w .bytes) t (w .sequence) in
     numeral-begins n (w .bytes ++ t) (length (w .bytes)) _
@@ -576,6 +619,56 @@ dimension-token n w t e =
         let h = start-between x e .1 in
         (unfold isDigit in within-past x ascii.digitZero ascii.digitNine (omega arith), is-no x ascii.percentSign (λ q. omega arith))
     unit-first _ t (dashed e s) = unfold isDigit and within is in (refl, refl)
+
+-- ---- what the reader takes for a dimension: a number, white space and a name
+-- nothing is added to what was read
+behind-zero : {A : Type 0} (p : Parsed A) → behind 0 p ≡ p
+unfolding behind
+behind-zero (ok n a) = ap (λ (i : ℕ). ok i a) (zero-add n)
+behind-zero err = refl
+
+-- where nothing is skipped, a name is read from the start
+name-at : (s : List ℕ) → skipWhitespace s ≡ 0 → identOf s ≡ nameOf s
+unfolding identOf
+name-at s z = rw z (behind-zero (nameOf s))
+
+-- a name behind white space
+name-behind : (b : Blanks) (s : List ℕ) (n : ℕ) (w : List ℕ) → whitespaceItem s ≡ 0 → identOf s ≡ ok n w → identOf (b .bytes ++ s) ≡ ok (length (b .bytes) + n) w
+unfolding identOf behind
+name-behind b s n w z p =
+    rw (skips-blank (b .bytes) s (b .blank) z, drop-append-seam (b .bytes) s, sym (name-at s (skips-blank [] s blanks.none z)) ∙ p)
+
+-- a name begins no white space
+pub name-item : (n : Ident) (t : List ℕ) → whitespaceItem (n .bytes ++ t) ≡ 0
+name-item n t = by-start (n .bytes) (n .sequence)
+  where
+    by-start : (bytes : List ℕ) → IdentSequence bytes → whitespaceItem (bytes ++ t) ≡ 0
+    by-start _ (started {x} {r} e s) = code-point-item x (r ++ t) (start-code-point x e)
+    by-start _ (dashed {x} {r} e s) = code-point-item ascii.hyphenMinus (x ∷ (r ++ t)) hyphen-code-point
+
+-- one white space or more
+unfoldable gapOf : Spaces → Blanks
+gapOf s = record { bytes = s .space ∷ s .more .bytes; blank = blanks.white (s .space) (s .more .bytes) (s .white) (s .more .blank) }
+
+-- no white space is a digit or a percent sign
+white-quiet : {x : ℕ} → blanks.White x → (isDigit x ≡ false) × (is x ascii.percentSign ≡ false)
+unfolding isDigit and within is
+white-quiet (blanks.newline blanks.line-feed) = (refl, refl)
+white-quiet (blanks.newline blanks.carriage-return) = (refl, refl)
+white-quiet (blanks.newline blanks.form-feed) = (refl, refl)
+white-quiet blanks.tab = (refl, refl)
+white-quiet blanks.blank-space = (refl, refl)
+
+-- so it is one token
+pub spaced-token : (n : Numeral) (s : Spaces) (w : Ident) (t : List ℕ) → endsName (getD t 0 0) ≡ true
+    → Begins (writtenNumeral n ++ (s .space ∷ (s .more .bytes ++ (w .bytes ++ t)))) (length (writtenNumeral n) + (suc (length (s .more .bytes)) + length (w .bytes)))
+    (tokens.dimension (meansNumeral n) (folded w))
+unfolding gapOf
+spaced-token n s w t e =
+    let u = s .space ∷ (s .more .bytes ++ (w .bytes ++ t)) in
+    let q = white-quiet (s .white) in
+    numeral-begins n u (suc (length (s .more .bytes)) + length (w .bytes)) _
+    (numeric-from n u (q .0) ∙ from-unit (meansNumeral n) u _ _ (q .1) (name-behind (gapOf s) (w .bytes ++ t) _ _ (name-item w t) (name-whole w t (name-ends t e))))
 
 -- ---- code points that are tokens by themselves: 4.3.1, Consume a token
 -- what selects no other reader is a mark or a delimiter
@@ -616,6 +709,7 @@ brace-token t = mark-begins ascii.leftCurlyBracket t refl (omega arith) refl
 pub closer-token : (o : Opening) (t : List ℕ) → Begins (closer o ∷ t) 1 (meansCloser o)
 unfolding closer meansCloser whitespaceItem isWhitespace commentOf startOf isQuote isIdentStart isDigit markOf pick or and within is
 closer-token (function n d) t = mark-begins ascii.rightParenthesis t refl (omega arith) refl
+closer-token (link n d) t = mark-begins ascii.rightParenthesis t refl (omega arith) refl
 closer-token round t = mark-begins ascii.rightParenthesis t refl (omega arith) refl
 closer-token square t = mark-begins ascii.rightSquareBracket t refl (omega arith) refl
 closer-token brace t = mark-begins ascii.rightCurlyBracket t refl (omega arith) refl
@@ -670,6 +764,70 @@ delim-token c d t e =
     let p = delimiter-plain c d in
     subst (λ (k : Token). Begins (c ∷ t) 1 k) (p .2) (mark-begins c t (no-comment c t (p .3) (untrue _ e)) (p .0) (p .1))
 
+-- a full stop begins no number where no digit follows
+stop-none : (t : List ℕ) → isDigit (getD t 0 0) ≡ false → numericOf (ascii.fullStop ∷ t) ≡ err
+unfolding numericOf numbers.number numbers.signed numbers.sign numbers.unsigned numbers.decimal skipWhitespace whitespaceItem isWhitespace commentOf many took pick or is
+stop-none t e = rw (stop-digits t, digits-read none t e)
+
+-- "If the input stream starts with a number ..; otherwise, return a <delim-token>": U+002E FULL STOP
+pub point-token : (t : List ℕ) → isDigit (getD t 0 0) ≡ false → Begins (ascii.fullStop ∷ t) 1 (tokens.delim ascii.fullStop)
+unfolding whitespaceItem isWhitespace commentOf tokenBy startOf isQuote orElse pick or is
+point-token t e = begins-by ascii.fullStop t 1 (tokens.delim ascii.fullStop) refl (omega arith) (rw (stop-none t e))
+
+-- no name begins with a '-' that nothing of a name follows
+hyphen-unnamed : (t : List ℕ) → NameEnds t → identLikeOf (ascii.hyphenMinus ∷ t) ≡ err
+unfolding identLikeOf onParsed
+hyphen-unnamed t h = rw (name-at (ascii.hyphenMinus ∷ t) (skips-blank [] (ascii.hyphenMinus ∷ t) blanks.none (code-point-item ascii.hyphenMinus t hyphen-code-point)), unnamed t h)
+  where
+    no-first : (x : ℕ) → identCodePoint x ≡ false → identStart x ≡ false
+    no-first x e = unfold identCodePoint in neither _ _ e .0
+
+    unnamed : (t : List ℕ) → NameEnds t → nameOf (ascii.hyphenMinus ∷ t) ≡ err
+    unnamed t h = name-none (ascii.hyphenMinus ∷ t) (unfold dash pick is in no-start t (no-first (getD t 0 0) (h .no-character)) (is-no _ _ (h .no-escape)))
+
+-- nor the mark `-->`
+hyphen-unmarked : (t : List ℕ) → NameEnds t → startsWith tokens.cdcMark (ascii.hyphenMinus ∷ t) ≡ false
+hyphen-unmarked t h = unfold startsWith and is in starts-not ascii.hyphenMinus (ascii.greaterThanSign ∷ []) t (is-no _ _ (λ q. never (sym (h .no-character) ∙ ap identCodePoint q ∙ hyphen-code-point)))
+
+-- "Otherwise, return a <delim-token>": U+002D HYPHEN-MINUS
+pub hyphen-token : (t : List ℕ) → NameEnds t → is (getD t 0 0) ascii.fullStop ≡ false → Begins (ascii.hyphenMinus ∷ t) 1 (tokens.delim ascii.hyphenMinus)
+hyphen-token t h e =
+    begins-by ascii.hyphenMinus t 1 (tokens.delim ascii.hyphenMinus) (code-point-item ascii.hyphenMinus t hyphen-code-point) (omega arith)
+    (by-minus t (minus-none t (ended-digit _ (h .no-character)) e) (hyphen-unmarked t h) (hyphen-unnamed t h))
+  where
+    by-minus : (t : List ℕ) → numericOf (ascii.hyphenMinus ∷ t) ≡ err → startsWith tokens.cdcMark (ascii.hyphenMinus ∷ t) ≡ false → identLikeOf (ascii.hyphenMinus ∷ t) ≡ err
+        → tokenBy (startOf ascii.hyphenMinus) 1 ascii.hyphenMinus (ascii.hyphenMinus ∷ t) ≡ ok 1 (tokens.delim ascii.hyphenMinus)
+    by-minus t p q r = unfold tokenBy startOf isQuote minusOf orElse pick or is in rw (p, q, r)
+
+-- nothing is signed where no sign and no number stands
+unsigned-none : (s : List ℕ) → numbers.unsigned s ≡ 0 → is (getD s 0 0) ascii.hyphenMinus ≡ false → is (getD s 0 0) ascii.plusSign ≡ false → numbers.signed s ≡ 0
+unfolding numbers.signed numbers.sign pick or is
+unsigned-none s u m p = rw (m, p, u)
+
+-- as where none begins
+signed-none : (s : List ℕ) → beginsNumber (getD s 0 0) ≡ false → numbers.signed s ≡ 0
+unfolding beginsNumber
+signed-none s e =
+    let a = neither (isDigit (getD s 0 0)) _ e in
+    let b = neither (is (getD s 0 0) ascii.fullStop) _ (a .1) in
+    let c = neither (is (getD s 0 0) ascii.plusSign) _ (b .1) in
+    unsigned-none s (no-unsigned s (a .0) (b .0)) (c .1) (c .0)
+
+-- so no number is read where none begins behind white space
+no-number : (t : List ℕ) → beginsNumber (getD t (skipWhitespace t) 0) ≡ false → numericOf t ≡ err
+unfolding numericOf numbers.number pick is
+no-number t e = rw (signed-none (drop (skipWhitespace t) t) (ap beginsNumber (first t (skipWhitespace t)) ∙ e))
+
+-- "Otherwise, return a <delim-token>": U+002B PLUS SIGN
+pub addition-token : (t : List ℕ) → beginsNumber (getD t (skipWhitespace t) 0) ≡ false → Begins (ascii.plusSign ∷ t) 1 (tokens.delim ascii.plusSign)
+unfolding whitespaceItem isWhitespace commentOf tokenBy startOf isQuote plusOf orElse behind pick or is
+addition-token t e = begins-by ascii.plusSign t 1 (tokens.delim ascii.plusSign) refl (omega arith) (rw (no-number t e))
+
+-- an '@' is a token by itself to the reader
+pub at-token : (t : List ℕ) → Begins (ascii.commercialAt ∷ t) 1 (tokens.delim ascii.commercialAt)
+unfolding whitespaceItem isWhitespace commentOf startOf isQuote isIdentStart isDigit markOf pick or and within is
+at-token t = mark-begins ascii.commercialAt t refl (omega arith) refl
+
 -- ---- all of them
 -- every token of the grammar is read whole, where what follows it may follow
 pub atom-begins : (a : Atom) (t : List ℕ) → EndsBefore a t → Begins (writtenAtom a ++ t) (length (writtenAtom a)) (meansAtom a)
@@ -678,10 +836,10 @@ atom-begins (word n) t e =
     let a = and-true (endsName (getD t 0 0)) _ e in
     ident-token n t (a .0) (untrue _ (a .1))
 atom-begins (string q) t e =
-    let l : length (q .quote ∷ (q .body ++ (q .quote ∷ []))) ≡ 1 + length (q .body) + 1 = omega (arith, length-append (q .body) (q .quote ∷ [])) in
-    subst (λ (i : ℕ). Begins ((q .quote ∷ (q .body ++ (q .quote ∷ []))) ++ t) i (tokens.string (q .body))) (sym l)
-    (subst (λ (r : List ℕ). Begins (q .quote ∷ r) (1 + length (q .body) + 1) (tokens.string (q .body))) (sym (append-assoc (q .body) (q .quote ∷ []) t)) (string-token q t))
-atom-begins (hash h) t e = subst (λ (i : ℕ). Begins (ascii.numberSign ∷ (h .bytes ++ t)) i (tokens.hash (h .bytes))) (omega arith) (hash-token h t e)
+    let l : length (q .quote ∷ (q .bytes ++ (q .quote ∷ []))) ≡ 1 + length (q .bytes) + 1 = omega (arith, length-append (q .bytes) (q .quote ∷ [])) in
+    subst (λ (i : ℕ). Begins ((q .quote ∷ (q .bytes ++ (q .quote ∷ []))) ++ t) i (tokens.string (q .body))) (sym l)
+    (subst (λ (r : List ℕ). Begins (q .quote ∷ r) (1 + length (q .bytes) + 1) (tokens.string (q .body))) (sym (append-assoc (q .bytes) (q .quote ∷ []) t)) (string-token q t))
+atom-begins (hash h) t e = subst (λ (i : ℕ). Begins (ascii.numberSign ∷ (h .bytes ++ t)) i (tokens.hash (map lower (h .bytes)))) (omega arith) (hash-token h t e)
 atom-begins (number n) t e = number-token n t e
 atom-begins (percentage n) t e =
     let m = writtenNumeral n in
@@ -691,20 +849,40 @@ atom-begins (dimension n u) t e =
     let m = writtenNumeral n in
     let w = u .name .bytes in
     let a = and-true (endsName (getD t 0 0)) _ e in
-    subst (λ (i : ℕ). Begins ((m ++ w) ++ t) i (tokens.dimension (meansNumeral n) w)) (sym (length-append m w))
-    (subst (λ (r : List ℕ). Begins r (length m + length w) (tokens.dimension (meansNumeral n) w)) (sym (append-assoc m w t)) (dimension-token n (u .name) t (a .0)))
+    let k = tokens.dimension (meansNumeral n) (folded (u .name)) in
+    subst (λ (i : ℕ). Begins ((m ++ w) ++ t) i k) (sym (length-append m w))
+    (subst (λ (r : List ℕ). Begins r (length m + length w) k) (sym (append-assoc m w t)) (dimension-token n (u .name) t (a .0)))
 atom-begins comma t e = comma-token t
 atom-begins colon t e = colon-token t
 atom-begins semicolon t e = semicolon-token t
 atom-begins (delimiter c d) t e = delim-token c d t e
+atom-begins point t e = point-token t (untrue _ e)
+atom-begins hyphen t e = let a = and-true (endsName (getD t 0 0)) _ e in hyphen-token t (name-ends t (a .0)) (untrue _ (a .1))
+atom-begins addition t e = addition-token t (untrue _ e)
+atom-begins (whole n) t e = whole-token n t e
+atom-begins (spaced n s w) t e =
+    let m = writtenNumeral n in
+    let g = s .space ∷ s .more .bytes in
+    let b = w .bytes in
+    let k = tokens.dimension (meansNumeral n) (folded w) in
+    subst (λ (i : ℕ). Begins ((m ++ (g ++ b)) ++ t) i k) (omega (arith, length-append m (g ++ b), length-append g b))
+    (subst (λ (r : List ℕ). Begins r (length m + (length g + length b)) k) (sym (append-assoc m (g ++ b) t ∙ ap (λ (l : List ℕ). m ++ l) (append-assoc g b t)))
+    (spaced-token n s w t e))
+atom-begins commercialAt t e = at-token t
+
+-- a function's name and its bracket
+function-begins : (n : Ident) (t : List ℕ)
+    → Begins ((n .bytes ++ (ascii.leftParenthesis ∷ [])) ++ t) (length (n .bytes ++ (ascii.leftParenthesis ∷ []))) (tokens.function (folded n))
+function-begins n t =
+    let b = n .bytes in
+    subst (λ (i : ℕ). Begins ((b ++ (ascii.leftParenthesis ∷ [])) ++ t) i (tokens.function (folded n))) (sym (length-append b (ascii.leftParenthesis ∷ [])))
+    (subst (λ (r : List ℕ). Begins r (length b + 1) (tokens.function (folded n))) (sym (append-assoc b (ascii.leftParenthesis ∷ []) t)) (function-token n t))
 
 -- and so is every token that opens a block
 pub opening-begins : (o : Opening) (t : List ℕ) → Begins (writtenOpening o ++ t) (length (writtenOpening o)) (meansOpening o)
 unfolding writtenOpening meansOpening
-opening-begins (function n d) t =
-    let b = n .bytes in
-    subst (λ (i : ℕ). Begins ((b ++ (ascii.leftParenthesis ∷ [])) ++ t) i (tokens.function b)) (sym (length-append b (ascii.leftParenthesis ∷ [])))
-    (subst (λ (r : List ℕ). Begins r (length b + 1) (tokens.function b)) (sym (append-assoc b (ascii.leftParenthesis ∷ []) t)) (function-token n t))
+opening-begins (function n d) t = function-begins n t
+opening-begins (link n d) t = function-begins n t
 opening-begins round t = round-token t
 opening-begins square t = square-token t
 opening-begins brace t = brace-token t
@@ -723,5 +901,5 @@ module _ (b : Blanks) where
   closer-read o t = token-read b (closer o ∷ t) _ _ (closer-token o t)
 
 -- what may follow, where white space and comments stand before the next token
-pub ends-behind : (a : Atom) (b : Blanks) (t : List ℕ) → whitespaceItem t ≡ 0 → MayFollow a (getD (b .bytes ++ t) 0 0) (getD t 0 0) → EndsBefore a (b .bytes ++ t)
-ends-behind a b t z e = rw (skips-blank (b .bytes) t (b .blank) z, behind-blank (b .bytes) t) e
+pub ends-behind : (a : Atom) (b : Blanks) (t : List ℕ) → whitespaceItem t ≡ 0 → MayFollow a (getD (b .bytes ++ t) 0 0) (getD t 0 0) (getD t 1 0) → EndsBefore a (b .bytes ++ t)
+ends-behind a b t z e = rw (skips-blank (b .bytes) t (b .blank) z, behind-blank (b .bytes) t, getD-append-add (b .bytes) t 1 0) e

@@ -12,27 +12,26 @@ use Rattle.combinators.specs.Choice.{pick, or, and, is, within}
 use Rattle.combinators.specs.Parsed.{ok, err, onParsed}
 use Rattle.combinators.specs.Word.{sameText}
 use Rattle.combinators.specs.Parsed as parser
-use Rattle.combinators.proofs.Rules.{never, and-right}
+use Rattle.combinators.proofs.Rules.{never, or-none, and-both, and-left, and-right, and-true}
 use Rattle.unicode.specs.Literal.{text}
 use Rattle.unicode.specs.Utf8.{utf8, scalarOf, scalarBy}
 use Rattle.unicode.specs.WhiteSpace.{member}
-use Rattle.lexer.specs.Name.{lower}
+use Rattle.lexer.specs.Number.{isDigit}
 use Rattle.lexer.specs.Token as tokens
 use Rattle.lexer.specs.Token.{Token, tokenAt, tokenOf, coded, textOf}
 use Rattle.lexer.specs.TokenRow.{columnsOf}
 use Rattle.lexer.specs.Whitespace.{isWhitespace, commentOf, whitespaceItem, skipWhitespace}
-use Rattle.lexer.proofs.SyntaxName.{started, more, identStart, identCodePoint, letter}
-use Rattle.lexer.proofs.SyntaxName as each
+use Rattle.lexer.proofs.SyntaxName.{identStart, identCodePoint, letter}
 use Rattle.lexer.proofs.SyntaxWhitespace.{Blank, none, white, comment, skips-blank}
 use Rattle.lexer.proofs.TokenBounds.{token-fits}
 use Rattle.values.specs.Value.{Placed, bracketBy, bracketOf, next, before, behind, closing, ending, stepOf, Statement, stop, cons, onStep, scan, statementOf, tokensOf, isMark, isImportant, withoutMark, valueFrom, valueOf}
 use Rattle.values.specs.Words.{kindOf, firstOf, isKind, isWord, isDelim}
 use Rattle.grammar.specs.Nth.{Blanks}
-use Rattle.grammar.specs.Selectors.{Name}
-use Rattle.grammar.specs.Tokens.{isDelimiter, Atom, word, string, hash, number, percentage, dimension, comma, colon, semicolon, delimiter, Opening, function, round, square, brace, writtenAtom, writtenOpening, closer, meansAtom, meansOpening, meansCloser, endsName, beginsName, mayFollow, MayFollow, EndsBefore}
-use Rattle.grammar.specs.Values.{Values, end, then, block, writtenValues, meansValues, Follows, Apart, isSemicolon, isBang, isBrace, Outermost, Unmarked, DeclarationValue, Importance, normal, important, writtenImportance, isMarked}
+use Rattle.grammar.specs.Tokens.{isDelimiter, Atom, word, string, hash, number, percentage, dimension, comma, colon, semicolon, delimiter, point, hyphen, addition, whole, spaced, commercialAt, Opening, function, link, round, square, brace, writtenAtom, writtenOpening, closer, meansAtom, meansOpening, meansCloser, endsName, beginsName, beginsNumber, mayFollow, MayFollow, EndsBefore, Ident, folded}
+use Rattle.grammar.specs.Values.{Values, end, then, block, writtenValues, meansValues, Follows, Address, Inside, Apart, isSemicolon, isBang, isBrace, Outermost, Unmarked, DeclarationValue, Importance, normal, important, writtenImportance, isMarked}
 use Rattle.grammar.proofs.Places.{Unblank, blank-first}
-use Rattle.grammar.proofs.TokensRead.{Begins, token-read, neither, semicolon-token, closer-token, atom-begins, opening-begins, closer-read, ends-behind}
+use Rattle.grammar.proofs.StringsRead.{untrue}
+use Rattle.grammar.proofs.TokensRead.{ended-digit, Begins, token-read, semicolon-token, closer-token, atom-begins, opening-begins, closer-read, ends-behind, neither}
 
 -- no white space
 abbrev pub unspaced : Blanks
@@ -153,11 +152,18 @@ module _ (include : Bool) (b : Blanks) where
   atom-goes semicolon v [] h = never (sym (h .0))
   atom-goes semicolon v (c ∷ cs) h = refl
   atom-goes (delimiter c d) v cs h = refl
+  atom-goes point v cs h = refl
+  atom-goes hyphen v cs h = refl
+  atom-goes addition v cs h = refl
+  atom-goes (whole n) v cs h = refl
+  atom-goes (spaced n s w) v cs h = refl
+  atom-goes commercialAt v cs h = refl
 
   -- an opening token awaits its closing one
   pub opening-goes : (o : Opening) (cs : List ℕ) → stepOf include (bracketOf (meansOpening o)) cs ≡ next (closer o ∷ cs)
   unfolding stepOf bracketOf bracketBy coded meansOpening closer
   opening-goes (function n d) cs = refl
+  opening-goes (link n d) cs = refl
   opening-goes round cs = refl
   opening-goes square cs = refl
   opening-goes brace cs = refl
@@ -167,6 +173,8 @@ module _ (include : Bool) (b : Blanks) where
   unfolding stepOf bracketOf bracketBy coded meansCloser closer closing pick is Within Outermost isBrace
   closing-goes (function n d) w v [] h = refl
   closing-goes (function n d) w v (c ∷ cs) h = refl
+  closing-goes (link n d) w v [] h = refl
+  closing-goes (link n d) w v (c ∷ cs) h = refl
   closing-goes round w v [] h = refl
   closing-goes round w v (c ∷ cs) h = refl
   closing-goes square w v [] h = refl
@@ -216,18 +224,24 @@ quiet x e =
     record { no-code-point = a .0; no-escape = b .0; no-round = c .0; no-stop = d .0; no-percent = f .0; no-plus = g .0; no-asterisk = g .1 }
 
 -- so every atom ends before such a byte, where no name begins behind white space
-atom-ends : (a : Atom) (x y : ℕ) → continues x ≡ false → beginsName y ≡ false → mayFollow a x y ≡ true
+atom-ends : (a : Atom) (x y z : ℕ) → continues x ≡ false → beginsName y z ≡ false → beginsNumber y ≡ false → mayFollow a x y z ≡ true
 unfolding mayFollow endsName or and
-atom-ends (word n) x y e d = let q = quiet x e in rw (q .no-code-point, q .no-escape, q .no-round)
-atom-ends (string s) x y e d = refl
-atom-ends (hash h) x y e d = let q = quiet x e in rw (q .no-code-point, q .no-escape)
-atom-ends (number n) x y e d = let q = quiet x e in rw (q .no-code-point, q .no-escape, q .no-stop, q .no-percent, d)
-atom-ends (percentage n) x y e d = refl
-atom-ends (dimension n u) x y e d = let q = quiet x e in rw (q .no-code-point, q .no-escape, q .no-plus)
-atom-ends comma x y e d = refl
-atom-ends colon x y e d = refl
-atom-ends semicolon x y e d = refl
-atom-ends (delimiter c h) x y e d = ap not (and-right (is c ascii.solidus) (is x ascii.asterisk) (quiet x e .no-asterisk))
+atom-ends (word n) x y z e d f = let q = quiet x e in rw (q .no-code-point, q .no-escape, q .no-round)
+atom-ends (string s) x y z e d f = refl
+atom-ends (hash h) x y z e d f = let q = quiet x e in rw (q .no-code-point, q .no-escape)
+atom-ends (number n) x y z e d f = let q = quiet x e in rw (q .no-code-point, q .no-escape, q .no-stop, q .no-percent, d)
+atom-ends (percentage n) x y z e d f = refl
+atom-ends (dimension n u) x y z e d f = let q = quiet x e in rw (q .no-code-point, q .no-escape, q .no-plus)
+atom-ends comma x y z e d f = refl
+atom-ends colon x y z e d f = refl
+atom-ends semicolon x y z e d f = refl
+atom-ends (delimiter c h) x y z e d f = ap not (and-right (is c ascii.solidus) (is x ascii.asterisk) (quiet x e .no-asterisk))
+atom-ends point x y z e d f = ap not (ended-digit x (quiet x e .no-code-point))
+atom-ends hyphen x y z e d f = let q = quiet x e in rw (q .no-code-point, q .no-escape, q .no-stop)
+atom-ends addition x y z e d f = ap not f
+atom-ends (whole n) x y z e d f = let q = quiet x e in rw (q .no-code-point, q .no-escape, q .no-percent, d)
+atom-ends (spaced n s w) x y z e d f = let q = quiet x e in rw (q .no-code-point, q .no-escape)
+atom-ends commercialAt x y z e d f = refl
 
 -- white space and comments begin with none of them
 unblank : Unblank continues
@@ -235,22 +249,23 @@ unfolding continues identCodePoint identStart letter or and within is
 unblank = record { of-space = refl; of-tab = refl; of-line-feed = refl; of-carriage-return = refl; of-form-feed = refl; of-solidus = refl }
 
 -- nor does what closes, which begins no name and no white space
-closes-first : {t : List ℕ} → Closes t → (continues (getD t 0 0) ≡ false) × (beginsName (getD t 0 0) ≡ false) × (whitespaceItem t ≡ 0)
-unfolding continues beginsName identCodePoint identStart letter closer whitespaceItem isWhitespace commentOf pick or and within is
-closes-first nothing = (refl, refl, refl)
-closes-first (closed (function n d) r) = (refl, refl, refl)
-closes-first (closed round r) = (refl, refl, refl)
-closes-first (closed square r) = (refl, refl, refl)
-closes-first (closed brace r) = (refl, refl, refl)
-closes-first (at-semicolon r) = (refl, refl, refl)
-closes-first (at-bang r) = (refl, refl, refl)
-closes-first (at-brace r) = (refl, refl, refl)
+closes-first : {t : List ℕ} → Closes t → (continues (getD t 0 0) ≡ false) × ((z : ℕ) → beginsName (getD t 0 0) z ≡ false) × (beginsNumber (getD t 0 0) ≡ false) × (whitespaceItem t ≡ 0)
+unfolding continues beginsName beginsNumber isDigit identCodePoint identStart letter closer whitespaceItem isWhitespace commentOf pick or and within is
+closes-first nothing = (refl, (λ z. refl), refl, refl)
+closes-first (closed (function n d) r) = (refl, (λ z. refl), refl, refl)
+closes-first (closed (link n d) r) = (refl, (λ z. refl), refl, refl)
+closes-first (closed round r) = (refl, (λ z. refl), refl, refl)
+closes-first (closed square r) = (refl, (λ z. refl), refl, refl)
+closes-first (closed brace r) = (refl, (λ z. refl), refl, refl)
+closes-first (at-semicolon r) = (refl, (λ z. refl), refl, refl)
+closes-first (at-bang r) = (refl, (λ z. refl), refl, refl)
+closes-first (at-brace r) = (refl, (λ z. refl), refl, refl)
 
 -- so an atom ends before white space or none and what closes
 blank-ends : (a : Atom) {l : List ℕ} (t : List ℕ) → Blank l → Closes t → EndsBefore a (l ++ t)
 blank-ends a {l} t h c =
     let f = closes-first c in
-    ends-behind a (record { bytes = l; blank = h }) t (f .2) (atom-ends a _ _ (blank-first continues unblank t h (f .0)) (f .1))
+    ends-behind a (record { bytes = l; blank = h }) t (f .3) (atom-ends a _ _ _ (blank-first continues unblank t h (f .0)) (f .1 _) (f .2))
 
 -- and a name ends there
 pub halts-ends : {z : List ℕ} → Halts z → endsName (getD z 0 0) ≡ true
@@ -272,15 +287,59 @@ first-of (x ∷ w) r h = refl
 begins-some : (t : List ℕ) (n : ℕ) (k : Token) → Begins t n k → 1 ≤ n
 begins-some t n k h = let f = token-fits t n k (token-read unspaced t n k h ∙ ap (λ (i : ℕ). ok i k) (zero-add n)) in omega (arith, f .some)
 
+-- where a name begins with no '-', the byte behind it does not matter
+any-second : (y : ℕ) → beginsName y 0 ≡ false → (z : ℕ) → beginsName y z ≡ false
+unfolding beginsName
+any-second y e z =
+    let a = neither (identStart y) _ e in
+    let b = neither (is y ascii.reverseSolidus) _ (a .1) in
+    or-none _ _ (a .0) (or-none _ _ (b .0) (and-left _ _ (first-fails (is y ascii.hyphenMinus) (b .1))))
+  where
+    first-fails : (t : Bool) → and t (not (or (isDigit 0) (is 0 ascii.fullStop))) ≡ false → t ≡ false
+    first-fails true h = unfold and or isDigit within is in never (sym h)
+    first-fails false h = refl
+
+-- so it is with what may follow an atom
+any-follows : (a : Atom) (x y : ℕ) → mayFollow a x y 0 ≡ true → (z : ℕ) → mayFollow a x y z ≡ true
+unfolding mayFollow
+any-follows (word n) x y e z = e
+any-follows (string q) x y e z = e
+any-follows (hash h) x y e z = e
+any-follows (number n) x y e z =
+    let a = and-true (endsName x) _ e in
+    let b = and-true (not (is x ascii.fullStop)) _ (a .1) in
+    let c = and-true (not (is x ascii.percentSign)) _ (b .1) in
+    and-both _ _ (a .0) (and-both _ _ (b .0) (and-both _ _ (c .0) (ap not (any-second y (untrue _ (c .1)) z))))
+any-follows (percentage n) x y e z = e
+any-follows (dimension n u) x y e z = e
+any-follows comma x y e z = e
+any-follows colon x y e z = e
+any-follows semicolon x y e z = e
+any-follows (delimiter c d) x y e z = e
+any-follows point x y e z = e
+any-follows hyphen x y e z = e
+any-follows addition x y e z = e
+any-follows (whole n) x y e z =
+    let a = and-true (endsName x) _ e in
+    let c = and-true (not (is x ascii.percentSign)) _ (a .1) in
+    and-both _ _ (a .0) (and-both _ _ (c .0) (ap not (any-second y (untrue _ (c .1)) z)))
+any-follows (spaced n s w) x y e z = e
+any-follows commercialAt x y e z = e
+
+-- of a text that is not empty the first two bytes, or the first alone
+second-follows : (a : Atom) (x : ℕ) (w r : List ℕ) → 1 ≤ length w → mayFollow a x (getD w 0 0) (getD w 1 0) ≡ true → mayFollow a x (getD (w ++ r) 0 0) (getD (w ++ r) 1 0) ≡ true
+second-follows a x [] r h e = absurd (omega arith)
+second-follows a x (y ∷ []) r h e = any-follows a x y e _
+second-follows a x (y ∷ z ∷ w) r h e = e
+
 -- an atom ends before white space and a token that may follow it
-token-ends : (a : Atom) (b : Blanks) (w r : List ℕ) (k : Token) → Begins (w ++ r) (length w) k → MayFollow a (getD (b .bytes ++ w) 0 0) (getD w 0 0)
+token-ends : (a : Atom) (b : Blanks) (w r : List ℕ) (k : Token) → Begins (w ++ r) (length w) k → MayFollow a (getD (b .bytes ++ w) 0 0) (getD w 0 0) (getD w 1 0)
     → EndsBefore a (b .bytes ++ (w ++ r))
 token-ends a b w r k h e =
     let x : getD (b .bytes ++ (w ++ r)) 0 0 ≡ getD (b .bytes ++ w) 0 0 =
     ap (λ (l : List ℕ). getD l 0 0) (sym (append-assoc (b .bytes) w r))
     ∙ first-of (b .bytes ++ w) r (omega (arith, length-append (b .bytes) w, begins-some (w ++ r) (length w) k h)) in
-    let y = first-of w r (begins-some (w ++ r) (length w) k h) in
-    ends-behind a b (w ++ r) (h .item) (ap (λ (i : ℕ). mayFollow a i (getD (w ++ r) 0 0)) x ∙ ap (mayFollow a (getD (b .bytes ++ w) 0 0)) y ∙ e)
+    ends-behind a b (w ++ r) (h .item) (ap (λ (i : ℕ). mayFollow a i (getD (w ++ r) 0 0) (getD (w ++ r) 1 0)) x ∙ second-follows a _ w r (begins-some (w ++ r) (length w) k h) e)
 
 -- ---- values
 -- the white space at their end
@@ -344,12 +403,19 @@ atom-plain comma e = refl
 atom-plain colon e = refl
 atom-plain semicolon e = refl
 atom-plain (delimiter c d) e = e
+atom-plain point e = refl
+atom-plain hyphen e = refl
+atom-plain addition e = refl
+atom-plain (whole n) e = refl
+atom-plain (spaced n s w) e = refl
+atom-plain commercialAt e = refl
 
 -- nor is a bracket, which is no word either
 brackets-plain : (o : Opening) → (isDelim ascii.exclamationMark (meansOpening o) ≡ false) × (isDelim ascii.exclamationMark (meansCloser o) ≡ false)
     × (isWord (text "important") (meansCloser o) ≡ false)
 unfolding meansOpening meansCloser isDelim isWord isKind kindOf columnsOf coded and is
 brackets-plain (function n d) = (refl, refl, refl)
+brackets-plain (link n d) = (refl, refl, refl)
 brackets-plain round = (refl, refl, refl)
 brackets-plain square = (refl, refl, refl)
 brackets-plain brace = (refl, refl, refl)
@@ -403,6 +469,14 @@ follows a (block b o w v) z f h g =
     subst (EndsBefore a) (sym (block-onto b o w v z))
     (token-ends a b (writtenOpening o) (writtenValues w ++ (closer o ∷ (writtenValues v ++ z))) (meansOpening o) (opening-begins o (writtenValues w ++ (closer o ∷ (writtenValues v ++ z)))) f)
 
+-- what stands in brackets is told apart
+inside-apart : (o : Opening) (address apart : Type 0) → Inside o address apart → apart
+inside-apart (function n d) address apart h = h
+inside-apart (link n d) address apart h = h .1
+inside-apart round address apart h = h
+inside-apart square address apart h = h
+inside-apart brace address apart h = h
+
 module _ {include : Bool} where
   -- a token behind white space
   pub passes-token : (b : Blanks) (w r : List ℕ) (at : ℕ) (k : Token) (cs ds : List ℕ) → Begins (w ++ r) (length w) k → stepOf include (bracketOf k) cs ≡ next ds
@@ -429,7 +503,7 @@ module _ {include : Bool} where
       let r = writtenValues v ++ z in
       let q = closer o ∷ r in
       let p = passes-token b (writtenOpening o) (writtenValues w ++ q) at (meansOpening o) cs (closer o ∷ cs) (opening-begins o (writtenValues w ++ q)) (opening-goes include b o cs) in
-      let m = values-pass w q (at + p .taken) (closer o ∷ cs) (h .0) (closer-halts o r) (unfold Within in tt) in
+      let m = values-pass w q (at + p .taken) (closer o ∷ cs) (inside-apart o (Address w) (Apart w) (h .0)) (closer-halts o r) (unfold Within in tt) in
       let e = passes-token (trail w) (closer o ∷ []) r (at + p .taken + m .taken) (meansCloser o) (closer o ∷ cs) cs (closer-token o r) (closing-goes include b o w v cs i) in
       passes-as (block-onto b o w v z)
       (passes-on p (passes-on m (passes-on e (values-pass v z (at + p .taken + m .taken + e .taken) cs (h .1) g (within-block cs b o w v i)))))
@@ -455,7 +529,7 @@ none-scan (suc l) t at e = rw e
 
 -- white space alone is skipped
 blank-skipped : (b : Blanks) → skipWhitespace (b .bytes) ≡ length (b .bytes)
-blank-skipped b = ap skipWhitespace (sym (append-nil (b .bytes))) ∙ skips-blank (b .bytes) [] (b .blank) (closes-first nothing .2)
+blank-skipped b = ap skipWhitespace (sym (append-nil (b .bytes))) ∙ skips-blank (b .bytes) [] (b .blank) (closes-first nothing .3)
 
 -- and has no token
 blank-token : (b : Blanks) → tokenOf (b .bytes) ≡ err
@@ -534,39 +608,35 @@ value-ends v z h o e =
     subst (λ (n : ℕ). Stated false (writtenValues v ++ z) n (meansValues v)) (passed-length (writtenValues v) refl p) (stated p (value-stops e))
 
 -- ---- the mark `!important`
--- the name `important`
-unfoldable importantName : Name
-unfolding identCodePoint identStart letter or and within is lower pick text utf8
-importantName = record { bytes = text "important"; sequence = started refl (more refl (more refl (more refl (more refl (more refl (more refl (more refl (more refl each.none)))))))); small = refl }
-
 -- the '!' is a delimiter
 bang-begins : (t : List ℕ) → Begins (ascii.exclamationMark ∷ t) 1 (tokens.delim ascii.exclamationMark)
 unfolding isDelimiter member text utf8 writtenAtom meansAtom mayFollow or and is pick
 bang-begins t = atom-begins (delimiter ascii.exclamationMark refl) t refl
 
 -- and the word ends before what closes
-important-begins : (z : List ℕ) → Halts z → Begins (text "important" ++ z) (length (text "important")) (tokens.ident (text "important"))
-unfolding importantName writtenAtom meansAtom
-important-begins _ (halts {l} {t} h c) = atom-begins (word importantName) (l ++ t) (blank-ends (word importantName) t h c)
+important-begins : (n : Ident) → folded n ≡ text "important" → (z : List ℕ) → Halts z → Begins (n .bytes ++ z) (length (n .bytes)) (tokens.ident (text "important"))
+unfolding writtenAtom meansAtom
+important-begins n e _ (halts {l} {t} h c) =
+    subst (λ (w : List ℕ). Begins (n .bytes ++ (l ++ t)) (length (n .bytes)) (tokens.ident w)) e (atom-begins (word n) (l ++ t) (blank-ends (word n) t h c))
 
--- a value and its mark, with z behind it
-marked-onto : (v : Values) (b c : Blanks) (z : List ℕ)
-    → (writtenValues v ++ writtenImportance (important b c)) ++ z ≡ writtenValues v ++ (b .bytes ++ (ascii.exclamationMark ∷ (c .bytes ++ (text "important" ++ z))))
-unfolding writtenImportance
-marked-onto v b c z =
-    append-assoc (writtenValues v) (b .bytes ++ (ascii.exclamationMark ∷ (c .bytes ++ text "important"))) z
-    ∙ ap (λ (l : List ℕ). writtenValues v ++ l)
-    (append-assoc (b .bytes) (ascii.exclamationMark ∷ (c .bytes ++ text "important")) z
-    ∙ ap (λ (l : List ℕ). b .bytes ++ (ascii.exclamationMark ∷ l)) (append-assoc (c .bytes) (text "important") z))
+module _ (v : Values) (b c : Blanks) (n : Ident) (i : folded n ≡ text "important") (z : List ℕ) where
+  -- a value and its mark, with z behind it
+  marked-onto : (writtenValues v ++ writtenImportance (important b c n i)) ++ z ≡ writtenValues v ++ (b .bytes ++ (ascii.exclamationMark ∷ (c .bytes ++ (n .bytes ++ z))))
+  unfolding writtenImportance
+  marked-onto =
+      append-assoc (writtenValues v) (b .bytes ++ (ascii.exclamationMark ∷ (c .bytes ++ n .bytes))) z
+      ∙ ap (λ (l : List ℕ). writtenValues v ++ l)
+      (append-assoc (b .bytes) (ascii.exclamationMark ∷ (c .bytes ++ n .bytes)) z
+      ∙ ap (λ (l : List ℕ). b .bytes ++ (ascii.exclamationMark ∷ l)) (append-assoc (c .bytes) (n .bytes) z))
 
--- both pass
-marked-pass : (v : Values) (b c : Blanks) (z : List ℕ) → Apart v → Outermost v → Halts z
-    → Passes false (writtenValues v ++ (b .bytes ++ (ascii.exclamationMark ∷ (c .bytes ++ (text "important" ++ z))))) z 0 [] [] (meansValues v ++ markTokens)
-marked-pass v b c z h o g =
-    let x = c .bytes ++ (text "important" ++ z) in
-    let p = outer-pass {include = false} v (b .bytes ++ (ascii.exclamationMark ∷ x)) h o (halts (b .blank) (at-bang x)) in
-    let q = passes-token {include = false} b (ascii.exclamationMark ∷ []) x (0 + p .taken) (tokens.delim ascii.exclamationMark) [] [] (bang-begins x) (mark-goes .0) in
-    passes-on p (passes-on q (passes-token {include = false} c (text "important") z (0 + p .taken + q .taken) (tokens.ident (text "important")) [] [] (important-begins z g) (mark-goes .1)))
+  -- both pass
+  marked-pass : Apart v → Outermost v → Halts z
+      → Passes false (writtenValues v ++ (b .bytes ++ (ascii.exclamationMark ∷ (c .bytes ++ (n .bytes ++ z))))) z 0 [] [] (meansValues v ++ markTokens)
+  marked-pass h o g =
+      let x = c .bytes ++ (n .bytes ++ z) in
+      let p = outer-pass {include = false} v (b .bytes ++ (ascii.exclamationMark ∷ x)) h o (halts (b .blank) (at-bang x)) in
+      let q = passes-token {include = false} b (ascii.exclamationMark ∷ []) x (0 + p .taken) (tokens.delim ascii.exclamationMark) [] [] (bang-begins x) (mark-goes .0) in
+      passes-on p (passes-on q (passes-token {include = false} c (n .bytes) z (0 + p .taken + q .taken) (tokens.ident (text "important")) [] [] (important-begins n i z g) (mark-goes .1)))
 
 -- ---- `valueOf`
 -- by what the statement says
@@ -584,11 +654,11 @@ value-read v normal z h e =
     let k = values-unmarked v (h .unmarked) in
     ap (λ (l : List ℕ). valueOf (l ++ z)) w ∙ value-by (writtenValues v ++ z) _ (meansValues v) _ _ (value-ends v z (h .apart) (h .outermost) e) (unmarked-whole (meansValues v) k) k
     ∙ ap (λ (l : List ℕ). ok (length l) (record { tokens = meansValues v; important = false })) (sym w)
-value-read v (important b c) z h e =
-    let s = writtenValues v ++ writtenImportance (important b c) in
-    let p = marked-pass v b c z (h .apart) (h .outermost) (ends-halt e) in
-    let d = sym (marked-onto v b c z) in
+value-read v (important b c n i) z h e =
+    let s = writtenValues v ++ writtenImportance (important b c n i) in
+    let p = marked-pass v b c n i z (h .apart) (h .outermost) (ends-halt e) in
+    let d = sym (marked-onto v b c n i z) in
     value-by (s ++ z) (length s) (meansValues v ++ markTokens) (meansValues v) true
     (subst (λ (l : List ℕ). Stated false l (length s) (meansValues v ++ markTokens)) d
-    (subst (λ (n : ℕ). Stated false (writtenValues v ++ (b .bytes ++ (ascii.exclamationMark ∷ (c .bytes ++ (text "important" ++ z))))) n (meansValues v ++ markTokens)) (passed-length s d p) (stated p (value-stops e))))
+    (subst (λ (m : ℕ). Stated false (writtenValues v ++ (b .bytes ++ (ascii.exclamationMark ∷ (c .bytes ++ (n .bytes ++ z))))) m (meansValues v ++ markTokens)) (passed-length s d p) (stated p (value-stops e))))
     (marked-without (meansValues v)) (marked-is (meansValues v))

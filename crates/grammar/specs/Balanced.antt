@@ -55,7 +55,7 @@ writtenBalanced end = []
 writtenBalanced (space x w v) = x ∷ writtenBalanced v
 writtenBalanced (remark c w v) = c ++ writtenBalanced v
 writtenBalanced (plain x e v) = x ∷ writtenBalanced v
-writtenBalanced (quoted q v) = q .quote ∷ (q .body ++ (q .quote ∷ writtenBalanced v))
+writtenBalanced (quoted q v) = q .quote ∷ (q .bytes ++ (q .quote ∷ writtenBalanced v))
 writtenBalanced (semicolon v) = ascii.semicolon ∷ writtenBalanced v
 writtenBalanced (block b w v) = opens b ∷ (writtenBalanced w ++ (closes b ∷ writtenBalanced v))
 

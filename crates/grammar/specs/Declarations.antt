@@ -1,19 +1,19 @@
 -- Declarations in the words of CSS 2.1 (section 4.1.8, Declarations and properties): of each property that the engine knows the values that its
 -- definition gives it, as far as the reader agrees with the document, and of any other property any value. What a declaration means is
--- written from the document's tables. Keywords are in small letters, as all names of the grammar. Sections are those of CSS 2.1 where no other
--- document is named; they and what is quoted were not held against the documents' texts.
-use mathlib.Core.Path.{_≡_, refl}
+-- written from the document's tables. Names, keywords, units and hexadecimal digits are in letters of either case. Sections are those of CSS 2.1
+-- where no other document is named; they and what is quoted were not held against the documents' texts.
+use mathlib.Core.Path.{_≡_, ap}
 use mathlib.Core.Bool.{Bool, true, false, not}
 use mathlib.Core.List.{List, [], _∷_, _++_}
 use Prim.Native.Nat.{ℕ, _+_, _*_, _≤_}
 use lib.Dec.{leb}
 use lib.ListN.{length}
 use Rattle.combinators.specs.Ascii as ascii
-use Rattle.combinators.specs.Choice.{pick, or, and, is, within}
+use Rattle.combinators.specs.Choice.{pick, or, and, is}
 use Rattle.combinators.specs.Word.{sameText}
 use Rattle.unicode.specs.Literal.{text}
 use Rattle.unicode.specs.Utf8.{utf8}
-use Rattle.lexer.specs.Name.{hexDigit}
+use Rattle.lexer.specs.Name.{isHexDigit, hexDigit}
 use Rattle.lexer.proofs.SyntaxWhitespace.{none}
 use Rattle.syntax.specs.Declaration as syntax
 use Rattle.syntax.specs.Declaration.{Colour, Overflow, WhiteSpace, Decl}
@@ -21,17 +21,16 @@ use Rattle.values.specs.Words.{Entry, found, lookup}
 use Rattle.values.specs.Colour.{rgb, allOf}
 use Rattle.values.specs.Property.{anyOf}
 use Rattle.grammar.specs.Nth.{Blanks, negative, worth}
-use Rattle.grammar.specs.Selectors.{Name, Quoted}
-use Rattle.grammar.specs.Tokens.{Numeral, UnitName, Atom, word, string, hash, number, dimension, comma, function}
+use Rattle.grammar.specs.Selectors.{Quoted}
+use Rattle.grammar.specs.Tokens.{Numeral, Ident, folded, Hashed, UnitName, Atom, word, string, hash, number, dimension, comma, function}
 use Rattle.grammar.specs.Values.{Values, end, then, block, DeclarationValue}
-use Rattle.grammar.specs.Spelling.{smallLetter, spells, isSpelt, spelt, HexDigit, hashed}
 
 -- ---- keywords
 -- a name that a table of the document has, and what it means there
 pub record Keyword {A : Type 0} (table : List (Entry A)) : Type 0 where
-  pub name : Name
+  pub name : Ident
   pub means : A
-  pub listed : lookup (name .bytes) table ≡ found means
+  pub listed : lookup (folded name) table ≡ found means
 
 -- ---- <color> (4.3.6)
 -- the keywords and their values: `#800000` and so on in the document
@@ -68,13 +67,13 @@ pub record Part : Type 0 where
 -- a colour in one token: a keyword, `#rgb` or `#rrggbb`
 pub data Shade : Type 0 where
   named : Keyword colourNames → Shade
-  three : HexDigit → HexDigit → HexDigit → Shade
-  six : HexDigit → HexDigit → HexDigit → HexDigit → HexDigit → HexDigit → Shade
+  three : (h : Hashed) (a b c : ℕ) → h .bytes ≡ a ∷ b ∷ c ∷ [] → allOf isHexDigit (h .bytes) ≡ true → Shade
+  six : (h : Hashed) (a b c d e f : ℕ) → h .bytes ≡ a ∷ b ∷ c ∷ d ∷ e ∷ f ∷ [] → allOf isHexDigit (h .bytes) ≡ true → Shade
 
 -- or `rgb(` red `,` green `,` blue `)`
 pub data ColourValue : Type 0 where
   shade : Shade → ColourValue
-  parts : Part → Part → Part → ColourValue
+  parts : (n : Ident) → folded n ≡ text "rgb" → Part → Part → Part → ColourValue
 
 -- ---- <length> (4.3.2)
 -- the unit identifiers
@@ -93,7 +92,7 @@ finest = 45
 pub record Measure : Type 0 where
   pub numeral : Numeral
   pub unit : UnitName
-  pub listed : anyOf (unit .name .bytes) lengthUnits ≡ true
+  pub listed : anyOf (folded (unit .name)) lengthUnits ≡ true
   pub not-negative : or (isZero numeral) (not (negative (numeral .sign))) ≡ true
   pub exact : or (isZero numeral) (or (not (numeral .fraction)) (leb (length (numeral .digits)) finest)) ≡ true
 
@@ -155,6 +154,18 @@ pub data Known : Type 0 where
   content : Strings → Known
 
 -- their names
+unfoldable pub knownName : Known → List ℕ
+knownName (color c) = text "color"
+knownName (backgroundColor c) = text "background-color"
+knownName (background s) = text "background"
+knownName (height l) = text "height"
+knownName (maxHeight l) = text "max-height"
+knownName (overflow k) = text "overflow"
+knownName (overflowY k) = text "overflow-y"
+knownName (display k) = text "display"
+knownName (whiteSpace k) = text "white-space"
+knownName (content s) = text "content"
+
 abbrev pub knownNames : List (List ℕ)
 knownNames =
     text "background-color" ∷ text "background" ∷ text "color" ∷ text "height" ∷ text "max-height" ∷ text "overflow" ∷ text "overflow-y" ∷ text "display"
@@ -162,25 +173,12 @@ knownNames =
 
 -- a property and its value, with white space or none before it
 pub data Declared : Type 0 where
-  known : Blanks → Known → Declared
-  other : (n : Name) → anyOf (n .bytes) knownNames ≡ false → (v : Values) → DeclarationValue v → Declared
+  known : (n : Ident) (b : Blanks) (k : Known) → folded n ≡ knownName k → Declared
+  other : (n : Ident) → anyOf (folded n) knownNames ≡ false → (v : Values) → DeclarationValue v → Declared
 
 -- ---- how it is written: its name, and the tokens of its value
-unfoldable pub knownName : Known → Name
-unfolding isSpelt smallLetter spells allOf pick or and is within text utf8
-knownName (color c) = spelt (text "color") refl
-knownName (backgroundColor c) = spelt (text "background-color") refl
-knownName (background s) = spelt (text "background") refl
-knownName (height l) = spelt (text "height") refl
-knownName (maxHeight l) = spelt (text "max-height") refl
-knownName (overflow k) = spelt (text "overflow") refl
-knownName (overflowY k) = spelt (text "overflow-y") refl
-knownName (display k) = spelt (text "display") refl
-knownName (whiteSpace k) = spelt (text "white-space") refl
-knownName (content s) = spelt (text "content") refl
-
-unfoldable pub property : Declared → Name
-property (known b k) = knownName k
+unfoldable pub property : Declared → Ident
+property (known n b k h) = n
 property (other n d v h) = n
 
 -- a value ends without white space: what stands there belongs to what follows
@@ -192,17 +190,21 @@ alone b a = then b a nothing
 
 unfoldable pub shadeValues : Blanks → Shade → Values
 shadeValues b (named k) = alone b (word (k .name))
-shadeValues b (three x y z) = alone b (hash (hashed x (y ∷ z ∷ [])))
-shadeValues b (six p q x y z w) = alone b (hash (hashed p (q ∷ x ∷ y ∷ z ∷ w ∷ [])))
+shadeValues b (three h x y z w d) = alone b (hash h)
+shadeValues b (six h p q x y z w e d) = alone b (hash h)
 
 unfoldable pub partValues : Part → Values → Values
 partValues p v = then (p .before) (number (p .numeral)) v
 
+-- `rgb` is not `url`
+pub rgb-opens : (n : Ident) → folded n ≡ text "rgb" → sameText (folded n) (text "url") ≡ false
+unfolding sameText pick and is text utf8
+rgb-opens n h = ap (λ (w : List ℕ). sameText w (text "url")) h
+
 unfoldable pub colourValues : Blanks → ColourValue → Values
-unfolding isSpelt smallLetter spells allOf spelt sameText pick or and is within text utf8
 colourValues b (shade s) = shadeValues b s
-colourValues b (parts x y z) =
-    block b (function (spelt (text "rgb") refl) refl)
+colourValues b (parts n h x y z) =
+    block b (function n (rgb-opens n h))
     (partValues x (then (x .behind) comma (partValues y (then (y .behind) comma (partValues z (end (z .behind)))))))
     nothing
 
@@ -227,23 +229,23 @@ knownValues b (whiteSpace k) = alone b (word (k .name))
 knownValues b (content s) = stringValues b s
 
 unfoldable pub valuesOf : Declared → Values
-valuesOf (known b k) = knownValues b k
+valuesOf (known n b k h) = knownValues b k
 valuesOf (other n d v h) = v
 
 -- ---- what it means
 -- two digits, of one part of a colour
-unfoldable pub pair : HexDigit → HexDigit → ℕ
-pair x y = hexDigit (x .byte) * 16 + hexDigit (y .byte)
+unfoldable pub pair : ℕ → ℕ → ℕ
+pair x y = hexDigit x * 16 + hexDigit y
 
 -- `the three-digit RGB notation is converted into six-digit form by replicating digits, not by adding zeros'
 unfoldable pub meansShade : Shade → Colour
 meansShade (named k) = k .means
-meansShade (three x y z) = rgb (pair x x) (pair y y) (pair z z)
-meansShade (six p q x y z w) = rgb (pair p q) (pair x y) (pair z w)
+meansShade (three h x y z w d) = rgb (pair x x) (pair y y) (pair z z)
+meansShade (six h p q x y z w e d) = rgb (pair p q) (pair x y) (pair z w)
 
 unfoldable pub meansColour : ColourValue → Colour
 meansColour (shade s) = meansShade s
-meansColour (parts x y z) = rgb (worth (x .numeral .digits)) (worth (y .numeral .digits)) (worth (z .numeral .digits))
+meansColour (parts n h x y z) = rgb (worth (x .numeral .digits)) (worth (y .numeral .digits)) (worth (z .numeral .digits))
 
 -- a height matters only as zero or not
 unfoldable pub meansLength : Length → Bool
@@ -269,5 +271,5 @@ meansKnown (content s) = syntax.content (meansStrings s)
 
 -- of any other property the engine keeps its name
 unfoldable pub meansDeclared : Declared → Decl
-meansDeclared (known b k) = meansKnown k
-meansDeclared (other n d v h) = syntax.unknown (n .bytes)
+meansDeclared (known n b k h) = meansKnown k
+meansDeclared (other n d v h) = syntax.unknown (folded n)

@@ -3,6 +3,5 @@ pub mod Selectors
 pub mod Tokens
 pub mod Values
 pub mod Balanced
-pub mod Spelling
 pub mod Declarations
 pub mod Sheets

@@ -13,8 +13,8 @@ use Rattle.syntax.specs.Selector.{RuleSet}
 use Rattle.selectors.specs.Outcome.{reads}
 use Rattle.sheets.specs.Sheet.{sheetOf}
 use Rattle.grammar.specs.Nth.{Blanks}
-use Rattle.grammar.specs.Selectors.{Name, Group, writtenGroup, meansGroup}
-use Rattle.grammar.specs.Tokens.{endsName}
+use Rattle.grammar.specs.Selectors.{Group, writtenGroup, meansGroup}
+use Rattle.grammar.specs.Tokens.{Ident, endsName}
 use Rattle.grammar.specs.Values.{Values, writtenValues, Apart, Outermost, Importance, writtenImportance, isMarked}
 use Rattle.grammar.specs.Declarations.{Declared, property, valuesOf, meansDeclared}
 
@@ -58,7 +58,7 @@ pub data AtEnd : Type 0 where
 
 -- `@` and a name, component values up to the end, and the white space behind it
 pub record AtRule : Type 0 where
-  pub name : Name
+  pub name : Ident
   pub prelude : Values
   pub ends : endsName (getD (writtenValues prelude) 0 0) ≡ true
   pub apart : Apart prelude
