@@ -14,15 +14,13 @@ use Rattle.combinators.specs.Ascii as ascii
 use Rattle.combinators.specs.Choice.{pick, or, and, is, within}
 use Rattle.combinators.specs.Parsed.{ok, err, onParsed, behind}
 use Rattle.combinators.specs.Repeat.{many, took}
-use Rattle.combinators.proofs.Rules.{is-yes, is-no, lt-or-ge}
+use Rattle.combinators.proofs.Rules.{lt-or-ge}
 use Rattle.unicode.specs.Literal.{text}
 use Rattle.lexer.specs.Name.{isNmstart, foldedChar, nmstartCharOf, identEscapeOf, either, nmstartOf, nameFrom, dash, nameOf, identOf, identstringOf}
-use Rattle.lexer.specs.Quoted.{stringEnd, stringText}
-use Rattle.lexer.specs.Token.{string, coded, textOf, stringFrom, isQuote, stringOf}
+use Rattle.lexer.specs.Token.{coded, textOf, isQuote, stringOf}
 use Rattle.lexer.specs.TokenRow.{columnsOf}
 use Rattle.lexer.specs.Whitespace.{isWhitespace, commentOf, whitespaceItem, skipWhitespace}
 use Rattle.lexer.proofs.SyntaxName.{IdentSequence, started, dashed, identStart, identCodePoint, letter, start-code-point, hyphen-code-point, sequence-unskipped, ident-sequence, ident-string}
-use Rattle.lexer.proofs.SyntaxString.{string-quote}
 use Rattle.lexer.proofs.SyntaxWhitespace.{Blank, none, skips-blank}
 use Rattle.syntax.specs.Selector.{Component, star, class, element, hash, child, descendant, nth, attribute, attributeEqual}
 use Rattle.values.specs.Words.{isKind, kindOf}
@@ -30,6 +28,7 @@ use Rattle.selectors.specs.Outcome.{reads, fails, parsed, orElse}
 use Rattle.selectors.specs.Selector.{classOf, hashOf, closed, quotedOf, valueOf, attrOf, pseudoClassOf, marked, blankOf, componentOf}
 use Rattle.grammar.specs.Nth.{Blanks, Argument, writtenArgument, meansArgument}
 use Rattle.grammar.proofs.NthRead.{args-read, pseudo-by}
+use Rattle.grammar.proofs.StringsRead.{quoted-read}
 use Rattle.grammar.proofs.Places.{differs}
 use Rattle.grammar.specs.Selectors.{Name, Quoted}
 
@@ -223,26 +222,10 @@ unquoted : (s : List ℕ) → identCodePoint (getD s 0 0) ≡ true → quotedOf 
 unfolding quotedOf stringOf isQuote onParsed pick or
 unquoted s e = rw (differs identCodePoint (getD s 0 0) ascii.quotationMark e (quotes .0), differs identCodePoint (getD s 0 0) ascii.apostrophe e (quotes .1))
 
--- a string that its quote ends
-pub string-closed : (q : ℕ) (body u : List ℕ) → isQuote q ≡ true → stringEnd q (body ++ (q ∷ u)) ≡ length body → stringText q (body ++ (q ∷ u)) ≡ body
-    → stringOf (q ∷ (body ++ (q ∷ u))) ≡ ok (1 + length body + 1) (string body)
-unfolding stringOf stringFrom pick
-string-closed q body u h e x =
-    rw (
-      h,
-      e,
-      x,
-      is-no (length body) (length (body ++ (q ∷ u))) (λ z. omega (arith, length-append body (q ∷ u))),
-      getD-append-seam body q u 0,
-      is-yes q q refl,
-    )
-
--- so a string is read as it is written
-quoted : (v : Quoted) (u : List ℕ) → quotedOf (v .quote ∷ (v .body ++ (v .quote ∷ u))) ≡ ok (1 + length (v .body) + 1) (v .body)
+-- a string is read whole
+quoted : (v : Quoted) (u : List ℕ) → quotedOf (v .quote ∷ (v .bytes ++ (v .quote ∷ u))) ≡ ok (1 + length (v .bytes) + 1) (v .body)
 unfolding quotedOf onParsed isKind kindOf columnsOf coded textOf pick is
-quoted v u =
-    let g = string-quote (v .quote) (v .body) (v .ordinary) u in
-    rw (string-closed (v .quote) (v .body) u (v .quotes) (g .0) (g .1))
+quoted v u = rw (quoted-read v u)
 
 module _ (n : Name) (r : List ℕ) where
   -- what stands behind `=`
@@ -265,14 +248,14 @@ attribute-is-read n v t =
 
 -- an attribute with a string for its value
 pub attribute-string-read : (n : Name) (v : Quoted) (t : List ℕ)
-    → componentOf (ascii.leftSquareBracket ∷ (n .bytes ++ (ascii.equalsSign ∷ v .quote ∷ (v .body ++ (v .quote ∷ ascii.rightSquareBracket ∷ t)))))
-    ≡ reads (2 + length (n .bytes) + (1 + length (v .body) + 1) + 1) (attributeEqual (n .bytes) (v .body))
+    → componentOf (ascii.leftSquareBracket ∷ (n .bytes ++ (ascii.equalsSign ∷ v .quote ∷ (v .bytes ++ (v .quote ∷ ascii.rightSquareBracket ∷ t)))))
+    ≡ reads (2 + length (n .bytes) + (1 + length (v .bytes) + 1) + 1) (attributeEqual (n .bytes) (v .body))
 attribute-string-read n v t =
     let q = v .quote in
-    let w = q ∷ (v .body ++ (q ∷ [])) in
-    let r = q ∷ (v .body ++ (q ∷ ascii.rightSquareBracket ∷ t)) in
-    let a : w ++ (ascii.rightSquareBracket ∷ t) ≡ r = ap (λ (l : List ℕ). q ∷ l) (append-assoc (v .body) (q ∷ []) (ascii.rightSquareBracket ∷ t)) in
-    let d : length w ≡ 1 + length (v .body) + 1 = omega (arith, length-append (v .body) (q ∷ [])) in
+    let w = q ∷ (v .bytes ++ (q ∷ [])) in
+    let r = q ∷ (v .bytes ++ (q ∷ ascii.rightSquareBracket ∷ t)) in
+    let a : w ++ (ascii.rightSquareBracket ∷ t) ≡ r = ap (λ (l : List ℕ). q ∷ l) (append-assoc (v .bytes) (q ∷ []) (ascii.rightSquareBracket ∷ t)) in
+    let d : length w ≡ 1 + length (v .bytes) + 1 = omega (arith, length-append (v .bytes) (q ∷ [])) in
     bracket-component _ _ _
     (attr-value n r
     ∙ value-string _ (2 + length (n .bytes)) w t (n .bytes) (v .body) (behind-equals n r ∙ sym a) (ap quotedOf a ∙ quoted v (ascii.rightSquareBracket ∷ t) ∙ ap (λ (m : ℕ). ok m (v .body)) (sym d))

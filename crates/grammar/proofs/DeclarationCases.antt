@@ -27,13 +27,13 @@ use Rattle.values.specs.Property.{unsignedZero, numberZero, anyOf, heightOf, fi
 use Rattle.values.specs.Words.{kindOf, firstOf, numberOf, unitOf, isKind, lookup, foundOr, onFound}
 use Rattle.selectors.specs.Selector.{pseudoOf}
 use Rattle.grammar.specs.Nth.{unsigned, plus, minus, writtenSign, negative, worth}
-use Rattle.grammar.specs.Selectors.{Quoted, unprocessed, typed, universal, one, writtenSimples, writtenCompound, written, meansCompound, inOrder, Agrees, writtenPseudo, Tight, Group, several, writtenChosen, writtenGroup, meansChosen, meansGroup}
+use Rattle.grammar.specs.Selectors.{Quoted, byte, escaped, unprocessed, typed, universal, one, writtenSimples, writtenCompound, written, meansCompound, inOrder, Agrees, writtenPseudo, Tight, Group, several, writtenChosen, writtenGroup, meansChosen, meansGroup}
 use Rattle.grammar.specs.Selectors as selectors
 use Rattle.grammar.specs.Tokens.{Numeral, folded, isExponent, writtenStop, writtenNumeral, writtenAtom, writtenOpening, closer}
 use Rattle.grammar.specs.Values.{writtenValues}
 use Rattle.grammar.specs.Declarations.{named, three, shade, parts, isZero, measured, bare, last, color, background, height, maxHeight, content, Declared, known, knownName, property, shadeValues, partValues, colourValues, lengthValues, stringValues, knownValues, valuesOf, pair, meansShade, meansColour, meansLength, meansStrings, meansKnown, meansDeclared}
 use Rattle.grammar.specs.Declarations as declarations
-use Rattle.grammar.proofs.Spelling.{isSpelt, ident, spelt, hashed}
+use Rattle.grammar.proofs.Spelling.{isSpelt, ident, spelt, hashed, quoted}
 use Rattle.grammar.proofs.GrammarCases.{nothing, blank}
 
 -- `Color: #0F0`
@@ -102,21 +102,29 @@ test-lengths : (writtenValues (valuesOf tiny) ≡ text ".05EM") × (meansDeclare
 unfolding tiny nil ident valuesOf knownValues lengthValues writtenValues writtenAtom writtenNumeral writtenSign writtenStop meansDeclared meansKnown meansLength isZero allOf text utf8 continuation pick and is
 test-lengths = (refl, refl, refl, refl)
 
--- `content:"a" 'b'`
+-- `content:"a\"" 'b'`: an escaped quote
 unfoldable doubled : Quoted
-unfolding isQuote plain ordinary unprocessed text utf8 continuation pick or and is
-doubled = record { quote = ascii.quotationMark; body = text "a"; quotes = refl; ordinary = refl; unchanged = more refl each.none }
+unfolding isQuote ordinary isHexDigit unprocessed text utf8 continuation pick or and within is
+doubled =
+    record {
+      quote = ascii.quotationMark;
+      bytes = text "a\\\"";
+      body = text "a\"";
+      quotes = refl;
+      stands = byte refl (escaped refl refl selectors.nothing);
+      unchanged = more refl (more refl (more refl each.none));
+    }
 
 unfoldable single : Quoted
-unfolding isQuote plain ordinary unprocessed text utf8 continuation pick or and is
-single = record { quote = ascii.apostrophe; body = text "b"; quotes = refl; ordinary = refl; unchanged = more refl each.none }
+unfolding isQuote plain ordinary unprocessed allOf text utf8 continuation pick or and is
+single = quoted ascii.apostrophe (text "b") refl refl refl
 
 unfoldable said : Declared
 unfolding isSpelt allOf ident folded lower identStart identCodePoint letter knownName text utf8 pick or and is within
 said = known (ident (text "content") refl) nothing (content (declarations.more doubled blank (last single))) refl
 
-test-said : (writtenValues (valuesOf said) ≡ text "\"a\" 'b'") × (meansDeclared said ≡ syntax.content (text "ab"))
-unfolding said doubled single valuesOf knownValues stringValues writtenValues writtenAtom meansDeclared meansKnown meansStrings text utf8 continuation pick
+test-said : (writtenValues (valuesOf said) ≡ text "\"a\\\"\" 'b'") × (meansDeclared said ≡ syntax.content (text "a\"b"))
+unfolding said doubled single quoted ident valuesOf knownValues stringValues writtenValues writtenAtom meansDeclared meansKnown meansStrings text utf8 continuation pick
 test-said = (refl, refl)
 
 -- ---- `a::before,*::after `: white space may stand behind the last pseudo element

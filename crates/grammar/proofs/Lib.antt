@@ -1,11 +1,13 @@
 pub mod Places
 pub mod NthRead
+pub mod StringsRead
 pub mod ComponentsRead
 pub mod TokensRead
 pub mod SelectorsRead
 pub mod GroupsRead
 pub mod Spelling
 pub mod ValuesRead
+pub mod BalancedRead
 pub mod NumbersMeant
 pub mod DeclarationsMeant
 pub mod DeclarationsRead

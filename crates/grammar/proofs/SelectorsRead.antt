@@ -154,13 +154,13 @@ unfolding writtenSimple
 length-attribute-is n v =
     omega (arith, length-append (n .bytes) (ascii.equalsSign ∷ (v .bytes ++ (ascii.rightSquareBracket ∷ []))), length-append (v .bytes) (ascii.rightSquareBracket ∷ []))
 
-length-attribute-string : (n : Name) (v : Quoted) → 2 + length (n .bytes) + (1 + length (v .body) + 1) + 1 ≡ length (writtenSimple (attributeString n v))
+length-attribute-string : (n : Name) (v : Quoted) → 2 + length (n .bytes) + (1 + length (v .bytes) + 1) + 1 ≡ length (writtenSimple (attributeString n v))
 unfolding writtenSimple
 length-attribute-string n v =
     omega (
       arith,
-      length-append (n .bytes) (ascii.equalsSign ∷ v .quote ∷ (v .body ++ (v .quote ∷ ascii.rightSquareBracket ∷ []))),
-      length-append (v .body) (v .quote ∷ ascii.rightSquareBracket ∷ []),
+      length-append (n .bytes) (ascii.equalsSign ∷ v .quote ∷ (v .bytes ++ (v .quote ∷ ascii.rightSquareBracket ∷ []))),
+      length-append (v .bytes) (v .quote ∷ ascii.rightSquareBracket ∷ []),
     )
 
 -- what is written, with s behind it
@@ -178,12 +178,12 @@ attribute-is-onto n v s =
 
 attribute-string-onto : (n : Name) (v : Quoted) (s : List ℕ)
     → writtenSimple (attributeString n v) ++ s
-    ≡ ascii.leftSquareBracket ∷ (n .bytes ++ (ascii.equalsSign ∷ v .quote ∷ (v .body ++ (v .quote ∷ ascii.rightSquareBracket ∷ s))))
+    ≡ ascii.leftSquareBracket ∷ (n .bytes ++ (ascii.equalsSign ∷ v .quote ∷ (v .bytes ++ (v .quote ∷ ascii.rightSquareBracket ∷ s))))
 unfolding writtenSimple
 attribute-string-onto n v s =
     ap (λ (l : List ℕ). ascii.leftSquareBracket ∷ l)
-    (append-assoc (n .bytes) (ascii.equalsSign ∷ v .quote ∷ (v .body ++ (v .quote ∷ ascii.rightSquareBracket ∷ []))) s
-    ∙ ap (λ (l : List ℕ). n .bytes ++ (ascii.equalsSign ∷ v .quote ∷ l)) (append-assoc (v .body) (v .quote ∷ ascii.rightSquareBracket ∷ []) s))
+    (append-assoc (n .bytes) (ascii.equalsSign ∷ v .quote ∷ (v .bytes ++ (v .quote ∷ ascii.rightSquareBracket ∷ []))) s
+    ∙ ap (λ (l : List ℕ). n .bytes ++ (ascii.equalsSign ∷ v .quote ∷ l)) (append-assoc (v .bytes) (v .quote ∷ ascii.rightSquareBracket ∷ []) s))
 
 -- `nth-child`, and what is written behind it
 module _ (b : Blanks) (x : Argument) (c : Blanks) where

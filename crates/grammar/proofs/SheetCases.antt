@@ -37,7 +37,7 @@ use Rattle.grammar.specs.Declarations.{named, three, shade, isZero, bare
 use Rattle.grammar.specs.Declarations as declarations
 use Rattle.grammar.specs.Sheets.{Item, filled, Rule, braces, AtRule, rule, atRule, Sheet, writtenItem, writtenNext, writtenNexts, writtenShut, writtenEnd, writtenBlock, writtenRule, writtenAtEnd, writtenAt, writtenStatement, writtenStatements, writtenSheet, meansItem, meansNexts, meansBlock, meansRule, meansStatements, meansSheet, unreadBehind, unread}
 use Rattle.grammar.specs.Sheets as sheets
-use Rattle.grammar.proofs.Spelling.{isSpelt, ident, spelt, hashed}
+use Rattle.grammar.proofs.Spelling.{isSpelt, ident, spelt, hashed, quoted}
 use Rattle.grammar.proofs.ValuesRead.{before-semicolon, Stated, value-ends}
 use Rattle.grammar.proofs.SheetsRead.{sheet-whole}
 use Rattle.grammar.proofs.GrammarCases.{nothing, blank, two}
@@ -74,15 +74,8 @@ remark =
 
 -- ---- `@charset "utf-8";`
 unfoldable encoding : Quoted
-unfolding isQuote plain ordinary unprocessed text utf8 continuation pick or and is
-encoding =
-    record {
-      quote = ascii.quotationMark;
-      body = text "utf-8";
-      quotes = refl;
-      ordinary = refl;
-      unchanged = more refl (more refl (more refl (more refl (more refl each.none))));
-    }
+unfolding isQuote plain ordinary unprocessed allOf text utf8 continuation pick or and is
+encoding = quoted ascii.quotationMark (text "utf-8") refl refl refl
 
 unfoldable charset : AtRule
 unfolding Follows Apart Outermost isSemicolon writtenValues writtenAtom endsName identCodePoint identStart letter isSpelt allOf spelt pick or and is within text utf8 ident folded lower knownName
@@ -192,8 +185,8 @@ unfolding isDigit and within worth numeral text utf8 pick
 odd = record { bytes = text "1"; digits = more refl each.none; fits = omega arith }
 
 unfoldable star : Quoted
-unfolding isQuote plain ordinary unprocessed text utf8 continuation pick or and is
-star = record { quote = ascii.quotationMark; body = text "* "; quotes = refl; ordinary = refl; unchanged = more refl (more refl each.none) }
+unfolding isQuote plain ordinary unprocessed allOf text utf8 continuation pick or and is
+star = quoted ascii.quotationMark (text "* ") refl refl refl
 
 unfoldable bullet : Declared
 unfolding isSpelt allOf ident folded lower identStart identCodePoint letter knownName text utf8 pick or and is within
@@ -226,7 +219,7 @@ pageText =
     text "@charset \"utf-8\";\n/* page */\nbody { color: #333; background-color: white }\nnav, a::before { display: none !important; }\n@media print { nav > a { color: blue; } }\np.note {\n  border: 1px solid #ccc;\n  height: 0\n}\nul > li:nth-child(2n+1) { content: \"* \" }\n"
 
 test-text : writtenSheet page ≡ pageText
-unfolding pageText page charset encoding remark body dark bright away hidden media note border pixel gray flat items two odd star bullet ident spelt folded lower hashed writtenSheet writtenStatements writtenStatement writtenRule writtenAt writtenAtEnd writtenBlock writtenEnd writtenShut writtenNexts writtenNext writtenItem writtenImportance writtenGroup writtenChosen writtenPseudo written writtenCompound writtenCombinator writtenSimples writtenSimple writtenArgument writtenSign signByte property knownName valuesOf knownValues colourValues shadeValues lengthValues stringValues writtenValues writtenAtom writtenNumeral writtenStop writtenOpening closer text utf8 continuation pick
+unfolding pageText page charset encoding remark body dark bright away hidden media note border pixel gray flat items two odd star bullet ident spelt folded lower hashed writtenSheet writtenStatements writtenStatement writtenRule writtenAt writtenAtEnd writtenBlock writtenEnd writtenShut writtenNexts writtenNext writtenItem writtenImportance writtenGroup writtenChosen writtenPseudo written writtenCompound writtenCombinator writtenSimples writtenSimple writtenArgument writtenSign signByte property knownName valuesOf knownValues colourValues shadeValues lengthValues stringValues writtenValues writtenAtom writtenNumeral writtenStop writtenOpening closer text utf8 continuation pick quoted
 test-text = refl
 
 -- what it is read as
@@ -258,13 +251,13 @@ test-sheet : sheetOf pageText
       start = 211;
     }
     ∷ [])
-unfolding page charset encoding remark body dark bright away hidden media note border pixel gray flat items two odd star bullet ident spelt folded lower hashed writtenSheet writtenStatements writtenStatement writtenRule writtenAt writtenAtEnd writtenBlock writtenEnd writtenShut writtenNexts writtenNext writtenItem writtenImportance writtenGroup writtenChosen writtenPseudo written writtenCompound writtenCombinator writtenSimples writtenSimple writtenArgument writtenSign signByte property knownName valuesOf knownValues colourValues shadeValues lengthValues stringValues writtenValues writtenAtom writtenNumeral writtenStop writtenOpening closer text utf8 continuation pick meansSheet meansStatements meansRule meansBlock meansNexts meansItem isMarked meansDeclared meansKnown meansColour meansShade pair hexDigit meansLength meansStrings meansGroup meansChosen inOrder meansCompound meansCombinator meansSimple meansArgument negative worth numeral signed unread unreadBehind and is within
+unfolding page charset encoding remark body dark bright away hidden media note border pixel gray flat items two odd star bullet ident spelt folded lower hashed writtenSheet writtenStatements writtenStatement writtenRule writtenAt writtenAtEnd writtenBlock writtenEnd writtenShut writtenNexts writtenNext writtenItem writtenImportance writtenGroup writtenChosen writtenPseudo written writtenCompound writtenCombinator writtenSimples writtenSimple writtenArgument writtenSign signByte property knownName valuesOf knownValues colourValues shadeValues lengthValues stringValues writtenValues writtenAtom writtenNumeral writtenStop writtenOpening closer text utf8 continuation pick meansSheet meansStatements meansRule meansBlock meansNexts meansItem isMarked meansDeclared meansKnown meansColour meansShade pair hexDigit meansLength meansStrings meansGroup meansChosen inOrder meansCompound meansCombinator meansSimple meansArgument negative worth numeral signed unread unreadBehind and is within quoted
 test-sheet = ap sheetOf (sym test-text) ∙ sheet-whole page refl
 
 -- ---- `b("};"/*;}*/[;])` before ` ;c`: the marks in the string, in the comment and in the brackets do not end it
 unfoldable marks : Quoted
-unfolding isQuote plain ordinary unprocessed text utf8 continuation pick or and is
-marks = record { quote = ascii.quotationMark; body = text "};"; quotes = refl; ordinary = refl; unchanged = more refl (more refl each.none) }
+unfolding isQuote plain ordinary unprocessed allOf text utf8 continuation pick or and is
+marks = quoted ascii.quotationMark (text "};") refl refl refl
 
 unfoldable aside : Blanks
 unfolding allOf starless and is text utf8 pick
@@ -280,5 +273,5 @@ guarded = block nothing (function (ident (text "b") refl) refl) (then nothing (s
 
 test-ends : Stated false (text "b(\"};\"/*;}*/[;]) ;c") 16
     (tokens.function (text "b") ∷ tokens.string (text "};") ∷ tokens.openSquare ∷ tokens.semicolon ∷ tokens.closeSquare ∷ tokens.closeRound ∷ [])
-unfolding guarded marks aside ident spelt folded lower Follows Apart Outermost isBrace writtenValues meansValues writtenAtom writtenOpening closer meansAtom meansOpening meansCloser mayFollow text utf8 pick
+unfolding guarded marks aside ident spelt folded lower Follows Apart Outermost isBrace writtenValues meansValues writtenAtom writtenOpening closer meansAtom meansOpening meansCloser mayFollow text utf8 pick quoted
 test-ends = value-ends guarded (text " ;c") ((refl, ((tt, tt), tt)), tt) (refl, refl) (before-semicolon blank (text "c"))

@@ -37,7 +37,8 @@ use Rattle.grammar.specs.Sheets as sheets
 use Rattle.grammar.proofs.ComponentsRead.{behind-blank}
 use Rattle.grammar.proofs.Places.{rest-on, rest-one, byte-on, spaced-on, spaced-none}
 use Rattle.grammar.proofs.GroupsRead.{group-item, group-read}
-use Rattle.grammar.proofs.TokensRead.{name-item, token-read, untrue, neither, semicolon-token, opening-begins, closer-read}
+use Rattle.grammar.proofs.StringsRead.{untrue}
+use Rattle.grammar.proofs.TokensRead.{name-item, token-read, neither, semicolon-token, opening-begins, closer-read}
 use Rattle.grammar.proofs.ValuesRead.{unspaced, conses, Passes, passes-on, passes-token, Within, opening-goes, Halts, halts, at-semicolon, at-brace, closer-halts, halts-ends, trail, values-pass, outer-pass}
 use Rattle.grammar.proofs.DeclarationsRead.{block-items}
 use Rattle.grammar.proofs.BlocksRead.{block-read, moved-item, moved-nexts}

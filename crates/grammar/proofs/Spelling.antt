@@ -1,4 +1,4 @@
--- Names for derivations: a text that passes a test is an ident sequence, so that its proof is computed.
+-- Names, hashes and strings for derivations: what passes a test is one, so that its proof is computed.
 use mathlib.Core.Path.{_≡_}
 use mathlib.Core.Bool.{Bool, true, false}
 use mathlib.Core.List.{List, [], _∷_, map}
@@ -8,8 +8,10 @@ use Rattle.combinators.specs.Choice.{and}
 use Rattle.combinators.proofs.Rules.{never, and-true}
 use Rattle.lexer.specs.Name.{lower}
 use Rattle.lexer.proofs.SyntaxName.{Each, none, more, IdentSequence, started, identStart, identCodePoint}
+use Rattle.lexer.specs.Token.{isQuote}
+use Rattle.lexer.proofs.SyntaxString.{ordinary, plain}
 use Rattle.values.specs.Colour.{allOf}
-use Rattle.grammar.specs.Selectors.{Name}
+use Rattle.grammar.specs.Selectors.{Name, unprocessed, Within, nothing, byte, Quoted}
 use Rattle.grammar.specs.Tokens.{Ident, Hashed}
 
 -- an ident-start code point, and ident code points behind it
@@ -40,3 +42,13 @@ spelt w h s = record { bytes = w; sequence = spelt-sequence w h; small = s }
 -- a hash of ident code points
 unfoldable pub hashed : (w : List ℕ) → allOf identCodePoint w ≡ true → 1 ≤ length w → Hashed
 hashed w h s = record { bytes = w; are = each-of identCodePoint w h; some = s }
+
+-- a plain text stands for itself
+pub plain-within : (q : ℕ) (w : List ℕ) → plain q w ≡ true → Within q w w
+unfolding plain
+plain-within q [] h = nothing
+plain-within q (x ∷ r) h = let p = and-true (ordinary q x) (plain q r) h in byte (p .0) (plain-within q r (p .1))
+
+-- between quotes
+unfoldable pub quoted : (q : ℕ) (w : List ℕ) → isQuote q ≡ true → plain q w ≡ true → allOf unprocessed w ≡ true → Quoted
+quoted q w h p u = record { quote = q; bytes = w; body = w; quotes = h; stands = plain-within q w p; unchanged = each-of unprocessed w u }

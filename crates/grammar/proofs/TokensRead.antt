@@ -30,7 +30,6 @@ use Rattle.lexer.specs.Whitespace.{isWhitespace, commentOf, whitespaceItem, ski
 use Rattle.lexer.specs.declared.tokens.Start.{Start}
 use Rattle.lexer.specs.declared.tokens.Start.the-variants.{Quote, Letter, Digit, Other}
 use Rattle.lexer.proofs.SyntaxName.{Each, none, more, IdentSequence, started, dashed, identStart, identCodePoint, letter, start-code-point, code-point-item, hyphen-code-point, ident-sequence}
-use Rattle.lexer.proofs.SyntaxString.{string-quote}
 use Rattle.lexer.proofs.SyntaxWhitespace.{skips-blank}
 use Rattle.lexer.proofs.SyntaxWhitespace as blanks
 use Rattle.lexer.proofs.Escapes.{char-no, escape-no, either-second}
@@ -42,7 +41,8 @@ use Rattle.grammar.specs.Selectors.{Spaces, Quoted}
 use Rattle.grammar.specs.Tokens.{Numeral, Hashed, isDelimiter, Atom, word, string, hash, number, percentage, dimension, comma, colon, semicolon, delimiter, point, hyphen, addition, whole, spaced, commercialAt, Opening, function, link, round, square, brace, writtenStop, writtenNumeral, writtenAtom, writtenOpening, closer, meansSign, meansNumeral, meansAtom, meansOpening, meansCloser, endsName, beginsName, beginsNumber, mayFollow, MayFollow, EndsBefore, Ident, folded}
 use Rattle.grammar.proofs.Places.{differs, Unblank, unblank-item}
 use Rattle.grammar.proofs.NthRead.{digits-read, starts-not}
-use Rattle.grammar.proofs.ComponentsRead.{behind-blank, string-closed}
+use Rattle.grammar.proofs.ComponentsRead.{behind-blank}
+use Rattle.grammar.proofs.StringsRead.{untrue, quoted-read}
 
 -- ---- a token at the start of a text
 -- a text that does not begin with white space begins with the token k, of n bytes
@@ -66,14 +66,9 @@ unfolding scalarOf scalarBy leadOf pick is
 ascii-scalar x l h = rw (is-no (suc (length l)) 0 (λ z. omega arith), le-leb x 0x7f h)
 
 -- the reader that it selects
-begins-by : (x : ℕ) (l : List ℕ) (n : ℕ) (k : Token) → whitespaceItem (x ∷ l) ≡ 0 → x ≤ 0x7f → tokenBy (startOf x) 1 x (x ∷ l) ≡ ok n k → Begins (x ∷ l) n k
+pub begins-by : (x : ℕ) (l : List ℕ) (n : ℕ) (k : Token) → whitespaceItem (x ∷ l) ≡ 0 → x ≤ 0x7f → tokenBy (startOf x) 1 x (x ∷ l) ≡ ok n k → Begins (x ∷ l) n k
 unfolding tokenAt
 begins-by x l n k e h p = record { item = e; reads = rw (ascii-scalar x l h, p) }
-
--- a test that does not hold
-pub untrue : (b : Bool) → not b ≡ true → b ≡ false
-untrue true e = sym e
-untrue false e = refl
 
 -- neither of two tests holds
 pub neither : (a b : Bool) → or a b ≡ false → (a ≡ false) × (b ≡ false)
@@ -309,10 +304,8 @@ unfolding tokenBy
 quote-begins q l n k e p = let s = quote-selects q e in begins-by q l n k (s .2 l) (s .1) (rw (s .0, p))
 
 -- "ending code point: Return the <string-token>"
-pub string-token : (q : Quoted) (t : List ℕ) → Begins (q .quote ∷ (q .body ++ (q .quote ∷ t))) (1 + length (q .body) + 1) (tokens.string (q .body))
-string-token q t =
-    let g = string-quote (q .quote) (q .body) (q .ordinary) t in
-    quote-begins (q .quote) (q .body ++ (q .quote ∷ t)) _ _ (q .quotes) (string-closed (q .quote) (q .body) t (q .quotes) (g .0) (g .1))
+pub string-token : (q : Quoted) (t : List ℕ) → Begins (q .quote ∷ (q .bytes ++ (q .quote ∷ t))) (1 + length (q .bytes) + 1) (tokens.string (q .body))
+string-token q t = quote-begins (q .quote) (q .bytes ++ (q .quote ∷ t)) _ _ (q .quotes) (quoted-read q t)
 
 -- ---- numbers: 4.3.12, Consume a number; 4.3.3, Consume a numeric token
 -- no digit begins with a full stop
@@ -843,9 +836,9 @@ atom-begins (word n) t e =
     let a = and-true (endsName (getD t 0 0)) _ e in
     ident-token n t (a .0) (untrue _ (a .1))
 atom-begins (string q) t e =
-    let l : length (q .quote ∷ (q .body ++ (q .quote ∷ []))) ≡ 1 + length (q .body) + 1 = omega (arith, length-append (q .body) (q .quote ∷ [])) in
-    subst (λ (i : ℕ). Begins ((q .quote ∷ (q .body ++ (q .quote ∷ []))) ++ t) i (tokens.string (q .body))) (sym l)
-    (subst (λ (r : List ℕ). Begins (q .quote ∷ r) (1 + length (q .body) + 1) (tokens.string (q .body))) (sym (append-assoc (q .body) (q .quote ∷ []) t)) (string-token q t))
+    let l : length (q .quote ∷ (q .bytes ++ (q .quote ∷ []))) ≡ 1 + length (q .bytes) + 1 = omega (arith, length-append (q .bytes) (q .quote ∷ [])) in
+    subst (λ (i : ℕ). Begins ((q .quote ∷ (q .bytes ++ (q .quote ∷ []))) ++ t) i (tokens.string (q .body))) (sym l)
+    (subst (λ (r : List ℕ). Begins (q .quote ∷ r) (1 + length (q .bytes) + 1) (tokens.string (q .body))) (sym (append-assoc (q .bytes) (q .quote ∷ []) t)) (string-token q t))
 atom-begins (hash h) t e = subst (λ (i : ℕ). Begins (ascii.numberSign ∷ (h .bytes ++ t)) i (tokens.hash (map lower (h .bytes)))) (omega arith) (hash-token h t e)
 atom-begins (number n) t e = number-token n t e
 atom-begins (percentage n) t e =

@@ -30,7 +30,8 @@ use Rattle.grammar.specs.Nth.{Blanks}
 use Rattle.grammar.specs.Tokens.{isDelimiter, Atom, word, string, hash, number, percentage, dimension, comma, colon, semicolon, delimiter, point, hyphen, addition, whole, spaced, commercialAt, Opening, function, link, round, square, brace, writtenAtom, writtenOpening, closer, meansAtom, meansOpening, meansCloser, endsName, beginsName, beginsNumber, mayFollow, MayFollow, EndsBefore, Ident, folded}
 use Rattle.grammar.specs.Values.{Values, end, then, block, writtenValues, meansValues, Follows, Address, Inside, Apart, isSemicolon, isBang, isBrace, Outermost, Unmarked, DeclarationValue, Importance, normal, important, writtenImportance, isMarked}
 use Rattle.grammar.proofs.Places.{Unblank, blank-first}
-use Rattle.grammar.proofs.TokensRead.{ended-digit, Begins, token-read, semicolon-token, closer-token, atom-begins, opening-begins, closer-read, ends-behind, neither, untrue}
+use Rattle.grammar.proofs.StringsRead.{untrue}
+use Rattle.grammar.proofs.TokensRead.{ended-digit, Begins, token-read, semicolon-token, closer-token, atom-begins, opening-begins, closer-read, ends-behind, neither}
 
 -- no white space
 abbrev pub unspaced : Blanks
@@ -272,7 +273,7 @@ unfolding endsName or
 halts-ends (halts {l} {t} h c) = let q = quiet (getD (l ++ t) 0 0) (blank-first continues unblank t h (closes-first c .0)) in rw (q .no-code-point, q .no-escape)
 
 -- white space behind white space is white space
-blank-append : {a b : List ℕ} → Blank a → Blank b → Blank (a ++ b)
+pub blank-append : {a b : List ℕ} → Blank a → Blank b → Blank (a ++ b)
 blank-append none k = k
 blank-append (white x b w r) k = white x _ w (blank-append r k)
 blank-append {b = d} (comment c b w r) k = subst Blank (sym (append-assoc c b d)) (comment c _ w (blank-append r k))
@@ -374,7 +375,7 @@ unfolding stepOf bracketOf bracketBy coded
 mark-goes = (refl, refl)
 
 -- one that is no '!' is not of the mark
-plain-first : (k : Token) (ks : List Token) → isDelim ascii.exclamationMark k ≡ false → isImportant (k ∷ ks) ≡ isImportant ks
+pub plain-first : (k : Token) (ks : List Token) → isDelim ascii.exclamationMark k ≡ false → isImportant (k ∷ ks) ≡ isImportant ks
 unfolding isImportant isMark and
 plain-first k [] e = refl
 plain-first k (a ∷ []) e = rw e

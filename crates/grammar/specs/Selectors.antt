@@ -1,16 +1,16 @@
 -- Selectors in the words of Selectors Level 3 (section 10.1, the grammar; sections 5 to 8, what its parts are called), as far as the reader
 -- agrees with the document: how a selector is written, and the components that it means.
 use mathlib.Core.Path.{_≡_}
-use mathlib.Core.Bool.{Bool, true, not}
+use mathlib.Core.Bool.{Bool, true, false, not}
 use mathlib.Core.List.{List, [], _∷_, _++_, map, reverse}
 use Prim.Native.Nat.{ℕ}
 use Rattle.combinators.specs.Ascii as ascii
 use Rattle.combinators.specs.Choice.{or, is}
 use Rattle.unicode.specs.Literal.{text}
-use Rattle.lexer.specs.Name.{lower}
+use Rattle.lexer.specs.Name.{lower, isHexDigit}
 use Rattle.lexer.specs.Token.{isQuote}
 use Rattle.lexer.proofs.SyntaxName.{Each, IdentSequence}
-use Rattle.lexer.proofs.SyntaxString.{plain}
+use Rattle.lexer.proofs.SyntaxString.{ordinary}
 use Rattle.lexer.proofs.SyntaxWhitespace.{White}
 use Rattle.syntax.specs.Selector as syntax
 use Rattle.syntax.specs.Selector.{Component, PseudoElement, Selector}
@@ -34,13 +34,23 @@ pub record Spaces : Type 0 where
 unfoldable pub unprocessed : ℕ → Bool
 unprocessed x = not (or (is x 0) (or (is x ascii.carriageReturn) (is x ascii.formFeed)))
 
--- STRING, without escapes
+-- what stands between two quotes q, and the text that it is (CSS Syntax 4.3.5, CSS 2.1 4.3.7): a byte that is neither a quote nor a newline nor a
+-- backslash; a backslash and a byte that is neither a newline nor a hexadecimal digit, which is that byte; a backslash and a newline, which are
+-- nothing. The reader has no hexadecimal escapes in strings.
+pub data Within (q : ℕ) : List ℕ → List ℕ → Type 0 where
+  nothing : Within q [] []
+  byte : {x : ℕ} {w b : List ℕ} → ordinary q x ≡ true → Within q w b → Within q (x ∷ w) (x ∷ b)
+  escaped : {x : ℕ} {w b : List ℕ} → isHexDigit x ≡ false → is x ascii.lineFeed ≡ false → Within q w b → Within q (ascii.reverseSolidus ∷ x ∷ w) (x ∷ b)
+  continued : {w b : List ℕ} → Within q w b → Within q (ascii.reverseSolidus ∷ ascii.lineFeed ∷ w) b
+
+-- STRING
 pub record Quoted : Type 0 where
   pub quote : ℕ
+  pub bytes : List ℕ
   pub body : List ℕ
   pub quotes : isQuote quote ≡ true
-  pub ordinary : plain quote body ≡ true
-  pub unchanged : Each unprocessed body
+  pub stands : Within quote bytes body
+  pub unchanged : Each unprocessed bytes
 
 -- HASH, class, attrib, and of pseudo `:nth-child()`
 pub data Simple : Type 0 where
@@ -74,7 +84,7 @@ writtenSimple (class n) = ascii.fullStop ∷ n .bytes
 writtenSimple (attribute n) = ascii.leftSquareBracket ∷ (n .bytes ++ (ascii.rightSquareBracket ∷ []))
 writtenSimple (attributeIs n v) = ascii.leftSquareBracket ∷ (n .bytes ++ (ascii.equalsSign ∷ (v .bytes ++ (ascii.rightSquareBracket ∷ []))))
 writtenSimple (attributeString n v) =
-    ascii.leftSquareBracket ∷ (n .bytes ++ (ascii.equalsSign ∷ v .quote ∷ (v .body ++ (v .quote ∷ ascii.rightSquareBracket ∷ []))))
+    ascii.leftSquareBracket ∷ (n .bytes ++ (ascii.equalsSign ∷ v .quote ∷ (v .bytes ++ (v .quote ∷ ascii.rightSquareBracket ∷ []))))
 writtenSimple (nthChild b x c) =
     ascii.colon ∷ (text "nth-child" ++ (ascii.leftParenthesis ∷ (b .bytes ++ (writtenArgument x ++ (c .bytes ++ (ascii.rightParenthesis ∷ []))))))
 

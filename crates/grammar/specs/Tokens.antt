@@ -101,7 +101,7 @@ writtenNumeral n = writtenSign (n .sign) ++ (writtenStop (n .fraction) ++ n .dig
 
 unfoldable pub writtenAtom : Atom → List ℕ
 writtenAtom (word n) = n .bytes
-writtenAtom (string q) = q .quote ∷ (q .body ++ (q .quote ∷ []))
+writtenAtom (string q) = q .quote ∷ (q .bytes ++ (q .quote ∷ []))
 writtenAtom (hash h) = ascii.numberSign ∷ h .bytes
 writtenAtom (number n) = writtenNumeral n
 writtenAtom (percentage n) = writtenNumeral n ++ (ascii.percentSign ∷ [])

@@ -1,0 +1,105 @@
+-- Texts in which brackets match, byte by byte, in the words of CSS Syntax Level 3 (section 8.2, <any-value> and <declaration-value>): the value of a
+-- property that the engine does not know, and what an at-rule has. What its tokens are does not matter there, only where it ends; so numbers
+-- such as `1.5`, names with capital letters and `0 auto` are in it, which the reader takes apart in another way than the document.
+use mathlib.Core.Path.{_≡_}
+use mathlib.Core.Bool.{Bool, true, false, not}
+use mathlib.Core.List.{List, [], _∷_, _++_, map}
+use Prim.Native.Nat.{ℕ}
+use Rattle.combinators.specs.Ascii as ascii
+use Rattle.combinators.specs.Choice.{or, and, within}
+use Rattle.combinators.specs.Word.{startsWith}
+use Rattle.unicode.specs.Literal.{text}
+use Rattle.unicode.specs.WhiteSpace.{member}
+use Rattle.lexer.specs.Name.{lower}
+use Rattle.lexer.specs.Token.{cdcMark}
+use Rattle.lexer.proofs.SyntaxWhitespace.{White, Comment}
+use Rattle.grammar.specs.Selectors.{Quoted}
+
+-- the last character of ASCII that is printed
+abbrev pub tilde : ℕ
+tilde = 0x7e
+
+-- a printed character of ASCII that opens and closes nothing, quotes nothing and ends nothing. A '<' is left out, since `<!--` opens a bracket for the
+-- reader, and so is a '\', whose escapes it reads in another way.
+unfoldable pub isPlain : ℕ → Bool
+isPlain x = and (within x ascii.exclamationMark tilde) (not (member x (text "\"'()[]{};!<\\")))
+
+pub data Bracket : Type 0 where
+  round : Bracket
+  square : Bracket
+  curly : Bracket
+
+pub data Balanced : Type 0 where
+  end : Balanced
+  space : (x : ℕ) → White x → Balanced → Balanced
+  remark : (c : List ℕ) → Comment c → Balanced → Balanced
+  plain : (x : ℕ) → isPlain x ≡ true → Balanced → Balanced
+  quoted : Quoted → Balanced → Balanced
+  semicolon : Balanced → Balanced
+  -- what stands between the brackets, and what stands behind them
+  block : Bracket → Balanced → Balanced → Balanced
+
+-- ---- how it is written
+unfoldable pub opens : Bracket → ℕ
+opens round = ascii.leftParenthesis
+opens square = ascii.leftSquareBracket
+opens curly = ascii.leftCurlyBracket
+
+unfoldable pub closes : Bracket → ℕ
+closes round = ascii.rightParenthesis
+closes square = ascii.rightSquareBracket
+closes curly = ascii.rightCurlyBracket
+
+unfoldable pub writtenBalanced : Balanced → List ℕ
+writtenBalanced end = []
+writtenBalanced (space x w v) = x ∷ writtenBalanced v
+writtenBalanced (remark c w v) = c ++ writtenBalanced v
+writtenBalanced (plain x e v) = x ∷ writtenBalanced v
+writtenBalanced (quoted q v) = q .quote ∷ (q .bytes ++ (q .quote ∷ writtenBalanced v))
+writtenBalanced (semicolon v) = ascii.semicolon ∷ writtenBalanced v
+writtenBalanced (block b w v) = opens b ∷ (writtenBalanced w ++ (closes b ∷ writtenBalanced v))
+
+-- ---- what makes its parts what they are: no `/*` and no `-->` begins among plain characters; nor does `url(`, behind which the document takes all up to
+-- the next `)` for a <url-token>
+unfoldable pub isMark : List ℕ → Bool
+isMark s = or (startsWith (text "/*") s) (or (startsWith cdcMark s) (startsWith (text "url(") (map lower s)))
+
+unfoldable pub Clear : Balanced → Type 0
+Clear end = Unit
+Clear (space x w v) = Clear v
+Clear (remark c w v) = Clear v
+Clear (plain x e v) = (isMark (x ∷ writtenBalanced v) ≡ false) × Clear v
+Clear (quoted q v) = Clear v
+Clear (semicolon v) = Clear v
+Clear (block b w v) = Clear w × Clear v
+
+-- outside all brackets: no semicolon, and no brace block, behind which the reader ends the statement
+unfoldable pub Outside : Balanced → Type 0
+Outside end = Unit
+Outside (space x w v) = Outside v
+Outside (remark c w v) = Outside v
+Outside (plain x e v) = Outside v
+Outside (quoted q v) = Outside v
+Outside (semicolon v) = ⊥
+Outside (block round w v) = Outside v
+Outside (block square w v) = Outside v
+Outside (block curly w v) = ⊥
+
+-- it does not end with white space, which belongs to what follows
+unfoldable pub More : Balanced → Type 0
+More end = ⊥
+More (space x w v) = Unit
+More (remark c w v) = Unit
+More (plain x e v) = Unit
+More (quoted q v) = Unit
+More (semicolon v) = Unit
+More (block b w v) = Unit
+
+unfoldable pub Tight : Balanced → Type 0
+Tight end = Unit
+Tight (space x w v) = More v × Tight v
+Tight (remark c w v) = More v × Tight v
+Tight (plain x e v) = Tight v
+Tight (quoted q v) = Tight v
+Tight (semicolon v) = Tight v
+Tight (block b w v) = Tight v
