@@ -153,7 +153,7 @@ module _ (s : List ℕ) (h : getD s 0 0 ≡ reverseSolidus) where
         bound = lone replacement-three (omega (arith, length-drop 1 s, backslash)) h;
       }
 
-  -- a backslash and hex digits lie within the text and stand for no more bytes than they take
+  -- a backslash and hex digits take bytes of the text, and what they stand for keeps to the bound
   hex-fits : isHexDigit (getD (drop 1 s) 0 0) ≡ true
       → Fits s (1 + hexCount (drop 1 s)) (utf8 (orReplacement (hexValue 0 (hexCount (drop 1 s)) (drop 1 s))))
   hex-fits e =
@@ -167,7 +167,7 @@ module _ (s : List ℕ) (h : getD s 0 0 ≡ reverseSolidus) where
         bound = short (hex-length n _ (c .some) (rw z at v));
       }
 
-  -- a backslash and the next character lie within the text and stand for no more bytes than they take
+  -- a backslash and the next character take bytes of the text, and what they stand for keeps to the bound
   next-char : (x : Scalar) → scalarOf (drop 1 s) ≡ x → Fine s (behindOne x)
   unfolding behindOne
   next-char (Value n v) e =
