@@ -21,7 +21,7 @@ use Rattle.runner.specs.Run.{Stepped, noStyle, documentStep, elementStep
 
 -- ---- contents
 module _ (settings : Settings) (g : Page) where
-  -- the contents of an element's row are those that its style attribute sets
+  -- the contents of an element's row are those of its inline styles, of which there are none with the switch off
   pub element-contents : (i : ℕ) → nodeAt (g .nodes) i .kind ≡ elementKind → rowContents settings g i ≡ inlineContents settings (elementAt (g .nodes) (g .attributes) (g .text) i)
   unfolding rowContents
   element-contents i e = sym (pick-true _ _ _ _ (is-yes _ _ e) refl)
