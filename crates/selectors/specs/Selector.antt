@@ -70,7 +70,7 @@ unfoldable pub signed : Bool → ℕ → ℤ
 signed minus zero = pos 0
 signed minus (suc n) = pick minus (negsuc n) (pos (suc n))
 
--- the greatest number of `i32`
+-- the greatest number of `i32`: "nth digits 2147483647 accepted, 2147483648 refused 4"
 abbrev pub greatest : ℕ
 greatest = 2147483647
 
