@@ -159,7 +159,7 @@ module _ (q : ℕ) (s st₀ : List ℕ) (fill : ℕ) (st : List ℕ) (f i n : �
   onward : Turned q (drop i s) st f k m z g
   onward = rw (rest s i) at t
 
-  -- a turn that takes bytes leaves what is behind it to read and to write as the rest of the whole
+  -- behind a turn that takes k bytes, not 0, what is left to read and to write has the result of the whole
   pub string-more : ¬ (k ≡ 0) → length z ≡ length st → Writing (quotedTaken q) (quotedText q) s st₀ fill z g (i + k) (n + m)
   string-more d l =
       let o = onward in

@@ -124,7 +124,7 @@ module _ (white : ℕ → Bool) (w : List ℕ) where
   others-exactly [] = ((λ q. absurd q), (λ f. absurd (no-others f)))
   others-exactly (v ∷ vs) = others-by (white v) v vs refl (others-exactly vs)
 
-  -- ---- all pieces: a text that w begins, or that w follows behind white space, is parted by w, and no other is
+  -- ---- all pieces: w begins a text, or what stands behind some white space of it, exactly if w is parted from the rest of the text
   parted-exactly : (t : List ℕ) → Exactly (Leads t ⊎ Follows t) (Parted white w t)
   parted-exactly t = (⊎-elim first later, back)
     where

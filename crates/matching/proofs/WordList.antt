@@ -33,7 +33,7 @@ use Rattle.matching.proofs.Selectors.{Exactly, or-yes}
 pub exactly-then : (P Q R : Type 0) → Exactly P Q → Exactly Q R → Exactly P R
 exactly-then P Q R f g = ((λ p. g .0 (f .0 p)), (λ r. f .1 (g .1 r)))
 
--- of two pairs of things that each follow from the other, so do 'either of the first' and 'either of the second'
+-- where P holds exactly if Q does, and R exactly if S does, P or R holds exactly if Q or S does
 pub exactly-either : (P Q R S : Type 0) → Exactly P Q → Exactly R S → Exactly (P ⊎ R) (Q ⊎ S)
 exactly-either P Q R S f g = (⊎-elim (λ p. inl (f .0 p)) (λ r. inr (g .0 r)), ⊎-elim (λ q. inl (f .1 q)) (λ s. inr (g .1 s)))
 

@@ -52,7 +52,7 @@ module _ (s : code.Sifted) (k : ℕ) (x : StyleNumbers) where
   unfolding sift inNumbers
   sifted-away n = pick-false _ _ _ _ (is-no (x .slot) k n) refl
 
-  -- an important style for the slot becomes its important one, which lies behind where a normal one was there before
+  -- an important style for the slot becomes its important one, which lies behind the normal one where there was one before
   pub sifted-important : x .slot ≡ k → x .important ≡ true
       → siftedIn (record { «has_normal» = s .«has_normal»; normal = s .normal; «has_important» = true; important = x; behind = s .behind || s .«has_normal» })
       ≡ sift k (siftedIn s) (inNumbers x)

@@ -105,7 +105,7 @@ behind-never k (reads n a) f h e = reads-no e
 behind-never k fails f h e = h refl
 behind-never k (panics p) f h e = panics-no e
 
--- an outcome with something to go on with in both cases, neither of which fails, does not fail
+-- where neither what follows a reading nor what stands in place of a failure fails, the whole does not fail
 pub then-never : {A B : Type 0} (o : Outcome A) (f : ℕ → A → Outcome B) (b : Outcome B) (g : ℕ → ℕ) → ((n : ℕ) (a : A) → f n a ≡ fails → ⊥) → (b ≡ fails → ⊥)
     → onOutcome o f b (λ p. panics (g p)) ≡ fails → ⊥
 unfolding onOutcome
