@@ -19,6 +19,7 @@ use Rattle.runner.specs.Run.{styleRowAt}
 use Rattle.running.specs.RunAnswer.{RunLeft}
 use Rattle.agreement.specs.Calls.{textsOf}
 
+-- "Its computed style is that of results 1 to 6, read from the sheets' texts and never from compiled bytes, nth-child sums exact also where the crate overflows."
 pub record ComputedRows (settings : Settings) (s : SheetTexts) (g : Page) (code : List ℕ) (r : RunLeft) : Type 0 where
   -- the rules of the three sheets, as they are read
   pub sheets : Rules RuleSet

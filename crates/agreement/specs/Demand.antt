@@ -50,7 +50,8 @@ pub record AllRows (rules : Rules RuleSet) (settings : Settings) (g : Page) (cod
 pub record Agreement (settings : Settings) (s : SheetTexts) (g : Page) (code : List ℕ) (r : RunLeft) : Type 0 where
   -- the run refuses nothing
   pub answered : r .answer .refusal ≡ noRefusal
-  -- every element's row equals the style computed from the sheets
+  -- every element's row equals the style computed from the sheets, which excludes "a run that styles one element and repeats it (2 and 3, on every element)";
+  -- "A compiler that always writes the empty sheet fails 3."
   pub computed-rows : ComputedRows settings s g code r
   -- every row that the style call styles is the same, whatever that call is lent: number by number, each content by its text, which is in the compiled bytes
   -- followed by the run's texts
@@ -62,7 +63,10 @@ pub record Agreement (settings : Settings) (s : SheetTexts) (g : Page) (code : L
   pub within : r .answer .texts ≤ length (r .texts)
   pub contents : textsOf r ≡ pageContents settings g
 
--- sheets that compile, a run of their bytes that is not lent too little, and a page of which the style call styles some row: then the run agrees with every style call
+-- sheets that compile, a run of their bytes that is not lent too little, and a page of which the style call styles some row: then the run agrees with every style call.
+-- "In demand 3 sheets and page are accepted where the compiler and the style call refuse nothing and the run does not return 2; the run then refuses nothing, so never 9."
+-- "Demand 3 is a single claim about all steps of a run, on every page, and not one for each step."
+-- "As soon as compiler, run and style call can be called, the whole of demand 3 is owed of them."
 pub record Demand3 : Type 0 where
   pub agrees : (s : SheetTexts) (g : Page) (settings : Settings) (b : CompileBuffers) (w : RunBuffers) (j : ℕ) (v : StyleBuffers)
       → compileWith s b .answer .refusal ≡ noRefusal

@@ -13,7 +13,7 @@ use Rattle.cascade.specs.declared.slots.Cascade.the-variants.{Crate, Boo
 use Rattle.cascade.specs.Slot.{Candidate, Slot, empty, held, updateBy, inheritedSlot}
 use Rattle.cascade.specs.Record.{slotCount, recordCount, mainRecord, beforeRecord, afterRecord, Record, ComputedStyle, emptyStyle, Declared, isNamed, mergeBy, inheritBy}
 
--- ---- the numbers of a slot
+-- ---- the numbers of a slot: "filled, origin, inline, id, class, type, important, value, second"
 abbrev pub slotFilled : ℕ
 slotFilled = 0
 
@@ -48,7 +48,8 @@ slotSecond = 8
 abbrev pub slotWidth : ℕ
 slotWidth = 9
 
--- ---- a record is a presence flag and its slots, a style three records
+-- ---- "A style row has 138 numbers: for main, before, after, a presence flag (main always 1) and five slots of nine"; "the boxed pseudo records become
+-- two flat ones"
 abbrev pub presentFlag : ℕ
 presentFlag = 1
 

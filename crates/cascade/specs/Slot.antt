@@ -63,7 +63,7 @@ importantUser = 4
 abbrev pub importantAgent : ℕ
 importantAgent = 5
 
--- normal agent, user and author declarations, then important author, user and agent ones
+-- "Rank: normal agent, user, author, then important author, user, agent; then inline; then specificity; then later wins": the first part, as a number
 unfoldable pub rank : ℕ → Bool → ℕ
 rank o i =
     pick i (pick (is o agentOrigin) importantAgent (pick (is o userOrigin) importantUser importantAuthor))
@@ -116,7 +116,8 @@ unfoldable pub updateBy : {A : Type 0} → Cascade → Slot A → Candidate A �
 updateBy Crate s x = maybeUpdate s x
 updateBy Book s x = bookUpdate s x
 
--- ---- what a child has of a slot before all other candidates in the book order: a normal author value of specificity 0
+-- ---- what a child has of a slot in the book order: "An inherited value counts as a normal author one of specificity 0, before all others, in every
+-- slot of all three records, and is written so in the row."
 unfoldable pub inheritedWeight : Weight
 inheritedWeight = record { important = false; origin = authorOrigin; spec = noSpecificity }
 

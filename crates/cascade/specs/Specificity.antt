@@ -16,11 +16,11 @@ specificityOf i c t = record { inline = false; id = i; class = c; typ = t }
 unfoldable pub noSpecificity : Specificity
 noSpecificity = specificityOf 0 0 0
 
--- that of a `style` attribute
+-- that of a `style` attribute: "`Specificity` has a value of its own for inline and adds itself to another."
 unfoldable pub inlineSpecificity : Specificity
 inlineSpecificity = record { inline = true; id = 0; class = 0; typ = 0 }
 
--- ---- the sum (`Add for &Specificity`)
+-- ---- the sum (`Add for &Specificity`): a specificity has a value "for inline and adds itself to another"
 -- its counts fit into 32 bits, as those of every selector of an accepted sheet do
 pub record SumFits (a b : Specificity) : Type 0 where
   pub id-fits : a .id + b .id < 2 ^ 32

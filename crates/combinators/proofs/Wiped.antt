@@ -77,7 +77,7 @@ most-from k a b =
     (lt-or-ge b a)
 
 -- ---- zeros
--- the length stays
+-- wiping leaves a store as long as it was
 pub length-wiped : (f n : ℕ) (l : List ℕ) → length (wiped f n l) ≡ length l
 unfolding wiped
 length-wiped f n l = length-sets l f (replicate n 0)

@@ -2,6 +2,7 @@
 -- does not read there (nom's `IResult`, with the bytes taken in place of the rest).
 use Prim.Native.Nat.{ℕ, _+_}
 
+-- "nom combinators become enum answers with a cursor."
 pub data Parsed (A : Type 0) : Type 0 where
   ok : ℕ → A → Parsed A
   err : Parsed A

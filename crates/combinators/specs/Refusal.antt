@@ -19,7 +19,7 @@ refusedAt number place = record { number = number; text = 0; place = place }
 abbrev pub refusedIn : ℕ → ℕ → ℕ → Refusal
 refusedIn number which place = record { number = number; text = which; place = place }
 
--- ---- the numbers
+-- ---- the numbers: "An engine that turns every sheet down fails 1, since refusals have fixed conditions."
 -- "a sheet over 32,768 bytes or compiled bytes over 65,536"; no place
 abbrev pub tooLong : ℕ
 tooLong = 1

@@ -14,7 +14,7 @@ use Rattle.combinators.proofs.Rules.{pick-true, pick-false}
 use Rattle.compile_sheet.specs.Hexadecimal.{base, decimalBase, hexDigit, hexPair, hexPairs, hexLine}
 
 -- ---- a digit
--- a decimal one
+-- a digit below ten is written as a decimal digit
 pub decimal : (n : ℕ) → n < decimalBase → digitZero + n ≡ hexDigit n
 unfolding hexDigit
 decimal n h = pick-true _ _ _ _ (lt-ltb n decimalBase h) refl
@@ -32,7 +32,7 @@ module _ (o₀ o₁ o₂ : Store) (b second first : ℕ) where
   pair e f p q = then o₀ o₁ o₂ _ _ p q ∙ rw (e, f)
 
 -- ---- the line
--- the last pair
+-- the line from the last byte on is the pair of this byte and, with no blank between, the end of the line
 last-pair : (s : List ℕ) (i : ℕ) → i < length s → length s ≤ i + 1 → hexLine (drop i s) ≡ hexPair (getD s i 0) ++ hexLine (drop (i + 1) s)
 unfolding hexLine hexPairs hexPair
 last-pair s i l h =

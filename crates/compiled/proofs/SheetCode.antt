@@ -29,7 +29,7 @@ use Rattle.compiled.proofs.Bounds.{Reaches, head-reaches, sheet-reaches
 use Rattle.compiled.proofs.Following.{then-read, then-fault, mapped-read, mapped-fault}
 
 -- ---- the numbers before the components
--- a fault
+-- where the numbers before the components are faulty, the answer is that fault
 faulty : (d : Decoded Head) (p : ℕ) → d ≡ fault p → head.Fault p ≡ headAnswer d
 unfolding headAnswer
 faulty d p e = ap headAnswer (sym e)

@@ -82,7 +82,7 @@ module _ (s : List ℕ) (at : ℕ) where
 
   module _ (slot : ℕ) where
     -- ---- by the slot
-    -- nothing
+    -- a style of the display slot has no value in the bytes: it is 0, and nothing is read
     pub value-display : slot ≡ displaySlot → value.Value at (record { number = 0; second = 0 }) ≡ valueAnswer (valueAt s slot at)
     unfolding valueAt
     value-display h = valued _ at _ (sym (pick-true _ _ _ _ (is-yes _ _ h) refl))

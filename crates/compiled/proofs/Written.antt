@@ -25,7 +25,7 @@ use Rattle.compiled.specs.Sheet.{headBytes}
 use Rattle.compiled.proofs.NumberBack.{signed-number-back}
 
 -- ---- one behind the other
--- three calls
+-- what three calls emit one behind the other is the three texts joined
 pub three : (o₀ o₁ o₂ o₃ : Store) (x y z : List ℕ) → o₁ ≡ emits o₀ x → o₂ ≡ emits o₁ y → o₃ ≡ emits o₂ z → o₃ ≡ emits o₀ (x ++ (y ++ z))
 three o₀ o₁ o₂ o₃ x y z p q r = then o₀ o₁ o₃ x (y ++ z) p (then o₁ o₂ o₃ y z q r)
 

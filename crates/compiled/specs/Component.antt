@@ -26,6 +26,8 @@ componentBody (nth a b) = numberBytes (signedNumber a) ++ numberBytes (signedNum
 componentBody (attribute x) = textBytes x
 componentBody (attributeEqual x y) = textBytes x ++ textBytes y
 
+-- "Component: 0 star, 1 class, 2 element, 3 hash (one text each), 4 child, 5 descendant, 6 nth with a and b (v as 2v, negative as -2v-1), 7 attribute
+-- (text), 8 attribute equal (two texts)."
 unfoldable pub componentBytes : Component → List ℕ
 componentBytes c = numberBytes (componentKind c) ++ componentBody c
 

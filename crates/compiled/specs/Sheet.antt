@@ -43,6 +43,8 @@ unfoldable pub selectorBytes : CompiledSelector → List ℕ
 selectorBytes s =
     headBytes (s .origin) (pseudoNumber (s .pseudo)) (length (s .components)) ++ (textsMany componentBytes (s .components) ++ stylesBytes (s .styles))
 
+-- "Sheet: selector count; for each, origin 1 to 3 (agent, user, author), pseudo 0 to 2 (none, before, after), component count, components rightmost first,
+-- style count, styles."
 unfoldable pub encode : List CompiledSelector → List ℕ
 encode ss = numberBytes (length ss) ++ textsMany selectorBytes ss
 
@@ -97,7 +99,7 @@ decode t = andThen (numberAt t 0) (λ n count. wholeAt t count n)
 
 -- ---- cases
 
--- the author's `p{color:red}`
+-- the author's `p{color:red}`: "For the first case: `01 03 00 01 02 01 70 01 00 00 80 80 fc 07`"
 abbrev pub redSelector : CompiledSelector
 redSelector =
     record {
@@ -118,7 +120,7 @@ pub case-decode : decode redBytes ≡ read 14 (redSelector ∷ [])
 unfolding decode wholeAt ending selectorsAt selectorAt selectorOf headAt pseudoAt pseudoNumber countAt partsAt stylesAt pseudoFrom counted componentAt componentIn writtenAt bodyAt nameAt isMark markOf namedOf textIn spanAt part styleAt styleIn styleNumbersAt slotAt valuedAt valueAt numberUpTo styleOf flagOf colourOf rangedAt numberAt groupsAt limited andThen mapped pick or and is within
 case-decode = refl
 
--- no selector
+-- no selector; of the program that compiles one sheet "The other two sheets are empty; empty input prints `00`."
 pub case-empty : decode (0x00 ∷ []) ≡ read 1 []
 unfolding decode wholeAt ending selectorsAt numberAt groupsAt limited andThen pick is
 case-empty = refl

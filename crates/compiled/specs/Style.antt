@@ -13,7 +13,7 @@ use Rattle.compiled.specs.Decoded.{Decoded, read, fault, andThen, mapped
 use Rattle.compiled.specs.Number.{groupBytes, numberBytes, limited, groupsAt, numberAt, rangedAt}
 use Rattle.compiled.specs.Text.{textBytes, spanAt}
 
--- colours are below 16,777,216
+-- "Colours are below 16,777,216."
 abbrev pub greatestColour : ℕ
 greatestColour = 16777215
 
@@ -31,6 +31,8 @@ styleBody style.displayNone = []
 styleBody (style.whiteSpace w) = numberBytes (whiteSpaceNumber w)
 styleBody (style.content x) = textBytes x
 
+-- "Style: important 0 or 1; slot 0 colour, 1 background (each red × 65536 + green × 256 + blue), 2 display none (no number follows; its value in a row is
+-- 0), 3 white space (0 normal, 1 pre, 2 pre-wrap), 4 content (text)."
 unfoldable pub styleBytes : StyleDecl → List ℕ
 styleBytes d = numberBytes (flag (d .important)) ++ (numberBytes (styleSlotOf (d .style)) ++ styleBody (d .style))
 

@@ -221,7 +221,7 @@ rule-fits origin m r a l h =
     (r .selectors) (components-few m r (h .size)) (selectors-fit m (omega arith) r t (h .range))
 
 -- ---- the selectors of a sheet
--- fit
+-- the selectors of a sheet fit where the rows, texts, numbers and colours of its rules keep to their bounds
 sheet-fit : (origin m : ℕ) → origin ≤ authorOrigin → m + declarationWidth < numberLimit → (rs : List RuleSet) → All (RuleHolds m) rs → All SelectorFits (sheetSelectors origin rs)
 unfolding sheetSelectors
 sheet-fit origin m a l [] h = tt

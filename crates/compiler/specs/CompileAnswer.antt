@@ -24,7 +24,7 @@ roomOf n = pick (ltb compiledLimit n) compiledLimit n
 abbrev pub refusedCompile : Refusal → CompileNumbers
 refusedCompile r = record { refusal = r; bytes = 0; texts = 0 }
 
--- what each answer stands for
+-- "Where an answer is an enum, a definition gives this paper's number and values for each of its cases, and the promises use that definition."
 unfoldable pub numbersOf : CompileAnswer → CompileNumbers
 numbersOf (Compiled bytes texts) = record { refusal = noRefusal; bytes = bytes; texts = texts }
 numbersOf TooLong = refusedCompile (refused tooLong)
@@ -33,7 +33,8 @@ numbersOf NotUtf8 = refusedCompile (refused notUtf8)
 numbersOf (Panic which byte) = refusedCompile (refusedIn panic which byte)
 numbersOf NoRoom = refusedCompile (refused noRoom)
 
--- ---- what is left of the call: its answer and the five buffers
+-- ---- what is left of the call, its answer and the five buffers: "Each contract determines result and every writable byte, refusals too, by an equation with a
+-- definition wherever there can be one"
 pub record CompileLeft : Type 0 where
   pub answer : CompileNumbers
   pub compiled : List ℕ

@@ -28,6 +28,7 @@ numerator i f = number (digits i) * 10 ^ length f + number (digits f)
 unfoldable pub denominator : List ℕ → ℕ
 denominator f = 10 ^ length f
 
--- numerator / denominator ≤ 1 / 2^150
+-- "the decimal is rounded to the nearest f32, ties to even, so it is zero exactly if, sign aside, it is at most 2^-150": numerator / denominator ≤
+-- 1 / 2^150
 unfoldable pub roundsToZero : List ℕ → List ℕ → Bool
 roundsToZero i f = leb (numerator i f * 2 ^ 150) (denominator f)

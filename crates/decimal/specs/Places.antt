@@ -5,8 +5,8 @@ use mathlib.Core.List.{List, [], _∷_}
 use lib.Dec.{ltb}
 use Rattle.combinators.specs.Choice.{pick, and, is}
 
--- 2^-150 = 0.000..007006492321624085.., to its last place, the 150th: read as one number they are 5^150, since
--- 2^-150 = 5^150 / 10^150. The first 45 are zeros
+-- "The table of the 150 decimal places of 2^-150, read as one number, is 5^150": 2^-150 = 5^150 / 10^150 = 0.000..007006492321624085.., to its last
+-- place, the 150th. The first 45 are zeros
 unfoldable pub places : List ℕ
 places = 0 ∷ 0 ∷ 0 ∷ 0 ∷ 0 ∷ 0 ∷ 0 ∷ 0 ∷ 0 ∷ 0 ∷ 0 ∷ 0 ∷ 0 ∷ 0 ∷ 0 ∷ 0 ∷ 0 ∷ 0 ∷ 0 ∷ 0 ∷ 0 ∷ 0 ∷ 0 ∷ 0 ∷ 0 ∷ 0 ∷ 0 ∷ 0 ∷ 0 ∷ 0 ∷ 0 ∷ 0 ∷ 0 ∷ 0 ∷ 0 ∷ 0 ∷ 0 ∷ 0 ∷ 0 ∷ 0 ∷ 0 ∷ 0 ∷ 0 ∷ 0 ∷ 0 ∷ 7 ∷ 0 ∷ 0 ∷ 6 ∷ 4 ∷ 9 ∷ 2 ∷ 3 ∷ 2 ∷ 1 ∷ 6 ∷ 2 ∷ 4 ∷ 0 ∷ 8 ∷ 5 ∷ 3 ∷ 5 ∷ 4 ∷ 6 ∷ 1 ∷ 8 ∷ 6 ∷ 4 ∷ 7 ∷ 9 ∷ 1 ∷ 6 ∷ 4 ∷ 4 ∷ 9 ∷ 5 ∷ 8 ∷ 0 ∷ 6 ∷ 5 ∷ 6 ∷ 4 ∷ 0 ∷ 1 ∷ 3 ∷ 0 ∷ 9 ∷ 7 ∷ 0 ∷ 9 ∷ 3 ∷ 8 ∷ 2 ∷ 5 ∷ 7 ∷ 8 ∷ 8 ∷ 5 ∷ 8 ∷ 7 ∷ 8 ∷ 5 ∷ 3 ∷ 4 ∷ 1 ∷ 4 ∷ 1 ∷ 9 ∷ 4 ∷ 4 ∷ 8 ∷ 9 ∷ 5 ∷ 5 ∷ 4 ∷ 1 ∷ 3 ∷ 4 ∷ 2 ∷ 9 ∷ 3 ∷ 0 ∷ 3 ∷ 0 ∷ 0 ∷ 7 ∷ 4 ∷ 3 ∷ 3 ∷ 1 ∷ 9 ∷ 0 ∷ 9 ∷ 4 ∷ 1 ∷ 8 ∷ 1 ∷ 0 ∷ 6 ∷ 0 ∷ 7 ∷ 9 ∷ 1 ∷ 0 ∷ 1 ∷ 5 ∷ 6 ∷ 2 ∷ 5 ∷ []
 

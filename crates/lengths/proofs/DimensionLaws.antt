@@ -86,7 +86,7 @@ module _ {A : Type 0} (b : Bool) (d v : ℕ) (bad : A) (good : ℕ → A) where
     few : ltb mostDecimals d ≡ false
     few = le-ltb mostDecimals d (omega arith)
 
-    -- above 10,000
+    -- a number above 10,000 is refused
     above-bad : mostDigits < capped v * s → bad ≡ judged
     above-bad m =
         pick-true _ _ _ _ (or-right _ _ few (or-left _ _ (lt-ltb _ v (scaled-above v (mostNumber * ten ^ d) s (scale .whole) (scale .some) m)))) refl
@@ -98,11 +98,11 @@ module _ {A : Type 0} (b : Bool) (d v : ℕ) (bad : A) (good : ℕ → A) where
       not-above : ltb (mostNumber * ten ^ d) v ≡ false
       not-above = le-ltb (mostNumber * ten ^ d) v (within .0)
 
-      -- the ten-thousandths
+      -- the digits, capped and scaled by their decimals, are the number's ten-thousandths
       amount : capped v * s ≡ v * ten ^ (mostDecimals - d)
       amount = ap (λ (x : ℕ). x * s) (within .1) ∙ ap (λ (x : ℕ). v * x) (scale .makes)
 
-      -- below zero
+      -- a number with a '-' that is not zero is below zero, and refused
       below-bad : b ≡ true → 0 < capped v * s → bad ≡ judged
       below-bad n p =
           pick-true _ _ _ _ (or-right _ _ few (or-right _ _ not-above (and-both _ _ n (lt-ltb 0 v (some v (within .1)))))) refl
@@ -111,15 +111,15 @@ module _ {A : Type 0} (b : Bool) (d v : ℕ) (bad : A) (good : ℕ → A) where
           some zero z = absurd (let q : capped v * s ≡ 0 * s = ap (λ (y : ℕ). y * s) z in omega arith)
           some (suc x) z = omega arith
 
-      -- not below zero
+      -- a number that is not below zero is worth its ten-thousandths
       not-below : and b (ltb 0 v) ≡ false → good (capped v * s) ≡ judged
       not-below n = pick-false _ _ _ _ (or-none _ _ few (or-none _ _ not-above n)) (ap good amount)
 
-      -- without a '-'
+      -- a number without a '-' is worth its ten-thousandths
       positive-good : b ≡ false → good (capped v * s) ≡ judged
       positive-good n = not-below (and-left _ _ n)
 
-      -- a zero
+      -- a zero is worth 0, with a '-' or without
       zero-good : capped v * s ≤ 0 → good 0 ≡ judged
       zero-good z =
           let q : capped v * 1 ≤ capped v * s = mul-le-mul-left (capped v) (scale .some) in
@@ -219,7 +219,7 @@ module _ (place : ℕ) (n unit : List ℕ) (i : ℕ) (e : i ≡ placeOf unit (sp
       ∙ ap (withUnit place n (p .0 .kind)) (p .2 (λ u. u .factor))
       ∙ ap (λ (u : Found LengthUnit). onFound u (λ a. withUnit place n (a .kind) (a .factor)) NoLength) (sym (p .1) ∙ table-place units unit i e)
 
-  -- none of them
+  -- a dimension whose unit is none of the eight is no length
   pub unit-unknown : length (wordsOf units) ≤ i → NoLength ≡ dimensionLength place n unit
   unfolding dimensionLength onFound
   unit-unknown h =
@@ -231,7 +231,7 @@ module _ (n : List ℕ) (x : Numeral) (e : x ≡ numeralOf n) where
   unfolding numeralOf
   number-digits = ap (λ (y : Numeral). y .digits) e
 
-  -- exactly zero
+  -- a number without a unit that is exactly zero is the length 0
   pub number-zero : x .digits ≡ 0 → Length unitKind 0 ≡ numberLength n
   unfolding numberLength
   number-zero z = pick-true _ _ _ _ (is-yes _ _ (zero-of (digitsNumber n) (sym number-digits ∙ z))) refl
@@ -240,7 +240,7 @@ module _ (n : List ℕ) (x : Numeral) (e : x ≡ numeralOf n) where
       zero-of v k =
           ⊎-elim (λ (h : mostDigits < v). absurd (omega (arith, capped-over v h))) (λ (h : v ≤ mostDigits). sym (capped-within v h) ∙ k) (lt-or-ge mostDigits v)
 
-  -- not zero
+  -- a number without a unit that is not zero is no length
   pub number-some : ¬ (x .digits ≡ 0) → NoLength ≡ numberLength n
   unfolding numberLength
   number-some d = pick-false _ _ _ _ (is-no _ _ (λ z. d (number-digits ∙ ap capped z ∙ capped-within 0 (omega arith)))) refl

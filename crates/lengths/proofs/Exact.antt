@@ -151,13 +151,13 @@ Kept place ShortStore = ⊥
 Kept place NotUtf8 = ⊥
 Kept place (BadLength p) = p ≡ place
 
--- with a unit
+-- an answer for a number with a unit is no length, a length within the largest amount, or refusal 12 at the place
 unit-kept : {place : ℕ} {n w : List ℕ} {a : LengthAnswer} → Answered place n w a → Kept place a
 unit-kept (other e) = tt
 unit-kept (refused u e b) = refl
 unit-kept (known u m e o l x) = l
 
--- a token
+-- so is the answer for any token
 token-kept : (place : ℕ) (k : Token) → Kept place (tokenLength place k)
 unfolding tokenLength numberLength
 token-kept place k =

@@ -19,7 +19,7 @@ pub signed-le : (s : List ℕ) → signed s ≤ length s
 unfolding signed
 signed-le s = followed-le unsigned unsigned-le s (sign s) (sign-le s)
 
--- behind white space
+-- a number behind white space lies within the text
 pub number-le : (s : List ℕ) → number s ≤ length s
 unfolding number
 number-le s = followed-le signed signed-le s (skipWhitespace s) (skip-le s)

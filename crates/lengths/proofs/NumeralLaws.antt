@@ -44,7 +44,7 @@ worth-from : (t : List ℕ) (i v d : ℕ) → i < length t → d ≡ hexDigit (g
 unfolding numeral
 worth-from t i v d h e = rw (e, add-one i, drop-cons t i 0 h)
 
--- none left
+-- where no digit is left, the number is what was read
 worth-end : (t : List ℕ) (i v : ℕ) → length t ≤ i → worth v (drop i t) ≡ v
 unfolding numeral
 worth-end t i v h = rw (drop-of-length-le t h)
@@ -77,15 +77,15 @@ capped-worth v t =
 
 -- ---- `digits_from`: the digits from i on behind the number v make what all make
 module _ (v₀ : ℕ) (t : List ℕ) (v i : ℕ) (c : capped (worth v₀ t) ≡ capped (worth v (drop i t))) where
-  -- beyond the most
+  -- where the number so far is beyond the most, so is the whole, whatever digits follow
   pub digits-over : mostDigits < v → mostDigits + 1 ≡ capped (worth v₀ t)
   digits-over h = sym (c ∙ capped-over (worth v (drop i t)) (omega (arith, worth-ge v (drop i t))))
 
-  -- one digit more
+  -- the digit at i makes the number ten times as large and adds its worth, and those from i + 1 on are left
   pub digits-more : i < length t → (d : ℕ) → d ≡ hexDigit (getD t i 0) → capped (worth v₀ t) ≡ capped (worth (v * ten + d) (drop (i + 1) t))
   digits-more h d e = c ∙ ap capped (worth-from t i v d h e)
 
-  -- none is left
+  -- where no digit is left and the number is within the most, it is the whole number
   pub digits-done : length t ≤ i → v ≤ mostDigits → v ≡ capped (worth v₀ t)
   digits-done h l = sym (c ∙ ap capped (worth-end t i v h) ∙ capped-within v l)
 

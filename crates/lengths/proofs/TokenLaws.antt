@@ -32,13 +32,13 @@ use Rattle.lengths.specs.declared.answers.LengthAnswer.the-variants.{NoL
 
 -- ---- `length_behind`, by the name that is read behind the number
 module _ (place : ℕ) (t : List ℕ) (n : ℕ) where
-  -- a unit
+  -- a name behind the number is its unit, and the value a dimension where only white space follows, else no length
   behind-unit : (m : ℕ) (u : List ℕ) → identOf (drop n t) ≡ ok m u
       → lengthBehind place t n ≡ pick (onlyWhitespace (drop (n + m) t)) (dimensionLength place (take n t) u) NoLength
   unfolding lengthBehind onParsed
   behind-unit m u e = rw e
 
-  -- none
+  -- without a name the value is the number alone where only white space follows, else no length
   behind-none : identOf (drop n t) ≡ err → lengthBehind place t n ≡ pick (onlyWhitespace (drop n t)) (numberLength (take n t)) NoLength
   unfolding lengthBehind onParsed
   behind-none e = rw e
@@ -80,7 +80,7 @@ module _ (place : ℕ) (t : List ℕ) (n : ℕ) where
         unit-alone e u eu r er =
             (er ∙ ap (dimensionLength place (take n t)) (eu ∙ unit-back) ∙ pick-true _ _ _ _ (alone true e) refl ∙ sym (behind-unit m name (read .0)), stored)
 
-        -- something does
+        -- where something stands behind the unit, the value is no length
         pub unit-followed : b ≡ false → (NoLength ≡ lengthBehind place t n) × (z ≡ sets st 0 (nameText (identOf (drop n t))))
         unit-followed e = (pick-false _ _ _ _ (alone false e) refl ∙ sym (behind-unit m name (read .0)), stored)
 
@@ -96,7 +96,7 @@ module _ (place : ℕ) (t : List ℕ) (n : ℕ) where
           → (r ≡ lengthBehind place t n) × (z ≡ sets st 0 (nameText (identOf (drop n t))))
       number-alone e r er = (er ∙ pick-true _ _ _ _ (last true e) refl ∙ sym (behind-none none), stored)
 
-      -- something does
+      -- where something stands behind the number, the value is no length
       pub number-followed : b ≡ false → (NoLength ≡ lengthBehind place t n) × (z ≡ sets st 0 (nameText (identOf (drop n t))))
       number-followed e = (pick-false _ _ _ _ (last false e) refl ∙ sym (behind-none none), stored)
 
@@ -119,12 +119,12 @@ module _ (s : List ℕ) where
   abbrev rest-of : List ℕ
   rest-of = drop (textStart s) s
 
-  -- none
+  -- where there is no such token, the value is no length
   length-err : numericOf rest-of ≡ err → NoLength ≡ lengthOf s
   unfolding lengthOf numericToken onParsed behind
   length-err e = rw e
 
-  -- one
+  -- the length of a value is that of its token where only white space follows it, else there is none
   length-ok : (i : ℕ) (k : Token) → numericOf rest-of ≡ ok i k
       → lengthOf s ≡ pick (onlyWhitespace (drop (textStart s + i) s)) (tokenLength (skipWhitespace s) k) NoLength
   unfolding lengthOf numericToken onParsed behind
@@ -159,7 +159,7 @@ module _ (s st : List ℕ) (w : ℕ) (ew : w ≡ skipWhitespace s) (p : ℕ) (ep
   token-is : numericOf (drop (textStart s) s) ≡ numericOf t
   token-is = ap numericOf (sym text-is)
 
-  -- no number
+  -- a value without a number is no length, and the store is as it was
   pub no-number : n ≡ 0 → (NoLength ≡ lengthOf s) × (st ≡ sets st 0 (unitText s))
   unfolding numericOf nameBehind
   no-number z =
@@ -170,7 +170,7 @@ module _ (s st : List ℕ) (w : ℕ) (ew : w ≡ skipWhitespace s) (p : ℕ) (ep
     unfolding numericOf
     token-from = token-is ∙ sym (pick-false _ _ _ _ (is-no _ _ (λ z. d (en ∙ z))) refl) ∙ ap (λ (k : ℕ). numericFrom k t) (sym en)
 
-    -- a percentage
+    -- a percentage is no length, and the store is as it was
     pub percent : b ≡ true → (NoLength ≡ lengthOf s) × (st ≡ sets st 0 (unitText s))
     unfolding numericFrom nameBehind
     percent e =

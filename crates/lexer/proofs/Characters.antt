@@ -30,7 +30,7 @@ pub nmstart-nmchar : (x : ℕ) → isNmstart x ≡ true → isNmchar x ≡ true
 unfolding isNmchar
 nmstart-nmchar x e = rules.or-left _ _ e
 
--- 0 is none
+-- 0, which a place past the end reads as, is no character of names
 nmchar-null : isNmchar 0 ≡ false
 unfolding isNmchar isNmstart or and within is
 nmchar-null = refl
@@ -85,7 +85,7 @@ record Run (i k : ℕ) (s : List ℕ) (n : ℕ) : Type 0 where
   high : n ≤ i + k
   within-text : n ≤ i + length s
 
--- where `hexRun` ends
+-- `hexRun` ends at i or later, after at most k bytes more, within the text
 run : (k i : ℕ) (s : List ℕ) → Run i k s (hexRun i k s)
 unfolding hexRun
 run zero i s = record { low = omega arith; high = omega arith; within-text = omega arith }
@@ -153,7 +153,7 @@ module _ (s : List ℕ) (h : getD s 0 0 ≡ reverseSolidus) where
         bound = lone replacement-three (omega (arith, length-drop 1 s, backslash)) h;
       }
 
-  -- hex digits
+  -- a backslash and hex digits take bytes of the text, and what they stand for keeps to the bound
   hex-fits : isHexDigit (getD (drop 1 s) 0 0) ≡ true
       → Fits s (1 + hexCount (drop 1 s)) (utf8 (orReplacement (hexValue 0 (hexCount (drop 1 s)) (drop 1 s))))
   hex-fits e =
@@ -167,7 +167,7 @@ module _ (s : List ℕ) (h : getD s 0 0 ≡ reverseSolidus) where
         bound = short (hex-length n _ (c .some) (rw z at v));
       }
 
-  -- the next character
+  -- a backslash and the next character take bytes of the text, and what they stand for keeps to the bound
   next-char : (x : Scalar) → scalarOf (drop 1 s) ≡ x → Fine s (behindOne x)
   unfolding behindOne
   next-char (Value n v) e =

@@ -19,7 +19,7 @@ pub record Seeking (s : List ℕ) (i : ℕ) : Type 0 where
   pub within-text : i ≤ length s
   pub left : commentEnd (i + 2) (drop i s) ≡ commentEnd 2 s
 
--- at the start
+-- the search begins at 0 with all of the text left
 pub seek-begin : (s : List ℕ) → Seeking s 0
 seek-begin s = record { within-text = omega arith; left = refl }
 
@@ -40,14 +40,14 @@ module _ (s : List ℕ) (i : ℕ) (c : Seeking s i) where
   unfolding pick
   seek-found l a b = let e = step l true (and-both _ _ (is-yes _ _ a) b) in let p = c .left in omega arith
 
-  -- none does
+  -- where no "*/" stands at i, the search goes on behind i
   on : i < length s → and (is (getD s i 0) asterisk) (is (getD s (i + 1) 0) solidus) ≡ false → Seeking s (i + 1)
   unfolding pick
   on l e =
       let p : i + 1 + 2 ≡ i + 2 + 1 = omega arith in
       record { within-text = omega arith; left = ap (λ n. commentEnd n (drop (i + 1) s)) p ∙ sym (step l false e) ∙ c .left }
 
-  -- no solidus follows
+  -- the search goes on behind i where no solidus follows the byte at i
   pub seek-other : i < length s → is (getD s (i + 1) 0) solidus ≡ false → Seeking s (i + 1)
   seek-other l b = on l (and-right _ _ b)
 

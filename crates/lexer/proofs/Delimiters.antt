@@ -21,13 +21,13 @@ use Rattle.lexer.proofs.TokenBounds.{on-holds}
 abbrev Only : Parsed Token → Type 0
 Only p = (n d : ℕ) → p ≡ ok n (delim d) → isScalar d ≡ true
 
--- of two alternatives
+-- of two alternatives that give only scalar values as delimiters, the one that reads does so too
 or-else-only : (p q : Parsed Token) → Only p → Only q → Only (orElse p q)
 unfolding orElse
 or-else-only (ok n k) q x y = x
 or-else-only err q x y = y
 
--- behind bytes
+-- a reading that gives only scalar values as delimiters does so behind i bytes too
 behind-only : (i : ℕ) (p : Parsed Token) → Only p → Only (behind i p)
 unfolding behind
 behind-only i (ok n k) x m d e = x n d cc
@@ -45,7 +45,7 @@ ident-like-only : (s : List ℕ) → Only (identLikeOf s)
 unfolding identLikeOf
 ident-like-only s = on-holds Only (identOf s) _ _ (λ m b _. pick-holds Only _ _ _ (λ _ n d e. cc) (λ _ n d e. cc)) (λ _ n d e. cc)
 
--- nor a string
+-- and a string gives no delimiter either
 string-only : (t : List ℕ) → Only (stringOf t)
 unfolding stringOf stringFrom
 string-only t =

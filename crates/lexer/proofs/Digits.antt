@@ -36,11 +36,11 @@ module _ (u : List ℕ → ℕ) (s : List ℕ) (w k n : ℕ) (p : k ≡ w) (e : 
   took : u (drop w s) ≡ n
   took = ap (λ i. u (drop i s)) (sym p) ∙ lent u s k n e
 
-  -- it took none
+  -- where u takes no byte behind the w bytes, both together take 0
   pub followed-none : n ≡ 0 → 0 ≡ followed u w s
   followed-none z = pick-true _ _ _ _ (is-yes _ _ (took ∙ z)) refl
 
-  -- it took some
+  -- where u takes n bytes, not 0, behind the k bytes, both together take k + n
   pub followed-some : ¬ (n ≡ 0) → k + n ≡ followed u w s
   followed-some d = pick-false _ _ _ _ (is-no _ _ (λ z. d (sym took ∙ z))) (rw (took, p))
 
@@ -55,13 +55,13 @@ module _ (s : List ℕ) (n : ℕ) (p : n ≡ digits s) where
   unfolding decimal
   decimal-none e = pick-false _ _ _ _ (ap (λ i. is (getD s i 0) fullStop) (sym p) ∙ e) refl
 
-  -- it is one
+  -- where it is a full stop, the decimal is the digits and the full stop with the digits behind them, 0 where there are none
   pub decimal-some : (r : ℕ) → is (getD s n 0) fullStop ≡ true → r ≡ followed digits (digits s + 1) s → r ≡ decimal s
   unfolding decimal
   decimal-some r e f = pick-true _ _ _ _ (ap (λ i. is (getD s i 0) fullStop) (sym p) ∙ e) f
 
 -- ---- the parts of a number lie within the text
--- a decimal
+-- a decimal ends within the text
 pub decimal-le : (s : List ℕ) → decimal s ≤ length s
 unfolding decimal
 decimal-le s =
@@ -74,7 +74,7 @@ pub unsigned-le : (s : List ℕ) → unsigned s ≤ length s
 unfolding unsigned
 unsigned-le s = pick-holds (λ k. k ≤ length s) _ _ _ (λ _. decimal-le s) (λ _. digits-le s)
 
--- a sign
+-- a sign, or none, lies within the text
 pub sign-le : (s : List ℕ) → sign s ≤ length s
 unfolding sign
 sign-le s =

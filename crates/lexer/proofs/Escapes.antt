@@ -31,12 +31,12 @@ module _ (b r : ℕ) (t : Bool) (e : t ≡ within b capitalA capitalZ) (er : r �
 
 -- ---- the returns of `hex_digit_of` for letters
 module _ (b r : ℕ) (no-digit : within b digitZero digitNine ≡ false) where
-  -- a small one
+  -- a small letter from `a` to `f` is worth 10 more than its distance from `a`
   pub small-digit : within b smallA smallF ≡ true → r ≡ b - smallA → r + 10 ≡ hexDigit b
   unfolding hexDigit
   small-digit h e = pick-false _ _ _ _ no-digit (pick-true _ _ _ _ h (rw e))
 
-  -- a capital one
+  -- a capital letter from `A` to `F` is worth 10 more than its distance from `A`
   pub capital-digit : within b smallA smallF ≡ false → within b capitalA capitalF ≡ true → r ≡ b - capitalA → r + 10 ≡ hexDigit b
   unfolding hexDigit
   capital-digit n h e = pick-false _ _ _ _ no-digit (pick-false _ _ _ _ n (pick-true _ _ _ _ h (rw e)))
@@ -66,7 +66,7 @@ module _ (s : List ℕ) (i : ℕ) (c : Counting s i) where
   pub count-more : i < maximumDigits → isHexDigit (getD s i 0) ≡ true → Counting s (i + 1)
   count-more h e = record { left = turn h ∙ sym (pick-true _ _ _ _ e refl); bound = omega arith }
 
-  -- it is none
+  -- where the byte at i is no hex digit, the run is the i digits counted so far
   pub count-stop : i < maximumDigits → isHexDigit (getD s i 0) ≡ false → i ≡ hexRun 0 maximumDigits s
   count-stop h e = sym (turn h ∙ sym (pick-false _ _ _ _ e refl))
 
@@ -114,7 +114,7 @@ pub record Reading (s : List ℕ) (n v i : ℕ) : Type 0 where
   pub small : v < powerOfSixteen i
   pub bound : i ≤ n
 
--- one digit more
+-- behind digits worth a, one digit makes the number 16 times a and the digit's worth, and k are left
 value-step : (a k : ℕ) (s : List ℕ) → hexValue a (suc k) s ≡ hexValue (a * 16 + hexDigit (getD s 0 0)) k (drop 1 s)
 unfolding hexValue
 value-step a k s = refl
@@ -129,7 +129,7 @@ module _ (s : List ℕ) (n v i : ℕ) (c : Reading s n v i) where
   pub value-fits : n ≤ maximumDigits → i < n → (b d : ℕ) → d ≡ hexDigit b → v * 16 + d < 16777216
   value-fits h l b d e = let r = c .small in omega (arith, power-small i (omega arith), digit-le b, e)
 
-  -- a digit
+  -- the digit at i makes the number 16 times as large and adds its worth, and i + 1 digits are read
   pub value-more : i < n → (b d : ℕ) → b ≡ getD s i 0 → d ≡ hexDigit b → Reading s n (v * 16 + d) (i + 1)
   unfolding powerOfSixteen
   value-more h b d eb ed =
@@ -153,19 +153,19 @@ module _ (t : List ℕ) (n : ℕ) (e : n ≡ hexRun 0 maximumDigits t) where
   unfolding hexCount
   to-end h = pick-true _ _ _ _ (is-yes-of _ _ _ e h) refl
 
-  -- they do not
+  -- where the run ends before the end of the text, all its digits are taken
   pub short-of : ¬ (n ≡ length t) → n ≡ hexCount t
   unfolding hexCount
   short-of d = pick-false _ _ _ _ (is-no-of _ _ _ e d) e
 
 -- ---- the returns of `nmstart_char` and `nmchar_char`: b is the first byte, and r whether p holds of it
 module _ (p : ℕ → Bool) (s : List ℕ) (b : ℕ) (eb : b ≡ getD s 0 0) (r : Bool) (er : r ≡ p b) where
-  -- it does
+  -- where p holds of the first byte, the character is that byte folded, and takes one byte
   pub char-yes : r ≡ true → (v : ℕ) → v ≡ lower b → Value 1 v ≡ foldedChar p s
   unfolding foldedChar
   char-yes e v ev = pick-true _ _ _ _ (told _ _ _ (er ∙ ap p eb) e) (rw (ev, eb))
 
-  -- it does not
+  -- where p does not hold of the first byte, there is no character
   pub char-no : r ≡ false → NoScalar ≡ foldedChar p s
   unfolding foldedChar
   char-no e = pick-false _ _ _ _ (told _ _ _ (er ∙ ap p eb) e) refl
@@ -178,35 +178,35 @@ module _ (t : List ℕ) where
   escaped-end h = search cases
 
   module _ (d : ¬ (length t ≡ 0)) (b : ℕ) (eb : b ≡ getD t 0 0) (r : Bool) (er : r ≡ isHexDigit b) where
-    -- hex digits
+    -- hex digits behind the backslash stand for the scalar value that they write, or U+FFFD
     pub escaped-hex : r ≡ true → (n m v : ℕ) → n ≡ hexCount t → m ≡ hexValue 0 n t → v ≡ orReplacement m → Value (1 + n) v ≡ escapedOf t
     unfolding escapedOf
     escaped-hex e n m v en em ev =
         pick-false _ _ _ _ (is-no _ _ d) (pick-true _ _ _ _ (told _ _ _ (er ∙ ap isHexDigit eb) e) (rw (ev, em, en)))
 
-    -- anything else
+    -- where no hex digit stands behind the backslash, the escape is the character that stands there, with the backslash counted
     other : r ≡ false → behindOne (scalarOf t) ≡ escapedOf t
     unfolding escapedOf
     other e = pick-false _ _ _ _ (is-no _ _ d) (pick-false _ _ _ _ (told _ _ _ (er ∙ ap isHexDigit eb) e) refl)
 
-    -- a character
+    -- a character that is read behind the backslash is what the escape stands for
     pub escaped-char : r ≡ false → (x : Scalar) → x ≡ scalarOf t → (n v : ℕ) → x ≡ Value n v → Value (1 + n) v ≡ escapedOf t
     unfolding behindOne
     escaped-char e x ex n v h = ap behindOne (sym h ∙ ex) ∙ other e
 
-    -- no well-formed sequence
+    -- where no well-formed sequence stands behind the backslash, there is no escape
     pub escaped-none : r ≡ false → (x : Scalar) → x ≡ scalarOf t → x ≡ NoScalar → NoScalar ≡ escapedOf t
     unfolding behindOne
     escaped-none e x ex h = ap behindOne (sym h ∙ ex) ∙ other e
 
 -- ---- the returns of `ident_escape`: r says whether a backslash stands there
 module _ (s : List ℕ) (r : Bool) (er : r ≡ is (getD s 0 0) reverseSolidus) where
-  -- it does
+  -- behind a backslash, what `escaped` reads of the rest of the text is the escape
   pub escape-yes : r ≡ true → (x : Scalar) → x ≡ escapedOf (take (length s - 1) (drop 1 s)) → x ≡ identEscapeOf s
   unfolding identEscapeOf
   escape-yes h x ex = pick-true _ _ _ _ (told _ _ _ er h) (ex ∙ ap escapedOf (rest s 1))
 
-  -- it does not
+  -- where no backslash stands, there is no escape
   pub escape-no : r ≡ false → NoScalar ≡ identEscapeOf s
   unfolding identEscapeOf
   escape-no h = pick-false _ _ _ _ (told _ _ _ er h) refl

@@ -50,7 +50,7 @@ unfolding nmstartOf nmstartCharOf nmcharOf nmcharCharOf either
 start-escape s e =
     rw (← char-no isNmstart s _ refl _ refl (ap isNmstart e ∙ slash-no .0), ← char-no isNmchar s _ refl _ refl (ap isNmchar e ∙ slash-no .1))
 
--- nothing else does
+-- where the first byte can start no name and is no backslash, nothing starts a name
 start-none : (s : List ℕ) → isNmstart (getD s 0 0) ≡ false → is (getD s 0 0) reverseSolidus ≡ false → nmstartOf s ≡ NoScalar
 unfolding nmstartOf nmstartCharOf identEscapeOf either pick
 start-none s e d = rw (← char-no isNmstart s _ refl _ refl e, d)
@@ -76,7 +76,7 @@ from-start b u n v e =
 dashed : (t : List ℕ) → getD t 0 0 ≡ hyphenMinus → nmcharOf t ≡ Value 1 hyphenMinus
 dashed t e = char-plain t (ap isNmchar e ∙ dash-yes .0) ∙ ap (Value 1) (ap lower e ∙ dash-yes .1)
 
--- behind it
+-- a '-' with the start of a name behind it: the name is the run of characters from the '-' on
 with-dash : (t : List ℕ) → getD t 0 0 ≡ hyphenMinus → (n v : ℕ) → nmstartOf (drop 1 t) ≡ Value n v
     → nameFrom (take 1 t) (drop 1 t) (Value n v) ≡ ok (charsEnd t) (charsText t)
 with-dash t e n v h =
@@ -86,7 +86,7 @@ with-dash t e n v h =
     let b = chars-text-step t 1 hyphenMinus c ∙ ap (λ x. x ++ charsText (drop 1 t)) (dash-yes .2) in
     from-start (take 1 t) (drop 1 t) n v h ∙ rw (p, a, b)
 
--- a name
+-- where a name starts, behind a '-' or not, it is the run of characters from the start of the text on
 pub name-some : (t : List ℕ) (n v : ℕ) → nmstartOf (drop (dash t) t) ≡ Value n v → nameOf t ≡ ok (charsEnd t) (charsText t)
 unfolding nameOf dash pick
 name-some t n v e = go (is (getD t 0 0) hyphenMinus) refl e
@@ -96,7 +96,7 @@ name-some t n v e = go (is (getD t 0 0) hyphenMinus) refl e
     go true p h = ap (nameFrom (take 1 t) (drop 1 t)) h ∙ with-dash t (is-true _ _ p) n v h
     go false p h = ap (nameFrom [] t) h ∙ from-start [] t n v h ∙ rw (zero-add)
 
--- none
+-- where no name starts behind the '-' or without it, there is no name
 pub name-none : (t : List ℕ) → nmstartOf (drop (dash t) t) ≡ NoScalar → nameOf t ≡ err
 unfolding nameOf nameFrom
 name-none t e = ap (nameFrom (take (dash t) t) (drop (dash t) t)) e
@@ -106,13 +106,13 @@ name-none t e = ap (nameFrom (take (dash t) t) (drop (dash t) t)) e
 abbrev pub Named : Parsed (List ℕ) → List ℕ → ℕ → Name → List ℕ → Type 0
 Named p st fill r z = (r ≡ nameAnswer p) × (z ≡ sets st fill (nameText p))
 
--- of a name
+-- of a name: the bytes taken, the length of its text, and the text in the store
 named-ok : (p : Parsed (List ℕ)) (n : ℕ) (b : List ℕ) → p ≡ ok n b → (st z : List ℕ) (fill i m : ℕ) → i ≡ n → m ≡ length b → z ≡ sets st fill b
     → Named p st fill (Text i m) z
 unfolding nameAnswer nameText
 named-ok p n b e st z fill i m ei em ez = rw (e, ei, em) (refl, ez)
 
--- of none
+-- where there is no name, the answer says so and the store is as it was
 named-err : (p : Parsed (List ℕ)) → p ≡ err → (st z : List ℕ) (fill : ℕ) → z ≡ st → Named p st fill NoName z
 unfolding nameAnswer nameText
 named-err p e st z fill ez = rw e (refl, ez)
@@ -122,11 +122,11 @@ module _ (t : List ℕ) (d : ℕ) (ed : d ≡ dash t) (x : Scalar) (ex : x ≡ n
   started : nmstartOf (drop (dash t) t) ≡ x
   started = ap (λ k. nmstartOf (drop k t)) (sym ed) ∙ ap nmstartOf (sym (rest t d)) ∙ sym ex
 
-  -- a name
+  -- where `nmstart` reads, what `emit_nmchars` took and wrote is the name
   pub named : (n v : ℕ) → x ≡ Value n v → (st z : List ℕ) (fill i m : ℕ) → Emitted t st fill z i m → Named (nameOf t) st fill (Text i m) z
   named n v h st z fill i m w = named-ok _ _ _ (name-some t n v (started ∙ h)) st z fill i m (w .0 .0) (w .0 .1) (w .1)
 
-  -- none
+  -- where `nmstart` does not read, there is no name and the store is as it was
   pub not-named : x ≡ NoScalar → (st : List ℕ) (fill : ℕ) → Named (nameOf t) st fill NoName st
   not-named h st fill = named-err _ (name-none t (started ∙ h)) st st fill refl
 
@@ -136,7 +136,7 @@ module _ (t st z : List ℕ) (fill i m : ℕ) (w : Emitted t st fill z i m) wher
   unfolding charsOf
   chars-named d = named-ok _ _ _ (sym (pick-false _ _ _ _ (is-no-of _ _ _ (w .0 .0) d) refl)) st z fill i m (w .0 .0) (w .0 .1) (w .1)
 
-  -- none
+  -- where the run of characters takes no byte, nothing is read and nothing was written
   pub chars-not-named : i ≡ 0 → Named (charsOf t) st fill NoName z
   unfolding charsOf
   chars-not-named h =
@@ -149,13 +149,13 @@ pub text-none : {A : Type 0} (n m : ℕ) → Text n m ≡ NoName → A
 text-none n m e = absurd (let q : _≡_ {A = ℕ} 0 1 = cc in omega arith)
 
 -- ---- the returns of `parse_ident` and `parse_identstring`: the same behind white space
--- a name
+-- a name behind k bytes takes these too, and has the same text in the store
 behind-ok : (p : Parsed (List ℕ)) (k : ℕ) (st z : List ℕ) (fill n m : ℕ) → Named p st fill (Text n m) z → Named (behind k p) st fill (Text (k + n) m) z
 unfolding nameAnswer nameText behind
 behind-ok (ok i b) k st z fill n m w = let e = w .0 in (cc, w .1)
 behind-ok err k st z fill n m w = text-none n m (w .0)
 
--- none
+-- where there is no name behind k bytes, there is none at all
 behind-err : (p : Parsed (List ℕ)) (k : ℕ) (st z : List ℕ) (fill : ℕ) → Named p st fill NoName z → Named (behind k p) st fill NoName z
 unfolding nameAnswer nameText behind
 behind-err (ok i b) k st z fill w = text-none i (length b) (sym (w .0))
@@ -167,10 +167,10 @@ module _ (f : List ℕ → Parsed (List ℕ)) (s : List ℕ) (k : ℕ) (ek : k �
   lent-part : Named (f (drop k s)) st fill x z
   lent-part = rw (rest s k) at w
 
-  -- a name
+  -- a name that f reads behind the white space is answered with the white space among the bytes taken
   pub behind-text : (n m : ℕ) → x ≡ Text n m → Named (behind (skipWhitespace s) (f (drop (skipWhitespace s) s))) st fill (Text (k + n) m) z
   behind-text n m h = rw (← ek) (behind-ok (f (drop k s)) k st z fill n m (rw h at lent-part))
 
-  -- none
+  -- where f reads no name behind the white space, the answer is that there is none
   pub behind-none : x ≡ NoName → Named (behind (skipWhitespace s) (f (drop (skipWhitespace s) s))) st fill NoName z
   behind-none h = rw (← ek) (behind-err (f (drop k s)) k st z fill (rw h at lent-part))

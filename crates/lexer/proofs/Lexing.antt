@@ -77,7 +77,7 @@ module _ (t st : List ℕ) (fill : ℕ) (x : Scalar) (ex : x ≡ scalarOf t) whe
   unfolding tokenAt
   at-char n c h r z w = rw (sym ex ∙ h) w
 
-  -- none is
+  -- where no character can be read, there is no token and the store is as it was
   pub at-none : x ≡ NoScalar → Lexes (tokenAt t (scalarOf t)) st fill NoToken st
   unfolding tokenAt
   at-none h = lexes-err _ (rw (sym ex ∙ h)) st st fill refl
@@ -87,14 +87,14 @@ module _ (t st : List ℕ) (fill : ℕ) (x : Scalar) (ex : x ≡ scalarOf t) whe
 abbrev pub LexedAs : ℕ → Parsed Token → List ℕ → ℕ → Lexed → List ℕ → Type 0
 LexedAs w p st fill r z = (r ≡ lexedAnswer w p) × (z ≡ sets st fill (tokenText p))
 
--- a token
+-- a token of n bytes behind k bytes of white space starts at k and ends at k + n
 lexed-ok : (p : Parsed Token) (k n : ℕ) (st z : List ℕ) (fill : ℕ) (x : declared.Token) → Lexes p st fill (Took n x) z
     → LexedAs k (behind k p) st fill (At k (k + n) x) z
 unfolding behind tokenAnswer tokenText lexedAnswer
 lexed-ok (ok i y) k n st z fill x w = let e = w .0 in (cc, w .1)
 lexed-ok err k n st z fill x w = took-none n x (w .0)
 
--- none
+-- where there is no token behind the white space, there is no next token
 lexed-err : (p : Parsed Token) (k : ℕ) (st z : List ℕ) (fill : ℕ) → Lexes p st fill NoToken z → LexedAs k (behind k p) st fill Nothing z
 unfolding behind tokenAnswer tokenText lexedAnswer
 lexed-err (ok i y) k st z fill w = took-none i (coded y) (sym (w .0))
@@ -106,12 +106,12 @@ module _ (s : List ℕ) (k : ℕ) (ek : k ≡ skipWhitespace s) (x : TokenAnswer
   lent-part : Lexes (tokenAt (drop k s) (scalarOf (drop k s))) st fill x z
   lent-part = rw (rest s k) at w
 
-  -- a token
+  -- a token that is read behind the white space is the next token of the text, and starts where the white space ends
   pub lexed : (n : ℕ) (y : declared.Token) → x ≡ Took n y → LexedAs (skipWhitespace s) (tokenOf s) st fill (At k (k + n) y) z
   unfolding tokenOf
   lexed n y h = rw (← ek) (lexed-ok _ k n st z fill y (rw h at lent-part))
 
-  -- none
+  -- where no token is read behind the white space, the text has no next token
   pub nothing-lexed : x ≡ NoToken → LexedAs (skipWhitespace s) (tokenOf s) st fill Nothing z
   unfolding tokenOf
   nothing-lexed h = rw (← ek) (lexed-err _ k st z fill (rw h at lent-part))

@@ -37,7 +37,7 @@ fine-stop : (s : List ℕ) → Fine s Stop
 unfolding takenOf textOf
 fine-stop s = record { within-text = omega arith; small = omega arith }
 
--- behind a backslash
+-- what stands behind a backslash takes no more than there is, and stands for no more than it takes
 fine-escaped : (s : List ℕ) → ¬ (length s ≡ 0) → Fine s (escapedByte s)
 unfolding escapedByte
 fine-escaped s h =
@@ -45,7 +45,7 @@ fine-escaped s h =
     (λ e. let d = is-false _ _ e in
     pick-holds (Fine s) _ _ _ (λ _. fine-skip s 2 (omega arith)) (λ _. fine-byte s 2 _ (omega arith) (omega arith)))
 
--- every character
+-- every character of a string takes no more than there is, and stands for no more than it takes
 fine : (q : ℕ) (s : List ℕ) → Fine s (quotedOf q s)
 unfolding quotedOf
 fine q s =
@@ -144,7 +144,7 @@ unfolding stringEnd stringText
 string-wrote q s st₀ fill st i n w = ((w .0, w .1), w .2)
 
 module _ (q : ℕ) (s st₀ : List ℕ) (fill : ℕ) (st : List ℕ) (f i n : ℕ) (w : Writing (quotedTaken q) (quotedText q) s st₀ fill st f i n) where
-  -- nothing is left
+  -- at the end of the text the string ends: what was taken and written is all of it
   pub string-done : length s ≤ i → Ended q s st₀ fill st i n
   string-done h = string-wrote q s st₀ fill st i n (writing-end _ _ _ _ _ _ _ _ _ w h)
 
@@ -159,7 +159,7 @@ module _ (q : ℕ) (s st₀ : List ℕ) (fill : ℕ) (st : List ℕ) (f i n : �
   onward : Turned q (drop i s) st f k m z g
   onward = rw (rest s i) at t
 
-  -- one turn more
+  -- behind a turn that takes k bytes, not 0, what is left to read and to write has the result of the whole
   pub string-more : ¬ (k ≡ 0) → length z ≡ length st → Writing (quotedTaken q) (quotedText q) s st₀ fill z g (i + k) (n + m)
   string-more d l =
       let o = onward in

@@ -161,7 +161,7 @@ test-escaped = (
   escaped-code-point (68 ∷ 56 ∷ 48 ∷ 48 ∷ []) 59 [] (more refl (more refl (more refl (more refl none)))) (omega arith) (omega arith) (λ q. refl) (λ q. omega arith),
 )
 
--- `10fFfF` and `09aA`
+-- the numbers that `10fFfF` and `09aA` write
 test-digits : (hexadecimal 0 (49 ∷ 48 ∷ 102 ∷ 70 ∷ 102 ∷ 70 ∷ []) ≡ 0x10ffff) × (hexadecimal 0 (48 ∷ 57 ∷ 97 ∷ 65 ∷ []) ≡ 0x9aa)
 unfolding hexadecimal hexDigit or and within is pick
 test-digits = (refl, refl)

@@ -114,7 +114,7 @@ module _ (t : List ℕ) (e : identCodePoint (getD t 0 0) ≡ false) (d : ¬ (get
       let p = char-no isNmchar t _ refl _ refl (sym (code-point-is _) ∙ e) in
       sym (either-second _ _ _ p refl _ (escape-no t _ refl (is-no _ _ d)))
 
-  -- none is taken
+  -- so no byte is taken as one
   untaken : charTaken t ≡ 0
   unfolding charTaken takenOf
   untaken = ap takenOf unread
@@ -124,7 +124,7 @@ module _ (t : List ℕ) (e : identCodePoint (getD t 0 0) ≡ false) (d : ¬ (get
   unfolding charsEnd
   ended = many-stop charTaken t 0 untaken
 
-  -- with no text
+  -- and the name has no text from there on
   no-text : charsText t ≡ []
   unfolding charsText
   no-text = texts-stop charTaken charText t untaken

@@ -93,7 +93,7 @@ comment-taken (closed b h) l =
     ∙ opened _ ∙ end-found b l 2 h ∙ omega (arith, length-append b (asterisk ∷ solidus ∷ []))
 
 -- ---- what the reader takes whole is skipped
--- one item
+-- one item that the reader takes to its end is skipped, and what follows is skipped as by itself
 skips-item : (c l : List ℕ) (i : ℕ) → whitespaceItem (c ++ l) ≡ length c → ¬ (length c ≡ 0)
     → many whitespaceItem i 0 (c ++ l) ≡ many whitespaceItem (i + length c) 0 l
 skips-item c l i e d =

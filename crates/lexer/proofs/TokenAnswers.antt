@@ -19,13 +19,13 @@ use Rattle.lexer.proofs.Idents.{text-none}
 abbrev pub Lexes : Parsed Token → List ℕ → ℕ → TokenAnswer → List ℕ → Type 0
 Lexes p st fill r z = (r ≡ tokenAnswer p) × (z ≡ sets st fill (tokenText p))
 
--- a token
+-- of a token: the bytes taken, the token with the lengths of its texts, and the texts in the store
 pub lexes-ok : (p : Parsed Token) (n : ℕ) (k : Token) → p ≡ ok n k → (r : TokenAnswer) → r ≡ Took n (coded k) → (st z : List ℕ) (fill : ℕ)
     → z ≡ sets st fill (textOf k) → Lexes p st fill r z
 unfolding tokenAnswer tokenText
 lexes-ok p n k e r er st z fill ez = rw e (er, ez)
 
--- none
+-- where there is no token, the answer says so and the store is as it was
 pub lexes-err : (p : Parsed Token) → p ≡ err → (st z : List ℕ) (fill : ℕ) → z ≡ st → Lexes p st fill NoToken z
 unfolding tokenAnswer tokenText
 lexes-err p e st z fill ez = rw e (refl, ez)
@@ -45,21 +45,21 @@ lexes-none (ok n x) st z fill w = took-none n (coded x) (sym (w .0))
 lexes-none err st z fill w = (refl, w .1)
 
 -- ---- behind i bytes
--- a token
+-- a token behind i bytes takes these too, and has the same text in the store
 pub lexes-behind : (p : Parsed Token) (i : ℕ) (st z : List ℕ) (fill m : ℕ) (k : declared.Token) → Lexes p st fill (Took m k) z
     → Lexes (behind i p) st fill (Took (i + m) k) z
 unfolding behind tokenAnswer tokenText
 lexes-behind (ok n x) i st z fill m k w = let e = w .0 in (cc, w .1)
 lexes-behind err i st z fill m k w = took-none m k (w .0)
 
--- none
+-- where there is no token behind i bytes, there is none at all
 pub lexes-behind-none : (p : Parsed Token) (i : ℕ) (st z : List ℕ) (fill : ℕ) → Lexes p st fill NoToken z → Lexes (behind i p) st fill NoToken z
 unfolding behind tokenAnswer tokenText
 lexes-behind-none (ok n x) i st z fill w = took-none n (coded x) (sym (w .0))
 lexes-behind-none err i st z fill w = w
 
 -- ---- of two alternatives
--- the first reads
+-- where the first alternative reads, its token is the answer of both
 pub lexes-first : (p q : Parsed Token) (st z : List ℕ) (fill m : ℕ) (k : declared.Token) → Lexes p st fill (Took m k) z
     → Lexes (orElse p q) st fill (Took m k) z
 unfolding orElse tokenAnswer tokenText
@@ -73,7 +73,7 @@ unfolding orElse
 lexes-second p q st z fill w y v x = let e = lexes-none p st z fill w in rw (e .0, ← e .1) x
 
 -- ---- a delimiter
--- by itself
+-- a delimiter takes one byte and leaves the store as it was
 pub delim-lexes : (c : ℕ) (st : List ℕ) (fill : ℕ) → Lexes (ok 1 (delim c)) st fill (Took 1 (code.Delim c)) st
 unfolding tokenAnswer tokenText coded textOf
 delim-lexes c st fill = (refl, refl)
@@ -96,13 +96,13 @@ read-or-delim p c st z fill (Took n k) r w e = rw e (lexes-first p _ st z fill n
 read-or-delim p c st z fill NoToken r w e = rw e (lexes-second p _ st z fill w _ _ (delim-lexes c z fill))
 
 -- ---- what a name's answer says of what was read
--- a name
+-- an answer with a name: a name of so many bytes was read, and the length is that of its text
 pub name-ok : (p : Parsed (List ℕ)) (n m : ℕ) → Text n m ≡ nameAnswer p → (p ≡ ok n (nameText p)) × (m ≡ length (nameText p))
 unfolding nameAnswer nameText
 name-ok (ok i b) n m e = (cc, cc)
 name-ok err n m e = text-none n m e
 
--- none
+-- an answer without a name: none was read
 pub name-err : (p : Parsed (List ℕ)) → NoName ≡ nameAnswer p → p ≡ err
 unfolding nameAnswer
 name-err (ok i b) e = text-none i (length b) (sym e)

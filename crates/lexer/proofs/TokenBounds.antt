@@ -44,7 +44,7 @@ unfolding onParsed
 on-holds P (ok n a) f o g h = g n a refl
 on-holds P err f o g h = h refl
 
--- of two alternatives
+-- of two alternatives that keep to the bounds, the one that reads does so too
 or-else-bounded : (s : List ℕ) (p q : Parsed Token) → Bounded s p → Bounded s q → Bounded s (orElse p q)
 unfolding orElse
 or-else-bounded s (ok n k) q x y = x
@@ -55,17 +55,17 @@ one-more : (s : List ℕ) (n : ℕ) (b : List ℕ) → n < length s → Fits s n
 one-more s n b h f =
     record { some = omega (arith, f .some); within-text = omega arith; bound = short (omega (arith, bound-short (f .bound) h)) }
 
--- bytes without text
+-- one byte or more of the text keep to the bounds where they stand for no text
 no-text-fits : (s : List ℕ) (n : ℕ) → 1 ≤ n → n ≤ length s → Fits s n []
 no-text-fits s n i h = record { some = i; within-text = h; bound = short (omega arith) }
 
--- a delimiter
+-- a delimiter takes one byte of a text that is not empty, and has no text
 delim-bounded : (s : List ℕ) (c : ℕ) → 1 ≤ length s → Bounded s (ok 1 (delim c))
 unfolding textOf
 delim-bounded s c h = no-text-fits s 1 (omega arith) h
 
 -- ---- a number, with what stands behind it
--- the number
+-- a number of n bytes, which are its text, keeps to the bounds
 taken-fits : (s : List ℕ) (n : ℕ) → 1 ≤ n → n ≤ length s → Fits s n (take n s)
 taken-fits s n i h = record { some = i; within-text = h; bound = short (omega (arith, length-take-le n s h)) }
 
@@ -123,19 +123,19 @@ module _ (c n : ℕ) (t : List ℕ) (i : 1 ≤ n) (h : n ≤ length t) where
   filled : 1 ≤ length t
   filled = omega arith
 
-  -- behind '#'
+  -- what is read behind '#' takes a byte or more, no more than there are, and its text keeps to the bound
   hash-bounded : Bounded t (hashOf c t)
   unfolding hashOf textOf
   hash-bounded =
       on-holds (Bounded t) (identstringOf (drop 1 t)) _ _ (λ m b e. fits-behind t 1 m b filled (identstring-fits (drop 1 t) m b e))
       (λ _. delim-bounded t c filled)
 
-  -- behind '+'
+  -- what is read behind '+' takes a byte or more, no more than there are, and its text keeps to the bound
   plus-bounded : Bounded t (plusOf c t)
   unfolding plusOf
   plus-bounded = or-else-bounded t _ _ (behind-keeps textOf t 1 _ filled (numeric-bounded (drop 1 t))) (delim-bounded t c filled)
 
-  -- from '-' on
+  -- what is read from '-' on takes a byte or more, no more than there are, and its text keeps to the bound
   minus-bounded : Bounded t (minusOf c t)
   unfolding minusOf textOf
   minus-bounded =
@@ -143,7 +143,7 @@ module _ (c n : ℕ) (t : List ℕ) (i : 1 ≤ n) (h : n ≤ length t) where
       (pick-holds (Bounded t) _ _ _ (λ e. no-text-fits t 3 (omega arith) (starts-le _ t e))
       (λ _. or-else-bounded t _ _ (ident-like-bounded t) (delim-bounded t c filled)))
 
-  -- from '<' on
+  -- what is read from '<' on takes a byte or more, no more than there are, and its text keeps to the bound
   less-bounded : Bounded t (lessOf c t)
   unfolding lessOf textOf
   less-bounded =
@@ -170,7 +170,7 @@ unfolding tokenAt
 at-bounded t (Value n c) e = let r = scalar-some t n c e in by-bounded c n t (r .0) (r .1) (startOf c)
 at-bounded t NoScalar e = tt
 
--- behind white space
+-- the next token takes a byte or more with the white space before it, no more than there are, and its text keeps to the bound
 pub token-bounded : (s : List ℕ) → Bounded s (tokenOf s)
 unfolding tokenOf
 token-bounded s = behind-keeps textOf s (skipWhitespace s) _ (skip-le s) (at-bounded (drop (skipWhitespace s) s) _ refl)

@@ -31,17 +31,17 @@ use Rattle.lexer.proofs.TokenAnswers.{Lexes, lexes-ok, lexes-err, lexes
 
 -- ---- `parse_numeric_token`: a number of n bytes, and what stands behind it
 module _ (n : ℕ) (s : List ℕ) where
-  -- a percent sign
+  -- with a percent sign behind it, the number is a percentage, which takes the sign too
   from-percent : is (getD s n 0) percentSign ≡ true → numericFrom n s ≡ ok (n + 1) (percentage (take n s))
   unfolding numericFrom
   from-percent h = sym (pick-true _ _ _ _ h refl)
 
-  -- a name
+  -- with a name behind it and no percent sign, the number is a dimension with that unit
   from-unit : is (getD s n 0) percentSign ≡ false → (m : ℕ) (u : List ℕ) → identOf (drop n s) ≡ ok m u → numericFrom n s ≡ ok (n + m) (dimension (take n s) u)
   unfolding numericFrom onParsed
   from-unit h m u e = sym (pick-false _ _ _ _ h (rw e))
 
-  -- neither
+  -- with neither a percent sign nor a name behind it, the number is a token by itself
   from-bare : is (getD s n 0) percentSign ≡ false → identOf (drop n s) ≡ err → numericFrom n s ≡ ok n (number (take n s))
   unfolding numericFrom onParsed
   from-bare h e = sym (pick-false _ _ _ _ h (rw e))
@@ -51,13 +51,13 @@ module _ (s : List ℕ) (n : ℕ) (en : n ≡ numbers.number s) where
   long : length (take n s) ≡ n
   long = length-take-le n s (omega (arith, en, number-le s))
 
-  -- no number
+  -- where there is no number, there is no token and the store is as it was
   pub no-number : n ≡ 0 → (st : List ℕ) (fill : ℕ) → Lexes (numericOf s) st fill NoToken st
   unfolding numericOf
   no-number h st fill = lexes-err _ (sym (pick-true _ _ _ _ (is-yes-of _ _ _ en h) refl)) st st fill refl
 
   module _ (d : ¬ (n ≡ 0)) (st l : List ℕ) (fill f : ℕ) (e : record { bytes = l; fill = f } ≡ emits (record { bytes = st; fill = fill }) (take n s)) where
-    -- a number
+    -- where a number of n bytes is there, the token is told by what stands behind it
     from : numericOf s ≡ numericFrom n s
     unfolding numericOf
     from = sym (pick-false _ _ _ _ (is-no-of _ _ _ en d) refl) ∙ ap (λ k. numericFrom k s) (sym en)
@@ -67,7 +67,7 @@ module _ (s : List ℕ) (n : ℕ) (en : n ≡ numbers.number s) where
     stored = sets-emitted st l (take n s) fill f e
 
     module _ (r : Bool) (er : r ≡ is (getD s n 0) percentSign) where
-      -- a percentage
+      -- a percent sign behind the number: a percentage, whose text is the number
       pub percent : r ≡ true → Lexes (numericOf s) st fill (Took (n + 1) (code.Percentage n)) l
       unfolding coded textOf
       percent h = lexes-ok _ _ _ (from ∙ from-percent n s (told _ _ _ er h)) _ (rw long) st l fill stored
@@ -77,7 +77,7 @@ module _ (s : List ℕ) (n : ℕ) (en : n ≡ numbers.number s) where
         named : Named (identOf (drop n s)) l f x z
         named = rw (rest s n) at w
 
-        -- a dimension
+        -- a name behind the number: a dimension, whose unit lies behind the number in the store
         pub unit : (m k : ℕ) → x ≡ Text m k → Lexes (numericOf s) st fill (Took (n + m) (code.Dimension n k)) z
         unfolding coded textOf
         unit m k q =
@@ -85,7 +85,7 @@ module _ (s : List ℕ) (n : ℕ) (en : n ≡ numbers.number s) where
             lexes-ok _ _ _ (from ∙ from-unit n s (told _ _ _ er h) m _ (i .0)) _ (rw (long, i .1)) st z fill
             (named .1 ∙ sets-onto st l (take n s) _ fill f e)
 
-        -- a number alone
+        -- no name behind the number: the number alone, and nothing more is stored
         pub bare : x ≡ NoName → Lexes (numericOf s) st fill (Took n (code.Number n)) z
         unfolding coded textOf nameText
         bare q =
@@ -101,7 +101,7 @@ unfolding identLikeOf onParsed
 like-ok s n b e = rw e
 
 module _ (s st z : List ℕ) (fill : ℕ) (x : Name) (w : Named (identOf s) st fill x z) where
-  -- no name
+  -- where there is no name, there is no token and the store is as it was
   pub no-ident : x ≡ NoName → Lexes (identLikeOf s) st fill NoToken z
   unfolding identLikeOf onParsed nameText
   no-ident q =
@@ -122,7 +122,7 @@ module _ (s st z : List ℕ) (fill : ℕ) (x : Name) (w : Named (identOf s) st f
     unfolding coded textOf
     function-like h = lexes-ok _ _ _ (like ∙ sym (pick-true _ _ _ _ (told _ _ _ er h) refl)) _ (rw (read .1)) st z fill (w .1)
 
-    -- with anything else
+    -- with any other byte behind it, the name is an identifier
     pub ident-like : r ≡ false → Lexes (identLikeOf s) st fill (Took n (code.Ident m)) z
     unfolding coded textOf
     ident-like h = lexes-ok _ _ _ (like ∙ sym (pick-false _ _ _ _ (told _ _ _ er h) refl)) _ (rw (read .1)) st z fill (w .1)
@@ -136,7 +136,7 @@ module _ (t : List ℕ) (q : ℕ) (eq : q ≡ getD t 0 0) (c : Bool) (ec : c ≡
       either (1 ≤ length t) _ _ (told _ _ _ (ec ∙ ap isQuote eq) h)
       (λ e. byte-there t 0 quotationMark (omega arith) e) (λ e. byte-there t 0 apostrophe (omega arith) e)
 
-  -- no string
+  -- where the first byte is no quote, there is no string and the store is as it was
   pub no-string : c ≡ false → (st : List ℕ) (fill : ℕ) → Lexes (stringOf t) st fill NoToken st
   unfolding stringOf
   no-string h st fill = lexes-err _ (sym (pick-false _ _ _ _ (told _ _ _ (ec ∙ ap isQuote eq) h) refl)) st st fill refl
@@ -160,7 +160,7 @@ module _ (t : List ℕ) (q : ℕ) (eq : q ≡ getD t 0 0) (c : Bool) (ec : c ≡
     string-ended e = lexes-ok _ _ _ (quoted ∙ sym (pick-true _ _ _ _ (is-yes _ _ e) refl)) _ (rw (w .0 .1)) st z fill (w .1)
 
     module _ (d : ¬ (n ≡ length u)) (r : Bool) (er : r ≡ is (getD u n 0) q) where
-      -- at its quote
+      -- a string that ends at its quote takes the quote too
       pub string-closed : r ≡ true → Lexes (stringOf t) st fill (Took (1 + n + 1) (code.String m)) z
       unfolding stringFrom coded textOf
       string-closed e =
@@ -173,12 +173,12 @@ module _ (t : List ℕ) (q : ℕ) (eq : q ≡ getD t 0 0) (c : Bool) (ec : c ≡
           lexes-ok _ _ _ (quoted ∙ sym (pick-false _ _ _ _ (is-no _ _ d) (pick-false _ _ _ _ (told _ _ _ er e) refl))) _ (rw (w .0 .1)) st z fill (w .1)
 
 -- ---- `hash_token`: behind '#'
--- a name
+-- a name behind '#' is a hash, which takes the '#' too
 hash-ok : (c : ℕ) (t : List ℕ) (m : ℕ) (b : List ℕ) → identstringOf (drop 1 t) ≡ ok m b → hashOf c t ≡ ok (1 + m) (hash b)
 unfolding hashOf onParsed
 hash-ok c t m b e = rw e
 
--- none
+-- where no name stands behind '#', the token is the delimiter
 hash-err : (c : ℕ) (t : List ℕ) → identstringOf (drop 1 t) ≡ err → hashOf c t ≡ ok 1 (delim c)
 unfolding hashOf onParsed
 hash-err c t e = rw e
@@ -188,14 +188,14 @@ module _ (c : ℕ) (t st z : List ℕ) (fill : ℕ) (x : Name) (w : Named (ident
   string-named : Named (identstringOf (drop 1 t)) st fill x z
   string-named = rw (rest t 1) at w
 
-  -- a hash
+  -- a name that is read behind '#' is answered as a hash, with its text in the store
   pub hashed : (m k : ℕ) → x ≡ Text m k → Lexes (hashOf c t) st fill (Took (1 + m) (code.Hash k)) z
   unfolding coded textOf
   hashed m k q =
       let i = name-ok (identstringOf (drop 1 t)) m k (sym q ∙ string-named .0) in
       lexes-ok _ _ _ (hash-ok c t m _ (i .0)) _ (rw (i .1)) st z fill (string-named .1)
 
-  -- a delimiter
+  -- where no name is read behind '#', the delimiter is answered and the store is as it was
   pub not-hashed : x ≡ NoName → Lexes (hashOf c t) st fill (Took 1 (code.Delim c)) z
   unfolding coded textOf nameText
   not-hashed q =
@@ -208,25 +208,25 @@ module _ (c : ℕ) (t st z : List ℕ) (fill : ℕ) (x : TokenAnswer) (w : Lexes
   numeric : Lexes (numericOf (drop 1 t)) st fill x z
   numeric = rw (rest t 1) at w
 
-  -- a number
+  -- a token that is read behind '+' is the token, with the '+' among the bytes taken
   pub plus-number : (m : ℕ) (k : declared.Token) → x ≡ Took m k → Lexes (plusOf c t) st fill (Took (1 + m) k) z
   unfolding plusOf
   plus-number m k q = lexes-first _ _ st z fill _ _ (lexes-behind (numericOf (drop 1 t)) 1 st z fill m k (rw q at numeric))
 
-  -- a delimiter
+  -- where no number is read behind '+', the delimiter is answered and the store is as it was
   pub plus-delim : x ≡ NoToken → Lexes (plusOf c t) st fill (Took 1 (code.Delim c)) z
   unfolding plusOf
   plus-delim q = lexes-second _ _ st z fill (lexes-behind-none (numericOf (drop 1 t)) 1 st z fill (rw q at numeric)) _ _ (delim-lexes c z fill)
 
 -- ---- `minus_token`: from '-' on
 module _ (c : ℕ) (t st z : List ℕ) (fill : ℕ) (x : TokenAnswer) (w : Lexes (numericOf t) st fill x z) where
-  -- a number
+  -- a number that is read from '-' on is the token
   pub minus-number : (m : ℕ) (k : declared.Token) → x ≡ Took m k → Lexes (minusOf c t) st fill (Took m k) z
   unfolding minusOf
   minus-number m k q = lexes-first _ _ st z fill m k (rw q at w)
 
   module _ (q : x ≡ NoToken) (r : Bool) (er : r ≡ startsWith cdcMark t) where
-    -- the mark "-->"
+    -- where no number is read and the text starts with "-->", that mark is the token and takes three bytes
     pub minus-cdc : r ≡ true → Lexes (minusOf c t) st fill (Took 3 code.CDC) z
     unfolding minusOf coded textOf
     minus-cdc h =
@@ -243,12 +243,12 @@ module _ (c : ℕ) (t st z : List ℕ) (fill : ℕ) (x : TokenAnswer) (w : Lexes
 
 -- ---- `less_token`: from '<' on
 module _ (c : ℕ) (t : List ℕ) (r : Bool) (er : r ≡ startsWith cdoMark t) where
-  -- the mark "<!--"
+  -- where the text starts with "<!--", that mark is the token and takes four bytes
   pub less-cdo : r ≡ true → Took 4 code.CDO ≡ tokenAnswer (lessOf c t)
   unfolding lessOf tokenAnswer coded pick
   less-cdo h = rw (told _ _ _ er h)
 
-  -- the delimiter
+  -- where the text does not start with "<!--", the token is the delimiter
   pub less-delim : r ≡ false → Took 1 (code.Delim c) ≡ tokenAnswer (lessOf c t)
   unfolding lessOf tokenAnswer coded pick
   less-delim h = rw (told _ _ _ er h)

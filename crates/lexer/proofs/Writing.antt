@@ -66,7 +66,7 @@ module _ (u : List ℕ → ℕ) (b : List ℕ → List ℕ) (s st₀ : List ℕ)
       let p : z ≡ st = ap (λ (o : Store). o .bytes) (ez ∙ ap (emits _) eb ∙ emits-none _) in
       (e .0, e .1, p ∙ e .2)
 
-  -- nothing is left
+  -- at the end of the text the loop has read and written all
   pub writing-end : length s ≤ i → Wrote u b s st₀ fill st i n
   writing-end h = done (many-end u s i i h) (texts-end u b s i h)
 

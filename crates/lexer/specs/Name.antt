@@ -31,7 +31,7 @@ isNmchar x = or (isNmstart x) (or (within x digitZero digitNine) (is x hyphenMin
 abbrev pub caseDistance : ℕ
 caseDistance = 32
 
--- `to_ascii_lowercase`: names fold A-Z to a-z
+-- "Names fold A-Z to a-z unless escaped" (`to_ascii_lowercase`)
 unfoldable pub lower : ℕ → ℕ
 lower x = pick (within x capitalA capitalZ) (x + caseDistance) x
 
@@ -60,11 +60,11 @@ unfoldable pub hexRun : ℕ → ℕ → List ℕ → ℕ
 hexRun i zero s = i
 hexRun i (suc k) s = let more = hexRun (i + 1) k (drop 1 s) in pick (isHexDigit (getD s 0 0)) more i
 
--- an escape takes up to six hex digits
+-- "An escape takes up to six hex digits"
 abbrev pub maximumDigits : ℕ
 maximumDigits = 6
 
--- how many it takes: only the first where they run to the end of the text
+-- how many it takes: "if they run to the end of the text, only the first is taken"
 unfoldable pub hexCount : List ℕ → ℕ
 hexCount t = pick (is (hexRun 0 maximumDigits t) (length t)) 1 (hexRun 0 maximumDigits t)
 
@@ -134,7 +134,7 @@ dash t = pick (is (getD t 0 0) hyphenMinus) 1 0
 unfoldable pub nameOf : List ℕ → Parsed (List ℕ)
 nameOf t = nameFrom (take (dash t) t) (drop (dash t) t) (nmstartOf (drop (dash t) t))
 
--- `parse_ident`: behind white space and comments
+-- "`parse_ident` skips white space and comments first, so `5 px` is one Dimension"
 unfoldable pub identOf : List ℕ → Parsed (List ℕ)
 identOf s = behind (skipWhitespace s) (nameOf (drop (skipWhitespace s) s))
 

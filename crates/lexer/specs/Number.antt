@@ -29,7 +29,7 @@ decimal s =
     let m = digits (drop (n + 1) s) in
     pick (is (getD s n 0) fullStop) (pick (is m 0) 0 (n + 1 + m)) 0
 
--- `alt((parse_integer, parse_decimal))`: so `1.5` is `1`, with `.5` left
+-- `alt((parse_integer, parse_decimal))`: "`1.5` is Number `1`, then Number `.5`"
 unfoldable pub unsigned : List ℕ → ℕ
 unsigned s = pick (is (digits s) 0) (decimal s) (digits s)
 

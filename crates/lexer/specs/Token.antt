@@ -85,7 +85,8 @@ stringOf t =
 
 -- ---- `parse_token`
 
--- from here on the crate takes every character for one that starts a name
+-- from here on the crate takes every character for one that starts a name, and then reads none: "A character above U+0080 that starts a token ends
+-- the statement"
 abbrev pub firstAboveU0080 : ℕ
 firstAboveU0080 = 0x81
 

@@ -32,7 +32,7 @@ graphic-is-none b l h =
     (or-none _ _ (sym (within-false b 0x202f 0x202f (omega arith))) (or-none _ _ (sym (within-false b 0x205f 0x205f (omega arith)))
     (or-none _ _ (sym (within-false b 0x3000 0x3000 (omega arith))) refl))))))))))
 
--- U+0020 is White_Space
+-- the space, U+0020, is White_Space
 space-is-white : isWhiteSpace 0x20 ≡ true
 unfolding isWhiteSpace member or is
 space-is-white = refl

@@ -85,11 +85,11 @@ module _ (store components nodes attributes text : List ℕ) where
           asked =
               rw (eb, ep) (sym (last-above nodes attributes text before at (parent-before nodes at (s .rooted) z _ refl) found)) ∙ s .finds
 
-          -- it is matched
+          -- where the components match the parent's path, the parent is what is found so far
           pub seek-found : b ≡ true → Seeking p p
           seek-found h = record { rooted = up-rooted; right = up-right; finds = ap (λ (f : ℕ). lastMatched nodes attributes text before (ancestorsOf nodes p) f) (pick-true _ _ _ b h refl) ∙ asked }
 
-          -- or not
+          -- where they do not match it, what is found stays, and the search goes on from the parent
           pub seek-on : b ≡ false → Seeking found p
           seek-on h = record { rooted = up-rooted; right = up-right; finds = ap (λ (f : ℕ). lastMatched nodes attributes text before (ancestorsOf nodes p) f) (pick-false _ _ _ b h refl) ∙ asked }
 
@@ -99,13 +99,13 @@ module _ (store components nodes attributes text : List ℕ) where
       pub within : i ≤ left
       pub is-top : top ≡ selectorTop nodes attributes text row (componentsAt store components i)
 
-    -- no component yet
+    -- before the first component the number is the row itself
     pub top-begin : Topping row 0
     unfolding selectorTop
     top-begin = record { within = omega arith; is-top = rw (components-none store components) refl }
 
     module _ (top i : ℕ) (g : Topping top i) where
-      -- all of them
+      -- with all components seen, the number is that of the selector, and is the row or before it
       pub top-end : Rooted nodes row → left ≤ i → (top ≡ selectorTop nodes attributes text row (componentsAt store components left)) × (top ≤ row)
       top-end r h =
           let e : i ≡ left = omega (arith, g .within) in
@@ -121,12 +121,12 @@ module _ (store components nodes attributes text : List ℕ) where
         unfolding selectorTop
         one-more = rw (add-one i, components-more store components i) refl
 
-        -- a descendant combinator
+        -- behind a descendant combinator the number is the topmost ancestor that the components so far match
         pub top-descendant : k ≡ descendantKind → (t : ℕ) → t ≡ topmost nodes attributes text (componentsAt store components i) row → Topping t (i + 1)
         unfolding componentAt byCombinator
         top-descendant e t et = record { within = omega arith; is-top = et ∙ sym (one-more ∙ rw (from-descendant store _ _ _ _ (sym ek ∙ e)) refl) }
 
-        -- any other component
+        -- any other component leaves the number as it is
         stays : ¬ (k ≡ descendantKind) → (b : Bool) → is k childKind ≡ b → selectorTop nodes attributes text row (componentsAt store components (i + 1)) ≡ selectorTop nodes attributes text row (componentsAt store components i)
         unfolding componentAt byCombinator
         stays d true c = one-more ∙ rw (from-child store _ _ _ _ (sym ek ∙ is-true k childKind c)) refl

@@ -251,7 +251,7 @@ values-from attributes bytes (suc k) at h = (
   values-from attributes bytes k (at + 1) (λ j l. ap (λ n. valid (attributeValue attributes bytes n)) (omega arith) ∙ h (suc j) (omega arith)),
 )
 
--- by refusal 7
+-- on an accepted page the attribute values of every row are in UTF-8, as refusal 7 asks
 pub accepted-values : (nodes attributes bytes : List ℕ) → Accepted nodes attributes bytes → (row : ℕ) → row < nodeCount nodes
     → All (λ a. valid (a .value) ≡ true) (elementAt nodes attributes bytes row .attributes)
 unfolding elementAt

@@ -74,7 +74,8 @@ module _ (white : ℕ → Bool) (w : List ℕ) where
       there e =
           record { later = behind white t; split = sym (joined white t) ∙ ap (λ x. x ++ behind white t) e; unbroken = subst (All (λ v. white v ≡ false)) e (front-unbroken t); begins = behind-begins t }
 
-  -- ---- the others
+  -- ---- the other pieces, which stand behind white space
+  -- a text without its first character
   tailOf : List ℕ → List ℕ
   tailOf [] = []
   tailOf (v ∷ vs) = vs
@@ -123,7 +124,7 @@ module _ (white : ℕ → Bool) (w : List ℕ) where
   others-exactly [] = ((λ q. absurd q), (λ f. absurd (no-others f)))
   others-exactly (v ∷ vs) = others-by (white v) v vs refl (others-exactly vs)
 
-  -- ---- all pieces
+  -- ---- all pieces: w begins a text, or what stands behind some white space of it, exactly if w is parted from the rest of the text
   parted-exactly : (t : List ℕ) → Exactly (Leads t ⊎ Follows t) (Parted white w t)
   parted-exactly t = (⊎-elim first later, back)
     where

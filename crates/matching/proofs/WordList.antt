@@ -33,7 +33,7 @@ use Rattle.matching.proofs.Selectors.{Exactly, or-yes}
 pub exactly-then : (P Q R : Type 0) → Exactly P Q → Exactly Q R → Exactly P R
 exactly-then P Q R f g = ((λ p. g .0 (f .0 p)), (λ r. f .1 (g .1 r)))
 
--- either of two
+-- where P holds exactly if Q does, and R exactly if S does, P or R holds exactly if Q or S does
 pub exactly-either : (P Q R S : Type 0) → Exactly P Q → Exactly R S → Exactly (P ⊎ R) (Q ⊎ S)
 exactly-either P Q R S f g = (⊎-elim (λ p. inl (f .0 p)) (λ r. inr (g .0 r)), ⊎-elim (λ q. inl (f .1 q)) (λ s. inr (g .1 s)))
 
@@ -253,7 +253,7 @@ module _ (w : List ℕ) (k : ℕ) (vs : List ℕ) (h : Scalars vs) where
     unfolding encode
     some-bytes = omega (arith, utf8-some x, length-append (utf8 x) (encode p))
 
-    -- which is shorter
+    -- the text behind a word is shorter, so fewer turns suffice for it
     shorter : length (encode vs) ≤ suc k → length (encode more-text) ≤ k
     shorter l =
         let a = ap length (seam isWordCharacter whiteTaken white-takes vs) ∙ length-append (encode (front isWordCharacter vs)) (encode text) in

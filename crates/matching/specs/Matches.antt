@@ -74,7 +74,7 @@ onAncestors f (e ∷ up) = or (f up) (onAncestors f up)
 
 -- ---- a selector's components, rightmost first
 
--- one component, where `rest` asks what is left
+-- one component, where `rest` asks what is left; "Letting star refuse the document as a parent" would be wrong
 unfoldable pub step : Component → (Path → Bool) → Path → Bool
 step (class c) rest p = and (here (hasClass c) p) (rest p)
 step (attribute n) rest p = and (here (hasAttribute n) p) (rest p)
@@ -108,7 +108,7 @@ test-structure : (matches (star ∷ element (text "div") ∷ []) (named (text "d
 unfolding matches step here onParent onAncestors nameIs sameText named text utf8 pick or and is
 test-structure = (refl, refl, refl, refl, refl, refl)
 
--- a class `Foo` is not matched by `.Foo`, which is read as `.foo`; classes are parted by U+0085 and U+3000, not by U+200B
+-- "Matching class `Foo` by `.Foo`: the selector is folded, the page is not" would be wrong; classes are parted by U+0085 and U+3000, not by U+200B
 test-class : (matches (class (text "foo") ∷ []) (having (text "class") (text "Foo") ∷ []) ≡ false)
     × (matches (class (text "b") ∷ []) (having (text "class") (text "a\u{85}b") ∷ []) ≡ true)
     × (matches (class (text "a") ∷ []) (having (text "class") (text "a\u{3000}b") ∷ []) ≡ true)

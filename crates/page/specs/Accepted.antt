@@ -29,7 +29,7 @@ withinLimits nodes attributes text =
     and (and (leb (nodeCount nodes) nodeLimit) (and (leb (attributeRows attributes) attributeLimit) (leb (length text) textLimit)))
     (and (is (length nodes % nodeWidth) 0) (is (length attributes % attributeWidth) 0))
 
--- ---- totals over the rows before a row
+-- ---- totals over the rows before a row, and nothing else: "Bytes and attribute rows left over at the end are not read."
 -- the attribute rows that they name
 unfoldable pub attributesBefore : List ℕ → ℕ → ℕ
 attributesBefore nodes zero = 0
@@ -55,7 +55,7 @@ bytesBefore nodes attributes (suc row) = textsEnd attributes (nodeAt nodes row) 
 unfoldable pub endsInZeros : NodeRow → Bool
 endsInZeros n = and (and (is (n .nameStart) 0) (is (n .nameLength) 0)) (and (is (n .firstAttribute) 0) (is (n .attributeCount) 0))
 
--- "Row 0 is all zeros"
+-- "Row 0 is all zeros and alone has kind 0"
 unfoldable pub isDocument : NodeRow → Bool
 isDocument n = and (and (is (n .kind) documentKind) (is (n .parent) 0)) (endsInZeros n)
 
@@ -66,7 +66,7 @@ isParent nodes p = or (is p 0) (is (nodeAt nodes p .kind) elementKind)
 unfoldable pub parentRight : List ℕ → ℕ → ℕ → Bool
 parentRight nodes before p = and (isParent nodes p) (member p (lineOf nodes before))
 
--- "depth, which is 0 at row 0, is at most 64"
+-- "depth, which is 0 at row 0, is at most 64": "depth 64 accepted, 65 refused 6"
 abbrev pub depthLimit : ℕ
 depthLimit = 64
 
@@ -78,8 +78,8 @@ attributesFollow attributes (suc k) at start =
     and (is (attributeAt attributes at .nameStart) start)
     (and (is (attributeAt attributes at .valueStart) (start + attributeAt attributes at .nameLength)) rest)
 
--- "Names and values lie end to end .., each element's name before its attributes ..; first attributes likewise follow on from 0 and end within the
--- attribute rows lent": an element whose texts begin at byte `start`, and its attributes at row `first`
+-- "Names and values lie end to end from byte 0 of one byte text, each element's name before its attributes ..; first attributes likewise follow on from 0
+-- and end within the attribute rows lent": an element whose texts begin at byte `start`, and its attributes at row `first`
 unfoldable pub elementFollows : List ℕ → NodeRow → ℕ → ℕ → Bool
 elementFollows attributes n first start =
     and (and (is (n .nameStart) start) (is (n .firstAttribute) first))

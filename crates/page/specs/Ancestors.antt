@@ -10,6 +10,7 @@ use Rattle.page.specs.declared.ancestors.Climb.{Climb}
 use Rattle.page.specs.declared.ancestors.Climb.the-variants.{Reached, NotThere}
 
 -- the parent, its parent and so on, as long as each row is before the one below it; on an accepted page that is up to row 0. At most k are counted.
+-- "`Rc`, `Weak` and `RefCell` become row numbers."
 unfoldable pub ancestorsFrom : ℕ → List ℕ → ℕ → List ℕ
 ancestorsFrom zero nodes row = []
 ancestorsFrom (suc k) nodes row =

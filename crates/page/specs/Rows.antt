@@ -66,7 +66,7 @@ nodeAt nodes row =
 abbrev pub nodeCount : List ℕ → ℕ
 nodeCount nodes = length nodes / nodeWidth
 
--- ---- an attribute: name start, name length, value start, value length
+-- ---- "An attribute has 4: name start, length, value start, length."
 abbrev pub attributeWidth : ℕ
 attributeWidth = 4
 

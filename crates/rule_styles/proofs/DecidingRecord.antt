@@ -51,7 +51,7 @@ module _ {A : Type 0} where
   unfolding presents
   presents-true d = pick-holds (λ b. b ≡ true) (ltb (d .slot) slotCount) _ _ (λ e. refl) (λ e. refl)
 
-  -- and after many
+  -- what is present stays present after any number of styles
   stays-present : (xs : List (Styled A)) → foldl presents true xs ≡ true
   stays-present [] = refl
   stays-present (d ∷ xs) = ap (λ (b : Bool). foldl presents b xs) (presents-true d) ∙ stays-present xs
@@ -66,7 +66,7 @@ module _ {A : Type 0} where
   unfolding offered
   marks-true k d = pick-holds (λ b. b ≡ true) (is (d .slot) k) _ _ (λ e. refl) (λ e. refl)
 
-  -- and after many
+  -- a slot once marked stays marked after any number of styles
   stays-marked : (k : ℕ) (xs : List (Styled A)) → foldl (offered marks k) true xs ≡ true
   stays-marked k [] = refl
   stays-marked k (d ∷ xs) = ap (λ (b : Bool). foldl (offered marks k) b xs) (marks-true k d) ∙ stays-marked k xs

@@ -52,7 +52,7 @@ module _ (s : code.Sifted) (k : ℕ) (x : StyleNumbers) where
   unfolding sift inNumbers
   sifted-away n = pick-false _ _ _ _ (is-no (x .slot) k n) refl
 
-  -- an important one
+  -- an important style for the slot becomes its important one, which lies behind the normal one where there was one before
   pub sifted-important : x .slot ≡ k → x .important ≡ true
       → siftedIn (record { «has_normal» = s .«has_normal»; normal = s .normal; «has_important» = true; important = x; behind = s .behind || s .«has_normal» })
       ≡ sift k (siftedIn s) (inNumbers x)
@@ -62,7 +62,7 @@ module _ (s : code.Sifted) (k : ℕ) (x : StyleNumbers) where
       (pick-true _ _ _ _ (unfold inNumbers in e)
       (sifted-same _ _ _ _ _ _ refl (sym (found-yes x)) (or-same (s .behind) (s .«has_normal») ∙ ap (or (s .behind)) (sym (found-test (s .«has_normal») (s .normal))))))
 
-  -- a normal one
+  -- a normal style for the slot becomes its normal one, and leaves the order of the two as it was
   pub sifted-normal : x .slot ≡ k → x .important ≡ false
       → siftedIn (record { «has_normal» = true; normal = x; «has_important» = s .«has_important»; important = s .important; behind = s .behind })
       ≡ sift k (siftedIn s) (inNumbers x)
@@ -72,7 +72,7 @@ module _ (s : code.Sifted) (k : ℕ) (x : StyleNumbers) where
       (pick-false _ _ _ _ (unfold inNumbers in e) (sifted-same _ _ _ _ _ _ (sym (found-yes x)) refl refl))
 
 -- ---- many, read from their rows
--- nothing yet
+-- before any style is read, neither a normal nor an important one is known
 pub sifted-nothing : (a b : StyleNumbers) → siftedIn (record { «has_normal» = false; normal = a; «has_important» = false; important = b; behind = false }) ≡ nothingSifted
 unfolding siftedIn nothingSifted foundIn pick
 sifted-nothing a b = refl
@@ -82,7 +82,7 @@ module _ (rows : List ℕ) (k : ℕ) where
   abbrev pub siftedFrom : Sifted Value → ℕ → ℕ → Sifted Value
   siftedFrom s left place = foldl (sift k) s (readMany readStyled left (drop place rows) .value)
 
-  -- none is left
+  -- where no style is left, what is known is the result
   pub sift-none : (s : Sifted Value) (left place : ℕ) → left ≤ 0 → siftedFrom s left place ≡ s
   unfolding readMany
   sift-none s zero place h = refl
@@ -94,7 +94,7 @@ module _ (rows : List ℕ) (k : ℕ) where
   sift-first s left place =
       ap (λ (t : List ℕ). foldl (sift k) (sift k s (inNumbers (numbersAt (drop place rows)))) (readMany readStyled left t .value)) (drop-drop styleWidth place rows)
 
-  -- one more
+  -- the style at the place, sifted into what is known, with one style less left, leaves the same result
   pub sift-more : (s n : code.Sifted) (left place behind : ℕ) (x : StyleNumbers) (all : Sifted Value) → 0 < left
       → x ≡ numbersAt (drop place rows) → siftedIn n ≡ sift k (siftedIn s) (inNumbers x) → drop behind rows ≡ drop (place + styleWidth) rows
       → siftedFrom (siftedIn s) left place ≡ all → siftedFrom (siftedIn n) (left - 1) behind ≡ all
@@ -132,7 +132,7 @@ pub missing-written : (rows : List ℕ) (at : ℕ) (t : Bool) (x : StyleNumbers)
 unfolding textsMany listed onFound foundIn pick
 missing-written rows at t x e = rw e (refl, (refl, omega arith))
 
--- styles behind others
+-- at most one style written, and at most one behind it, are at most two written one behind the other
 pub both-written : (rows one left : List ℕ) (at n m : ℕ) (xs ys : List (Styled Value)) → Written rows one at n 1 xs → Written one left (at + n * styleWidth) m 1 ys → Written rows left at (n + m) 2 (xs ++ ys)
 both-written rows one left at n m xs ys p q =
     let e : at + n * styleWidth ≡ at + length (textsMany styledRow xs) = omega (arith, styles-long xs, p .1 .0) in (
@@ -154,7 +154,7 @@ module _ (rows left : List ℕ) (at n : ℕ) (s : code.Sifted) where
       let z = pick-true (listed (foundIn (s .«has_normal») (s .normal)) ++ listed (foundIn (s .«has_important») (s .important))) _ (listed (foundIn (s .«has_important») (s .important)) ++ listed (foundIn (s .«has_normal») (s .normal))) (s .behind) e refl in
       subst (Written rows left at n 2) z w
 
-  -- or before
+  -- where it does not lie behind, the important style is written before the normal one
   pub sifted-before : s .behind ≡ false → Written rows left at n 2 (listed (foundIn (s .«has_important») (s .important)) ++ listed (foundIn (s .«has_normal») (s .normal)))
       → Written rows left at n 2 (siftedStyles (siftedIn s))
   unfolding siftedStyles siftedIn
@@ -200,7 +200,7 @@ module _ (rows₀ : List ℕ) (at count place : ℕ) where
   abbrev xs : List (Styled Value)
   xs = stylesFrom rows₀ at count
 
-  -- no slot yet
+  -- before the first slot nothing is kept, and all is still to be written
   pub keeping-begin : Keeping rows₀ at count place rows₀ 0 0
   unfolding deciding
   keeping-begin =
@@ -214,7 +214,7 @@ module _ (rows₀ : List ℕ) (at count place : ℕ) where
       }
 
   module _ (rows : List ℕ) (kept slot : ℕ) (k : Keeping rows₀ at count place rows kept slot) where
-    -- all slots
+    -- when all slots are done, the rows of the styles that decide are written, and as many are counted
     pub keeping-done : slotCount ≤ slot → (rows ≡ sets rows₀ place (textsMany styledRow (deciding xs))) × (kept ≡ length (deciding xs))
     unfolding textsMany
     keeping-done h =
@@ -229,7 +229,7 @@ module _ (rows₀ : List ℕ) (at count place : ℕ) where
       unfolding decidingFor
       styles-now = ap siftedStyles (e ∙ ap (λ (t : List ℕ). foldl (sift slot) nothingSifted (readMany readStyled count t .value)) (k .unread))
 
-      -- one slot more
+      -- with the styles of one slot written behind those that are kept, the slots from the next one on are left
       pub keeping-more : (left : List ℕ) (n : ℕ) → DecidingRoom rows₀ at count place → slot < slotCount → Written rows left (place + kept * styleWidth) n 2 (siftedStyles (siftedIn s))
           → Keeping rows₀ at count place left (kept + n) (slot + 1)
       keeping-more left n room h w =

@@ -161,7 +161,7 @@ module _ {A : Type 0} (c : Cascade) (o : ℕ) (p : Path) where
       ∙ rules-same rs (left s (selectorsSay p (r .styles) (r .selectors))) (left-formed s (selectorsSay p (r .styles) (r .selectors)) f)
       ∙ sym (left-append s (selectorsSay p (r .styles) (r .selectors)) (rulesSay p rs))
 
--- and the row
+-- rules with the styles that decide leave the row that the rules leave, by either cascade
 pub rules-row : (c : Cascade) (o : ℕ) (p : Path) (rs : List (StyledRule Value)) (s : ComputedStyle Value) → Formed s
     → mergedRow c (rowOf s) (map (fromRule o) (rulesSay p (map decidingRule rs))) ≡ mergedRow c (rowOf s) (map (fromRule o) (rulesSay p rs))
 unfolding mergedRow

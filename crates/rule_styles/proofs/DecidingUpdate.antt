@@ -61,7 +61,7 @@ rank-normal : (o : ℕ) → rank o false ≤ normalAuthor
 unfolding rank pick
 rank-normal o = pick-holds (λ n. n ≤ normalAuthor) (is o agentOrigin) _ _ (λ e. omega arith) (λ e. pick-holds (λ n. n ≤ normalAuthor) (is o userOrigin) _ _ (λ f. omega arith) (λ f. omega arith))
 
--- important ones high
+-- every important value ranks at least as high as an important one of the author
 rank-important : (o : ℕ) → importantAuthor ≤ rank o true
 unfolding rank pick
 rank-important o = pick-holds (λ n. importantAuthor ≤ n) (is o agentOrigin) _ _ (λ e. omega arith) (λ e. pick-holds (λ n. importantAuthor ≤ n) (is o userOrigin) _ _ (λ f. omega arith) (λ f. omega arith))
@@ -167,7 +167,7 @@ candidateOf o p d = record { weight = record { important = d .important; origin 
 unfoldable pub updateFrom : {A : Type 0} → Cascade → ℕ → Specificity → Slot A → Styled A → Slot A
 updateFrom c o p x d = updateBy c x (candidateOf o p d)
 
--- its weight
+-- what a style offers weighs by the rule's origin and specificity and by whether the style is important
 weighs : {A : Type 0} (o : ℕ) (p : Specificity) (i : Bool) (d : Styled A) → d .important ≡ i → candidateOf o p d .weight ≡ weightOf o p i
 unfolding candidateOf
 weighs o p i d e = rw e

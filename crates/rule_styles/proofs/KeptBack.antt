@@ -20,7 +20,7 @@ use Rattle.styles.specs.StyleCall.{ruleContents}
 use Rattle.rule_styles.specs.Deciding.{deciding, decidingRule}
 use Rattle.rule_styles.specs.Placing.{styledRow, kept, keptRules, readStyled, readKept, rulesKept}
 
--- style rows
+-- rows of styles are read back as these styles, whatever stands behind them
 styles-back : (xs : List (Styled Value)) (t : List ℕ) → readMany readStyled (length xs) (textsMany styledRow xs ++ t) ≡ record { value = xs; rest = t }
 unfolding readMany textsMany readStyled styledRow inNumbers
 styles-back [] t = refl
@@ -33,7 +33,7 @@ kept-back : (xs : List (Styled Value)) (t : List ℕ) → readKept (kept xs ++ t
 unfolding readKept kept
 kept-back xs t = styles-back xs t
 
--- for many
+-- of rules that were written, what is kept is read back as the rules with the styles that decide
 pub rules-kept : (text : List ℕ) (rs : List RuleSet) (g f : ℕ) (more others : List ℕ) → RulesFit rs → Held text g (ruleTexts rs)
     → rulesKept text (length rs) (ruleRows g rs ++ more) (keptRules (placedRules f rs) ++ others) ≡ map decidingRule (placedRules f rs)
 unfolding rulesKept ruleRows rowsMany ruleTexts textsMany keptRules placedRules decidingRule

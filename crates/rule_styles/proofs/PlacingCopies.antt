@@ -12,14 +12,14 @@ use Rattle.rule_styles.specs.Placing.{sheetText}
 use Rattle.rule_styles.specs.PlacingRoom.{Upward, ContentsRoom}
 
 -- ---- what is stored behind a part leaves it alone
--- one byte
+-- one byte stored behind a part leaves the part as it was
 part-set : (l : List ℕ) (d v s k : ℕ) → s + k ≤ d → part (set l d v) s k ≡ part l s k
 unfolding part
 part-set l d v s k h =
     let e : d ≡ s + (d - s) = omega arith in
     ap (λ (n : ℕ). take k (drop s (set l n v))) e ∙ ap (take k) (drop-set-add s l (d - s) v) ∙ take-set-le k (drop s l) (d - s) v (omega arith)
 
--- a text
+-- a text stored behind a part leaves the part as it was
 pub part-sets : (vs l : List ℕ) (d s k : ℕ) → s + k ≤ d → part (sets l d vs) s k ≡ part l s k
 part-sets [] l d s k h = refl
 part-sets (v ∷ vs) l d s k h = part-sets vs (set l d v) (suc d) s k (omega arith) ∙ part-set l d v s k h
@@ -78,7 +78,7 @@ part-within (x ∷ l) (suc m) zero zero = refl
 part-within (x ∷ l) (suc m) zero (suc n) = ap (λ (r : List ℕ). x ∷ r) (part-within l m zero n)
 part-within (x ∷ l) (suc m) (suc a) n = part-within l m a n
 
--- its length
+-- a part from a on of the first m bytes is at most m - a long
 part-long : (l : List ℕ) (m a n : ℕ) → length (take n (drop a (take m l))) ≤ m - a
 part-long l m a n = omega (arith, length-take n (drop a (take m l)), length-drop a (take m l), length-take m l)
 

@@ -43,17 +43,17 @@ module _ (tokens : List ℕ) (place at count : ℕ) (t : List ℕ) (n : ℕ) whe
   decided = deciding (readMany readStyled count (drop at tokens) .value)
 
   module _ (e : t ≡ sets tokens (place + keptHead) (textsMany styledRow decided)) (h : n ≡ length decided) where
-    -- they are few
+    -- the styles that decide are at most two for each slot
     pub kept-few : n ≤ 2 * slotCount
     kept-few = omega (arith, h, deciding-two (readMany readStyled count (drop at tokens) .value))
 
-    -- the length stays
+    -- writing the kept styles and wiping those that were read leaves the store as long as it was
     pub kept-length : (z : List ℕ) → z ≡ wiped at (styleWidth * count) (set t place n) → length z ≡ length tokens
     kept-length z ez =
         ap length ez ∙ length-wiped at (styleWidth * count) (set t place n) ∙ length-set t place n ∙ ap length e
         ∙ length-sets tokens (place + keptHead) (textsMany styledRow decided)
 
-    -- what is left
+    -- the store is left with the kept styles from the place on and the read ones wiped, and the place behind is where they end
     pub kept-left : (z : List ℕ) → z ≡ wiped at (styleWidth * count) (set t place n)
         → (z ≡ wiped at (styleWidth * count) (sets tokens place (kept decided))) × (place + keptHead + styleWidth * n ≡ place + length (kept decided))
     kept-left z ez = (

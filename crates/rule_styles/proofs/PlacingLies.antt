@@ -26,7 +26,7 @@ heads-within f (s ∷ ss) = let g = f + length (selectorText s) in omega (arith,
 
 module _ (text : List ℕ) where
   -- ---- rules that were written
-  -- one
+  -- of one rule that was written the head is there, and its declarations behind its selectors
   rule-lies : (f : ℕ) (r : RuleSet) (t : List ℕ) → Held text f (ruleText r) → RuleLies text (ruleRow f r ++ t)
   unfolding ruleRow ruleText selectorsRead
   rule-lies f r t h =
@@ -56,7 +56,7 @@ module _ (text : List ℕ) where
         heads-within f (r .selectors),
       )
 
-  -- each of them
+  -- of each of the rules that were written the head is there, and its declarations behind its selectors
   pub each-lies : (rs : List RuleSet) (f : ℕ) (t : List ℕ) → RulesFit rs → Held text f (ruleTexts rs) → EachLies text (length rs) (ruleRows f rs ++ t)
   unfolding EachLies ruleRows rowsMany ruleTexts textsMany
   each-lies [] f t u h = tt

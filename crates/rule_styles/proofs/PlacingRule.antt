@@ -116,7 +116,7 @@ module _ (t tokens : List ℕ) (place : ℕ) (o : RuleKeptRoom t tokens place) w
         ∙ numbers-before count (ruleStyles t) (drop (made + length (ruleStyles t)) tokens) (omega (arith, ec))
         ∙ ap (λ (n : ℕ). numbersOf n (ruleStyles t)) q
 
-    -- so many
+    -- and they are as many as were counted
     lying-long : length (lyingStyles t) ≡ count
     lying-long = ap length (sym numbers-are) ∙ numbers-long count (drop made store)
 

@@ -31,7 +31,7 @@ many-short u h zero t = omega arith
 many-short u h (suc k) t = omega (arith, many-short u h k (u t .rest), h t)
 
 module _ (text : List ℕ) where
-  -- behind a selector
+  -- what is left behind a selector is no longer than the stream
   selector-short : (t : List ℕ) → length (readSelector text t .rest) ≤ length t
   unfolding readSelector
   selector-short t =
@@ -59,7 +59,7 @@ module _ (text : List ℕ) where
   pub rule-takes : (t : List ℕ) → RuleLies text t → length (readRule text t .rest) + ruleHead + declarationWidth * getD t ruleDeclarations 0 ≤ length t
   rule-takes t l = omega (arith, rule-rest t, selectors-short t, l .head, l .declared)
 
-  -- behind rules
+  -- what is left behind rules is no longer than the stream
   pub rules-short : (n : ℕ) (t : List ℕ) → length (readMany (readRule text) n t .rest) ≤ length t
   rules-short n t = many-short (readRule text) rule-short n t
 
@@ -121,7 +121,7 @@ module _ (text : List ℕ) where
     unfolding keptRules styledRules styledRule textsMany
     one-kept f = refl
 
-    -- their contents
+    -- the contents of the first rule, and those of the rules behind it
     one-content : rulesContentsAt text (suc k) t ≡ contentsAt text t ++ rulesContentsAt text k (readRule text t .rest)
     unfolding rulesContentsAt
     one-content = refl
@@ -237,7 +237,7 @@ module _ (rules : List ℕ) (at count : ℕ) (tokens₀ : List ℕ) (place : ℕ
           let q : suc k - 1 ≡ k = omega arith in
           rw (q, ex, c .same) (next-kept k c w z (rw (c .same) at ew) (rw (c .same) at ez) next (d sheet))
 
-      -- all are kept
+      -- when no rule is left, the styles of all are kept, their contents are stored, and all three places are behind them
       pub styling-done : (n : ℕ) → Styling tokens texts rows p f n → n ≤ 0
           → (tokens ≡ sets tokens₀ place (keptFrom fill at count))
           × ((texts ≡ sets texts₀ (end + fill) (contentsFrom at count))

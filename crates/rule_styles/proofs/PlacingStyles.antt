@@ -36,7 +36,7 @@ module _ (text : List ℕ) (fill : ℕ) (x : StyleNumbers) where
   unfolding contentOf
   other-none h = pick-false _ _ _ _ (is-no _ _ h) refl
 
-  -- and stays
+  -- and any other style stays as it is
   other-stays : ¬ (x .slot ≡ contentSlot) → x ≡ placedNumbers text fill x
   unfolding placedNumbers placedValue
   other-stays h = ap (λ v. record { slot = x .slot; important = x .important; value = v }) (pick-false _ _ _ _ (is-no _ _ h) refl)
@@ -76,7 +76,7 @@ module _ (tokens texts : List ℕ) (at from end fill : ℕ) (style : StyleNumber
           (ez ∙ ap (sets texts (end + fill)) (content-is text fill style h), ap (λ (n : ℕ). fill + n) (es ∙ ap length (content-is text fill style h))),
         )
 
-  -- any other
+  -- any other style is written as it is, and the texts and their fill stay
   pub other-placed : ¬ (style .slot ≡ contentSlot) → (t : List ℕ) → t ≡ sets tokens at (rowOfNumbers style) → Left t texts fill
   other-placed h t et =
       rw (← e) (
@@ -99,7 +99,7 @@ module _ (text : List ℕ) (k : ℕ) (t : List ℕ) where
   unfolding contentsOf numbersOf readMany readNumbers textsMany
   one-content = refl
 
-  -- their rows
+  -- the row of the first style, placed, and those of the others, placed behind its content
   one-row : (f : ℕ) → textsMany rowOfNumbers (placedAll text f (numbersOf (suc k) t))
       ≡ rowOfNumbers (placedNumbers text f (numbersAt t)) ++ textsMany rowOfNumbers (placedAll text (f + length (contentOf text (numbersAt t))) (numbersOf k (drop styleWidth t)))
   unfolding placedAll numbersOf readMany readNumbers textsMany
@@ -110,7 +110,7 @@ no-row : (text : List ℕ) (f : ℕ) (t : List ℕ) → textsMany rowOfNumbers (
 unfolding placedAll numbersOf readMany textsMany
 no-row text f t = refl
 
--- and no content
+-- of no style there is no content
 no-content : (text t : List ℕ) → contentsOf text (numbersOf zero t) ≡ []
 unfolding contentsOf numbersOf readMany textsMany
 no-content text t = refl
@@ -157,7 +157,7 @@ module _ (tokens₀ : List ℕ) (at count : ℕ) (texts₀ : List ℕ) (from end
           let d : f + length (contentOf sheet x) < 2 ^ 32 = omega (arith, e, r .bits, c .fill-left) in
           (record { room = omega (arith, c .row-room) }, rw (c .same) (record { ordered = r .ordered; room = b; bits = d }))
 
-      -- one is placed
+      -- with the next style placed and its content stored, one style less is left to place
       next-placed : (k : ℕ) → Placing tokens texts f place (suc k) → (t z : List ℕ) (g : ℕ) → t ≡ sets tokens place (rowOfNumbers (placedNumbers sheet f x))
           → z ≡ sets texts (end + f) (contentOf sheet x) → g ≡ f + length (contentOf sheet x) → Placing t z g (place + styleWidth) k
       next-placed k c t z g et ez eg =
@@ -199,7 +199,7 @@ module _ (tokens₀ : List ℕ) (at count : ℕ) (texts₀ : List ℕ) (from end
           let q : suc k - 1 ≡ k = omega arith in
           rw q (next-placed k c t z g (rw (c .same) at et) (rw (c .same) at ez) (rw (c .same) at eg))
 
-      -- all are placed
+      -- when no style is left, the rows of all are placed, their contents are stored, and the fill is behind them
       pub placing-done : (n : ℕ) → Placing tokens texts f place n → n ≤ 0
           → (tokens ≡ sets tokens₀ at (rowsFrom tokens₀ fill at count))
           × ((texts ≡ sets texts₀ (end + fill) (contentsFrom tokens₀ at count)) × (f ≡ fill + length (contentsFrom tokens₀ at count)))

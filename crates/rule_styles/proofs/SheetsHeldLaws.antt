@@ -215,7 +215,7 @@ module _ {s : SheetsRules} {rows tokens texts : List ℕ} (h : SheetsHeld s rows
   pub author-before : s .author .place + length (ruleRows 0 w) < length rows
   author-before = omega (arith, author-place, sizes .rows-short, fits .rows-room)
 
-  -- the agent's
+  -- the store of tokens has room for what is kept of the agent's rules
   pub agent-room : RulesKeptRoom (sheetText texts (s .agent .from) (s .end)) (s .agent .count) (drop (s .agent .place) rows) tokens 0
   agent-room = sheet-room agent-lies tokens 0 tokens-zero (omega (arith, sizes .rows-short, fits .tokens-room))
 
@@ -241,7 +241,7 @@ module _ {s : SheetsRules} {rows tokens texts : List ℕ} (h : SheetsHeld s rows
     long-x₁ : length x₁ ≡ length texts
     long-x₁ = ap length ex₁ ∙ length-sets texts (s .end + 0) (rulesContents a)
 
-    -- the user's
+    -- behind what is kept of the agent's rules there is room for the user's
     pub user-room : RulesKeptRoom (sheetText x₁ (s .user .from) (s .end)) (s .user .count) (drop (s .user .place) rows) t₁ p₁
     user-room = rw ep₁ (sheet-room user-still t₁ pa zeros₁ (omega (arith, long-t₁, sizes .rows-short, fits .kept-a, fits .tokens-room)))
 
@@ -268,7 +268,7 @@ module _ {s : SheetsRules} {rows tokens texts : List ℕ} (h : SheetsHeld s rows
       long-x₂ : length x₂ ≡ length texts
       long-x₂ = ap length ex₂ ∙ length-sets x₁ (s .end + f₁) (rulesContents u) ∙ long-x₁
 
-      -- the author's
+      -- behind what is kept of the agent's and the user's rules there is room for the author's
       pub author-room : RulesKeptRoom (sheetText x₂ (s .author .from) (s .end)) (s .author .count) (drop (s .author .place) rows) t₂ p₂
       author-room = sheet-room author-still t₂ p₂ zeros₂ (omega (arith, place₂-is, long-t₂, sizes .rows-short, fits .kept-a, fits .kept-u, fits .tokens-room))
 

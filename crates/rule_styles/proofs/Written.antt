@@ -79,7 +79,7 @@ texts-behind xs ys = texts-append (λ _ (d : StyleDecl). []) styleText xs ys
 own-numbers : ℕ → Bool → Decl → List StyleNumbers
 own-numbers h i d = map (numbersFrom h) (styleOf i d)
 
--- its row
+-- the row that is written for the style of a declaration is the row of its numbers
 own-rows-one : (h : ℕ) (i : Bool) (d : Decl) → rowsMany styleRow styleText h (styleOf i d) ≡ textsMany rowOfNumbers (own-numbers h i d)
 unfolding own-numbers rowsMany textsMany styleOf one styleRow pick
 own-rows-one h i (color c) = refl
@@ -129,7 +129,7 @@ lying-own : ℕ → List Declaration → List StyleNumbers
 lying-own h [] = []
 lying-own h (d ∷ ds) = own-numbers h (d .important) (d .decl) ++ lying-own (h + length (declarationText d)) ds
 
--- their rows
+-- the rows that are written for declarations are those of the numbers of their styles
 lying-rows : (ds : List Declaration) (h : ℕ) (t : List ℕ) → ownRows (length ds) (declarationRows h ds ++ t) ≡ textsMany rowOfNumbers (lying-own h ds)
 unfolding ownRows declarationRows declarationRow declarationText rowsMany lying-own textsMany
 lying-rows [] h t = refl

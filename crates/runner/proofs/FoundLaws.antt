@@ -31,7 +31,7 @@ use Rattle.runner.proofs.WalkedReads.{SelectorWalked, selector-walked}
 
 -- ---- what selectors declare
 
--- some, then others
+-- what some selectors and then others declare is what the first declare and then what the others do
 pub declared-append : {A : Type 0} (a b : List (WalkedSelector A)) → selectorsDeclare (a ++ b) ≡ selectorsDeclare a ++ selectorsDeclare b
 unfolding selectorsDeclare
 declared-append [] b = refl
@@ -76,7 +76,7 @@ no-more (x ∷ xs) (d ∷ ds) l h = never (sym h)
 module _ (code : List ℕ) (k least i n m : ℕ) (s : CompiledSelector) (l : agentOrigin ≤ least) (e : selectorAt code least i ≡ read n s) (r : Found code k (s .origin) n m) where
   -- one selector more, which is walked so
   module _ (w : SelectorWalked code least i n s) where
-    -- all are walked
+    -- with one selector more, which is walked, all are walked
     more-told : walkedSelectorsAt (suc k) code least i ≡ read m (w .met ∷ r .all)
     unfolding walkedSelectorsAt
     more-told =
@@ -103,7 +103,7 @@ module _ (code : List ℕ) (k least i n m : ℕ) (s : CompiledSelector) (l : age
           same = λ path. declared-bare (w .met) (r .styled) (r .all) path (r .same path) (no-more (w .met .styles) (s .styles) (w .as-many) h);
         }
 
--- none
+-- of no selectors, all are walked and none is read
 found-none : (code : List ℕ) (least i m : ℕ) → m ≡ i → Found code 0 least i m
 unfolding walkedSelectorsAt placedFrom
 found-none code least i m e = record { all = []; told = rw e; styled = []; there = tt; same = λ path. refl }

@@ -31,7 +31,7 @@ module _ (nodes : List ℕ) (i : ℕ) where
       let z : 0 * nodeWidth + column ≡ column = omega arith in
       ap (λ (j : ℕ). getD own j 0) z ∙ part-number nodes (i * nodeWidth) nodeWidth column h
 
-  -- its name
+  -- the name read from the row that is handed is the row's name in the page
   pub node-name : (text : List ℕ) → nameOf own text 0 ≡ nameOf nodes text i
   unfolding nameOf
   node-name text = ap₂ (part text) (node-number 2 (omega arith)) (node-number 3 (omega arith))
@@ -48,12 +48,12 @@ module _ (attributes text : List ℕ) (first count : ℕ) where
       let z : first * attributeWidth + (j * attributeWidth + column) ≡ (first + j) * attributeWidth + column = omega arith in
       part-number attributes (first * attributeWidth) (count * attributeWidth) (j * attributeWidth + column) (omega arith) ∙ ap (λ (n : ℕ). getD attributes n 0) z
 
-  -- its texts
+  -- attribute j of those that are handed has the name of the page's attribute first + j
   name-there : (j : ℕ) → j < count → attributeName owned text j ≡ attributeName attributes text (first + j)
   unfolding attributeName
   name-there j h = ap₂ (part text) (attribute-number j 0 h (omega arith)) (attribute-number j 1 h (omega arith))
 
-  -- and its value
+  -- and it has that attribute's value
   value-there : (j : ℕ) → j < count → attributeValue owned text j ≡ attributeValue attributes text (first + j)
   unfolding attributeValue
   value-there j h = ap₂ (part text) (attribute-number j 2 h (omega arith)) (attribute-number j 3 h (omega arith))
@@ -77,7 +77,7 @@ module _ (attributes text : List ℕ) (first count : ℕ) where
         length-take-le (count * attributeWidth) (drop (first * attributeWidth) attributes) (omega (arith, length-drop (first * attributeWidth) attributes)) in
         omega (arith, l)
 
-    -- all of them
+    -- all attributes that are handed are those that the page has for the row
     pub attributes-all : attributesFrom owned text (attributeRows owned) 0 ≡ attributesFrom attributes text count first
     attributes-all =
         let z : first + 0 ≡ first = omega arith in

@@ -108,7 +108,7 @@ module _ (code : List ℕ) (some : 0 < length code) (settings : Settings) (x : H
     above-part : partOf code d (leftIn l) ≡ aboveIn l
     above-part = opened-above code some (raised l at) (suc d) raised-room (passedIn l .part) passed-long d (omega arith)
 
-  -- at an element
+  -- at a row that is not other content, the step is that of an element with its place
   step-in : (l : List ℕ) → ¬ (x .kind ≡ otherKind) → stepIn l ≡ elementStep code settings (elementIn l) d parent l texts
   unfolding stepOn openStep
   step-in l n = sym (pick-false _ _ _ _ (is-no _ _ n) refl)

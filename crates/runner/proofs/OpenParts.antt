@@ -182,7 +182,7 @@ module _ (code : List ℕ) (few : length code ≤ compiledLimit) (some : 0 < len
         let e = parent-line nodes attributes text ok i there in
         open-end code nodes attributes text (suc i) state (e .0) (lineOf nodes p) (subst (λ (l : List ℕ). OpenAt (suc i) state l) (e .1) ready)
 
-    -- the parent's part
+    -- the part at the parent's depth counts its element children before the row, and what lies behind the count is right for any child
     parent-part : PartRight code nodes attributes text (suc i) p (partOf code (depthOf nodes p) state)
     unfolding depthOf
     parent-part = parent-opened .0 (parent-no-other nodes attributes text ok i there)
@@ -216,7 +216,7 @@ module _ (code : List ℕ) (few : length code ≤ compiledLimit) (some : 0 < len
       abbrev e : Element
       e = elementAt nodes attributes text (suc i)
 
-      -- gives the place
+      -- the count of the parent's part and 1 is the element's place among its parent's element children
       pub place-right : pairAt state at + 1 ≡ placeOf nodes (suc i)
       place-right = omega (arith, count-right, place-counts nodes (suc i) element)
 

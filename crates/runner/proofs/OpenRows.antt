@@ -67,7 +67,7 @@ module _ (nodes attributes text : List ℕ) (ok : Accepted nodes attributes text
   below-first zero row h l = absurd (not-suc-le-zero h)
   below-first (suc n) row h l = below-step n row (below-first n) h l
 
-  -- and of all
+  -- the ancestors of every row of the page are before it
   pub ancestors-before : (row : ℕ) → row < nodeCount nodes → Below row (ancestorsOf nodes row)
   ancestors-before row l = below-first (suc row) row (omega arith) l
 

@@ -42,7 +42,7 @@ unfolding runFrom
 steps-rows-long code settings g zero i r = refl
 steps-rows-long code settings g (suc k) i r = steps-rows-long code settings g k (suc i) (runStep code settings g i r) ∙ step-rows-long code settings g i r
 
--- from the start
+-- rows stay as many as they are in a run from the start
 pub run-rows-long : (code : List ℕ) (settings : Settings) (g : Page) (rows state : List ℕ) → length (runOf code settings g rows state .rows) ≡ length rows
 unfolding runOf
 run-rows-long code settings g rows state = steps-rows-long code settings g (nodeCount (g .nodes)) 0 (record { rows = rows; state = state; texts = [] })
@@ -95,7 +95,7 @@ module _ (code : List ℕ) (few : length code ≤ compiledLimit) (some : 0 < len
         ready = a .ready;
       }
 
-  -- and in both
+  -- with both runs one row further, they still agree in the rows written and in the texts
   next : (i : ℕ) (r r′ : Running) (s s′ : Stepped) → i < count → Twins i r r′ → After i r r′ s s′ → Twins (suc i) (stepped i r s) (stepped i r′ s′)
   next i r r′ s s′ there b a =
       record {
@@ -124,6 +124,7 @@ module _ (code : List ℕ) (few : length code ≤ compiledLimit) (some : 0 < len
   stepAt i r = stepOn code settings (handedAt g i) (depthOf (g .nodes) i) (parentOf i r) (r .state) (r .texts)
 
   -- ---- the document
+  -- its step leaves the state as long as it was and ready for row 1
   document-on : (r : Running) → Fit 0 r → Stepped-on 0 r (documentStep code (r .state) (r .texts))
   unfolding documentStep
   document-on r b =
@@ -133,7 +134,7 @@ module _ (code : List ℕ) (few : length code ≤ compiledLimit) (some : 0 < len
         ready = document-ready code few some (g .nodes) (g .attributes) (g .text) ok (r .state) (r .texts) (b .state-room);
       }
 
-  -- in both runs
+  -- the step of the document writes the same row and the same texts in both runs
   document-after : (r r′ : Running) → Twins 0 r r′ → After 0 r r′ (stepAt 0 r) (stepAt 0 r′)
   unfolding documentStep
   document-after r r′ b =
@@ -149,7 +150,7 @@ module _ (code : List ℕ) (few : length code ≤ compiledLimit) (some : 0 < len
     abbrev otherOf : Running → Stepped
     otherOf r = record { row = noStyle; state = r .state; texts = r .texts }
 
-    -- in each run
+    -- the step of other content leaves the state as it was, ready for the next row
     other-on : (r : Running) → kindAt (suc i) ≡ otherKind → Fit (suc i) r → Stepped-on (suc i) r (otherOf r)
     other-on r e b =
         record {
@@ -158,7 +159,7 @@ module _ (code : List ℕ) (few : length code ≤ compiledLimit) (some : 0 < len
           ready = other-ready code few some (g .nodes) (g .attributes) (g .text) ok i there (r .state) (b .state-room) (b .ready) e;
         }
 
-    -- in both
+    -- the step of other content writes the same row and the same texts in both runs
     other-after : kindAt (suc i) ≡ otherKind → (r r′ : Running) → Twins (suc i) r r′ → After (suc i) r r′ (stepAt (suc i) r) (stepAt (suc i) r′)
     other-after e r r′ b =
         subst (λ (s : Stepped). After (suc i) r r′ s (stepAt (suc i) r′)) (sym (other-step code settings g (parentOf (suc i) r) (r .state) (r .texts) (suc i) e))
@@ -173,7 +174,7 @@ module _ (code : List ℕ) (few : length code ≤ compiledLimit) (some : 0 < len
       abbrev elementOf : Running → Stepped
       elementOf r = elementStep code settings e (depthOf (g .nodes) p) (parentOf (suc i) r) (r .state) (r .texts)
 
-      -- its step
+      -- where the state is ready, the step of the row is the element's step
       is-element : (r : Running) → Fit (suc i) r → stepAt (suc i) r ≡ elementOf r
       is-element r b =
           element-step code settings g (parentOf (suc i) r) (r .state) (r .texts) ok i there element
@@ -193,7 +194,7 @@ module _ (code : List ℕ) (few : length code ≤ compiledLimit) (some : 0 < len
           ap (λ (x : List ℕ). rowFrom x (r .texts) (parentOf (suc i) r))
           (found-of code few some (g .nodes) (g .attributes) (g .text) ok i there (r .state) (b .state-room) (b .ready) element)
 
-      -- in each run
+      -- the step of an element writes a whole row, and leaves the state as long as it was and ready for the next row
       element-on : (r : Running) → Fit (suc i) r → Stepped-on (suc i) r (elementOf r)
       element-on r b =
           let most = parent-most (g .nodes) (g .attributes) (g .text) ok i there in
@@ -211,19 +212,19 @@ module _ (code : List ℕ) (few : length code ≤ compiledLimit) (some : 0 < len
           ∙ ap₂ (rowFrom (matchingPlaces path (placedIn code))) (b .texts-same) (b .rows-same p (omega arith))
           ∙ sym (row-right r′ (b .right))
 
-      -- the same texts
+      -- the texts behind the element's step are the same in both runs
       element-texts-same : (r r′ : Running) → Twins (suc i) r r′ → elementOf r .texts ≡ elementOf r′ .texts
       unfolding elementStep
       element-texts-same r r′ b = ap (λ (x : List ℕ). x ++ inlineContents settings e) (b .texts-same)
 
-      -- so in both
+      -- the step of an element writes the same row and the same texts in both runs
       element-after : (r r′ : Running) → Twins (suc i) r r′ → After (suc i) r r′ (stepAt (suc i) r) (stepAt (suc i) r′)
       element-after r r′ b =
           subst (λ (s : Stepped). After (suc i) r r′ s (stepAt (suc i) r′)) (sym (is-element r (b .left)))
           (subst (λ (s : Stepped). After (suc i) r r′ (elementOf r) s) (sym (is-element r′ (b .right)))
           (record { left = element-on r (b .left); right = element-on r′ (b .right); row-same = element-row-same r r′ b; texts-same = element-texts-same r r′ b }))
 
-  -- ---- every row
+  -- ---- every row: its step writes the same row and the same texts in both runs
   step-after : (i : ℕ) → i < count → (r r′ : Running) → Twins i r r′ → After i r r′ (stepAt i r) (stepAt i r′)
   step-after zero there r r′ b = document-after r r′ b
   step-after (suc i) there r r′ b = go (kinds (g .nodes) (g .attributes) (g .text) ok i there)
@@ -232,7 +233,7 @@ module _ (code : List ℕ) (few : length code ≤ compiledLimit) (some : 0 < len
       go (inl e) = other-after i there e r r′ b
       go (inr e) = element-after i there e r r′ b
 
-  -- all that follow
+  -- two runs that agree before row i agree when all rows from i on are done
   run-after : (k i : ℕ) (r r′ : Running) → i + k ≡ count → Twins i r r′ → Twins count (runFrom code settings g k i r) (runFrom code settings g k i r′)
   unfolding runFrom runStep
   run-after zero i r r′ e b = let z : i ≡ count = omega arith in subst (λ (n : ℕ). Twins n r r′) z b

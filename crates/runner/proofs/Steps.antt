@@ -21,7 +21,7 @@ use Rattle.runner.specs.Run.{Stepped, noStyle, documentStep, elementStep
 
 -- ---- contents
 module _ (settings : Settings) (g : Page) where
-  -- of an element
+  -- the contents of an element's row are those of its inline styles, of which there are none with the switch off
   pub element-contents : (i : ℕ) → nodeAt (g .nodes) i .kind ≡ elementKind → rowContents settings g i ≡ inlineContents settings (elementAt (g .nodes) (g .attributes) (g .text) i)
   unfolding rowContents
   element-contents i e = sym (pick-true _ _ _ _ (is-yes _ _ e) refl)
@@ -54,13 +54,13 @@ module _ (code : List ℕ) (settings : Settings) (g : Page) (parent state texts 
   abbrev stepAt : ℕ → Stepped
   stepAt i = stepOn code settings (handedAt g i) (depthOf (g .nodes) i) parent state texts
 
-  -- of other content
+  -- at other content a step writes no style and leaves the state and the texts as they were
   pub other-step : (i : ℕ) → nodeAt (g .nodes) i .kind ≡ otherKind → stepAt i ≡ record { row = noStyle; state = state; texts = texts }
   unfolding stepOn
   other-step i e = sym (pick-true _ _ _ _ (is-yes _ _ (handed-kind g i ∙ e)) refl)
 
   module _ (ok : Accepted (g .nodes) (g .attributes) (g .text)) where
-    -- of the document
+    -- at row 0 of an accepted page a step is the document's
     pub document-step : stepAt 0 ≡ documentStep code state texts
     unfolding stepOn openStep
     document-step =

@@ -41,7 +41,7 @@ module _ {A B : Type 0} (f : A → B) (u : ℕ → Decoded A) where
   counted-place zero i = refl
   counted-place (suc k) i = one-place k (counted-place k) (u i)
 
--- behind a count
+-- behind a number that is read, two readers that end at the same place for every number end at the same place
 counted-behind : {A B : Type 0} (d : Decoded ℕ) (f : ℕ → ℕ → Decoded A) (g : ℕ → ℕ → Decoded B) → ((n k : ℕ) → placeAnswer (f n k) ≡ placeAnswer (g n k))
     → placeAnswer (andThen d f) ≡ placeAnswer (andThen d g)
 unfolding andThen placeAnswer
@@ -59,7 +59,7 @@ styles-place t i =
 styles-walked : (t : List ℕ) (i m : ℕ) → placeAnswer (stylesAt t i) ≡ place.At m → (xs : List (Styled Value)) × (walkedStylesAt t i ≡ read m xs)
 styles-walked t i m e = place-read (walkedStylesAt t i) (placeAnswer (stylesAt t i)) (styles-place t i) m e
 
--- as many
+-- styles in numbers are as many as the styles
 styles-as-many : (t : List ℕ) (i m : ℕ) (ds : List StyleDecl) (xs : List (Styled Value)) → stylesAt t i ≡ read m ds → walkedStylesAt t i ≡ read m xs → length xs ≡ length ds
 unfolding stylesAt walkedStylesAt
 styles-as-many t i m ds xs e f =

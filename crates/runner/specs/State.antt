@@ -18,7 +18,8 @@ partWidth code = length code + 1
 abbrev pub partPlace : List ℕ → ℕ → ℕ
 partPlace code depth = depth * partWidth code
 
--- the part of a depth
+-- the part of a depth: "Open at a row are the row and its ancestors; state kept for them may include how many element children each has had so far, and
+-- beside it only the text store's fill is kept."
 unfoldable pub partOf : List ℕ → ℕ → List ℕ → List ℕ
 partOf code depth state = part state (partPlace code depth) (partWidth code)
 

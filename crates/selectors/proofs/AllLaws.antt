@@ -98,14 +98,14 @@ where-else m P fails q h k = k
 where-else m P (panics p) q h k = h
 
 -- ---- what never fails
--- behind some bytes
+-- what does not fail does not fail behind k bytes either
 pub behind-never : {A B : Type 0} (k : ℕ) (o : Outcome A) (f : A → B) → (o ≡ fails → ⊥) → behind k o f ≡ fails → ⊥
 unfolding behind onOutcome
 behind-never k (reads n a) f h e = reads-no e
 behind-never k fails f h e = h refl
 behind-never k (panics p) f h e = panics-no e
 
--- by cases
+-- where neither what follows a reading nor what stands in place of a failure fails, the whole does not fail
 pub then-never : {A B : Type 0} (o : Outcome A) (f : ℕ → A → Outcome B) (b : Outcome B) (g : ℕ → ℕ) → ((n : ℕ) (a : A) → f n a ≡ fails → ⊥) → (b ≡ fails → ⊥)
     → onOutcome o f b (λ p. panics (g p)) ≡ fails → ⊥
 unfolding onOutcome

@@ -53,7 +53,7 @@ module _ (c : Component) (f : ℕ) where
   by-kept false d e = (refl, sym (append-nil (componentRow f c)), append-nil (componentText c))
 
   module _ (start : Bool) where
-    -- how many
+    -- none is kept of a blank at the start, and one of any other component
     pub kept-count : pick start (pick (is (componentKind c) descendantKind) 0 1) 1 ≡ length (keptOf start c)
     unfolding keptOf
     kept-count = rw (blank-told c) (by-kept start (isDescendant c) refl .0)

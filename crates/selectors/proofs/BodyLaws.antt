@@ -17,7 +17,7 @@ use Rattle.selectors.proofs.AllLaws.{reads-no, panics-no, behind-never,
 use Rattle.selectors.proofs.ComponentEnds.{component-some, none-left, enough-turns}
 
 -- ---- a blank at the end
--- behind other components
+-- of components with one more behind them, that last one is dropped where it is a blank
 pub blank-last : (xs : List Component) (c : Component) → withoutBlank (xs ++ c ∷ []) ≡ xs ++ pick (isDescendant c) [] (c ∷ [])
 unfolding withoutBlank
 blank-last [] c = refl
@@ -44,11 +44,11 @@ without-first c cs =
     ∙ reverse-append (reverse cs) (pick (isDescendant c) [] (c ∷ []))
     ∙ rw (reverse-one (isDescendant c) c, reverse-reverse cs, kept-first c)
 
--- of one component
+-- one component alone is dropped at the start where it is a blank
 first-one : (c : Component) → withoutFirst (c ∷ []) ≡ pick (isDescendant c) [] (c ∷ [])
 first-one c = without-first c [] ∙ append-nil (keptOf true c) ∙ kept-first c
 
--- of no components
+-- of no components none is dropped at the start
 pub first-none : withoutFirst [] ≡ []
 unfolding withoutFirst withoutBlank
 first-none = refl

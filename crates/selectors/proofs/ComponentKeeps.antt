@@ -48,7 +48,7 @@ abbrev pub ComponentKeeps : List ℕ → Outcome Component → Type 0
 ComponentKeeps s o = Where (length s) (λ n c. Fits s n (componentText c) × Small c) o
 
 -- ---- by the parts of the definition
--- of two alternatives
+-- what two alternatives keep to, the one that reads or panics keeps to
 or-keeps : (s : List ℕ) (o o′ : Outcome Component) → ComponentKeeps s o → ComponentKeeps s o′ → ComponentKeeps s (orElse o o′)
 or-keeps s o o′ h k = where-else (length s) (λ n c. Fits s n (componentText c) × Small c) o o′ h k
 
@@ -193,7 +193,7 @@ next-keeps start s = pick-holds (ComponentKeeps s) start _ _ (λ _. or-keeps s _
 
 -- the numbers that go to its row
 module _ (s : List ℕ) (bits : length s + 2 < 2 ^ 32) (n : ℕ) where
-  -- a text's length
+  -- a text no longer than what a component stands for has a length of 32 bits
   text-bits : (t b : List ℕ) → Fits s n b → length t ≤ length b → length t < 2 ^ 32
   text-bits t b f h = omega (arith, bound-two (f .bound), f .within-text)
 

@@ -141,7 +141,7 @@ module _ (s : List ℕ) (turns taken : ℕ) (enough : length s ≤ taken + turns
     step false b e =
         record { others = turns - 1; suffice = omega (arith, enough, some, inside); rest-is = rw (b, later (turns - 1)) (later-turn turns enough b e) }
 
-  -- no more
+  -- where no first component reads, the components as a whole do not read
   first-none : is taken 0 ≡ true → nextOf (is taken 0) (drop taken s) ≡ fails → startedOf s ≡ fails
   unfolding nextOf firstBehind onOutcome pick
   first-none b e =
@@ -156,7 +156,7 @@ module _ (s : List ℕ) (turns taken : ℕ) (enough : length s ≤ taken + turns
       let f : nextOf false (drop taken s) ≡ fails = ap (λ (i : Bool). nextOf i (drop taken s)) (sym b) ∙ e in
       rw (b, f)
 
-  -- the crate panics
+  -- where the reader of the next component panics, what is left to read panics at the same place
   panics-at : (b : Bool) → is taken 0 ≡ b → (p : ℕ) → nextOf b (drop taken s) ≡ panics p → (t : ℕ) → length s ≤ taken + t → restOf s t taken ≡ panics p
   unfolding restOf nextOf componentsOf firstBehind onOutcome pick
   panics-at true b p e t l =
@@ -247,7 +247,7 @@ module _ {s rules₀ : List ℕ} {place : ℕ} {store₀ : List ℕ} {fill : ℕ
           let y = none-yet (i .gathered) (omega (arith, i .counted)) in
           left-fails _ _ _ _ _ _ _ _ (first-none s (i .turns) taken (i .enough) (is-yes taken 0 z) none) (y .0) (same ∙ y .1)
 
-      -- no more
+      -- where no further component reads, what was read so far is the whole
       pub stops : (taken ≡ 0 → ⊥) → Ends s rules₀ place store₀ fill (Reads taken count numbers text) rules store₁
       unfolding componentRows componentTexts
       stops n = rw same (all-read (i .gathered) 0 taken (later-none s (i .turns) taken (i .enough) (i .turns) (is-no taken 0 n) none) (omega arith))
@@ -319,7 +319,7 @@ module _ {s rules₀ : List ℕ} {place : ℕ} {store₀ : List ℕ} {fill : ℕ
         pub count-fits : count + kept ≤ taken + n
         count-fits = omega (arith, i .counted, kept-few, taken-more)
 
-        -- the next turn
+        -- with the component's row and text stored where it is kept, the reader goes on behind it
         pub goes : {y : List ℕ} {t : ℕ} → y ≡ sets rules (place + numbers) (pick (is kept 0) [] (k ∷ (fill + text) ∷ f ∷ g ∷ [])) → t ≡ textLength k f g
             → Reading-on s rules₀ place store₀ fill y store₁ (taken + n) (count + kept) (numbers + componentWidth * kept) (text + t)
         unfolding written onOutcome componentRows

@@ -72,7 +72,7 @@ module _ {A : Type 0} (w : ℕ → A → List ℕ) (x : A → List ℕ) where
 
 module _ {A : Type 0} {w : ℕ → A → List ℕ} {x : A → List ℕ} {whole : Outcome (List A)} {rules₀ : List ℕ} {place : ℕ} {store₀ : List ℕ} {fill : ℕ} {rest : Outcome (List A)} {k : ℕ} {rules store : List ℕ} {count numbers text : ℕ}
     (g : Gathered w x whole rest rules₀ place store₀ fill k rules store count numbers text) where
-  -- some more
+  -- things xs read in n bytes, with their rows and texts stored behind the others, are gathered with them
   pub gathered-more : (n : ℕ) (xs : List A) (rest′ : Outcome (List A)) (rules′ store′ : List ℕ) → rest ≡ behind n rest′ (λ more. xs ++ more)
       → rules′ ≡ sets rules (place + numbers) (rowsMany w x (fill + text) xs) → store′ ≡ sets store (fill + text) (textsMany x xs)
       → Gathered w x whole rest′ rules₀ place store₀ fill (k + n) rules′ store′ (count + length xs) (numbers + length (rowsMany w x (fill + text) xs)) (text + length (textsMany x xs))
@@ -93,7 +93,7 @@ module _ {A : Type 0} {w : ℕ → A → List ℕ} {x : A → List ℕ} {whole :
         text-is = rw (texts-append w x d xs) (omega (arith, g .text-is, length-append ts (textsMany x xs)));
       }
 
-  -- one more
+  -- one thing read in n bytes, with its row and its text stored behind the others, is gathered with them
   pub gathered-next : (n : ℕ) (a : A) (rest′ : Outcome (List A)) (rules′ store′ : List ℕ) → rest ≡ behind n rest′ (λ more. a ∷ more)
       → rules′ ≡ sets rules (place + numbers) (w (fill + text) a) → store′ ≡ sets store (fill + text) (x a)
       → Gathered w x whole rest′ rules₀ place store₀ fill (k + n) rules′ store′ (count + 1) (numbers + length (w (fill + text) a)) (text + length (x a))
@@ -106,7 +106,7 @@ module _ {A : Type 0} {w : ℕ → A → List ℕ} {x : A → List ℕ} {whole :
   pub rules-zeros : Zeros rules₀ place → Zeros rules (place + numbers)
   rules-zeros z = rw (g .rules-are, g .numbers-are) (zeros-behind rules₀ place z (rowsMany w x fill (g .done)))
 
-  -- of texts
+  -- the store of texts is zero behind what was gathered
   pub store-zeros : Zeros store₀ fill → Zeros store (fill + text)
   store-zeros z = rw (g .store-is, g .text-is) (zeros-behind store₀ fill z (textsMany x (g .done)))
 
@@ -114,7 +114,7 @@ module _ {A : Type 0} {w : ℕ → A → List ℕ} {x : A → List ℕ} {whole :
   pub rules-long : length rules ≡ length rules₀
   rules-long = rw (g .rules-are) (length-sets rules₀ place (rowsMany w x fill (g .done)))
 
-  -- of texts
+  -- the store of texts keeps its length
   pub store-long : length store ≡ length store₀
   store-long = rw (g .store-is) (length-sets store₀ fill (textsMany x (g .done)))
 

@@ -63,7 +63,7 @@ signed-le true (suc n) h = omega arith
 signed-le false (suc n) h = omega arith
 
 -- ---- the returns of `converted`
--- no digit
+-- where there is no digit the number is 1, with its sign
 pub converted-one : (d : List ℕ) (minus : Bool) (w : ℕ) → length d ≡ 0 → w ≡ signedNumber (signed minus 1) → Number w ≡ convertedAnswer d minus
 unfolding convertedAnswer
 converted-one d minus w e ew = pick-true _ _ _ _ (is-yes _ _ e) (ap Number ew)

@@ -123,7 +123,7 @@ module _ (s st z : List ℕ) (fill : ℕ) (x : Name) (w : idents.Named (identOf 
       child-other e = (name-other s n (name .name) (name .reads) (told _ _ _ test e), wiped-back)
 
 -- ---- the returns of `parse_pseudo_class`
--- ':' is there
+-- where the first byte is ':', the text has a byte
 pub colon-there : (s : List ℕ) (t : Bool) → t ≡ is (getD s 0 0) ascii.colon → t ≡ true → 1 ≤ length s
 colon-there s t et e = let l = byte-there s 0 ascii.colon (omega arith) (told _ _ _ et e) in omega arith
 

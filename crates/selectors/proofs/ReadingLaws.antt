@@ -82,7 +82,7 @@ pub record Found {A : Type 0} (c : A → ℕ) (w x : A → List ℕ) (o : Outcom
 
 module _ {A : Type 0} (c : A → ℕ) (w x : A → List ℕ) (o : Outcome A) (rules : List ℕ) (place : ℕ) (store : List ℕ) (fill : ℕ) {y z : List ℕ} where
   -- ---- returns
-  -- something was read
+  -- where a value was read, the answer says its sizes, and its row and its texts are stored
   pub left-reads : {n count numbers text : ℕ} {a : A} → o ≡ reads n a → count ≡ c a → numbers ≡ length (w a) → text ≡ length (x a)
       → y ≡ sets rules place (w a) → z ≡ sets store fill (x a) → Left c w x o rules place store fill (Reads n count numbers text) y z
   unfolding reading written onOutcome
@@ -93,12 +93,12 @@ module _ {A : Type 0} (c : A → ℕ) (w x : A → List ℕ) (o : Outcome A) (ru
   unfolding manyReading written onOutcome
   left-many e p q t ey ez = (rw (e, p, q, t), (ey ∙ rw e, ez ∙ rw e))
 
-  -- nothing was
+  -- where nothing was read, the answer says so and both stores are as they were
   pub left-fails : o ≡ fails → y ≡ rules → z ≡ store → Left c w x o rules place store fill Fails y z
   unfolding reading written onOutcome
   left-fails e ey ez = (rw e, (ey ∙ rw e, ez ∙ rw e))
 
-  -- the crate panics
+  -- where the crate panics, the answer says the place and both stores are as they were
   pub left-panics : {p : ℕ} → o ≡ panics p → y ≡ rules → z ≡ store → Left c w x o rules place store fill (Panics p) y z
   unfolding reading written onOutcome
   left-panics e ey ez = (rw e, (ey ∙ rw e, ez ∙ rw e))

@@ -195,13 +195,13 @@ module _ {s rules₀ : List ℕ} {place : ℕ} {store₀ : List ℕ} {fill : ℕ
   Ends a y z = Left (λ x. 1) (selectorRow fill) selectorText (selectorOf s) rules₀ place store₀ fill a y z
 
   module _ {b : Reading} {rules₁ store₁ : List ℕ} (e : Left length (componentRows fill) componentTexts (startedOf s) rules₀ (place + selectorHead) store₀ fill b rules₁ store₁) where
-    -- no components read
+    -- where no components are read, no selector is read and both stores are as they were
     pub fails-left : b ≡ Fails → Ends Fails rules₁ store₁
     fails-left told =
         let n = nothing _ _ _ _ _ _ _ _ e told in
         left-fails _ _ _ _ _ _ _ _ (selector-fails s (n .0)) (n .1 .0) (n .1 .1)
 
-    -- the crate panics
+    -- where the reading of components panics, the reading of the selector panics at the same place
     pub panics-left : {p : ℕ} → b ≡ Panics p → Ends (Panics p) rules₁ store₁
     panics-left {p} told =
         let n = panicked _ _ _ _ _ _ _ _ e told in

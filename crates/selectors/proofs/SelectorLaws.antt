@@ -37,7 +37,7 @@ module _ (start k : ℕ) where
   pub kept-none : start ≡ 0 → k ≡ descendantKind → _≡_ {A = ℕ} 0 (pick (is start 0) (pick (is k descendantKind) 0 1) 1)
   kept-none s e = pick-true _ _ _ _ (is-yes start 0 s) (pick-true _ _ _ _ (is-yes k descendantKind e) refl)
 
-  -- others are
+  -- any other component at the start is kept
   pub kept-first : start ≡ 0 → (k ≡ descendantKind → ⊥) → _≡_ {A = ℕ} 1 (pick (is start 0) (pick (is k descendantKind) 0 1) 1)
   kept-first s n = pick-true _ _ _ _ (is-yes start 0 s) (pick-false _ _ _ _ (is-no k descendantKind n) refl)
 

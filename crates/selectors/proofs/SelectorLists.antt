@@ -36,7 +36,7 @@ unfoldable nextOf : List ℕ → (ℕ → ℕ) → ℕ → ℕ → Outcome (List
 nextOf s turns gap next =
     onOutcome (selectorOf (drop next s)) (λ n x. behind (gap + n) (moreSelectors (turns n) (drop (next + n) s)) (λ xs. x ∷ xs)) (reads 0 []) (λ p. panics (gap + p))
 
--- at the start
+-- at the start of the text nothing stands before the first selector, so 0 bytes more are counted
 first-by : (o : Outcome Selector) (f : ℕ → Outcome (List Selector))
     → onOutcome o (λ n x. behind n (f n) (λ xs. x ∷ xs)) (reads 0 []) (λ p. panics p)
     ≡ onOutcome o (λ n x. behind (0 + n) (f (0 + n)) (λ xs. x ∷ xs)) (reads 0 []) (λ p. panics (0 + p))
@@ -106,7 +106,7 @@ pub record Reading-on (s rules₀ : List ℕ) (place : ℕ) (store₀ : List ℕ
   pub wide : numbers ≤ componentWidth * next
   pub long : text ≤ next
 
--- before the first
+-- before the first selector nothing is taken or written, and the whole list is still to be read
 pub begin : (s rules : List ℕ) (place : ℕ) (store : List ℕ) (fill : ℕ) → Reading-on s rules place store fill rules store 0 0 0 0 0
 begin s rules place store fill =
     record {
@@ -170,7 +170,7 @@ module _ {s rules₀ : List ℕ} {place : ℕ} {store₀ : List ℕ} {fill : ℕ
   store-kept = store-long (i .gathered)
 
   module _ {r : Reading} {y z : List ℕ} (e : Left (λ _. 1) (selectorRow (fill + text)) selectorText (selectorOf lent) rules (place + numbers) store (fill + text) r y z) where
-    -- no selector follows
+    -- where no selector follows, those that were read so far are the whole list
     pub no-selector : r ≡ Fails → Ends s rules₀ place store₀ fill (many.Reads taken count numbers text) y z
     unfolding nextOf onOutcome selectorRows selectorTexts
     no-selector g =
@@ -217,12 +217,12 @@ module _ {s rules₀ : List ℕ} {place : ℕ} {store₀ : List ℕ} {fill : ℕ
           (omega (arith, i .next-is)) refl (omega (arith, one .rows)) (omega (arith, one .texts))
 
       module _ {b : Bool} (eb : b ≡ is (getD s (next + n) 0) ascii.comma) where
-        -- no ',' follows
+        -- where no ',' follows a selector, it is the last of the list
         pub no-comma : b ≡ false → Ends s rules₀ place store₀ fill (many.Reads (next + n) (count + 1) (numbers + row) (text + more)) y z
         unfolding selectorRows selectorTexts
         no-comma f = many-read read-on 0 (next + n) (none-follows s (next + n) eb f (i .turns n)) (omega arith)
 
-        -- one does
+        -- a ',' that follows lies within the text
         pub comma-within : b ≡ true → next + n < length s
         comma-within f = comma-there s (next + n) eb f
 

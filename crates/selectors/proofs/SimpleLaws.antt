@@ -32,7 +32,7 @@ not-some : {A : Type 0} → OneOf some (tagOf the-type NoComponent) → A
 not-some h = absurd (miss some _ tt h)
 
 -- ---- the first of two that reads or panics
--- the first does
+-- where the first reads or panics, both together leave what it leaves
 left-first : (o o′ : Outcome syntax.Component) (st : List ℕ) (fill : ℕ) (r : ComponentAnswer) (z : List ℕ) → Left o st fill r z → OneOf some (tagOf the-type r)
     → Left (orElse o o′) st fill r z
 unfolding orElse componentAnswer onOutcome
@@ -185,13 +185,13 @@ module _ (s st : List ℕ) (fill : ℕ) (r : ComponentAnswer) (er : r ≡ compon
 
 -- ---- the returns of `parse_next`
 module _ (start : ℕ) (s st : List ℕ) (fill : ℕ) where
-  -- behind others
+  -- behind the start of a selector the next component is any component
   pub next-any : (start ≡ 0 → ⊥) → (x : ComponentAnswer) (z : List ℕ) → Left (componentOf s) st fill x z → Left (nextOf (is start 0) s) st fill x z
   unfolding nextOf pick
   next-any n x z v = rw (is-no start 0 n) v
 
   module _ (h : start ≡ 0) (r : ComponentAnswer) (z : List ℕ) (w : Left (parsed 0 (identOf s) element) st fill r z) where
-    -- a type selector
+    -- at the start of a selector a type selector that reads or panics is the next component
     pub next-element : OneOf some (tagOf the-type r) → Left (nextOf (is start 0) s) st fill r z
     unfolding nextOf firstOf pick
     next-element k = rw (is-yes start 0 h) (left-first _ _ st fill r z w k)

@@ -70,7 +70,7 @@ unfoldable pub signed : Bool → ℕ → ℤ
 signed minus zero = pos 0
 signed minus (suc n) = pick minus (negsuc n) (pos (suc n))
 
--- the greatest number of `i32`
+-- the greatest number of `i32`: "nth digits 2147483647 accepted, 2147483648 refused 4"
 abbrev pub greatest : ℕ
 greatest = 2147483647
 
@@ -78,7 +78,8 @@ greatest = 2147483647
 unfoldable pub digitsWorth : List ℕ → ℕ → ℕ → ℕ
 digitsWorth t i n = pick (is n 0) 1 (numeral 10 hexDigit 0 (take n (drop i t)))
 
--- it is converted where it fits `i32`; the crate panics where it does not, at its first digit
+-- it is converted where it fits `i32`; "the crate panics while reading: `[name=` ends the text, or nth-child digits that the crate's reader converts exceed
+-- 2147483647", at the first digit
 unfoldable pub converted : {A : Type 0} → List ℕ → ℕ → ℕ → Bool → (ℤ → Outcome A) → Outcome A
 converted t i n minus f = pick (leb (digitsWorth t i n) greatest) (f (signed minus (digitsWorth t i n))) (panics i)
 

@@ -220,7 +220,7 @@ module _ (s : List ℕ) (n at : ℕ) (rules : List ℕ) (place : ℕ) (tokens br
                 block-read = (rw (block-is, length-declarations fill ds, count-is, text-is), (rules-are ∙ rw block-is, (tokens-are, (brackets-are, store-is ∙ rw block-is))))
 
 -- ---- what the answer of `parse_block` says
--- the block
+-- an answer with a block: declarations were read, and the answer says their sizes
 pub block-by : (f : ℕ) (o : Outcome (List Declaration)) (n count numbers text : ℕ) → Block n count numbers text ≡ blockAnswer f o
     → ReadAs length (declarationRows f) declarationTexts o n count numbers text
 unfolding blockAnswer onOutcome

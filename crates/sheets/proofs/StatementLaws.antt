@@ -145,7 +145,7 @@ module _ (s : List ℕ) (at : ℕ) (rules : List ℕ) (place : ℕ) (tokens brac
       pub at-room : WorkRoom s x b z fill
       at-room = rw (e .1 .1 .0, e .1 .1 .1 .0, none .1 .1) (o .work)
 
-      -- it says nothing
+      -- an at-rule says nothing: it writes no rows and no texts
       silent : Nothing at fill (atRuleOf s)
       silent = at-rule-nothing at fill s
 

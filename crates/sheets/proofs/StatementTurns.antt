@@ -217,7 +217,7 @@ module _ {s rules₀ tokens₀ brackets₀ store₀ rules tokens brackets store 
       brackets-same : b ≡ brackets₀
       brackets-same = e .1 .1 .1 .0 ∙ i .brackets-kept
 
-      -- no statement follows
+      -- where no statement follows, those that were read so far are the whole sheet
       pub no-more : r ≡ Fails → Ends s rules₀ tokens₀ brackets₀ store₀ (many.Reads taken count numbers text) y x b z
       no-more g =
           let n = nothing _ _ _ _ _ _ _ _ left g in

@@ -67,7 +67,7 @@ unfoldable pub movedTo : ℕ → Outcome (List RuleSet) → Outcome (List RuleSe
 movedTo at o = behind 0 o (map (movedBy at))
 
 -- ---- `parse_stylesheet`: statements as long as they read, from the rest t on, which starts at `at`; the first number is no less than the bytes
--- left. It reads to the first byte not read, or the crate panics; it never fails.
+-- left. It reads to the first byte not read, or the crate panics; it never fails. "Skipping a bad rule and reading on" would be wrong.
 unfoldable pub sheetFrom : ℕ → List ℕ → ℕ → Outcome (List RuleSet)
 sheetFrom zero t at = reads at []
 sheetFrom (suc l) t at =
@@ -75,6 +75,6 @@ sheetFrom (suc l) t at =
     (λ n rs. behind 0 (sheetFrom l (drop n t) (at + n)) (λ more. map (movedBy at) rs ++ more))
     (reads at []) (λ p. panics (at + p))
 
--- "The answer is the rules and the place of the first byte not read."
+-- "The answer is the rules and the place of the first byte not read. Stopping early is an accepted answer."
 unfoldable pub sheetOf : List ℕ → Outcome (List RuleSet)
 sheetOf s = sheetFrom (length s) s 0

@@ -28,7 +28,8 @@ sheetLimit = 32768
 abbrev pub refusedSheet : Refusal → SheetNumbers
 refusedSheet r = record { refusal = r; count = 0; stop = 0; numbers = 0; bytes = 0 }
 
--- what each answer stands for; of refusal 4 the text is "0 in a call with one text"
+-- "Where an answer is an enum, a definition gives this paper's number and values for each of its cases"; of refusal 4 the text is "0 in a call with
+-- one text"
 unfoldable pub numbersOf : SheetAnswer → SheetNumbers
 numbersOf (Sheet count stop numbers bytes) = record { refusal = noRefusal; count = count; stop = stop; numbers = numbers; bytes = bytes }
 numbersOf TooLong = refusedSheet (refused tooLong)

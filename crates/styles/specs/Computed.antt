@@ -9,7 +9,8 @@ use Rattle.page.specs.Path.{Path}
 use Rattle.styles.specs.declared.settings.Settings.{Settings}
 use Rattle.styles.specs.Said.{Rules, sourcesFrom, meantRules, countedAttributes, attributesSay}
 
--- ---- a cascade down a path, from what is said of each of its elements, the asked one first; "an empty one below row 0"
+-- ---- a cascade down a path, from what is said of each of its elements, the asked one first: "It starts from the parent's record (an empty one below row
+-- 0), agent rules before user before author"
 unfoldable pub cascaded : {A : Type 0} → Cascade → List (Sources A) → ComputedStyle A
 cascaded c [] = emptyStyle
 cascaded c (x ∷ above) = cascadeBy c (cascaded c above) x

@@ -10,13 +10,13 @@ use Rattle.syntax.specs.Style as style
 use Rattle.syntax.specs.Style.{Style}
 use Rattle.syntax.specs.declared.styles.Value.{Value}
 
--- a start and a length name a text, which lies within
+-- "Content is a start and a length in the text store, which belongs to the answer and is no work store": they name a text, which lies within
 pub record Names (t : List ℕ) (v : Value) (x : List ℕ) : Type 0 where
   pub long : v .second ≡ length x
   pub within : v .number + v .second ≤ length t
   pub named : part t (v .number) (v .second) ≡ x
 
--- a content is named, any other style is its number
+-- "Contents are compared by their text": a content is named, any other style is its number
 unfoldable pub Says : List ℕ → Value → Style → Type 0
 Says t v (style.colour c) = v ≡ valueFrom 0 (style.colour c)
 Says t v (style.background c) = v ≡ valueFrom 0 (style.background c)

@@ -24,6 +24,7 @@ rowLeft l = take styleRowWidth (l .row)
 abbrev pub textsLeft : StyleLeft → List ℕ
 textsLeft l = take (l .answer .texts) (l .texts)
 
+-- the row says the computed style, which excludes "invented specificities or stopping places, one fixed style row, an engine that writes no rows"
 pub record RowSays (c : Cascade) (settings : Settings) (s : SheetTexts) (p : Path) (l : StyleLeft) : Type 0 where
   -- the rules of the three sheets, as they are read from their texts
   pub sheets : Rules RuleSet

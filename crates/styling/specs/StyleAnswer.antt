@@ -27,7 +27,7 @@ use Rattle.styling.specs.declared.style.StyleAnswer.{StyleAnswer}
 unfoldable pub callBytes : SheetTexts → Page → ℕ
 callBytes s g = length (s .agent) + length (s .user) + length (s .author) + 2 * attributeRows (g .attributes) + length (g .text)
 
--- "8 the asked row is no element or beyond the page"
+-- "8 the asked row is no element or beyond the page", since "Styles are given for elements only."
 unfoldable pub isElement : List ℕ → ℕ → Bool
 isElement nodes row = and (ltb row (nodeCount nodes)) (is (nodeAt nodes row .kind) elementKind)
 

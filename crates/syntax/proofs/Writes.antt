@@ -29,7 +29,7 @@ module _ (l : List ℕ) (at a b : ℕ) (l₁ l₂ : List ℕ) (f₁ f₂ : ℕ)
     four-left d l₄ f₄ s = sets-emitted l l₄ _ at f₄ (then _ _ _ _ _ (then _ _ _ _ _ (then _ _ _ _ _ p q) r) s)
 
 -- ---- a head, written last
--- any head
+-- a head written before what stands behind its place is as both written one behind the other
 headed : (l : List ℕ) (p : ℕ) (h xs : List ℕ) → sets (sets l (p + length h) xs) p h ≡ sets l p (h ++ xs)
 headed l p h xs = sets-apart l p (p + length h) h xs (omega arith) ∙ sym (sets-append l p h xs)
 

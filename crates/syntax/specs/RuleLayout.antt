@@ -199,6 +199,7 @@ readRule store t =
 unfoldable pub ruleRows : ℕ → List RuleSet → List ℕ
 ruleRows f rs = rowsMany ruleRow ruleText f rs
 
+-- "The store holds end to end, in reading order, the texts its rules name"
 unfoldable pub ruleTexts : List RuleSet → List ℕ
 ruleTexts rs = textsMany ruleText rs
 

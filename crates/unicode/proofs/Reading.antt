@@ -46,7 +46,7 @@ module _ (s : List ℕ) (long a b : ℕ) (ea : a ≡ getD s 0 0) (eb : b ≡ get
         tail-cut-last h = rw (is-no long 2 more, ← ec, k, is-no long 3 most, ← ed, h)
 
 -- ---- `scalar_at`: the row l of the first byte a, and the second byte b
--- an empty text
+-- an empty text begins with no scalar value
 pub at-end : (s : List ℕ) → length s ≡ 0 → NoScalar ≡ scalarOf s
 unfolding scalarOf
 at-end s h = pick-true _ _ _ _ (is-yes (length s) 0 h) refl

@@ -55,7 +55,7 @@ pick-sum true n = omega arith
 pick-sum false n = omega arith
 
 -- ---- one character lies within the text
--- White_Space
+-- a character of White_Space lies within the text
 pub white-le : (s : List ℕ) → whiteTaken s ≤ length s
 white-le s = go (scalarOf s) refl
   where

@@ -75,7 +75,7 @@ threeDigits v = rgb (v / 256 % 16 * 17) (v / 16 % 16 * 17) (v % 16 * 17)
 unfoldable pub sixDigits : ℕ → Colour
 sixDigits v = rgb (v / 65536 % 256) (v / 256 % 256) (v % 256)
 
--- `#` and 3 or 6 bytes
+-- "`#` colours have 3 or 6 bytes"
 unfoldable pub hashColour : List ℕ → Found Colour
 hashColour s =
     pick (is (length s) 3) (onFound (parseHex 0xffffffff s) (λ v. found (threeDigits v)) missing)
@@ -85,7 +85,7 @@ unfoldable pub threeNumbers : List ℕ → List ℕ → List ℕ → Found Colou
 threeNumbers r g b =
     onFound (parseU8 r) (λ x. onFound (parseU8 g) (λ y. onFound (parseU8 b) (λ z. found (rgb x y z)) missing) missing) missing
 
--- `rgb(` three numbers parted by commas `)`
+-- "`rgb` takes three whole numbers up to 255", parted by commas, and `)`
 unfoldable pub rgbColour : List Token → Found Colour
 rgbColour (r ∷ c ∷ g ∷ d ∷ b ∷ e ∷ []) =
     pick (and (isKind numberKind r) (and (isKind commaKind c) (and (isKind numberKind g) (and (isKind commaKind d) (and (isKind numberKind b) (isKind closeRoundKind e))))))
@@ -108,7 +108,7 @@ colourOf [] = missing
 colourOf (k ∷ []) = oneToken k
 colourOf (k ∷ a ∷ r) = pick (and (isKind functionKind k) (sameText (textOf k) (text "rgb"))) (rgbColour (a ∷ r)) missing
 
--- `parse_background_color`: what stands behind the last comma
+-- `parse_background_color`: what stands behind the last comma; "`background:rgb(1,2,3)`: no style, since commas split it"
 unfoldable pub behindComma : List Token → List Token → List Token
 behindComma acc [] = acc
 behindComma acc (k ∷ ks) = pick (isKind commaKind k) (behindComma ks ks) (behindComma acc ks)

@@ -16,7 +16,7 @@ use Rattle.syntax.specs.Declaration.{Overflow, visible, hidden, scroll, auto, W
 use Rattle.values.specs.Words.{Entry, Found, found, missing, lookup, onFound, isKind, numberOf, unitOf}
 use Rattle.values.specs.Colour.{colourOf, backgroundOf}
 
--- ---- heights
+-- ---- heights: "`Height` matters only as zero or not"
 
 -- whether a number's text is zero as an f32, its white space, comments and sign aside
 unfoldable pub unsignedZero : List ℕ → Bool

@@ -18,7 +18,7 @@ pub record Placed : Type 0 where
   pub token : Token
   pub start : ℕ
 
--- ---- brackets, by the byte that is awaited; that of `-->` is its '>'
+-- ---- brackets, by the byte that is awaited; that of `-->` is its '>'. "The bracket `Vec` becomes bytes"
 
 -- what a token does to the brackets
 pub data Bracket : Type 0 where

@@ -1,3 +1,4 @@
+-- A '-' at the start is one byte, which is then in the text; without it there are 0.
 use mathlib.Core.Path.{sym, _∙_}
 use native.Mathlib.Omega.{arith}
 use Rattle.combinators.proofs.Rules.{cases}

@@ -1,3 +1,4 @@
+-- At each turn what is left to read and to write has the result of the whole (`Chars`); the text is at most two bytes longer than `s`, so its length fits.
 use Prim.Native.Nat.{_+_, _-_}
 use native.Mathlib.Omega.{arith}
 use lib.ListN.{length}

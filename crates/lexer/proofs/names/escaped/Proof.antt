@@ -1,3 +1,4 @@
+-- The cases of `escapedOf` in their order: the end of the text, hex digits, of which there are at most six, and the next character.
 use mathlib.Core.Path.{sym, _∙_}
 use native.Mathlib.Omega.{arith}
 use Rattle.unicode.proofs.Scalars.{scalar-some}

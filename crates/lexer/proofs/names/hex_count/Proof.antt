@@ -1,3 +1,4 @@
+-- The run that `hex_run` counts, or 1 where it ends with the text: the one test of `hexCount`.
 use Rattle.lexer.proofs.Escapes as laws
 use borrow.Author.Needs.{needs}
 use Rattle.lexer.proofs.names.hex_count.Statement.{statement}

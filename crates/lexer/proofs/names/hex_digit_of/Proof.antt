@@ -1,3 +1,4 @@
+-- The three ranges of `hexDigit` in its order, where the byte is not below the range's first; any other byte is worth 0.
 use mathlib.Core.Path.{sym, _∙_}
 use native.Mathlib.Omega.{arith}
 use Rattle.combinators.proofs.Rules.{cases, within-true}

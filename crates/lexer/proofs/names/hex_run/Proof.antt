@@ -1,3 +1,4 @@
+-- At each turn the digits counted and those left to count make up the run (`Counting`); it ends before a byte that is no hex digit, or at six.
 use mathlib.Core.Path.{sym, ap, _∙_}
 use Prim.Native.Nat.{_-_}
 use Rattle.lexer.specs.Name.{isHexDigit, maximumDigits}

@@ -1,3 +1,4 @@
+-- Behind a backslash `escaped` reads the rest of the text, as the definition does; without a backslash there is no escape.
 use native.Mathlib.Omega.{arith}
 use Rattle.lexer.proofs.Escapes as laws
 use borrow.Author.Needs.{needs}

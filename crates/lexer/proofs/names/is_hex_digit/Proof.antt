@@ -1,3 +1,4 @@
+-- The three ranges of `isHexDigit`, in its order.
 use Rattle.combinators.proofs.Rules.{cases}
 use Rattle.lexer.specs.Name.{isHexDigit}
 use borrow.Author.Needs.{needs}

@@ -1,3 +1,4 @@
+-- The three alternatives of `isNmchar` in their order: what can start a name, a digit, '-'.
 use Rattle.combinators.proofs.Rules.{cases}
 use Rattle.lexer.specs.Name.{isNmchar}
 use borrow.Author.Needs.{needs}

@@ -1,3 +1,4 @@
+-- The three alternatives of `isNmstart` in their order: '_', a small letter, a capital letter.
 use Rattle.combinators.proofs.Rules.{cases}
 use Rattle.lexer.specs.Name.{isNmstart}
 use borrow.Author.Needs.{needs}

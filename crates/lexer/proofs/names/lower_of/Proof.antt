@@ -1,3 +1,4 @@
+-- The two cases of `lower`: a capital letter is as far below its small one as the constant says, any other byte is kept.
 use Rattle.lexer.proofs.Escapes as laws
 use borrow.Author.Needs.{needs}
 use Rattle.lexer.proofs.names.lower_of.Statement.{statement}

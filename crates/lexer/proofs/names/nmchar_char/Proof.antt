@@ -1,3 +1,4 @@
+-- The first byte, folded, where `isNmchar` holds of it; else there is no character.
 use Rattle.lexer.specs.Name.{isNmchar, nmcharCharOf}
 use Rattle.lexer.proofs.Escapes as laws
 use borrow.Author.Needs.{needs}

@@ -1,3 +1,4 @@
+-- The two alternatives of `nmstartOf` in their order: a plain character, and an escape where there is none.
 use Rattle.lexer.specs.Name.{nmstartOf}
 use Rattle.lexer.proofs.Escapes as laws
 use borrow.Author.Needs.{needs}

@@ -1,3 +1,4 @@
+-- The first byte, folded, where `isNmstart` holds of it; else there is no character.
 use Rattle.lexer.specs.Name.{isNmstart, nmstartCharOf}
 use Rattle.lexer.proofs.Escapes as laws
 use borrow.Author.Needs.{needs}

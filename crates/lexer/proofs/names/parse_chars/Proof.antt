@@ -1,3 +1,4 @@
+-- The run of characters is what is read; where it takes no byte its text is empty, so nothing was written.
 use Rattle.lexer.proofs.Idents as laws
 use borrow.Author.Needs.{needs}
 use Rattle.lexer.proofs.names.parse_chars.Statement.{statement}

@@ -1,3 +1,4 @@
+-- The name that `parse_name` reads of the rest of the text, with the white space before it counted among the bytes taken.
 use native.Mathlib.Omega.{arith}
 use Rattle.lexer.specs.Name.{nameOf, identOf}
 use Rattle.lexer.proofs.Idents as laws

@@ -1,3 +1,4 @@
+-- What `parse_chars` reads of the rest of the text, with the white space before it counted among the bytes taken.
 use native.Mathlib.Omega.{arith}
 use Rattle.lexer.specs.Name.{charsOf, identstringOf}
 use Rattle.lexer.proofs.Idents as laws

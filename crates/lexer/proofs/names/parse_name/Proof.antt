@@ -1,3 +1,4 @@
+-- A '-' and what starts a name are characters of names too, so where `nmstart` reads, one run from the start of `t` is the name (`name-some`).
 use Rattle.lexer.proofs.Idents as laws
 use borrow.Author.Needs.{needs}
 use Rattle.lexer.proofs.names.parse_name.Statement.{statement}

@@ -1,3 +1,4 @@
+-- The range from '0' to '9' is the definition.
 use Rattle.lexer.specs.Number.{isDigit}
 use borrow.Author.Needs.{needs}
 use Rattle.lexer.proofs.numbers.is_digit.Statement.{statement}

@@ -1,3 +1,4 @@
+-- The tests of `decimal`: a full stop behind the digits, and digits behind it; the full stop is in the text, so the rest begins within it.
 use mathlib.Core.Path.{sym, ap, _∙_}
 use Prim.Native.Nat.{_+_, _<_}
 use native.Mathlib.Omega.{arith}

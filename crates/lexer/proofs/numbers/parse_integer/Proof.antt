@@ -1,3 +1,4 @@
+-- At each turn the digits left to count have the result of the whole (`Repeating`); a byte that is no digit, or the end of the text, ends the run.
 use mathlib.Core.Path.{sym, _∙_}
 use Prim.Native.Nat.{_-_}
 use native.Mathlib.Omega.{arith}

@@ -1,3 +1,4 @@
+-- White space and what `parse_signed` takes behind it, or 0 where it takes nothing: `number`, which lies within the text (`number-le`).
 use Rattle.combinators.proofs.Repeating.{bounded}
 use Rattle.lexer.specs.Number.{signed, number}
 use Rattle.lexer.proofs.Digits.{number-le, followed-none, followed-some}

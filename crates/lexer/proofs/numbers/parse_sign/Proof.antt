@@ -1,3 +1,4 @@
+-- The first byte is '-', '+' or neither, as in `sign`; a sign is a byte of the text, so what is taken lies within it (`sign-le`).
 use Rattle.combinators.proofs.Rules.{cases}
 use Rattle.combinators.proofs.Repeating.{bounded}
 use Rattle.lexer.specs.Number.{sign}

@@ -1,3 +1,4 @@
+-- The sign and what `parse_unsigned` takes behind it, or 0 where it takes nothing: `signed`, which lies within the text (`signed-le`).
 use Rattle.combinators.proofs.Repeating.{bounded}
 use Rattle.lexer.specs.Number.{unsigned, signed}
 use Rattle.lexer.proofs.Digits.{signed-le, followed-none, followed-some}

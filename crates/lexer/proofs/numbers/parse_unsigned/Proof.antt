@@ -1,3 +1,4 @@
+-- The two cases of `unsigned`: digits where there are any, else a decimal; each lies within the text.
 use Rattle.combinators.proofs.Rules.{cases}
 use Rattle.lexer.specs.Number.{unsigned}
 use borrow.Author.Needs.{needs}

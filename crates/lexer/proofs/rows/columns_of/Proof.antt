@@ -1,3 +1,4 @@
+-- Each kind of token by its own equation of `columnsOf`; a delimiter's scalar value is the same number when it is widened.
 use Rattle.lexer.specs.TokenRow.{columnsOf}
 use Rattle.lexer.proofs.TokenRows as laws
 use borrow.Author.Needs.{needs}

@@ -1,3 +1,4 @@
+-- The five numbers emitted one behind the other are the row of the token, whether or not there is room for all of them.
 use mathlib.Core.Path.{_∙_}
 use Rattle.lexer.proofs.TokenRows as laws
 use borrow.Author.Needs.{needs}

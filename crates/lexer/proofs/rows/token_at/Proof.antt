@@ -1,3 +1,4 @@
+-- The kind and the two numbers are read at their columns of the row, and `token_of` gives the token that the definition gives for them.
 use Rattle.lexer.proofs.TokenRows as laws
 use borrow.Author.Needs.{needs}
 use Rattle.lexer.proofs.rows.token_at.Statement.{statement}

@@ -1,3 +1,4 @@
+-- One test for each kind that has numbers, in the order of `tokenFrom`; any other kind is a mark.
 use Rattle.lexer.proofs.TokenRows as laws
 use Rattle.lexer.specs.TokenRow.{tokenFrom}
 use Rattle.combinators.proofs.Rules.{cases}

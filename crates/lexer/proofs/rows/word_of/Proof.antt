@@ -1,3 +1,4 @@
+-- The remainder of division by 2^32 is the definition, and it has 32 bits.
 use Rattle.lexer.specs.TokenRow.{word}
 use borrow.Author.Needs.{needs}
 use Rattle.lexer.proofs.rows.word_of.Statement.{statement}

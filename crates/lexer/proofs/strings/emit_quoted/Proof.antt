@@ -1,3 +1,4 @@
+-- One turn by the three cases of `quotedOf`: a byte is emitted; skipped bytes and the end of the string leave the store as it was.
 use Rattle.lexer.proofs.Quotes as laws
 use borrow.Author.Needs.{needs}
 use Rattle.lexer.proofs.strings.emit_quoted.Statement.{statement}

@@ -1,3 +1,4 @@
+-- What is left to read and to write has the result of the whole at each turn (`Writing`); a turn that takes nothing, or the end of the text, ends it.
 use mathlib.Core.Path.{_∙_}
 use Prim.Native.Nat.{_+_, _-_}
 use native.Mathlib.Omega.{arith}

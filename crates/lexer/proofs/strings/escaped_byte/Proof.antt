@@ -1,3 +1,4 @@
+-- The tests of `escapedByte` in its order: a backslash that ends the text, one before a line feed, one before any other byte.
 use Rattle.combinators.proofs.Rules.{cases}
 use Rattle.lexer.specs.Quoted.{escapedByte}
 use borrow.Author.Needs.{needs}

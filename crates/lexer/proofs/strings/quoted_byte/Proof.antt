@@ -1,3 +1,4 @@
+-- The tests of `quotedOf` in its order: the end of the text, the quote, a line feed, a backslash, any other byte.
 use Rattle.combinators.proofs.Rules.{cases}
 use Rattle.lexer.specs.Quoted.{quotedOf}
 use borrow.Author.Needs.{needs}

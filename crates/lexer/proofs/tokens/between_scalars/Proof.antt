@@ -1,3 +1,4 @@
+-- The two comparisons of `within`; where the first fails the answer is false without the second.
 use Rattle.combinators.proofs.Rules.{within-false, within-rest}
 use Rattle.lexer.proofs.tokens.between_scalars.Statement.{statement}
 use Rattle.lexer.proofs.tokens.between_scalars.Tie as tie

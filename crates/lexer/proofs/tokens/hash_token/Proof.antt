@@ -1,3 +1,4 @@
+-- The name behind the '#' with the sign's byte taken too; where there is no name the store is as it was and the '#' is a delimiter.
 use native.Mathlib.Omega.{arith}
 use Rattle.lexer.proofs.IdentBounds.{identstring-keeps, answer-le}
 use Rattle.lexer.proofs.TokenReaders as laws

@@ -1,3 +1,4 @@
+-- The four alternatives of `isIdentStart` in their order: a small letter, a capital letter, '_', and all from U+0081 on.
 use Rattle.combinators.proofs.Rules.{cases}
 use Rattle.lexer.specs.Token.{isIdentStart}
 use borrow.Author.Needs.{needs}

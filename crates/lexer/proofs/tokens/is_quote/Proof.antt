@@ -1,3 +1,4 @@
+-- The two alternatives of `isQuote` in their order: a quotation mark, an apostrophe.
 use Rattle.combinators.proofs.Rules.{cases}
 use Rattle.lexer.specs.Token.{isQuote}
 use borrow.Author.Needs.{needs}

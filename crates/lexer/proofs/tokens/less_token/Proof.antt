@@ -1,3 +1,4 @@
+-- The text starts with "<!--" or it does not: the two cases of `lessOf`.
 use Rattle.lexer.proofs.TokenReaders as laws
 use borrow.Author.Needs.{needs}
 use Rattle.lexer.proofs.tokens.less_token.Statement.{statement}

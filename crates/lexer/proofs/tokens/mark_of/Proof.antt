@@ -1,3 +1,4 @@
+-- One test for each mark, in the order of `markOf`; any other character is the delimiter of its scalar value.
 use Rattle.combinators.proofs.Rules.{cases}
 use Rattle.lexer.specs.Token.{markOf, coded}
 use Rattle.lexer.specs.Token as token

@@ -1,3 +1,4 @@
+-- The alternatives of `minusOf` in their order: a number, "-->", a name, the delimiter; each that does not read leaves the store as it was.
 use mathlib.Core.Path.{_∙_}
 use Rattle.lexer.proofs.TokenReaders as laws
 use borrow.Author.Needs.{needs}

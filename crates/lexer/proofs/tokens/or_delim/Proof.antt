@@ -1,3 +1,4 @@
+-- What was read is kept; where nothing was, the delimiter takes its one byte: the two cases of `orDelim`.
 use Rattle.lexer.proofs.TokenAnswers as laws
 use borrow.Author.Needs.{needs}
 use Rattle.lexer.proofs.tokens.or_delim.Statement.{statement}

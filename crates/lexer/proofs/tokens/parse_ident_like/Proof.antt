@@ -1,3 +1,4 @@
+-- The name that `parse_ident` reads is a function where '(' stands behind it, else an identifier; where it reads none there is no token.
 use native.Mathlib.Omega.{arith}
 use Rattle.lexer.proofs.IdentBounds.{ident-keeps, answer-le}
 use Rattle.lexer.proofs.TokenReaders as laws

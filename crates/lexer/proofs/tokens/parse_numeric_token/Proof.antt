@@ -1,3 +1,4 @@
+-- The number's text is stored first; '%' behind it makes a percentage, a name a dimension with its unit stored behind, and neither a number.
 use mathlib.Core.Path.{_∙_}
 use native.Mathlib.Omega.{arith}
 use Rattle.lexer.proofs.IdentBounds.{ident-keeps, answer-le}

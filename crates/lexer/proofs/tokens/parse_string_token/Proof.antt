@@ -1,3 +1,4 @@
+-- `emit_string` writes what stands behind the quote; by where it ends the token is a string (end of the text, the quote) or a bad one (line feed).
 use mathlib.Core.Path.{refl}
 use native.Mathlib.Omega.{arith}
 use Rattle.lexer.proofs.TokenReaders as laws

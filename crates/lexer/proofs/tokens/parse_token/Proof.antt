@@ -1,3 +1,4 @@
+-- The token that `token_at` reads of the rest of the text, which starts where the white space and the comments end.
 use mathlib.Core.Path.{refl}
 use native.Mathlib.Omega.{arith}
 use Rattle.lexer.proofs.Lexing as laws

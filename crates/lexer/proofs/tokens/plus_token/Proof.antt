@@ -1,3 +1,4 @@
+-- The number behind the '+' with the sign's byte taken too; where there is no number the store is as it was and the '+' is a delimiter.
 use native.Mathlib.Omega.{arith}
 use Rattle.lexer.proofs.TokenReaders as laws
 use Rattle.lexer.proofs.TokenBounds.{token-le, numeric-bounded}

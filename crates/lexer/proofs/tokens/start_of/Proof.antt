@@ -1,3 +1,4 @@
+-- One test for each character that selects a reader, in the order of `startOf`; the two quotes select the same one.
 use mathlib.Core.Path.{sym, _∙_}
 use Rattle.combinators.proofs.Rules.{cases}
 use Rattle.lexer.specs.Number.{isDigit}

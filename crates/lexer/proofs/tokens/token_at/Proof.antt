@@ -1,3 +1,4 @@
+-- The first character selects the reader (`token_by`); where no character can be read there is no token and the store is as it was.
 use mathlib.Core.Path.{sym, _∙_}
 use native.Mathlib.Omega.{arith}
 use Rattle.unicode.proofs.Scalars.{scalar-some}

@@ -1,3 +1,4 @@
+-- For each of the ten starts the reader that is called answers the right-hand side of its equation of `tokenBy`.
 use Rattle.lexer.specs.Token.{tokenBy, numericOf, identLikeOf}
 use Rattle.lexer.proofs.TokenAnswers.{read-or-delim}
 use Rattle.lexer.proofs.TokenReaders.{less-lexes}

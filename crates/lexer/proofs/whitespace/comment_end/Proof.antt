@@ -1,3 +1,4 @@
+-- At each turn the search from `i` on has the result of the whole (`Seeking`): a "*/" at `i` is the end, any other byte is passed.
 use mathlib.Core.Path.{sym, _∙_}
 use mathlib.Core.Logic.{⊎-elim}
 use Prim.Native.Nat.{_-_}

@@ -1,3 +1,4 @@
+-- No byte above the space is white space (`above-space`); the others are compared with the five bytes in the order of the definition.
 use mathlib.Core.Path.{sym}
 use Rattle.combinators.proofs.Rules.{cases}
 use Rattle.lexer.specs.Whitespace.{isWhitespace}

@@ -1,3 +1,4 @@
+-- The tests of `commentOf`: behind "/*" the end that `comment_end` finds in the rest of the text, and 0 where one of the two bytes is missing.
 use mathlib.Core.Path.{_≡_, sym, ap, _∙_}
 use Prim.Native.Nat.{_<_}
 use native.Mathlib.Omega.{arith}

@@ -1,3 +1,4 @@
+-- A first byte that is white space is one byte; else the answer is that of `match_comment`.
 use mathlib.Core.Path.{sym, ap, _∙_}
 use Rattle.combinators.proofs.Rules.{pick-true, pick-false}
 use Rattle.lexer.specs.Whitespace.{whitespaceItem, isWhitespace}

@@ -1,3 +1,4 @@
+-- The part that is lent is the rest of the text from `at` on, so what is skipped of it is what the definition skips there, within the text.
 use Rattle.lexer.proofs.Comments as laws
 use borrow.Author.Needs.{needs}
 use Rattle.lexer.proofs.whitespace.skip_from.Statement.{statement}

@@ -1,3 +1,4 @@
+-- At each turn what is left to skip has the result of the whole (`Repeating`); an item that takes nothing, or the end of the text, ends the run.
 use mathlib.Core.Path.{_∙_}
 use Prim.Native.Nat.{_+_, _-_, _≤_}
 use native.Mathlib.Omega.{arith}

@@ -1,3 +1,4 @@
+-- The components that are left decide as all of them do (`Ending`): a step ends the compound, and a fault or the limit ends it with no.
 use mathlib.Core.Path.{refl}
 use Rattle.segments.specs.Met.{rowAlone, handedElement}
 use Rattle.segments.proofs.CodeCompoundLaws as laws

@@ -1,3 +1,4 @@
+-- The tests that are left decide as all of them do (`Testing`): one that fails, a step or a fault ends the walk with no, and when none is left all have passed.
 use mathlib.Core.Path.{refl}
 use Rattle.segments.specs.Met.{rowAlone, handedElement}
 use Rattle.segments.proofs.CodeCompoundLaws as laws

@@ -1,3 +1,4 @@
+-- Of a head that is read the leftmost segment is awaited, which is the one before no place; of a fault a segment of no steps and no tests, at no place.
 use Rattle.segments.proofs.CodeDocumentLaws as laws
 use borrow.Author.Needs.{needs}
 use Rattle.segments.proofs.document.put_leftmost.Statement.{statement}

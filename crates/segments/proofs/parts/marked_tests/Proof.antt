@@ -1,3 +1,4 @@
+-- A mark without tests says 0, any other the number in the two bytes behind it: the two cases of `markedTests`.
 use Rattle.segments.proofs.CodePartLaws as laws
 use borrow.Author.Needs.{needs}
 use Rattle.segments.proofs.parts.marked_tests.Statement.{statement}

@@ -1,3 +1,4 @@
+-- A byte within the part is stored in the state at its place, and one past the part is not stored: the two cases of `partSet`.
 use Rattle.segments.proofs.CodePartLaws as laws
 use borrow.Author.Needs.{needs}
 use Rattle.segments.proofs.parts.put_byte.Statement.{statement}

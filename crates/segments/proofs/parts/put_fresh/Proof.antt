@@ -1,3 +1,4 @@
+-- Zeros for the steps and the mark behind them are the fresh flags, stored one behind the other.
 use Rattle.segments.proofs.CodePartLaws as laws
 use borrow.Author.Needs.{needs}
 use Rattle.segments.proofs.parts.put_fresh.Statement.{statement}

@@ -1,3 +1,4 @@
+-- A compound without tests has a mark of one byte; for any other the mark and the two bytes of the count are stored one behind the other.
 use Rattle.segments.proofs.CodePartLaws as laws
 use borrow.Author.Needs.{needs}
 use Rattle.segments.proofs.parts.put_mark.Statement.{statement}

@@ -1,3 +1,4 @@
+-- Where the first holds the second decides, and where it does not both do not hold: the cases of `and`.
 use Rattle.combinators.proofs.Rules.{cases}
 use Rattle.segments.proofs.pieces.both.Statement.{statement}
 use Rattle.segments.proofs.pieces.both.Tie as tie

@@ -1,3 +1,4 @@
+-- The three marks in the order of `markMet`: star, the child step, and else the descendant step.
 use Rattle.combinators.proofs.Rules.{cases}
 use Rattle.segments.specs.Met.{markMet}
 use Rattle.segments.proofs.pieces.mark_met.Statement.{statement}

@@ -1,3 +1,4 @@
+-- Each of the four kinds asks of the element what `tested` asks: its name, a class, its id, or an attribute; none of them asks for its place.
 use Rattle.segments.proofs.CodePieceLaws as laws
 use borrow.Author.Needs.{needs}
 use Rattle.segments.proofs.pieces.name_passes.Statement.{statement}

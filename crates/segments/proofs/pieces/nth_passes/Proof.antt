@@ -1,3 +1,4 @@
+-- Both numbers are taken back to signed ones, and `nth` decides of them and the place what `nthMatches` does.
 use mathlib.Core.Path.{refl}
 use Rattle.matching.proofs.Signed.{both-small, nth-of-both}
 use borrow.Author.Needs.{needs}

@@ -1,3 +1,4 @@
+-- Each kind of component that is read by its own law: the document passes star alone, so any other test is read past as failed, and a fault is a fault.
 use Rattle.segments.proofs.CodePieceLaws as laws
 use borrow.Author.Needs.{needs}
 use Rattle.segments.proofs.pieces.pass_met.Statement.{statement}

@@ -1,3 +1,4 @@
+-- An element that has passed so far is tested; the document passes star alone, and where the tests so far have failed one more changes nothing.
 use Rattle.segments.proofs.CodePieceLaws as laws
 use borrow.Author.Needs.{needs}
 use Rattle.segments.proofs.pieces.read_met.Statement.{statement}

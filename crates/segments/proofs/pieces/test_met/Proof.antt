@@ -1,3 +1,4 @@
+-- Each kind of component that is read by its own law: a mark by its kind, a text, two numbers or two texts by the test that they ask for, and a fault is a fault.
 use Rattle.segments.specs.Met.{handedElement}
 use Rattle.segments.proofs.CodePieceLaws as laws
 use borrow.Author.Needs.{needs}

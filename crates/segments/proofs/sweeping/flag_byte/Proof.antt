@@ -1,3 +1,4 @@
+-- The byte is 1 where the compound may end and 0 where it may not: the two cases of `flag`.
 use Rattle.segments.proofs.CodeSweepLaws as laws
 use borrow.Author.Needs.{needs}
 use Rattle.segments.proofs.sweeping.flag_byte.Statement.{statement}

@@ -1,3 +1,4 @@
+-- The byte at `j` decides: below a mark it is a flag, and the compound is walked; a mark says how many tests the leftmost compound has.
 use Rattle.segments.proofs.CodeSweepLaws as laws
 use borrow.Author.Needs.{needs}
 use Rattle.segments.proofs.sweeping.sweep_one.Statement.{statement}

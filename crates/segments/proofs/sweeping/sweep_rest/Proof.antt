@@ -1,3 +1,4 @@
+-- What was stored and what is left to sweep make up the sweep of all compounds (`Sweeping`); the parent's part lies apart, so no store changes its flags.
 use Rattle.segments.specs.Met.{rowAlone, handedElement}
 use Rattle.segments.proofs.CodeSweepLaws as laws
 use borrow.Author.Needs.{needs}

@@ -1,3 +1,4 @@
+-- The segment that `segment_before` finds is the one of the definition, so its place and its fresh flags are the block that is to be stored.
 use Rattle.segments.proofs.CodeVisitLaws as laws
 use borrow.Author.Needs.{needs}
 use Rattle.segments.proofs.visiting.put_awaits.Statement.{statement}

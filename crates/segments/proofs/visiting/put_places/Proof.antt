@@ -1,3 +1,4 @@
+-- Two stores, the second two bytes behind the first, are the bytes of both numbers one behind the other.
 use Rattle.segments.proofs.CodeVisitLaws as laws
 use borrow.Author.Needs.{needs}
 use Rattle.segments.proofs.visiting.put_places.Statement.{statement}

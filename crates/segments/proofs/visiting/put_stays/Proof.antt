@@ -1,3 +1,4 @@
+-- The two places are stored and behind them the flags: the mark where the first compound is the leftmost, else those of the compounds behind it.
 use Rattle.segments.proofs.CodeVisitLaws as laws
 use borrow.Author.Needs.{needs}
 use Rattle.segments.proofs.visiting.put_stays.Statement.{statement}
