@@ -6,7 +6,7 @@ use mathlib.Core.List.{List, [], _∷_}
 use native.Mathlib.Omega.{arith}
 use lib.ListN.{length, getD}
 use Rattle.combinators.specs.Choice.{pick, or, and, is}
-use Rattle.combinators.proofs.Rules.{never, either, or-left, or-none, and-true, is-yes, is-no}
+use Rattle.combinators.proofs.Rules.{never, either, or-left, or-none, and-true, is-no}
 use Rattle.combinators.proofs.Words.{same-is}
 use Rattle.unicode.specs.Literal.{text}
 use Rattle.unicode.specs.Utf8.{utf8}
@@ -18,16 +18,18 @@ use Rattle.matching.specs.Matches.{anyAttribute, isClass, isId, isNamed, hasCla
 use Rattle.matching.proofs.PassLaws.{and-yes}
 use Rattle.compiled.specs.Component.{isName, namedOf}
 use Rattle.segments.specs.Segments.{tested}
+use Rattle.segments.specs.Sweep.{byteValues}
 use Rattle.segments.specs.Met.{handedElement}
 use Rattle.segments.specs.Hints.{anyByte, mayBegin, ClassesBegin, NamesBegin, Fits, NameFails}
 use Rattle.segments.specs.declared.hints.Starts.{Starts}
 use Rattle.segments.specs.declared.hints.Hint.{Hint}
+use Rattle.segments.proofs.StartLaws.{or-second}
 
 -- ---- the return of `begins_none`
 -- where neither byte is the one, and not any may be
-pub begins-none : (s : Starts) (b : ℕ) → ¬ (s .one ≡ anyByte) → ¬ (s .one ≡ b) → ¬ (s .two ≡ b) → mayBegin s b ≡ false
+pub begins-none : (s : Starts) (b : ℕ) → b < byteValues → ¬ (s .one ≡ anyByte) → ¬ (s .one ≡ b) → ¬ (s .two ≡ b) → mayBegin s b ≡ false
 unfolding mayBegin
-begins-none s b x y z = or-none _ _ (is-no _ _ x) (or-none _ _ (is-no _ _ y) (is-no _ _ z))
+begins-none s b h x y z = or-none _ _ (is-no _ _ (λ e. omega arith)) (or-none _ _ (is-no _ _ x) (or-none _ _ (is-no _ _ y) (is-no _ _ z)))
 
 -- ---- what a component of one text asks for
 module _ (e : Element) (x : List ℕ) where
@@ -55,12 +57,6 @@ module _ (e : Element) (x : List ℕ) where
   attribute-tested : tested (e ∷ []) (namedOf attributeKind x) ≡ anyAttribute (isNamed x) (e .attributes)
   unfolding tested namedOf step here hasAttribute pick is
   attribute-tested = and-yes _
-
--- whatever the first is, the second holds
-or-second : (a b : Bool) → b ≡ true → or a b ≡ true
-unfolding or
-or-second true b e = refl
-or-second false b e = e
 
 -- where there is an id of some value, there is an attribute of that name
 id-named : (x : List ℕ) (attributes : List Attribute) → anyAttribute (isId x) attributes ≡ true → anyAttribute (isNamed (text "id")) attributes ≡ true
@@ -150,11 +146,6 @@ no-attribute f attributes text few = let z : length attributes / attributeWidth 
 pub none-begin : (attributes : List ℕ) → length attributes < attributeWidth → (s : Starts)
     → ((text : List ℕ) → ClassesBegin s (attributesFrom attributes text (attributeRows attributes) 0)) × ((text : List ℕ) → NamesBegin s (attributesFrom attributes text (attributeRows attributes) 0))
 none-begin attributes few s = ((λ text c t. never (sym (no-attribute (isClass c) attributes text few) ∙ t)), (λ text n t. never (sym (no-attribute (isNamed n) attributes text few) ∙ t)))
-
--- any byte may be the first
-pub any-begins : (s : Starts) → s .one ≡ anyByte → (b : ℕ) → mayBegin s b ≡ true
-unfolding mayBegin
-any-begins s e b = or-left _ _ (is-yes _ _ e)
 
 -- ---- the return of `hint_of`
 pub hint-fits : (name attributes text : List ℕ) (first : ℕ) → first ≡ getD name 0 0 → (classes names : Starts)

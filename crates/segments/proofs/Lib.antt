@@ -14,6 +14,7 @@ pub mod CodePieceLaws
 pub mod CodeCompoundLaws
 pub mod CodePartLaws
 pub mod CodeSweepLaws
+pub mod StartLaws
 pub mod HintLaws
 pub mod CodeFailLaws
 pub mod CodeVisitLaws

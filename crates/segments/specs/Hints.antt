@@ -20,9 +20,13 @@ noByte = 256
 abbrev pub anyByte : ℕ
 anyByte = 257
 
--- a text among those that are told of may begin with b
+-- a text among those that are told of may begin with b; of what is no byte nothing is told
 unfoldable pub mayBegin : Starts → ℕ → Bool
-mayBegin s b = or (is (s .one) anyByte) (or (is (s .one) b) (is (s .two) b))
+mayBegin s b = or (is b noByte) (or (is (s .one) anyByte) (or (is (s .one) b) (is (s .two) b)))
+
+-- what may begin a text by the one may by the other
+abbrev pub Keeps : Starts → Starts → Type 0
+Keeps s r = (b : ℕ) → mayBegin s b ≡ true → mayBegin r b ≡ true
 
 -- the classes of attributes, and their names, begin with what is told
 abbrev pub ClassesBegin : Starts → List Attribute → Type 0

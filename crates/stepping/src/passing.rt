@@ -90,7 +90,7 @@ fn pass_found(
     ensures { λ _. ⌜ now (out .exit) ≡ mergedRow Crate (now (out .entry)) (selectorsDeclare (foundAt (now (compiled .entry))
         (passFrom (now (compiled .entry)) (handedElement (now (name .entry)) (now (attributes .entry)) (now (text .entry)) place ∷ []) (part (now (state .entry)) above width) count first (part (now (state .entry)) own width) .matched))) ⌝ }
 {
-    let hint = hint_of(name, attributes, text);
+    let hint = hint_of(name, attributes, text, count);
     let mut p = first;
     let mut left = count;
     while left > 0 {

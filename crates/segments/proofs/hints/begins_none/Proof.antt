@@ -18,7 +18,7 @@ returns-4 : tie.Need-returns-4
 returns-4 c =
     let at-if2 = c .before .before in
     let at-if1 = at-if2 .before .before in
-    λ _. laws.begins-none _ _ (at-if1 .if1 .left) (at-if2 .if2 .left) (c .if3 .left)
+    λ _. laws.begins-none _ _ (at-if1 .before .before .pre) (at-if1 .if1 .left) (at-if2 .if2 .left) (c .if3 .left)
 
 pub begins-none-spec : {M : Type 1} → statement M
 begins-none-spec = tie.close (tie.spec returns returns-2 returns-3 returns-4)
