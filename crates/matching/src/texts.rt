@@ -47,7 +47,7 @@ fn is_ascii_graphic(b: u8) -> bool
 }
 
 // How many bytes of White_Space `s` begins with. Where more than spaces and visible ASCII characters are met, what is left is decoded.
-fn white_space_length(s: &[u8]) -> usize
+pub fn white_space_length(s: &[u8]) -> usize
     ensures { λ r. ⌜ r ≡ many whiteTaken 0 0 (now (s .entry)) ⌝ }
     ensures { λ r. ⌜ r ≤ length (now (s .entry)) ⌝ }
 {
@@ -66,7 +66,7 @@ fn white_space_length(s: &[u8]) -> usize
 }
 
 // How many bytes the word has that `s` begins with; they are decoded likewise.
-fn word_length(s: &[u8]) -> usize
+pub fn word_length(s: &[u8]) -> usize
     ensures { λ r. ⌜ r ≡ many wordTaken 0 0 (now (s .entry)) ⌝ }
     ensures { λ r. ⌜ r ≤ length (now (s .entry)) ⌝ }
 {

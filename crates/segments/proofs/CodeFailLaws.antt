@@ -1,6 +1,6 @@
--- A first test that surely fails: a type selector whose name has another length than that of the element, or another first byte; or one that asks for an attribute where there is none.
-use Prim.Native.Nat.{ℕ, zero, suc, _+_, _/_, _≤_, _<_}
-use mathlib.Core.Path.{_≡_, refl, sym, ap, _∙_}
+-- A test that surely fails: its kind, the length of its text and the first byte of it are read from the bytes, and a hint excludes it.
+use Prim.Native.Nat.{ℕ, suc, _+_, _≤_, _<_}
+use mathlib.Core.Path.{_≡_, refl, sym, ap, subst, _∙_}
 use mathlib.Core.Bool.{Bool, true, false}
 use mathlib.Core.List.{List, [], _∷_}
 use native.Mathlib.Omega.{arith}
@@ -10,37 +10,25 @@ use lib.ListN.{length, getD, drop, length-take, length-drop}
 use lib.Seq.{getD-take}
 use Rattle.combinators.specs.Choice.{pick, or, and, is}
 use Rattle.combinators.specs.Part.{part}
-use Rattle.combinators.specs.Word.{sameText}
-use Rattle.combinators.proofs.Rules.{never, is-no, within-yes}
+use Rattle.combinators.proofs.Rules.{never, either, is-true, within-yes}
 use Rattle.combinators.proofs.Lists.{first}
-use Rattle.combinators.proofs.Words.{same-lengths}
 use Rattle.syntax.specs.RuleLayout.{starKind, classKind, elementKind, hashKind, attributeKind, attributeEqualKind}
-use Rattle.page.specs.Path.{Attribute, Element, Path}
-use Rattle.page.specs.PathOf.{attributesFrom}
-use Rattle.page.specs.Rows.{attributeWidth, attributeRows}
-use Rattle.matching.specs.Matches.{anyAttribute, isClass, isId, isNamed}
+use Rattle.page.specs.Path.{Path}
 use Rattle.compiled.specs.Decoded.{Decoded, read, fault, onDecoded, andThen, mapped}
 use Rattle.compiled.specs.Number.{groupValues, numberAt, rangedAt}
 use Rattle.compiled.specs.Text.{Span, spanAt, textIn}
-use Rattle.compiled.specs.Component.{name, isMark, nameAt, bodyAt, writtenAt, namedOf, componentIn, componentAt}
+use Rattle.compiled.specs.Component.{name, isMark, isName, nameAt, bodyAt, writtenAt, namedOf, componentIn, componentAt}
 use Rattle.compiled.specs.declared.numbers.NumberAnswer.the-variants as number
 use Rattle.compiled.proofs.Answers.{number-read}
 use Rattle.compiled.proofs.Following.{then-read}
 use Rattle.compiled.proofs.NumberReading.{reading-one}
 use Rattle.segments.specs.Segments.{piece, tested}
 use Rattle.segments.specs.Sweep.{onPiece, pieceAt, testsPass}
-use Rattle.segments.specs.Met.{rowAlone, handedElement}
-use Rattle.segments.proofs.CodePieceLaws.{name-asked, class-asked, id-asked, attribute-asked, named-test}
+use Rattle.segments.specs.Hints.{NameFails, TestFails}
+use Rattle.segments.specs.declared.hints.Hint.{Hint}
+use Rattle.segments.proofs.CodePieceLaws.{named-test}
 
--- ---- texts that differ
--- texts whose first bytes differ are not the same
-same-firsts : (s t : List ℕ) → ¬ (getD s 0 0 ≡ getD t 0 0) → false ≡ sameText s t
-unfolding sameText and
-same-firsts [] [] d = absurd (d refl)
-same-firsts [] (y ∷ t) d = refl
-same-firsts (x ∷ s) [] d = refl
-same-firsts (x ∷ s) (y ∷ t) d = rw (is-no x y d)
-
+-- ---- parts of the bytes
 module _ (store : List ℕ) (a n : ℕ) where
   -- a part that lies in the bytes has the length that was asked for
   part-length : a + n ≤ length store → length (part store a n) ≡ n
@@ -73,6 +61,19 @@ hash-named code n = refl
 attribute-named : Named attributeKind
 unfolding bodyAt isMark pick or is
 attribute-named code n = refl
+
+-- so one of them has
+module _ (kind : ℕ) where
+  -- by which it is
+  kind-is : (k : ℕ) → Named k → k ≤ attributeKind → is kind k ≡ true → Named kind × (kind ≤ attributeKind)
+  kind-is k n l e = subst (λ (m : ℕ). Named m × (m ≤ attributeKind)) (sym (is-true kind k e)) (n, l)
+
+  name-kind : isName kind ≡ true → Named kind × (kind ≤ attributeKind)
+  unfolding isName
+  name-kind e =
+      either _ _ _ e (kind-is classKind class-named (omega arith))
+      (λ f. either _ _ _ f (kind-is elementKind element-named (omega arith))
+      (λ g. either _ _ _ g (kind-is hashKind hash-named (omega arith)) (kind-is attributeKind attribute-named (omega arith))))
 
 module _ (code : List ℕ) where
   -- ---- what is read
@@ -116,66 +117,19 @@ module _ (code : List ℕ) where
         go (read n x) g = unfold mapped onDecoded componentIn onPiece and in rw (named-test kind (textIn code x), ← g n x refl)
         go (fault p) g = unfold mapped onDecoded in refl
 
-  -- ---- the returns of `surely_fails`
-  module _ (at : ℕ) (l : at < length code) (k : getD code at 0 ≡ elementKind)
-      (name′ : List ℕ) (v : ℕ) (l′ : at + 1 < length code) (e : v ≡ getD code (at + 1) 0) (h : v < groupValues) where
-    -- what is told
-    abbrev Fails : Type 0
-    Fails = (attributes text : List ℕ) (place tests : ℕ) → testsPass code (handedElement name′ attributes text place ∷ []) (suc tests) at ≡ false
-
-    -- by the word that lies there
-    by-word : (at + 1 + 1 + v ≤ length code → false ≡ sameText name′ (part code (at + 1 + 1) v)) → Fails
-    unfolding textIn
-    by-word f attributes text place tests =
-        name-fails at elementKind element-named l k (omega arith) (handedElement name′ attributes text place ∷ [])
-        (λ n x p. let q = span-one (at + 1) v l′ (sym e) h n x p in
-        name-asked name′ attributes text (textIn code x) elementKind refl false (f (q .1) ∙ ap (λ (y : Span). sameText name′ (textIn code y)) (sym (q .0))) place) tests
-
-    -- its length is another
-    pub fails-length : ¬ (v ≡ length name′) → Fails
-    fails-length d = by-word (λ b. same-lengths name′ _ (λ q. d (sym (part-length code (at + 1 + 1) v b) ∙ sym q)))
-
-    -- its first byte is another
-    pub fails-first : 0 < v → ¬ (getD code (at + 2) 0 ≡ getD name′ 0 0) → Fails
-    fails-first s d =
-        let two : at + 2 ≡ at + 1 + 1 = omega arith in
-        by-word (λ _. same-firsts name′ _ (λ q. d (ap (λ (i : ℕ). getD code i 0) two ∙ sym (part-first code (at + 1 + 1) v s) ∙ sym q)))
-
-  -- ---- the returns of `lacks_attribute`
-  module _ (at : ℕ) (l : at < length code) (attributes : List ℕ) (few : length attributes < attributeWidth) where
-    -- what is told
-    abbrev Lacks : Type 0
-    Lacks = (name′ text : List ℕ) (place tests : ℕ) → testsPass code (handedElement name′ attributes text place ∷ []) (suc tests) at ≡ false
-
-    -- no attribute is any that is asked for
-    none : (f : Attribute → Bool) (text : List ℕ) → false ≡ anyAttribute f (attributesFrom attributes text (attributeRows attributes) 0)
-    unfolding anyAttribute attributesFrom
-    none f text = let z : length attributes / attributeWidth ≡ 0 = omega arith in rw z
-
-    -- a class
-    pub lacks-class : getD code at 0 ≡ classKind → Lacks
-    lacks-class k name′ text place =
-        name-fails at classKind class-named l k (omega arith) (handedElement name′ attributes text place ∷ [])
-        (λ n x p. class-asked name′ attributes text (textIn code x) classKind refl false (none (isClass (textIn code x)) text) place)
-
-    -- an id
-    pub lacks-id : getD code at 0 ≡ hashKind → Lacks
-    lacks-id k name′ text place =
-        name-fails at hashKind hash-named l k (omega arith) (handedElement name′ attributes text place ∷ [])
-        (λ n x p. id-asked name′ attributes text (textIn code x) hashKind refl false (none (isId (textIn code x)) text) place)
-
-    -- an attribute
-    pub lacks-any : getD code at 0 ≡ attributeKind → Lacks
-    lacks-any k name′ text place =
-        name-fails at attributeKind attribute-named l k (omega arith) (handedElement name′ attributes text place ∷ [])
-        (λ n x p. attribute-asked name′ attributes text (textIn code x) attributeKind (λ e. absurd (omega (arith, e))) (λ e. absurd (omega (arith, e))) (λ e. absurd (omega (arith, e)))
-        false (none (isNamed (textIn code x)) text) place)
-
--- ---- the return of `mark_passes`
--- where the first test fails, the tests do not pass
-pub mark-fails : (code : List ℕ) (e : Element) (there : Bool) (tests at : ℕ) → there ≡ true → 0 < tests → ((t : ℕ) → testsPass code (e ∷ []) (suc t) at ≡ false)
-    → false ≡ testsPass code (rowAlone there e) tests at
-unfolding rowAlone
-mark-fails code e true zero at y h f = absurd (omega arith)
-mark-fails code e true (suc t) at y h f = sym (f t)
-mark-fails code e false tests at y h f = never y
+  -- ---- the return of `test_fails`
+  -- by the kind, the length and the first byte that are read
+  pub test-fails : (h : Hint) (at kind size byte : ℕ) → at + 2 < length code → kind ≡ getD code at 0 → size ≡ getD code (at + 1) 0 → byte ≡ getD code (at + 2) 0
+      → 0 < size → size < groupValues → NameFails h kind size byte → TestFails code at h
+  unfolding textIn
+  test-fails h at kind size byte l ek es eb some few f =
+      let n = name-kind kind (f .named) in
+      let two : at + 1 + 1 ≡ at + 2 = omega arith in
+      record {
+        there = omega (arith, l);
+        fails = λ e fit t.
+            name-fails at kind (n .0) (omega (arith, l)) (sym ek) (n .1) (e ∷ [])
+            (λ m x p. let q = span-one (at + 1) size (omega (arith, l)) (sym es) few m x p in
+            sym (f .fails e fit (textIn code x) (ap (λ (y : Span). length (textIn code y)) (q .0) ∙ part-length code (at + 1 + 1) size (q .1))
+            (ap (λ (y : Span). getD (textIn code y) 0 0) (q .0) ∙ part-first code (at + 1 + 1) size some ∙ ap (λ (i : ℕ). getD code i 0) two ∙ sym eb))) t;
+      }

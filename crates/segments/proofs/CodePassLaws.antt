@@ -27,6 +27,31 @@ module _ (code : List ℕ) (row : Path) (above own width p : ℕ) (state : List 
   unfolding visitStored
   length-visit = length-block state own width (visitAt code row (part state above width) p) (nextFrom state above width p) p
 
+-- ---- one of several
+module _ (code : List ℕ) (row : Path) (above own width : ℕ) (state : List ℕ) (p left : ℕ) (h : 0 < left) where
+  -- the first, then the others
+  pass-step : pick (is p noPlace) state (passStored code row above own width (left - 1) (nextFrom state above width p) (visitStored code row above own width p state))
+      ≡ passStored code row above own width left p state
+  pass-step =
+      let d : suc (left - 1) ≡ left = omega arith in
+      let e : pick (is p noPlace) state (passStored code row above own width (left - 1) (nextFrom state above width p) (visitStored code row above own width p state))
+      ≡ passStored code row above own width (suc (left - 1)) p state = unfold passStored in refl in
+      e ∙ ap (λ (n : ℕ). passStored code row above own width n p state) d
+
+  -- behind the first, the others
+  pub pass-turn : ¬ (p ≡ noPlace) → (next : ℕ) → next ≡ pairAt (part state above width) (p + toNext)
+      → (s₁ : List ℕ) → s₁ ≡ blockStored state own width (visitAt code row (part state above width) p) (pairAt (part state above width) (p + toNext)) p
+      → passStored code row above own width (left - 1) next s₁ ≡ passStored code row above own width left p state
+  pass-turn z next en s₁ e₁ =
+      let n : next ≡ nextFrom state above width p = (unfold nextFrom in en) in
+      let w : s₁ ≡ visitStored code row above own width p state = (unfold visitStored nextFrom in e₁) in
+      let e : passStored code row above own width (left - 1) (nextFrom state above width p) (visitStored code row above own width p state)
+      ≡ pick (is p noPlace) state (passStored code row above own width (left - 1) (nextFrom state above width p) (visitStored code row above own width p state)) =
+      unfold pick in rw (is-no p noPlace z) in
+      ap (λ (x : ℕ). passStored code row above own width (left - 1) x s₁) n
+      ∙ ap (λ (x : List ℕ). passStored code row above own width (left - 1) (nextFrom state above width p) x) w
+      ∙ e ∙ pass-step
+
 -- ---- the loop of `pass_blocks`
 pub record Passing (code : List ℕ) (row : Path) (state₀ : List ℕ) (above own width first count place : ℕ) (state : List ℕ) (p left : ℕ) : Type 0 where
   pub whole : passStored code row above own width left p state ≡ passStored code row above own width count first state₀
@@ -43,38 +68,21 @@ module _ (code : List ℕ) (row : Path) (state₀ : List ℕ) (above own width f
       e ∙ ap (λ (n : ℕ). passStored code row above own width n p state) d ∙ v .whole
 
   module _ (h : 0 < left) where
-    -- one of them
-    pass-step : pick (is p noPlace) state (passStored code row above own width (left - 1) (nextFrom state above width p) (visitStored code row above own width p state))
-        ≡ passStored code row above own width count first state₀
-    pass-step =
-        let d : suc (left - 1) ≡ left = omega arith in
-        let e : pick (is p noPlace) state (passStored code row above own width (left - 1) (nextFrom state above width p) (visitStored code row above own width p state))
-        ≡ passStored code row above own width (suc (left - 1)) p state = unfold passStored in refl in
-        e ∙ ap (λ (n : ℕ). passStored code row above own width n p state) d ∙ v .whole
-
     -- there is no other
     pub pass-none : p ≡ noPlace → state ≡ passStored code row above own width count first state₀
     pass-none z =
         let e : state ≡ pick (is p noPlace) state (passStored code row above own width (left - 1) (nextFrom state above width p) (visitStored code row above own width p state)) =
         unfold pick in rw (is-yes p noPlace z) in
-        e ∙ pass-step
+        e ∙ pass-step code row above own width state p left h ∙ v .whole
 
     -- the next one
     pub pass-more : ¬ (p ≡ noPlace) → (next : ℕ) → next ≡ pairAt (part state above width) (p + toNext) → next < pairLimit
         → (s₁ : List ℕ) → s₁ ≡ blockStored state own width (visitAt code row (part state above width) p) (pairAt (part state above width) (p + toNext)) p
         → Passing code row state₀ above own width first count place s₁ next (left - 1)
     pass-more z next en small s₁ e₁ =
-        let n : next ≡ nextFrom state above width p = (unfold nextFrom in en) in
-        let w : s₁ ≡ visitStored code row above own width p state = (unfold visitStored nextFrom in e₁) in
-        let l : length s₁ ≡ length state = ap length w ∙ length-visit code row above own width p state in
-        let e : passStored code row above own width (left - 1) (nextFrom state above width p) (visitStored code row above own width p state)
-        ≡ pick (is p noPlace) state (passStored code row above own width (left - 1) (nextFrom state above width p) (visitStored code row above own width p state)) =
-        unfold pick in rw (is-no p noPlace z) in
+        let l : length s₁ ≡ length state = ap length e₁ ∙ length-block state own width (visitAt code row (part state above width) p) (pairAt (part state above width) (p + toNext)) p in
         record {
-          whole =
-              ap (λ (x : ℕ). passStored code row above own width (left - 1) x s₁) n
-              ∙ ap (λ (x : List ℕ). passStored code row above own width (left - 1) (nextFrom state above width p) x) w
-              ∙ e ∙ pass-step;
+          whole = pass-turn code row above own width state p left h z next en s₁ e₁ ∙ v .whole;
           long = l ∙ v .long;
           lent = record { room = omega (arith, l, v .lent .room); apart = v .lent .apart; few-bytes = v .lent .few-bytes; near = omega arith; few = v .lent .few };
         }

@@ -14,10 +14,13 @@ pub mod CodePieceLaws
 pub mod CodeCompoundLaws
 pub mod CodePartLaws
 pub mod CodeSweepLaws
+pub mod StartLaws
+pub mod HintLaws
 pub mod CodeFailLaws
 pub mod CodeVisitLaws
 pub mod CodeBlockLaws
 pub mod CodePassLaws
+pub mod CodeSkipLaws
 pub mod CodeDocumentLaws
 pub mod CodeStyledLaws
 pub mod CodeTellLaws

@@ -11,5 +11,7 @@ pub mod Parts
 pub mod Swept
 pub mod Visiting
 pub mod Passing
+pub mod Hints
+pub mod Skipping
 pub mod Telling
 pub mod Cases

@@ -9,31 +9,24 @@ use crate::parts::put_mark;
 use crate::parts::put_mark_there;
 use crate::parts::put_pair;
 use crate::parts::put_pair_there;
-use crate::parts::wide;
 use crate::sweeping::Swept;
 use crate::sweeping::sweep_one;
 use crate::sweeping::sweep_rest;
 use combinators::texts::part_of;
 use compiled::sheets::HeadAnswer;
 use compiled::sheets::read_head;
-use page::rows::ATTRIBUTE_WIDTH;
 use syntax::rows::AGENT_ORIGIN;
-use syntax::rows::ATTRIBUTE;
-use syntax::rows::CLASS;
-use syntax::rows::ELEMENT;
-use syntax::rows::HASH;
 ghost use mathlib.Core.Path.{_≡_};
-ghost use mathlib.Core.Bool.{true, false};
-ghost use mathlib.Core.List.{List, [], _∷_, _++_};
-ghost use Prim.Native.Nat.{ℕ, suc, _+_, _≤_, _<_};
+ghost use mathlib.Core.List.{_∷_, _++_};
+ghost use Prim.Native.Nat.{_+_, _≤_, _<_};
 ghost use lib.ListN.{length};
 ghost use lib.Seq.{sets};
 ghost use Rattle.combinators.specs.Part.{part};
 ghost use Rattle.compiled.specs.Sheet.{compiledLimit};
-ghost use Rattle.segments.specs.Sweep.{pairAt, pairBytes, testsPass, withTests};
+ghost use Rattle.segments.specs.Sweep.{pairAt, pairBytes, withTests};
 ghost use Rattle.segments.specs.Before.{beginning, segmentBefore};
 ghost use Rattle.segments.specs.Visits.{toNext, awaits, blockBytes, visitAt};
-ghost use Rattle.segments.specs.Met.{rowAlone, handedElement, placeLimit};
+ghost use Rattle.segments.specs.Met.{rowAlone, handedElement};
 ghost use Rattle.segments.specs.Parts.{partSets, pairLimit};
 ghost use Rattle.segments.specs.Swept.{sweptMark};
 ghost use Rattle.segments.specs.Visiting.{VisitLent, toEnd, blockStored, behindFirst, sweptVisit, nextAwaited};
@@ -41,22 +34,14 @@ ghost use Rattle.segments.specs.Visiting.{VisitLent, toEnd, blockStored,
 // From the place of a selector, to where its block has the place of the next selector, that of the segment that is awaited, and its flags.
 pub const TO_NEXT: usize = 1;
 
-const TO_AWAITED: usize = 3;
+pub const TO_AWAITED: usize = 3;
 
 pub const TO_FLAGS: usize = 5;
 
 // Where the first flag is the mark of a compound that has tests: to their count, and to the end of the block.
-const TO_TESTS: usize = 6;
+pub const TO_TESTS: usize = 6;
 
-const TO_END: usize = 8;
-
-// From the place of a component of one text, to the length of the text and to the text, where kind and length are numbers of one group.
-const TO_SIZE: usize = 1;
-
-const TO_WORD: usize = 2;
-
-// A byte below it is a number of one group.
-const ONE_GROUP: usize = 128;
+pub const TO_END: usize = 8;
 
 // The segment that is awaited behind a row: the same one, with whether the selector matches; or the one before it, of so many components from a place on.
 pub enum Awaited {
@@ -81,7 +66,7 @@ pub fn put_places(state: &mut [u8], own: usize, width: usize, p: usize, next: us
 }
 
 // Stores the whole block of a selector whose first compound is the leftmost and has tests; `at` is the place of the selector in the state, which has room.
-fn put_marked(state: &mut [u8], at: usize, next: usize, awaited: usize, tests: usize)
+pub fn put_marked(state: &mut [u8], at: usize, next: usize, awaited: usize, tests: usize)
     requires { ⌜ at + toEnd ≤ length (now state) ⌝ }
     ensures { λ _. ⌜ now (state .exit) ≡ sets (now (state .entry)) (at + toNext) (blockBytes next awaited (withTests ∷ pairBytes tests)) ⌝ }
 {
@@ -229,90 +214,6 @@ fn visit_swept(
     }
 }
 
-// Whether the first test from `at` on surely fails at an element: a type selector whose name has another length, or another first byte.
-fn surely_fails(compiled: &[u8], at: usize, name: &[u8]) -> bool
-    ensures { λ r. ⌜ (r ≡ true → (attributes text : List ℕ) (place tests : ℕ) → testsPass (now (compiled .entry)) (handedElement (now (name .entry)) attributes text place ∷ []) (suc tests) at ≡ false) ⌝ }
-{
-    if at < compiled.len() {
-        if at + TO_SIZE < compiled.len() {
-            let kind = wide(compiled[at]);
-            let size = wide(compiled[at + TO_SIZE]);
-            if kind == ELEMENT as usize {
-                if size < ONE_GROUP {
-                    if size != name.len() {
-                        return true;
-                    }
-                    if size > 0 {
-                        if at + TO_WORD < compiled.len() {
-                            if compiled[at + TO_WORD] != name[0] {
-                                return true;
-                            }
-                        }
-                    }
-                }
-            }
-        }
-    }
-    false
-}
-
-// The same for a class, an id or an attribute, which fail at an element without attributes.
-fn lacks_attribute(compiled: &[u8], at: usize, attributes: &[u32]) -> bool
-    ensures { λ r. ⌜ (r ≡ true → (name text : List ℕ) (place tests : ℕ) → testsPass (now (compiled .entry)) (handedElement name (now (attributes .entry)) text place ∷ []) (suc tests) at ≡ false) ⌝ }
-{
-    if attributes.len() < ATTRIBUTE_WIDTH {
-        if at < compiled.len() {
-            let kind = wide(compiled[at]);
-            if kind == CLASS as usize {
-                return true;
-            }
-            if kind == HASH as usize {
-                return true;
-            }
-            if kind == ATTRIBUTE as usize {
-                return true;
-            }
-        }
-    }
-    false
-}
-
-// Whether the tests of a mark pass. At most rows the first one surely fails, which is told before they are read.
-fn mark_passes(
-    compiled: &[u8],
-    awaited: usize,
-    tests: usize,
-    element: bool,
-    name: &[u8],
-    attributes: &[u32],
-    text: &[u8],
-    place: usize,
-) -> bool
-    requires { ⌜ place ≤ placeLimit ⌝ }
-    ensures { λ r. ⌜ r ≡ testsPass (now (compiled .entry)) (rowAlone element (handedElement (now (name .entry)) (now (attributes .entry)) (now (text .entry)) place)) tests awaited ⌝ }
-{
-    if element {
-        if tests > 0 {
-            if surely_fails(compiled, awaited, name) {
-                return false;
-            }
-            if lacks_attribute(compiled, awaited, attributes) {
-                return false;
-            }
-        }
-    }
-    tests_pass(
-        compiled,
-        awaited,
-        tests,
-        element,
-        name,
-        attributes,
-        text,
-        place,
-    )
-}
-
 // A selector whose first compound is the leftmost and has tests, in a part that holds its whole block: most often they do not pass, and the block stays as it is.
 fn visit_marked(
     compiled: &[u8],
@@ -339,7 +240,7 @@ fn visit_marked(
         (sweptVisit (now (compiled .entry)) (rowAlone element (handedElement (now (name .entry)) (now (attributes .entry)) (now (text .entry)) place)) (part (now (state .entry)) above width) p awaited
         (sweptMark (now (compiled .entry)) (rowAlone element (handedElement (now (name .entry)) (now (attributes .entry)) (now (text .entry)) place)) tests awaited)) next p ⌝ }
 {
-    let ends = mark_passes(
+    let ends = tests_pass(
         compiled,
         awaited,
         tests,

@@ -1,6 +1,6 @@
 -- The selectors at a row: the blocks go to the own part, and at an element what those declare that match is merged one after the other.
 use Prim.Native.Nat.{ℕ, suc, _+_, _-_, _≤_, _<_}
-use mathlib.Core.Path.{_≡_, refl, sym, ap, _∙_}
+use mathlib.Core.Path.{_≡_, refl, sym, ap, subst, _∙_}
 use mathlib.Core.Bool.{Bool, true, false}
 use mathlib.Core.List.{List, [], _∷_, _++_, append-nil}
 use mathlib.Core.Logic.{inr}
@@ -21,6 +21,7 @@ use Rattle.styles.proofs.Merging.{merged-none}
 use Rattle.compiled.specs.Answer.{numberAnswer, bytesRefusal}
 use Rattle.compiled.specs.Decoded.{onDecoded}
 use Rattle.compiled.specs.Number.{numberAt}
+use Rattle.compiled.specs.Sheet.{compiledLimit}
 use Rattle.compiled.specs.declared.numbers.NumberAnswer.{NumberAnswer}
 use Rattle.compiled.specs.declared.numbers.NumberAnswer.the-variants as number
 use Rattle.compiled.proofs.Answers.{number-read, number-fault}
@@ -33,6 +34,7 @@ use Rattle.segments.specs.Met.{rowAlone}
 use Rattle.segments.specs.Parts.{pairLimit}
 use Rattle.segments.specs.Pass.{Passed, matchedHere, blockSet, passFrom}
 use Rattle.segments.specs.Passing.{nextFrom, visitStored, passStored}
+use Rattle.segments.specs.Skipping.{Skips}
 use Rattle.segments.specs.Sweep.{pairAt}
 use Rattle.segments.specs.Telling.{freshStored, TellLent}
 use Rattle.segments.specs.Visiting.{VisitLent, blockStored}
@@ -113,6 +115,21 @@ module _ (code : List ℕ) (row : Path) (above own width : ℕ) where
     -- what is left at the end
     abbrev Found : Type 0
     Found = (state ≡ passStored code row above own width count first state₀) × (out ≡ mergedRow Crate out₀ (declaredFrom state₀ count first))
+
+    -- some are passed over, none of which matches
+    pub find-skip : (state₁ : List ℕ) (p₁ left₁ : ℕ) → Skips code row above own width state p left state₁ p₁ left₁ → length state₁ ≡ length state → p₁ ≤ compiledLimit
+        → Finding state₀ out₀ first count place state₁ out p₁ left₁
+    find-skip state₁ p₁ left₁ s l n =
+        let t = v .passing in
+        record {
+          passing =
+              record {
+                whole = s .stored ∙ t .whole;
+                long = l ∙ t .long;
+                lent = record { room = omega (arith, l, t .lent .room); apart = t .lent .apart; few-bytes = t .lent .few-bytes; near = n; few = t .lent .few };
+              };
+          merging = subst (Merging out₀ (declaredFrom state₀ count first) out) (ap (declaredAt code) (sym (s .matched))) (v .merging);
+        }
 
     -- none is left
     pub find-end : left ≤ 0 → Found

@@ -4,8 +4,10 @@ use compiled::numbers::NumberAnswer;
 use compiled::numbers::read_number;
 use segments::document::first_styled;
 use segments::document::tell_document;
+use segments::hints::hint_of;
 use segments::passing::NO_PLACE;
 use segments::passing::pass_blocks;
+use segments::skipping::skip_failing;
 use segments::visiting::visit;
 ghost use mathlib.Core.Path.{_≡_};
 ghost use mathlib.Core.List.{[], _∷_};
@@ -67,7 +69,7 @@ fn visit_found(
     answer.next
 }
 
-// At most `count` selectors from the one at `first` on, at an element.
+// At most `count` selectors from the one at `first` on, at an element. Those that surely fail are passed over by a hint, which is found once.
 fn pass_found(
     compiled: &[u8],
     state: &mut [u8],
@@ -88,10 +90,15 @@ fn pass_found(
     ensures { λ _. ⌜ now (out .exit) ≡ mergedRow Crate (now (out .entry)) (selectorsDeclare (foundAt (now (compiled .entry))
         (passFrom (now (compiled .entry)) (handedElement (now (name .entry)) (now (attributes .entry)) (now (text .entry)) place ∷ []) (part (now (state .entry)) above width) count first (part (now (state .entry)) own width) .matched))) ⌝ }
 {
+    let hint = hint_of(name, attributes, text, count);
     let mut p = first;
     let mut left = count;
     while left > 0 {
-        if p == NO_PLACE {
+        let skipped = skip_failing(compiled, state, above, own, width, p, left, hint);
+        if skipped.left == 0 {
+            return;
+        }
+        if skipped.place == NO_PLACE {
             return;
         }
         p = visit_found(
@@ -100,14 +107,14 @@ fn pass_found(
             above,
             own,
             width,
-            p,
+            skipped.place,
             name,
             attributes,
             text,
             place,
             out,
         );
-        left -= 1;
+        left = skipped.left - 1;
     }
 }
 

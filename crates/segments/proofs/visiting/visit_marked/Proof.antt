@@ -4,8 +4,8 @@ use borrow.Author.Needs.{needs}
 use Rattle.segments.proofs.visiting.visit_marked.Statement.{statement}
 use Rattle.segments.proofs.visiting.visit_marked.Tie as tie
 
-mark-passes-requires : tie.Need-mark-passes-requires
-mark-passes-requires c κs = search needs
+tests-pass-requires : tie.Need-tests-pass-requires
+tests-pass-requires c κs = search needs
 
 visit-swept-requires : tie.Need-visit-swept-requires
 visit-swept-requires c κs = search needs
@@ -16,8 +16,8 @@ same-length c = search needs
 returns : tie.Need-returns
 returns c =
     let at-visit-swept = c .before .before in
-    let at-mark-passes = at-visit-swept .before .before .before in
-    laws.marked-ends _ _ _ _ _ _ _ _ _ _ _ (at-mark-passes .mark-passes .ensures) _ _ (at-visit-swept .visit-swept .ensures)
+    let at-tests-pass = at-visit-swept .before .before .before in
+    laws.marked-ends _ _ _ _ _ _ _ _ _ _ _ (at-tests-pass .tests-pass .ensures) _ _ (at-visit-swept .visit-swept .ensures)
 
 add-put-marked : tie.Need-add-put-marked
 add-put-marked c = search needs
@@ -32,15 +32,15 @@ returns-2 : tie.Need-returns-2
 returns-2 c =
     let at-put-marked = c .before .before in
     let at-if1 = at-put-marked .before .before in
-    let at-mark-passes = at-if1 .before in
-    let start = at-mark-passes .before .before .before .before .before .before in
-    laws.marked-stays _ _ _ _ _ _ _ _ _ _ _ (at-mark-passes .mark-passes .ensures) _ (at-if1 .if1 .left) (start .pre .1 .1) (at-put-marked .put-marked .ensures)
+    let at-tests-pass = at-if1 .before in
+    let start = at-tests-pass .before .before .before .before .before .before in
+    laws.marked-stays _ _ _ _ _ _ _ _ _ _ _ (at-tests-pass .tests-pass .ensures) _ (at-if1 .if1 .left) (start .pre .1 .1) (at-put-marked .put-marked .ensures)
 
 pub visit-marked-spec : {M : Type 1} → statement M
 visit-marked-spec =
     tie.close
     (tie.spec
-    mark-passes-requires
+    tests-pass-requires
     visit-swept-requires
     same-length
     returns

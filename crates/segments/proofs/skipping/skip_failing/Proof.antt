@@ -1,0 +1,81 @@
+use native.Mathlib.Omega.{arith}
+-- Each turn copies one block that stays; what is left has the result of the whole.
+use Rattle.segments.proofs.CodeSkipLaws as laws
+use borrow.Author.Needs.{needs}
+use Rattle.segments.proofs.skipping.skip_failing.Statement.{statement}
+use Rattle.segments.proofs.skipping.skip_failing.Tie as tie
+
+abbrev Inv-loop : tie.InvT-loop
+Inv-loop compiled state₀ above own width first count hint p₀ left₀ state p left = laws.Skipping compiled hint above own width state₀ first count state p left
+
+abbrev μ-loop : tie.MeasureT-loop
+μ-loop compiled state₀ above own width first count hint p₀ left₀ state p left = left
+
+returns : tie.Need-returns Inv-loop μ-loop
+returns c = (laws.skip-none _ _ _ _ _ _ _ _, (c .before .before .before .pre .near, search needs))
+
+sub-if2 : tie.Need-sub-if2 Inv-loop μ-loop
+sub-if2 c = search needs
+
+returns-2 : tie.Need-returns-2 Inv-loop μ-loop
+returns-2 c = (laws.skip-none _ _ _ _ _ _ _ _, (c .before .before .before .before .pre .near, search needs))
+
+loop-holds : tie.Need-loop-holds Inv-loop μ-loop
+loop-holds c = laws.skip-begin _ _ _ _ _ _ _ _ (c .before .before .before .before .pre) (search needs)
+
+block-stays-requires : tie.Need-block-stays-requires Inv-loop μ-loop
+block-stays-requires c κs = (c .before .before .loop .inv .held, c .before .before .loop .inv .lent .near)
+
+copy-block-requires : tie.Need-copy-block-requires Inv-loop μ-loop
+copy-block-requires c κs =
+    let at-if3 = c .before in
+    let at-block-stays = at-if3 .before in
+    let v = at-block-stays .before .before .before .loop .inv in
+    let b = at-block-stays .block-stays .ensures (at-if3 .if3 .taken) in
+    (omega (arith, b .inside, v .held), omega (arith, b .inside, v .lent .room))
+
+sub-left : tie.Need-sub-left Inv-loop μ-loop
+sub-left c = search needs
+
+loop-less : tie.Need-loop-less Inv-loop μ-loop
+loop-less c = search needs
+
+loop-again : tie.Need-loop-again Inv-loop μ-loop
+loop-again c =
+    let at-copy-block = c .before .before in
+    let at-if3 = at-copy-block .before .before in
+    let at-block-stays = at-if3 .before in
+    let at-loop-test = at-block-stays .before .before in
+    laws.skip-more _ _ _ _ _ _ _ _ _ _ _ (at-loop-test .before .loop .inv) (at-loop-test .loop-test .taken) (at-block-stays .block-stays .ensures (at-if3 .if3 .taken)) _ (at-copy-block .copy-block .ensures .1 .0) (at-copy-block .copy-block .ensures .1 .1) _ (at-copy-block .copy-block .ensures .0)
+
+same-length : tie.Need-same-length Inv-loop μ-loop
+same-length c = search needs
+
+returns-3 : tie.Need-returns-3 Inv-loop μ-loop
+returns-3 c = let v = c .before .before .before .before .loop .inv in (v .skips, (v .lent .near, v .fewer))
+
+same-length-2 : tie.Need-same-length-2 Inv-loop μ-loop
+same-length-2 c = search needs
+
+returns-4 : tie.Need-returns-4 Inv-loop μ-loop
+returns-4 c = let v = c .before .loop .inv in (v .skips, (v .lent .near, v .fewer))
+
+pub skip-failing-spec : {M : Type 1} → statement M
+skip-failing-spec =
+    tie.close
+    (tie.spec
+    Inv-loop
+    μ-loop
+    returns
+    sub-if2
+    returns-2
+    loop-holds
+    block-stays-requires
+    copy-block-requires
+    sub-left
+    loop-less
+    loop-again
+    same-length
+    returns-3
+    same-length-2
+    returns-4)
