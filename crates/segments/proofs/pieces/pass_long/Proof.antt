@@ -1,7 +1,8 @@
+-- A component is a step by its kind, or a test, which the document does not pass unless it is star.
 use Rattle.segments.proofs.CodePieceLaws as laws
 use borrow.Author.Needs.{needs}
-use Rattle.segments.proofs.pieces.pass_met.Statement.{statement}
-use Rattle.segments.proofs.pieces.pass_met.Tie as tie
+use Rattle.segments.proofs.pieces.pass_long.Statement.{statement}
+use Rattle.segments.proofs.pieces.pass_long.Tie as tie
 
 read-component-requires : tie.Need-read-component-requires
 read-component-requires c κs = search needs
@@ -48,8 +49,8 @@ returns-5 : tie.Need-returns-5
 returns-5 c = let k = c .before .before in
     laws.fault-read _ _ _ _ _ (k .read-component .ensures .0) _ (c .enum-told .given .1)
 
-pub pass-met-spec : {M : Type 1} → statement M
-pass-met-spec =
+pub pass-long-spec : {M : Type 1} → statement M
+pass-long-spec =
     tie.close
     (tie.spec
     read-component-requires

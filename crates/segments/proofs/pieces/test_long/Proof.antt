@@ -1,8 +1,9 @@
+-- A component is a step by its kind, or a test, which the element passes by what is asked of it.
 use Rattle.segments.specs.Met.{handedElement}
 use Rattle.segments.proofs.CodePieceLaws as laws
 use borrow.Author.Needs.{needs}
-use Rattle.segments.proofs.pieces.test_met.Statement.{statement}
-use Rattle.segments.proofs.pieces.test_met.Tie as tie
+use Rattle.segments.proofs.pieces.test_long.Statement.{statement}
+use Rattle.segments.proofs.pieces.test_long.Tie as tie
 
 read-component-requires : tie.Need-read-component-requires
 read-component-requires c κs = search needs
@@ -69,8 +70,8 @@ returns-5 : tie.Need-returns-5
 returns-5 c = let k = c .before .before in
     laws.fault-read _ _ _ _ _ (k .read-component .ensures .0) _ (c .enum-told .given .1)
 
-pub test-met-spec : {M : Type 1} → statement M
-test-met-spec =
+pub test-long-spec : {M : Type 1} → statement M
+test-long-spec =
     tie.close
     (tie.spec
     read-component-requires
