@@ -1,8 +1,8 @@
 -- Each kind of component adds what its kind says.
 use Rattle.stepping.proofs.WeightLaws as laws
 use borrow.Author.Needs.{needs}
-use Rattle.stepping.proofs.specificity.read_weight.Statement.{statement}
-use Rattle.stepping.proofs.specificity.read_weight.Tie as tie
+use Rattle.stepping.proofs.specificity.read_long_weight.Statement.{statement}
+use Rattle.stepping.proofs.specificity.read_long_weight.Tie as tie
 
 read-component-requires : tie.Need-read-component-requires
 read-component-requires c κs = search needs
@@ -18,79 +18,59 @@ returns c = let n = c .before in
 enum-known-next-2 : tie.Need-enum-known-next-2
 enum-known-next-2 c = search needs
 
-new-requires : tie.Need-new-requires
-new-requires c κs = search needs
+name-weight-requires : tie.Need-name-weight-requires
+name-weight-requires c κs = search needs
 
 returns-2 : tie.Need-returns-2
-returns-2 c = let n = c .before .before .before in
+returns-2 c = let n = c .before .before in
     let k = n .before .before in
-    laws.element-weight _ _ _ (k .read-component .ensures .0) _ _ _ _ (n .next2 .given .1) _ (c .before .if1 .taken) (c .new .ensures)
-
-new-requires-2 : tie.Need-new-requires-2
-new-requires-2 c κs = search needs
-
-returns-3 : tie.Need-returns-3
-returns-3 c = let n = c .before .before .before .before in
-    let k = n .before .before in
-    laws.hash-weight _ _ _ (k .read-component .ensures .0) _ _ _ _ (n .next2 .given .1) _ (c .before .if2 .taken) (c .new2 .ensures)
-
-new-requires-3 : tie.Need-new-requires-3
-new-requires-3 c κs = search needs
-
-returns-4 : tie.Need-returns-4
-returns-4 c = let n = c .before .before .before .before in
-    let k = n .before .before in
-    laws.class-weight _ _ _ (k .read-component .ensures .0) _ _ _ _ (n .next2 .given .1) _ (c .before .before .if1 .left) (c .before .if2 .left) (c .new3 .ensures)
+    laws.name-weight _ _ _ (k .read-component .ensures .0) _ _ _ _ (n .next2 .given .1) _ (c .name-weight .ensures)
 
 enum-known-next-3 : tie.Need-enum-known-next-3
 enum-known-next-3 c = search needs
 
-new-requires-4 : tie.Need-new-requires-4
-new-requires-4 c κs = search needs
+new-requires : tie.Need-new-requires
+new-requires c κs = search needs
 
-returns-5 : tie.Need-returns-5
-returns-5 c = let n = c .before .before in
+returns-3 : tie.Need-returns-3
+returns-3 c = let n = c .before .before in
     let k = n .before .before in
-    laws.numbers-weight _ _ _ (k .read-component .ensures .0) _ _ _ (n .next3 .given .1) _ (c .new4 .ensures)
+    laws.numbers-weight _ _ _ (k .read-component .ensures .0) _ _ _ (n .next3 .given .1) _ (c .new .ensures)
 
 enum-known-next-4 : tie.Need-enum-known-next-4
 enum-known-next-4 c = search needs
 
-new-requires-5 : tie.Need-new-requires-5
-new-requires-5 c κs = search needs
+new-requires-2 : tie.Need-new-requires-2
+new-requires-2 c κs = search needs
 
-returns-6 : tie.Need-returns-6
-returns-6 c = let n = c .before .before in
+returns-4 : tie.Need-returns-4
+returns-4 c = let n = c .before .before in
     let k = n .before .before in
-    laws.names-weight _ _ _ (k .read-component .ensures .0) _ _ _ _ _ (n .next4 .given .1) _ (c .new5 .ensures)
+    laws.names-weight _ _ _ (k .read-component .ensures .0) _ _ _ _ _ (n .next4 .given .1) _ (c .new2 .ensures)
 
 enum-known-fault : tie.Need-enum-known-fault
 enum-known-fault c = search needs
 
-returns-7 : tie.Need-returns-7
-returns-7 c = let n = c .before in
+returns-5 : tie.Need-returns-5
+returns-5 c = let n = c .before in
     let k = n .before .before in
     laws.fault-weight _ _ _ (k .read-component .ensures .0) _ (n .fault .given .1)
 
-pub read-weight-spec : {M : Type 1} → statement M
-read-weight-spec =
+pub read-long-weight-spec : {M : Type 1} → statement M
+read-long-weight-spec =
     tie.close
     (tie.spec
     read-component-requires
     enum-known-next
     returns
     enum-known-next-2
-    new-requires
+    name-weight-requires
     returns-2
-    new-requires-2
-    returns-3
-    new-requires-3
-    returns-4
     enum-known-next-3
-    new-requires-4
-    returns-5
+    new-requires
+    returns-3
     enum-known-next-4
-    new-requires-5
-    returns-6
+    new-requires-2
+    returns-4
     enum-known-fault
-    returns-7)
+    returns-5)
