@@ -11,6 +11,7 @@ pub mod NumberReading
 pub mod NumberWriting
 pub mod TextCode
 pub mod ComponentCode
+pub mod ShortCode
 pub mod Passing
 pub mod StyleCode
 pub mod SheetCode

@@ -1,19 +1,19 @@
 -- The returns of the readers of selectors and of the check of a sheet.
 use mathlib.Core.Path.{_≡_, refl, sym, ap, _∙_}
 use mathlib.Core.List.{List, _∷_}
-use Prim.Native.Nat.{ℕ, zero, suc, _-_, _≤_, _<_}
+use Prim.Native.Nat.{ℕ, zero, suc, _+_, _-_, _≤_, _<_}
 use native.Mathlib.Omega.{arith}
-use lib.ListN.{length}
+use lib.ListN.{length, getD}
 use Rattle.combinators.specs.Refusal.{noRefusal, refusedAt, badBytes}
 use Rattle.combinators.proofs.Rules.{pick-true, pick-false, is-yes, is-no}
 use Rattle.syntax.specs.RuleLayout.{pseudoNumber}
 use Rattle.syntax.specs.Selector.{none, after}
 use Rattle.syntax.specs.Style.{agentOrigin, authorOrigin}
 use Rattle.compiled.specs.Decoded.{Decoded, read, fault, onDecoded, mapped, counted}
-use Rattle.compiled.specs.Number.{numberAt, rangedAt}
+use Rattle.compiled.specs.Number.{groupValues, numberAt, rangedAt}
 use Rattle.compiled.specs.Component.{componentAt}
 use Rattle.compiled.specs.Sheet.{CompiledSelector, Head, countAt, pseudoAt, headAt, stylesAt, partsAt, selectorOf, selectorAt, selectorsAt, ending, wholeAt, decode}
-use Rattle.compiled.specs.Answer.{numberAnswer, placeAnswer, headAnswer, headWithin, selectorAnswer, checkAnswer, refusalOf, bytesRefusal, checkWithin}
+use Rattle.compiled.specs.Answer.{numberAnswer, placeAnswer, headAnswer, headWithin, ShortHead, selectorAnswer, checkAnswer, refusalOf, bytesRefusal, checkWithin}
 use Rattle.compiled.specs.declared.numbers.NumberAnswer.{NumberAnswer}
 use Rattle.compiled.specs.declared.numbers.NumberAnswer.the-variants as number
 use Rattle.compiled.specs.declared.places.PlaceAnswer.{PlaceAnswer}
@@ -27,6 +27,7 @@ use Rattle.compiled.specs.declared.sheets.CheckAnswer.the-variants as ch
 use Rattle.compiled.proofs.Answers.{number-read, number-fault, place-mapped, place-read, place-fault, head-read, head-fault, selector-read, selector-fault}
 use Rattle.compiled.proofs.Bounds.{Reaches, head-reaches, sheet-reaches}
 use Rattle.compiled.proofs.Following.{then-read, then-fault, mapped-read, mapped-fault}
+use Rattle.compiled.proofs.NumberReading.{reading-one, ranged-in}
 
 -- ---- the numbers before the components
 -- where the numbers before the components are faulty, the answer is that fault
@@ -75,6 +76,31 @@ module _ (s : List ℕ) (at least : ℕ) where
     pub origin-fault : (p : ℕ) → r ≡ number.Fault p → (head.Fault p ≡ headAnswer (headAt s least at)) × headWithin (length s) (head.Fault p)
     unfolding headAt
     origin-fault p q = bounded _ (faulty _ p (then-fault (rangedAt s at least authorOrigin) (λ m o. pseudoAt s o m) p (number-fault _ r e p q)))
+
+-- ---- `read_head`, of one byte for each number
+module _ (s : List ℕ) (at least : ℕ) (l : at < length s) (room : 3 ≤ length s - at) (origin pseudo count : ℕ)
+    (eo : origin ≡ getD s at 0) (ep : pseudo ≡ getD s (at + 1) 0) (ec : count ≡ getD s (at + 2) 0) where
+  -- each is read by itself
+  pub short-head : least ≤ origin → origin ≤ authorOrigin → pseudo ≤ pseudoNumber after → count < groupValues → ShortHead s least at
+  unfolding pseudoNumber
+  short-head h₀ h₁ h₂ h₃ =
+      let two : at + 1 + 1 ≡ at + 2 = omega arith in
+      let three : at + 1 + 1 + 1 ≡ at + 3 = omega arith in
+      let o = ranged-in s at least authorOrigin _ (reading-one s at origin eo l (omega (arith, h₁)) _ refl .0) (at + 1) origin refl h₀ h₁ .0 in
+      let p = ranged-in s (at + 1) (pseudoNumber none) (pseudoNumber after) _ (reading-one s (at + 1) pseudo ep (omega (arith, room)) (omega (arith, h₂)) _ refl .0) (at + 1 + 1) pseudo refl (omega arith) h₂ .0 in
+      let c = reading-one s (at + 1 + 1) count (ec ∙ ap (λ (i : ℕ). getD s i 0) (sym two)) (omega (arith, room)) h₃ _ refl .0 in
+      let q = pseudo-read s (at + 1) origin _ p (at + 1 + 1) pseudo refl _ (count-read s (at + 1 + 1) origin pseudo _ c (at + 1 + 1 + 1) count refl) in
+      record { numbers = sym (origin-read s at least _ o (at + 1) origin refl _ q .0) ∙ same three eo ep ec; there = omega (arith, l, room) }
+    where
+      same : {a b c d a′ b′ c′ d′ : ℕ} → a ≡ a′ → b ≡ b′ → c ≡ c′ → d ≡ d′ → head.Head a b c d ≡ head.Head a′ b′ c′ d′
+      same p q r t = rw (p, q, r, t)
+
+-- the answer is what the bytes say
+pub short-read : (s : List ℕ) (at least : ℕ) → ShortHead s least at → (origin pseudo count : ℕ)
+    → origin ≡ getD s at 0 → pseudo ≡ getD s (at + 1) 0 → count ≡ getD s (at + 2) 0
+    → (head.Head (at + 3) origin pseudo count ≡ headAnswer (headAt s least at)) × headWithin (length s) (head.Head (at + 3) origin pseudo count)
+unfolding headWithin
+short-read s at least h origin pseudo count eo ep ec = (rw (eo, ep, ec) (sym (h .numbers)), h .there)
 
 -- ---- `skip_parts`
 module _ (s : List ℕ) (at count : ℕ) (r : PlaceAnswer) (e : r ≡ placeAnswer (counted (componentAt s) count at)) where

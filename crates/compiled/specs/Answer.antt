@@ -1,15 +1,16 @@
 -- What the readers of compiled bytes answer for each reading, and how far it reaches into the bytes.
-use Prim.Native.Nat.{ℕ, _+_, _≤_}
+use Prim.Native.Nat.{ℕ, _+_, _-_, _≤_, _<_}
 use mathlib.Core.Path.{_≡_}
 use mathlib.Core.List.{List}
+use lib.ListN.{length, getD}
 use Rattle.combinators.specs.Refusal.{noRefusal, refusedAt, badBytes}
 use Rattle.combinators.specs.declared.refusals.Refusal.{Refusal}
 use Rattle.syntax.specs.declared.styles.Value.{Value}
 use Rattle.syntax.specs.declared.styles.StyleNumbers.{StyleNumbers}
 use Rattle.compiled.specs.Decoded.{Decoded, read, fault, onDecoded}
 use Rattle.compiled.specs.Text.{Span}
-use Rattle.compiled.specs.Component.{Written, mark, name, numbers, names}
-use Rattle.compiled.specs.Sheet.{CompiledSelector, Head, decode}
+use Rattle.compiled.specs.Component.{Written, mark, name, numbers, names, writtenAt}
+use Rattle.compiled.specs.Sheet.{CompiledSelector, Head, headAt, decode}
 use Rattle.compiled.specs.declared.places.PlaceAnswer.{PlaceAnswer}
 use Rattle.compiled.specs.declared.places.PlaceAnswer.the-variants as place
 use Rattle.compiled.specs.declared.numbers.NumberAnswer.{NumberAnswer}
@@ -74,6 +75,13 @@ componentWithin len (component.Names next start size secondStart secondSize) =
     (next ≤ len) × (start + size ≤ len) × (secondStart + secondSize ≤ len)
 componentWithin len (component.Fault p) = Unit
 
+-- what the size r of a short component at i tells, whose numbers are one byte each: 1, that it is its kind alone; more, that it is a kind and a text;
+-- 0 tells nothing
+pub record ShortSize (t : List ℕ) (i r : ℕ) : Type 0 where
+  pub alone : r ≡ 1 → componentAnswer (writtenAt t i) ≡ component.Mark (i + 1) (getD t i 0)
+  pub named : 1 < r → componentAnswer (writtenAt t i) ≡ component.Name (i + r) (getD t i 0) (i + 2) (r - 2)
+  pub there : r ≤ length t - i
+
 -- ---- styles
 unfoldable pub valueAnswer : Decoded Value → ValueAnswer
 valueAnswer (read n v) = value.Value n v
@@ -96,6 +104,11 @@ headAnswer (fault p) = head.Fault p
 unfoldable pub headWithin : ℕ → HeadAnswer → Type 0
 headWithin len (head.Head next origin pseudo count) = next ≤ len
 headWithin len (head.Fault p) = Unit
+
+-- they are one byte each
+pub record ShortHead (t : List ℕ) (least i : ℕ) : Type 0 where
+  pub numbers : headAnswer (headAt t least i) ≡ head.Head (i + 3) (getD t i 0) (getD t (i + 1) 0) (getD t (i + 2) 0)
+  pub there : i + 3 ≤ length t
 
 -- ---- a selector that is passed over, with its origin
 unfoldable pub selectorAnswer : Decoded CompiledSelector → SelectorAnswer

@@ -1,4 +1,5 @@
 // Components of a compiled sheet: a kind, then what the component has.
+use crate::numbers::GROUP_VALUES;
 use crate::numbers::NumberAnswer;
 use crate::numbers::emit_number;
 use crate::numbers::read_number;
@@ -7,6 +8,7 @@ use crate::places::PlaceAnswer;
 use crate::texts::TextAnswer;
 use crate::texts::emit_text_part;
 use crate::texts::read_text;
+use combinators::bytes::wide;
 use syntax::rows::ATTRIBUTE;
 use syntax::rows::ATTRIBUTE_EQUAL;
 use syntax::rows::CHILD;
@@ -27,7 +29,15 @@ ghost use Rattle.compiled.specs.Number.{numberBytes};
 ghost use Rattle.compiled.specs.Text.{textBytes};
 ghost use Rattle.compiled.specs.Decoded.{counted};
 ghost use Rattle.compiled.specs.Component.{isMark, nameAt, secondNumberAt, numbersAt, secondNameAt, namesAt, bodyAt, writtenAt, componentAt, isName, componentBytes};
-ghost use Rattle.compiled.specs.Answer.{placeAnswer, componentAnswer, componentWithin};
+ghost use Rattle.compiled.specs.Answer.{placeAnswer, componentAnswer, componentWithin, ShortSize};
+
+// From the place of a short component, to the length of its text and to the text.
+const TO_LENGTH: usize = 1;
+
+pub const TO_TEXT: usize = 2;
+
+// The size of a component that is its kind alone.
+pub const MARK_SIZE: usize = 1;
 
 // A component, each with the place behind it first: star, child and descendant with their kind; class, element, hash and attribute with their kind,
 // where their text starts and how long it is; the two numbers of nth; the two texts of an attribute that is equal to a value. Or the place of the
@@ -66,6 +76,22 @@ pub fn is_mark(kind: u32) -> bool
         return true;
     }
     kind == DESCENDANT
+}
+
+// Whether a component is its kind and one text.
+fn is_name(kind: u32) -> bool
+    ensures { λ r. ⌜ r ≡ isName kind ⌝ }
+{
+    if kind == CLASS {
+        return true;
+    }
+    if kind == ELEMENT {
+        return true;
+    }
+    if kind == HASH {
+        return true;
+    }
+    kind == ATTRIBUTE
 }
 
 // Behind the kind, the text.
@@ -188,10 +214,38 @@ pub fn read_component(s: &[u8], at: usize) -> ComponentAnswer
     }
 }
 
-// The place behind the component at `at`.
+// The size of the component at `at` where it is short, as most are: its kind alone, or a kind and a text, each number of one byte. Of any other 0.
+pub fn short_size(s: &[u8], at: usize) -> usize
+    ensures { λ r. ⌜ ShortSize (now (s .entry)) at r ⌝ }
+{
+    if at < s.len() {
+        let kind = wide(s[at]);
+        if is_mark(kind) {
+            return MARK_SIZE;
+        }
+        if is_name(kind) {
+            let left = s.len() - at;
+            if left > TO_LENGTH {
+                let size = wide(s[at + TO_LENGTH]);
+                if (size as u64) < GROUP_VALUES {
+                    if size as usize + TO_TEXT <= left {
+                        return size as usize + TO_TEXT;
+                    }
+                }
+            }
+        }
+    }
+    0
+}
+
+// The place behind the component at `at`. Most are short, of which the size alone is asked.
 pub fn skip_component(s: &[u8], at: usize) -> PlaceAnswer
     ensures { λ r. ⌜ r ≡ placeAnswer (componentAt (now (s .entry)) at) ⌝ }
 {
+    let size = short_size(s, at);
+    if size > 0 {
+        return PlaceAnswer::At(at + size);
+    }
     match read_component(s, at) {
         ComponentAnswer::Mark(next, _) => {
             return PlaceAnswer::At(next);
@@ -229,22 +283,6 @@ pub fn skip_components(s: &[u8], at: usize, count: u32) -> PlaceAnswer
         left -= 1;
     }
     PlaceAnswer::At(i)
-}
-
-// Whether a component is its kind and one text.
-fn is_name(kind: u32) -> bool
-    ensures { λ r. ⌜ r ≡ isName kind ⌝ }
-{
-    if kind == CLASS {
-        return true;
-    }
-    if kind == ELEMENT {
-        return true;
-    }
-    if kind == HASH {
-        return true;
-    }
-    kind == ATTRIBUTE
 }
 
 // Writes a kind and the text that starts at `start` in `texts` and has `size` bytes, or as many as there are; the fill behind them.

@@ -8,7 +8,7 @@ ghost use Rattle.compiled.specs.Number.{numberBytes, limited, numberAt, 
 ghost use Rattle.compiled.specs.Answer.{numberAnswer, numberWithin};
 
 // How many values a group has: its byte is below that in the last group, and from there on in the others.
-const GROUP_VALUES: u64 = 128;
+pub const GROUP_VALUES: u64 = 128;
 
 const MOST_GROUPS: u32 = 5;
 

@@ -1,11 +1,13 @@
 // Selectors of a compiled sheet, and the check that bytes are a sheet.
 use crate::components::skip_components;
+use crate::numbers::GROUP_VALUES;
 use crate::numbers::NumberAnswer;
 use crate::numbers::emit_number;
 use crate::numbers::read_number;
 use crate::numbers::read_ranged;
 use crate::places::PlaceAnswer;
 use crate::styles::skip_styles;
+use combinators::bytes::wide;
 use combinators::refusals::BAD_BYTES;
 use combinators::refusals::Refusal;
 use combinators::refusals::no_refusal;
@@ -15,15 +17,23 @@ use syntax::rows::AUTHOR_ORIGIN;
 use syntax::rows::PSEUDO_AFTER;
 use syntax::rows::PSEUDO_NONE;
 ghost use mathlib.Core.Path.{_≡_};
+ghost use mathlib.Core.Bool.{true};
 ghost use Prim.Native.Nat.{_<_};
 ghost use lib.ListN.{length};
 ghost use Rattle.combinators.specs.Store.{emits};
 ghost use Rattle.compiled.specs.Number.{numberLimit};
 ghost use Rattle.compiled.specs.Sheet.{headBytes, countAt, pseudoAt, headAt, partsAt, selectorAt, selectorsAt, wholeAt};
-ghost use Rattle.compiled.specs.Answer.{placeAnswer, headAnswer, headWithin, selectorAnswer, checkAnswer, refusalOf, bytesRefusal, checkWithin};
+ghost use Rattle.compiled.specs.Answer.{placeAnswer, headAnswer, headWithin, ShortHead, selectorAnswer, checkAnswer, refusalOf, bytesRefusal, checkWithin};
 
 // The bytes that a compiled sheet may have.
 pub const COMPILED_LIMIT: usize = 65536;
+
+// The bytes before a selector's components where each number is one byte, and the places of the second and the third.
+const SHORT_HEAD: usize = 3;
+
+const TO_PSEUDO: usize = 1;
+
+const TO_COUNT: usize = 2;
 
 // The place behind the numbers before a selector's components: its origin, its pseudo element and how many components it has. Or the place of the
 // fault.
@@ -96,8 +106,8 @@ fn read_pseudo(s: &[u8], at: usize, origin: u32) -> HeadAnswer
     }
 }
 
-// The numbers at `at` before a selector's components, where the selector before is of the origin `least`.
-pub fn read_head(s: &[u8], at: usize, least: u32) -> HeadAnswer
+// The numbers at `at` before a selector's components, of whatever length, where the selector before is of the origin `least`.
+fn read_long_head(s: &[u8], at: usize, least: u32) -> HeadAnswer
     ensures { λ r. ⌜ r ≡ headAnswer (headAt (now (s .entry)) least at) ⌝ }
     ensures { λ r. ⌜ headWithin (length (now (s .entry))) r ⌝ }
 {
@@ -109,6 +119,45 @@ pub fn read_head(s: &[u8], at: usize, least: u32) -> HeadAnswer
             return HeadAnswer::Fault(place);
         }
     }
+}
+
+// Whether these numbers are one byte each, as most are.
+fn head_is_short(s: &[u8], at: usize, least: u32) -> bool
+    ensures { λ r. ⌜ (r ≡ true → ShortHead (now (s .entry)) least at) ⌝ }
+{
+    if at < s.len() {
+        if SHORT_HEAD <= s.len() - at {
+            let origin = wide(s[at]);
+            let pseudo = wide(s[at + TO_PSEUDO]);
+            let count = wide(s[at + TO_COUNT]);
+            if least <= origin {
+                if origin <= AUTHOR_ORIGIN {
+                    if pseudo <= PSEUDO_AFTER {
+                        if (count as u64) < GROUP_VALUES {
+                            return true;
+                        }
+                    }
+                }
+            }
+        }
+    }
+    false
+}
+
+// The numbers at `at` before a selector's components, where the selector before is of the origin `least`.
+pub fn read_head(s: &[u8], at: usize, least: u32) -> HeadAnswer
+    ensures { λ r. ⌜ r ≡ headAnswer (headAt (now (s .entry)) least at) ⌝ }
+    ensures { λ r. ⌜ headWithin (length (now (s .entry))) r ⌝ }
+{
+    if head_is_short(s, at, least) {
+        return HeadAnswer::Head {
+            next: at + SHORT_HEAD,
+            origin: wide(s[at]),
+            pseudo: wide(s[at + TO_PSEUDO]),
+            count: wide(s[at + TO_COUNT]),
+        };
+    }
+    read_long_head(s, at, least)
 }
 
 // The place behind `count` components at `at` and the styles behind them.

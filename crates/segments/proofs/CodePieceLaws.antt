@@ -1,8 +1,9 @@
 -- One component at a row as code meets it: whether a test passes, and what a component in compiled bytes is.
-use Prim.Native.Nat.{ℕ}
+use Prim.Native.Nat.{ℕ, _+_, _-_, _<_}
 use mathlib.Core.Path.{_≡_, refl, sym, ap, _∙_}
 use mathlib.Core.Bool.{Bool, true, false}
 use mathlib.Core.List.{List, [], _∷_}
+use lib.ListN.{getD}
 use Rattle.combinators.specs.Choice.{pick, and, is}
 use Rattle.combinators.specs.Part.{part}
 use Rattle.combinators.specs.Word.{sameText}
@@ -18,7 +19,7 @@ use Rattle.matching.specs.Nth.{nthMatches}
 use Rattle.matching.proofs.PassLaws.{and-yes}
 use Rattle.compiled.specs.Decoded.{read, onDecoded, mapped}
 use Rattle.compiled.specs.Component.{writtenAt, markOf, namedOf, componentAt}
-use Rattle.compiled.specs.Answer.{componentAnswer}
+use Rattle.compiled.specs.Answer.{componentAnswer, ShortSize}
 use Rattle.compiled.specs.declared.components.ComponentAnswer.{ComponentAnswer}
 use Rattle.compiled.specs.declared.components.ComponentAnswer.the-variants as component
 use Rattle.compiled.proofs.Walking.{at-mark, at-name, at-numbers, at-names, at-fault}
@@ -117,7 +118,7 @@ mark-is row ok n true b = ap (met.Test n) (sym (and-yes ok))
 mark-is row ok n false true = refl
 mark-is row ok n false false = refl
 
--- ---- the returns of `pass_met` and `test_met`
+-- ---- the returns of `pass_long` and `test_long`
 module _ (code : List ℕ) (row : Path) (ok : Bool) (at : ℕ) (r : ComponentAnswer) (er : r ≡ componentAnswer (writtenAt code at)) where
   -- what is to be returned
   abbrev Is : Met → Type 0
@@ -155,7 +156,7 @@ module _ (code : List ℕ) (row : Path) (ok : Bool) (at : ℕ) (r : ComponentAns
 failed : (ok : Bool) (c : Component) → FailsThere c → false ≡ and ok (tested [] c)
 failed ok c e = sym (and-right ok (tested [] c) e)
 
--- ---- those of `pass_met`
+-- ---- those of `pass_long`
 module _ (code : List ℕ) (ok : Bool) (at : ℕ) (r : ComponentAnswer) (er : r ≡ componentAnswer (writtenAt code at)) where
   -- a text
   pub name-passed : (n kind start size : ℕ) → r ≡ component.Name n kind start size → met.Test n false ≡ metAt code [] ok at
@@ -169,7 +170,7 @@ module _ (code : List ℕ) (ok : Bool) (at : ℕ) (r : ComponentAnswer) (er : r 
   pub names-passed : (n a b f g : ℕ) → r ≡ component.Names n a b f g → met.Test n false ≡ metAt code [] ok at
   names-passed n a b f g p = equal-is code [] ok at r er n a b f g p false (failed ok _ (equal-fails _ _))
 
--- ---- those of `test_met`
+-- ---- those of `test_long`
 module _ (code : List ℕ) (x : Element) (at : ℕ) (r : ComponentAnswer) (er : r ≡ componentAnswer (writtenAt code at)) where
   -- a text
   pub name-tested : (n kind start size : ℕ) → r ≡ component.Name n kind start size → (w : List ℕ) → w ≡ part code start size
@@ -190,6 +191,24 @@ module _ (code : List ℕ) (x : Element) (at : ℕ) (r : ComponentAnswer) (er : 
   unfolding and
   names-tested n a b f g p w ew y ey t et =
       equal-is code (x ∷ []) true at r er n a b f g p t (rw (← ew, ← ey) (et ∙ equal-tested w y x))
+
+-- ---- those of `pass_met` and `test_met`, of a short component
+module _ (code : List ℕ) (at size : ℕ) (short : ShortSize code at size) where
+  -- a text is passed over
+  pub short-passed : (ok : Bool) → 1 < size → met.Test (at + size) false ≡ metAt code [] ok at
+  short-passed ok h = name-passed code ok at _ refl (at + size) _ _ _ (short .named h)
+
+  -- a kind alone
+  pub short-mark : (ok : Bool) → size ≡ 1 → (kind : ℕ) → kind ≡ getD code at 0 → (q : Met) → q ≡ markMet (at + size) kind ok → q ≡ metAt code [] ok at
+  short-mark ok h kind e q p =
+      mark-read code [] ok at _ refl (at + 1) _ (short .alone h) q
+      (p ∙ ap (λ (n : ℕ). markMet (at + n) kind ok) h ∙ ap (λ (k : ℕ). markMet (at + 1) k ok) e)
+
+  -- a text is tested
+  pub short-tested : (x : Element) → 1 < size → (kind : ℕ) → kind ≡ getD code at 0 → (w : List ℕ) → w ≡ part code (at + 2) (size - 2)
+      → (b : Bool) → b ≡ tested (x ∷ []) (namedOf kind w) → met.Test (at + size) b ≡ metAt code (x ∷ []) true at
+  short-tested x h kind e w ew b eb =
+      name-tested code x at _ refl (at + size) _ _ _ (short .named h) w ew b (eb ∙ ap (λ (k : ℕ). tested (x ∷ []) (namedOf k w)) e)
 
 -- ---- the returns of `read_met`
 module _ (code : List ℕ) (x : Element) (at : ℕ) where

@@ -1,8 +1,12 @@
 // One component in compiled bytes, at one row of a page.
+use combinators::bytes::wide;
 use combinators::texts::part_of;
 use combinators::texts::same_text;
 use compiled::components::ComponentAnswer;
+use compiled::components::MARK_SIZE;
+use compiled::components::TO_TEXT;
 use compiled::components::read_component;
+use compiled::components::short_size;
 use matching::elements::attribute_is;
 use matching::elements::has_attribute;
 use matching::elements::has_class;
@@ -84,8 +88,8 @@ fn mark_met(next: usize, kind: u32, ok: bool) -> Met
     Met::Descendant(next)
 }
 
-// The component at `at` for the document, which passes star alone: a test is only read past.
-pub fn pass_met(compiled: &[u8], at: usize, ok: bool) -> Met
+// The component at `at`, of whatever length, for the document, which passes star alone: a test is only read past.
+fn pass_long(compiled: &[u8], at: usize, ok: bool) -> Met
     ensures { λ r. ⌜ r ≡ metAt (now (compiled .entry)) [] ok at ⌝ }
 {
     match read_component(compiled, at) {
@@ -107,8 +111,22 @@ pub fn pass_met(compiled: &[u8], at: usize, ok: bool) -> Met
     }
 }
 
-// The same for an element that has passed so far.
-fn test_met(
+// The same. Of a short component, as most are, the size and the first byte tell it.
+pub fn pass_met(compiled: &[u8], at: usize, ok: bool) -> Met
+    ensures { λ r. ⌜ r ≡ metAt (now (compiled .entry)) [] ok at ⌝ }
+{
+    let size = short_size(compiled, at);
+    if size > MARK_SIZE {
+        return Met::Test(at + size, false);
+    }
+    if size == MARK_SIZE {
+        return mark_met(at + size, wide(compiled[at]), ok);
+    }
+    pass_long(compiled, at, ok)
+}
+
+// The component at `at`, of whatever length, for an element that has passed so far.
+fn test_long(
     compiled: &[u8],
     at: usize,
     name: &[u8],
@@ -155,6 +173,27 @@ fn test_met(
             return Met::Fault;
         }
     }
+}
+
+// The same. Of a short component with a text, as most tests are, the size tells where the text lies.
+fn test_met(
+    compiled: &[u8],
+    at: usize,
+    name: &[u8],
+    attributes: &[u32],
+    text: &[u8],
+    place: usize,
+) -> Met
+    requires { ⌜ place ≤ placeLimit ⌝ }
+    ensures { λ r. ⌜ r ≡ metAt (now (compiled .entry)) (handedElement (now (name .entry)) (now (attributes .entry)) (now (text .entry)) place ∷ []) true at ⌝ }
+{
+    let size = short_size(compiled, at);
+    if size > MARK_SIZE {
+        let word = part_of(compiled, at + TO_TEXT, size - TO_TEXT);
+        let kind = wide(compiled[at]);
+        return Met::Test(at + size, name_passes(kind, word, name, attributes, text));
+    }
+    test_long(compiled, at, name, attributes, text, place)
 }
 
 // The component at `at` for a row. Where the tests so far have failed, a test need not be carried out.

@@ -1,8 +1,7 @@
 -- What the selectors that are found declare: one of them, by what is read at its place.
-use mathlib.Core.Path.{_≡_, sym, ap, _∙_}
+use mathlib.Core.Path.{_≡_, refl, sym, ap, _∙_}
 use mathlib.Core.List.{List, [], _∷_, append-nil}
-use Prim.Native.Nat.{ℕ, _≤_}
-use lib.ListN.{length}
+use Prim.Native.Nat.{ℕ}
 use Rattle.syntax.specs.Selector.{Component}
 use Rattle.syntax.specs.Style.{agentOrigin}
 use Rattle.syntax.specs.declared.styles.Value.{Value}
@@ -12,23 +11,24 @@ use Rattle.cascade.specs.Record.{Styled}
 use Rattle.matching.specs.Specificity.{specificity}
 use Rattle.styles.specs.Merged.{mergedRow}
 use Rattle.styles.proofs.Merging.{merged-none}
-use Rattle.compiled.specs.Decoded.{read, fault, onDecoded, counted}
+use Rattle.compiled.specs.Decoded.{Decoded, read, fault, onDecoded, counted}
 use Rattle.compiled.specs.Component.{componentAt}
-use Rattle.compiled.specs.Sheet.{compiledLimit, Head, headAt, stylesAt}
-use Rattle.compiled.specs.Answer.{headAnswer, placeAnswer}
-use Rattle.compiled.specs.declared.places.PlaceAnswer.{PlaceAnswer}
-use Rattle.compiled.specs.declared.places.PlaceAnswer.the-variants as place
+use Rattle.compiled.specs.Sheet.{Head, headAt}
+use Rattle.compiled.specs.Answer.{headAnswer}
 use Rattle.compiled.specs.declared.sheets.HeadAnswer.{HeadAnswer}
 use Rattle.compiled.specs.declared.sheets.HeadAnswer.the-variants as head
-use Rattle.compiled.proofs.Answers.{head-read, head-fault, place-read, place-fault}
+use Rattle.compiled.proofs.Answers.{head-read, head-fault}
 use Rattle.compiled.proofs.Following.{then-read, then-fault, mapped-read, mapped-fault}
 use Rattle.segments.specs.Down.{readIn}
 use Rattle.runner.specs.Run.{selectorsDeclare, foundAt}
 use Rattle.runner.specs.Walked.{WalkedSelector, walkedStylesAt, walkedPartsAt, walkedSelectorAt}
-use Rattle.runner.proofs.WalkedReads.{styles-place}
-use Rattle.stepping.specs.Reading.{Reads, listed}
-use Rattle.stepping.specs.Merging.{stylesDeclare, StylesLent}
-use Rattle.stepping.proofs.ReadingLaws.{listed-at}
+use Rattle.stepping.specs.Reading.{listed, weightsAt}
+use Rattle.stepping.specs.Merging.{stylesDeclare}
+use Rattle.stepping.specs.declared.specificity.Weight.{Weight}
+use Rattle.stepping.specs.declared.specificity.Weight.the-variants as weight
+use Rattle.stepping.proofs.ReadingLaws.{listed-is, listed-none}
+use Rattle.stepping.proofs.WeightLaws.{weights-read, weights-fault}
+use Rattle.stepping.proofs.StyleLaws.{unmerged}
 
 -- ---- one selector
 module _ (code : List ℕ) (p : ℕ) (row : List ℕ) where
@@ -54,7 +54,7 @@ module _ (code : List ℕ) (p : ℕ) (r : HeadAnswer) (er : r ≡ headAnswer (he
   unfolding walkedSelectorAt
   head-none q e row = none-found code p row q (then-fault (headAt code agentOrigin p) _ q (head-fault _ r er q e))
 
-  module _ (n origin pseudo count : ℕ) (h : r ≡ head.Head n origin pseudo count) (c : PlaceAnswer) (ec : c ≡ placeAnswer (counted (componentAt code) count n)) where
+  module _ (n origin pseudo count : ℕ) (h : r ≡ head.Head n origin pseudo count) (c : Weight) (ec : c ≡ weightsAt code count n) where
     -- behind the head
     abbrev told : Head
     told = record { origin = origin; pseudo = pseudo; count = count }
@@ -64,47 +64,37 @@ module _ (code : List ℕ) (p : ℕ) (r : HeadAnswer) (er : r ≡ headAnswer (he
     behind-head = then-read (headAt code agentOrigin p) _ n told (head-read _ r er n origin pseudo count h)
 
     -- a component is not there
-    pub components-none : (q : ℕ) → c ≡ place.Fault q → (row : List ℕ) → FoundMerged code p row row
+    pub components-none : (q : ℕ) → c ≡ weight.Fault q → (row : List ℕ) → FoundMerged code p row row
     unfolding walkedPartsAt
-    components-none q e row = none-found code p row q (behind-head ∙ then-fault (counted (componentAt code) count n) _ q (place-fault _ c ec q e))
+    components-none q e row = none-found code p row q (behind-head ∙ then-fault (counted (componentAt code) count n) _ q (weights-fault code n count c ec q e))
 
-    module _ (m : ℕ) (hc : c ≡ place.At m) where
-      -- the components are there
-      components-read : (cs : List Component) × (counted (componentAt code) count n ≡ read m cs)
-      components-read = place-read _ c ec m hc
+    module _ (m : ℕ) (spec : Specificity) (hc : c ≡ weight.Added m spec) where
+      -- the components are there, and how specific they are
+      components-read : (cs : List Component) × (counted (componentAt code) count n ≡ read m cs) × (spec ≡ specificity cs)
+      components-read = weights-read code n count c ec m spec hc
 
-      pub components-lent : Reads (counted (componentAt code) count n)
-      components-lent = let w = components-read in record { end = m; value = w .0; told = w .1 }
+      -- where its styles are there, the selector is
+      selector-read : (k : ℕ) (xs : List (Styled Value)) → walkedStylesAt code m ≡ read k xs
+          → walkedSelectorAt code agentOrigin p ≡ read k (record { origin = origin; pseudo = pseudo; components = components-read .0; styles = xs })
+      unfolding walkedPartsAt
+      selector-read k xs e =
+          let v = components-read in
+          behind-head ∙ then-read (counted (componentAt code) count n) _ m (v .0) (v .1) ∙ mapped-read _ (walkedStylesAt code m) k xs e
 
-      module _ (d : PlaceAnswer) (ed : d ≡ placeAnswer (stylesAt code m)) where
-        -- a style is not there
-        pub styles-none : (q : ℕ) → d ≡ place.Fault q → (row : List ℕ) → FoundMerged code p row row
-        unfolding walkedPartsAt
-        styles-none q e row =
-            let w = components-read in
-            none-found code p row q
-            (behind-head ∙ then-read (counted (componentAt code) count n) _ m (w .0) (w .1)
-            ∙ mapped-fault _ (walkedStylesAt code m) q (place-fault _ d (ed ∙ styles-place code m) q e))
+      -- where one is not, it is not
+      selector-none : (q : ℕ) → walkedStylesAt code m ≡ fault q → walkedSelectorAt code agentOrigin p ≡ fault q
+      unfolding walkedPartsAt
+      selector-none q e =
+          let v = components-read in
+          behind-head ∙ then-read (counted (componentAt code) count n) _ m (v .0) (v .1) ∙ mapped-fault _ (walkedStylesAt code m) q e
 
-        module _ (k : ℕ) (hd : d ≡ place.At k) where
-          -- the styles are there
-          styles-read : (xs : List (Styled Value)) × (walkedStylesAt code m ≡ read k xs)
-          styles-read = place-read _ d (ed ∙ styles-place code m) k hd
-
-          pub styles-lent : length code ≤ compiledLimit → StylesLent code m
-          styles-lent l = let w = styles-read in record { few = l; reads = record { end = k; value = w .0; told = w .1 } }
-
-          -- so the selector is
-          selector-read : walkedSelectorAt code agentOrigin p
-              ≡ read k (record { origin = origin; pseudo = pseudo; components = listed (counted (componentAt code) count n); styles = listed (walkedStylesAt code m) })
-          unfolding walkedPartsAt
-          selector-read =
-              let v = components-read in
-              let w = styles-read in
-              behind-head ∙ then-read (counted (componentAt code) count n) _ m (listed (counted (componentAt code) count n)) (listed-at _ m (v .0) (v .1))
-              ∙ mapped-read _ (walkedStylesAt code m) k (listed (walkedStylesAt code m)) (listed-at _ k (w .0) (w .1))
-
-          -- and its styles are merged
-          pub found-merged : (spec : Specificity) → spec ≡ specificity (listed (counted (componentAt code) count n)) → (row z : List ℕ)
-              → z ≡ mergedRow Crate row (stylesDeclare origin pseudo spec (listed (walkedStylesAt code m))) → FoundMerged code p row z
-          found-merged spec es row z e = one-found code p row k _ selector-read z (e ∙ rw es)
+      -- its styles are merged, or nothing
+      pub found-merged : (row z : List ℕ) → z ≡ mergedRow Crate row (stylesDeclare origin pseudo spec (listed (walkedStylesAt code m))) → FoundMerged code p row z
+      found-merged row z e = go (walkedStylesAt code m) refl
+        where
+          go : (d : Decoded (List (Styled Value))) → walkedStylesAt code m ≡ d → FoundMerged code p row z
+          go (read k xs) q =
+              one-found code p row k _ (selector-read k xs q) z
+              (e ∙ ap (λ (y : Specificity). mergedRow Crate row (stylesDeclare origin pseudo y (listed (walkedStylesAt code m)))) (components-read .2)
+              ∙ ap (λ ys. mergedRow Crate row (stylesDeclare origin pseudo (specificity (components-read .0)) ys)) (listed-is _ k xs q))
+          go (fault k) q = e ∙ sym (unmerged origin pseudo spec row _ (listed-none _ k q)) ∙ none-found code p row k (selector-none k q)

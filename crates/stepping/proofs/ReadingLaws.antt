@@ -3,7 +3,7 @@ use mathlib.Core.Path.{_≡_, sym, ap, _∙_}
 use mathlib.Core.List.{List, [], _∷_}
 use Prim.Native.Nat.{ℕ, suc, _-_, _≤_, _<_}
 use native.Mathlib.Omega.{arith}
-use Rattle.compiled.specs.Decoded.{Decoded, read, fault, onDecoded, counted}
+use Rattle.compiled.specs.Decoded.{Decoded, read, fault, onDecoded, andThen, mapped, counted}
 use Rattle.compiled.proofs.Walking.{First, counted-first, counted-none}
 use Rattle.stepping.specs.Reading.{listed}
 
@@ -15,6 +15,27 @@ no-fault d n p a e f = let z : _≡_ {A = ℕ} 0 1 = cc in omega arith
 pub listed-at : {A : Type 0} (d : Decoded (List A)) (n : ℕ) (xs : List A) → d ≡ read n xs → d ≡ read n (listed d)
 unfolding listed onDecoded
 listed-at d n xs e = e ∙ ap (read n) (sym (ap listed e))
+
+-- what is listed is what was read
+pub listed-is : {A : Type 0} (d : Decoded (List A)) (n : ℕ) (xs : List A) → d ≡ read n xs → listed d ≡ xs
+unfolding listed onDecoded
+listed-is d n xs e = rw e
+
+-- where nothing is read, no list is
+pub listed-none : {A : Type 0} (d : Decoded (List A)) (p : ℕ) → d ≡ fault p → listed d ≡ []
+unfolding listed onDecoded
+listed-none d p e = rw e
+
+module _ {A : Type 0} (u : ℕ → Decoded A) (i : ℕ) where
+  -- one value that is read
+  pub one-read : (n : ℕ) (a : A) → u i ≡ read n a → listed (counted u 1 i) ≡ a ∷ []
+  unfolding counted andThen mapped listed onDecoded
+  one-read n a e = rw e
+
+  -- one that is not
+  pub one-none : (p : ℕ) → u i ≡ fault p → listed (counted u 1 i) ≡ []
+  unfolding counted andThen listed onDecoded
+  one-none p e = rw e
 
 module _ {A : Type 0} (u : ℕ → Decoded A) (left i end : ℕ) (others : List A) (e : counted u left i ≡ read end others) where
   -- the first of those that are left

@@ -17,17 +17,21 @@ use Rattle.styles.proofs.Merging.{merged-none, merged-more, merged-append, merg
 use Rattle.compiled.specs.Decoded.{Decoded, read, fault, counted}
 use Rattle.compiled.specs.Number.{numberAt}
 use Rattle.compiled.specs.Style.{styleNumbersAt}
-use Rattle.compiled.specs.Answer.{numberAnswer, styleAnswer}
+use Rattle.compiled.specs.Sheet.{compiledLimit, stylesAt}
+use Rattle.compiled.specs.Answer.{numberAnswer, placeAnswer, styleAnswer}
 use Rattle.compiled.specs.declared.numbers.NumberAnswer.{NumberAnswer}
 use Rattle.compiled.specs.declared.numbers.NumberAnswer.the-variants as number
+use Rattle.compiled.specs.declared.places.PlaceAnswer.{PlaceAnswer}
+use Rattle.compiled.specs.declared.places.PlaceAnswer.the-variants as place
 use Rattle.compiled.specs.declared.styles.StyleAnswer.{StyleAnswer}
 use Rattle.compiled.specs.declared.styles.StyleAnswer.the-variants as style
-use Rattle.compiled.proofs.Answers.{number-read, number-fault}
+use Rattle.compiled.proofs.Answers.{number-read, number-fault, place-read, place-fault}
 use Rattle.compiled.proofs.Following.{then-read, then-fault, mapped-read, mapped-fault}
 use Rattle.runner.specs.Walked.{walkedStylesAt}
+use Rattle.runner.proofs.WalkedReads.{styles-place}
 use Rattle.stepping.specs.Reading.{listed}
-use Rattle.stepping.specs.Merging.{walkedStyleAt, stylesDeclare, CountedLent, StylesLent}
-use Rattle.stepping.proofs.ReadingLaws.{no-fault, listed-at, counted-next, counted-there, counted-end}
+use Rattle.stepping.specs.Merging.{walkedStyleAt, stylesDeclare, CountedLent}
+use Rattle.stepping.proofs.ReadingLaws.{listed-at, listed-none, one-read, one-none, counted-next, counted-there, counted-end}
 
 -- ---- a loop that merges declarations into a row
 -- what has the length of a row with room has room
@@ -140,12 +144,34 @@ module _ (code : List ℕ) (count at origin pseudo : ℕ) (spec : Specificity) (
     pub styles-done : left ≤ 0 → row ≡ mergedRow Crate row₀ (stylesDeclare origin pseudo spec all)
     styles-done h = merging-done row₀ _ row _ (m .merging) (none-declared (m .others) (counted-end (walkedStyleAt code) left i (m .end) (m .others) (m .told) h))
 
+-- ---- where nothing is read, nothing is merged
+pub unmerged : (origin pseudo : ℕ) (spec : Specificity) (row : List ℕ) (xs : List (Styled Value)) → xs ≡ [] → row ≡ mergedRow Crate row (stylesDeclare origin pseudo spec xs)
+unfolding stylesDeclare
+unmerged origin pseudo spec row xs e = rw e (sym (merged-none Crate row))
+
+-- ---- returns of `merge_one`
+module _ (code : List ℕ) (at origin pseudo : ℕ) (spec : Specificity) (row : List ℕ) (r : StyleAnswer) (e : r ≡ styleAnswer (styleNumbersAt code at)) where
+  -- the style is merged
+  pub one-merged : (n : ℕ) (x : StyleNumbers) → r ≡ style.Style n x → (z : List ℕ)
+      → Merged Crate row z (record { pseudo = pseudo; slot = x .slot; candidate = record { weight = record { important = x .important; origin = origin; spec = spec }; value = x .value } })
+      → z ≡ mergedRow Crate row (stylesDeclare origin pseudo spec (listed (counted (walkedStyleAt code) 1 at)))
+  one-merged n x p z m =
+      let u = mapped-read inNumbers (styleNumbersAt code at) n x (style-read (styleNumbersAt code at) r e n x p) in
+      style-merged code 1 at origin pseudo spec row row z x m ∙ ap (λ xs. mergedRow Crate row (stylesDeclare origin pseudo spec xs)) (sym (one-read (walkedStyleAt code) at n (inNumbers x) u))
+
+  -- there is none
+  pub one-unmerged : (p : ℕ) → r ≡ style.Fault p → row ≡ mergedRow Crate row (stylesDeclare origin pseudo spec (listed (counted (walkedStyleAt code) 1 at)))
+  one-unmerged p q =
+      let u = mapped-fault inNumbers (styleNumbersAt code at) p (style-fault (styleNumbersAt code at) r e p q) in
+      unmerged origin pseudo spec row _ (one-none (walkedStyleAt code) at p u)
+
 -- ---- returns of `merge_styles`
-module _ (code : List ℕ) (at : ℕ) (r : NumberAnswer) (e : r ≡ numberAnswer (numberAt code at)) (l : StylesLent code at) where
-  -- there is a count
-  pub count-there : (p : ℕ) → r ≡ number.Fault p → ⊥
+module _ (code : List ℕ) (at : ℕ) (r : NumberAnswer) (e : r ≡ numberAnswer (numberAt code at)) where
+  -- there is no count
+  pub count-none : (p : ℕ) → r ≡ number.Fault p → (origin pseudo : ℕ) (spec : Specificity) (row : List ℕ)
+      → row ≡ mergedRow Crate row (stylesDeclare origin pseudo spec (listed (walkedStylesAt code at)))
   unfolding walkedStylesAt
-  count-there p q = no-fault (walkedStylesAt code at) _ p _ (l .reads .told) (then-fault (numberAt code at) _ p (number-fault (numberAt code at) r e p q))
+  count-none p q origin pseudo spec row = unmerged origin pseudo spec row _ (listed-none _ p (then-fault (numberAt code at) _ p (number-fault (numberAt code at) r e p q)))
 
   module _ (n k : ℕ) (p : r ≡ number.Number n k) where
     -- behind it the styles
@@ -153,11 +179,24 @@ module _ (code : List ℕ) (at : ℕ) (r : NumberAnswer) (e : r ≡ numberAnswer
     unfolding walkedStylesAt
     styles-behind = then-read (numberAt code at) (λ n count. counted (walkedStyleAt code) count n) n k (number-read (numberAt code at) r e n k p)
 
-    -- which are there
-    pub counted-lent : CountedLent code n k
-    counted-lent = record { few = omega (arith, l .few); reads = record { end = l .reads .end; value = l .reads .value; told = sym styles-behind ∙ l .reads .told } }
-
-    -- and are merged
+    -- which are merged
     pub styles-merged : (origin pseudo : ℕ) (spec : Specificity) (row z : List ℕ)
         → z ≡ mergedRow Crate row (stylesDeclare origin pseudo spec (listed (counted (walkedStyleAt code) k n))) → z ≡ mergedRow Crate row (stylesDeclare origin pseudo spec (listed (walkedStylesAt code at)))
     styles-merged origin pseudo spec row z h = rw styles-behind h
+
+    -- there is one
+    pub style-alone : k ≡ 1 → (origin pseudo : ℕ) (spec : Specificity) (row z : List ℕ)
+        → z ≡ mergedRow Crate row (stylesDeclare origin pseudo spec (listed (counted (walkedStyleAt code) 1 n))) → z ≡ mergedRow Crate row (stylesDeclare origin pseudo spec (listed (walkedStylesAt code at)))
+    style-alone one origin pseudo spec row z h = styles-merged origin pseudo spec row z (rw one h)
+
+    module _ (d : PlaceAnswer) (ed : d ≡ placeAnswer (stylesAt code at)) where
+      -- all of them read
+      pub counted-lent : (m : ℕ) → d ≡ place.At m → length code ≤ compiledLimit → CountedLent code n k
+      counted-lent m hd l =
+          let w = place-read (walkedStylesAt code at) d (ed ∙ styles-place code at) m hd in
+          record { few = omega (arith, l); reads = record { end = m; value = w .0; told = sym styles-behind ∙ w .1 } }
+
+      -- one does not
+      pub styles-none : (q : ℕ) → d ≡ place.Fault q → (origin pseudo : ℕ) (spec : Specificity) (row : List ℕ)
+          → row ≡ mergedRow Crate row (stylesDeclare origin pseudo spec (listed (walkedStylesAt code at)))
+      styles-none q hd origin pseudo spec row = unmerged origin pseudo spec row _ (listed-none _ q (place-fault (walkedStylesAt code at) d (ed ∙ styles-place code at) q hd))

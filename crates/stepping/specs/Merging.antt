@@ -1,5 +1,5 @@
 -- The styles of one selector in compiled bytes: what is asked for to merge them, and what they declare.
-use Prim.Native.Nat.{ℕ, _≤_, _<_}
+use Prim.Native.Nat.{ℕ, _<_}
 use mathlib.Core.List.{List, map}
 use lib.ListN.{length}
 use Rattle.syntax.specs.declared.styles.Value.{Value}
@@ -10,8 +10,6 @@ use Rattle.styles.specs.StyleCall.{inNumbers}
 use Rattle.compiled.specs.Decoded.{Decoded, mapped, counted}
 use Rattle.compiled.specs.Number.{numberLimit}
 use Rattle.compiled.specs.Style.{styleNumbersAt}
-use Rattle.compiled.specs.Sheet.{compiledLimit}
-use Rattle.runner.specs.Walked.{walkedStylesAt}
 use Rattle.stepping.specs.Reading.{Reads}
 
 -- a style as a style row has it
@@ -26,8 +24,3 @@ stylesDeclare origin pseudo spec xs = map (λ x. fromRule origin (ruleStyle pseu
 pub record CountedLent (code : List ℕ) (at count : ℕ) : Type 0 where
   pub few : length code < numberLimit
   pub reads : Reads (counted (walkedStyleAt code) count at)
-
--- the styles at a place, which start with their count
-pub record StylesLent (code : List ℕ) (at : ℕ) : Type 0 where
-  pub few : length code ≤ compiledLimit
-  pub reads : Reads (walkedStylesAt code at)

@@ -1,9 +1,9 @@
 // The styles of a selector in compiled bytes, merged into a style row.
-use crate::specificity::specificity_at;
+use crate::specificity::Weight;
+use crate::specificity::read_weights;
 use cascade::rows::merge_computed_style;
 use cascade::slots::Cascade;
 use cascade::specificity::Specificity;
-use compiled::components::skip_components;
 use compiled::numbers::NumberAnswer;
 use compiled::numbers::read_number;
 use compiled::places::PlaceAnswer;
@@ -25,7 +25,7 @@ ghost use Rattle.compiled.specs.Sheet.{compiledLimit};
 ghost use Rattle.runner.specs.Run.{selectorsDeclare, foundAt};
 ghost use Rattle.runner.specs.Walked.{walkedStylesAt};
 ghost use Rattle.stepping.specs.Reading.{listed};
-ghost use Rattle.stepping.specs.Merging.{walkedStyleAt, stylesDeclare, CountedLent, StylesLent};
+ghost use Rattle.stepping.specs.Merging.{walkedStyleAt, stylesDeclare, CountedLent};
 
 // Merges `count` styles from `at` on, as those of a selector.
 fn merge_counted(
@@ -57,7 +57,31 @@ fn merge_counted(
     }
 }
 
-// Merges the styles at `at`, which start with their count.
+// Merges the style at `at`, where one reads.
+fn merge_one(
+    compiled: &[u8],
+    at: usize,
+    origin: u32,
+    pseudo: u32,
+    spec: Specificity,
+    out: &mut [u32],
+)
+    requires { ⌜ RowRoom (now out) ⌝ }
+    requires { ⌜ length (now compiled) ≤ compiledLimit ⌝ }
+    ensures { λ _. ⌜ now (out .exit) ≡ mergedRow Crate (now (out .entry)) (stylesDeclare origin pseudo spec (listed (counted (walkedStyleAt (now (compiled .entry))) 1 at))) ⌝ }
+{
+    match read_style(compiled, at) {
+        StyleAnswer::Style(_, style) => {
+            merge_computed_style(out, Cascade::Crate, pseudo as usize, origin, spec, style);
+            return;
+        }
+        StyleAnswer::Fault(_) => {
+            return;
+        }
+    }
+}
+
+// Merges the styles at `at`, which start with their count; where they do not read to their end, nothing is declared, and so several are read before the first is merged.
 fn merge_styles(
     compiled: &[u8],
     at: usize,
@@ -67,13 +91,24 @@ fn merge_styles(
     out: &mut [u32],
 )
     requires { ⌜ RowRoom (now out) ⌝ }
-    requires { ⌜ StylesLent (now compiled) at ⌝ }
+    requires { ⌜ length (now compiled) ≤ compiledLimit ⌝ }
     ensures { λ _. ⌜ now (out .exit) ≡ mergedRow Crate (now (out .entry)) (stylesDeclare origin pseudo spec (listed (walkedStylesAt (now (compiled .entry)) at))) ⌝ }
 {
     match read_number(compiled, at) {
         NumberAnswer::Number(next, count) => {
-            merge_counted(compiled, next, count, origin, pseudo, spec, out);
-            return;
+            if count == 1 {
+                merge_one(compiled, next, origin, pseudo, spec, out);
+                return;
+            }
+            match skip_styles(compiled, at) {
+                PlaceAnswer::At(_) => {
+                    merge_counted(compiled, next, count, origin, pseudo, spec, out);
+                    return;
+                }
+                PlaceAnswer::Fault(_) => {
+                    return;
+                }
+            }
         }
         NumberAnswer::Fault(_) => {
             return;
@@ -93,18 +128,12 @@ pub fn merge_found(compiled: &[u8], p: usize, out: &mut [u32])
             origin,
             pseudo,
             count,
-        } => match skip_components(compiled, next, count) {
-            PlaceAnswer::At(styles) => match skip_styles(compiled, styles) {
-                PlaceAnswer::At(_) => {
-                    let spec = specificity_at(compiled, next, count);
-                    merge_styles(compiled, styles, origin, pseudo, spec, out);
-                    return;
-                }
-                PlaceAnswer::Fault(_) => {
-                    return;
-                }
-            },
-            PlaceAnswer::Fault(_) => {
+        } => match read_weights(compiled, next, count) {
+            Weight::Added(styles, spec) => {
+                merge_styles(compiled, styles, origin, pseudo, spec, out);
+                return;
+            }
+            Weight::Fault(_) => {
                 return;
             }
         },

@@ -1,23 +1,40 @@
 // How specific a selector in compiled bytes is: what each of its components adds.
 use cascade::specificity::Specificity;
+use combinators::bytes::wide;
 use compiled::components::ComponentAnswer;
+use compiled::components::MARK_SIZE;
 use compiled::components::read_component;
+use compiled::components::short_size;
 use syntax::rows::ELEMENT;
 use syntax::rows::HASH;
 ghost use mathlib.Core.Path.{_≡_};
-ghost use Rattle.matching.specs.Specificity.{specificity};
-ghost use Rattle.compiled.specs.Decoded.{counted};
-ghost use Rattle.compiled.specs.Component.{componentAt};
-ghost use Rattle.stepping.specs.Reading.{Reads, listed, weightAt};
+ghost use mathlib.Core.List.{List};
+ghost use Prim.Native.Nat.{ℕ};
+ghost use Rattle.matching.specs.Specificity.{added};
+ghost use Rattle.compiled.specs.Component.{namedOf};
+ghost use Rattle.stepping.specs.Reading.{weightAt, weightsAt};
 
-// What a component adds to the specificity of its selector, with the place behind it. Or the place of the fault.
+// What components add to the specificity of their selector, with the place behind them. Or the place of the fault.
 pub enum Weight {
     Added(usize, Specificity),
     Fault(usize),
 }
 
-// What the component at `at` adds.
-fn read_weight(compiled: &[u8], at: usize) -> Weight
+// What a component of one text adds, by its kind.
+fn name_weight(kind: u32) -> Specificity
+    ensures { λ r. ⌜ ((x : List ℕ) → r ≡ added (namedOf kind x)) ⌝ }
+{
+    if kind == ELEMENT {
+        return Specificity::new(0, 0, 1);
+    }
+    if kind == HASH {
+        return Specificity::new(1, 0, 0);
+    }
+    Specificity::new(0, 1, 0)
+}
+
+// What the component at `at` adds, of whatever length.
+fn read_long_weight(compiled: &[u8], at: usize) -> Weight
     ensures { λ r. ⌜ r ≡ weightAt (now (compiled .entry)) at ⌝ }
 {
     match read_component(compiled, at) {
@@ -25,13 +42,7 @@ fn read_weight(compiled: &[u8], at: usize) -> Weight
             return Weight::Added(next, Specificity::NONE);
         }
         ComponentAnswer::Name { next, kind, .. } => {
-            if kind == ELEMENT {
-                return Weight::Added(next, Specificity::new(0, 0, 1));
-            }
-            if kind == HASH {
-                return Weight::Added(next, Specificity::new(1, 0, 0));
-            }
-            return Weight::Added(next, Specificity::new(0, 1, 0));
+            return Weight::Added(next, name_weight(kind));
         }
         ComponentAnswer::Numbers { next, .. } => {
             return Weight::Added(next, Specificity::new(0, 1, 0));
@@ -45,10 +56,23 @@ fn read_weight(compiled: &[u8], at: usize) -> Weight
     }
 }
 
-// How specific the selector of `count` components from `at` on is.
-pub fn specificity_at(compiled: &[u8], at: usize, count: u32) -> Specificity
-    requires { ⌜ Reads (counted (componentAt (now compiled)) count at) ⌝ }
-    ensures { λ r. ⌜ r ≡ specificity (listed (counted (componentAt (now (compiled .entry))) count at)) ⌝ }
+// What the component at `at` adds. Of a short one, as most are, the size and the first byte tell it.
+fn read_weight(compiled: &[u8], at: usize) -> Weight
+    ensures { λ r. ⌜ r ≡ weightAt (now (compiled .entry)) at ⌝ }
+{
+    let size = short_size(compiled, at);
+    if size == MARK_SIZE {
+        return Weight::Added(at + size, Specificity::NONE);
+    }
+    if size > MARK_SIZE {
+        return Weight::Added(at + size, name_weight(wide(compiled[at])));
+    }
+    read_long_weight(compiled, at)
+}
+
+// How specific the selector of `count` components from `at` on is, with the place behind them.
+pub fn read_weights(compiled: &[u8], at: usize, count: u32) -> Weight
+    ensures { λ r. ⌜ r ≡ weightsAt (now (compiled .entry)) count at ⌝ }
 {
     let mut result = Specificity::NONE;
     let mut i = at;
@@ -59,11 +83,11 @@ pub fn specificity_at(compiled: &[u8], at: usize, count: u32) -> Specificity
                 result = result.add(x);
                 i = next;
             }
-            Weight::Fault(_) => {
-                return result;
+            Weight::Fault(fault) => {
+                return Weight::Fault(fault);
             }
         }
         left -= 1;
     }
-    result
+    Weight::Added(i, result)
 }

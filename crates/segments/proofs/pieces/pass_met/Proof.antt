@@ -1,67 +1,53 @@
--- Each kind of component that is read by its own law: the document passes star alone, so any other test is read past as failed, and a fault is a fault.
+-- A short component by its size and its kind; any other as it is read.
 use Rattle.segments.proofs.CodePieceLaws as laws
 use borrow.Author.Needs.{needs}
 use Rattle.segments.proofs.pieces.pass_met.Statement.{statement}
 use Rattle.segments.proofs.pieces.pass_met.Tie as tie
 
-read-component-requires : tie.Need-read-component-requires
-read-component-requires c κs = search needs
+short-size-requires : tie.Need-short-size-requires
+short-size-requires c κs = search needs
 
-enum-known-next : tie.Need-enum-known-next
-enum-known-next c = search needs
+add-t6 : tie.Need-add-t6
+add-t6 c = search needs
+
+returns : tie.Need-returns
+returns c = laws.short-passed _ _ _ (c .before .short-size .ensures) _ (c .if1 .taken)
+
+add-mark-met : tie.Need-add-mark-met
+add-mark-met c = search needs
+
+shared-slice-read-wide : tie.Need-shared-slice-read-wide
+shared-slice-read-wide c = search needs
+
+wide-requires : tie.Need-wide-requires
+wide-requires c κs = search needs
 
 mark-met-requires : tie.Need-mark-met-requires
 mark-met-requires c κs = search needs
 
-returns : tie.Need-returns
-returns c = let n = c .before .before in
-    let k = n .before .before in
-    laws.mark-read _ _ _ _ _ (k .read-component .ensures .0) _ _ (n .next .given .1) _ (c .mark-met .ensures)
-
-enum-known-next-2 : tie.Need-enum-known-next-2
-enum-known-next-2 c = search needs
-
 returns-2 : tie.Need-returns-2
-returns-2 c = let n = c .before in
-    let k = n .before .before in
-    laws.name-passed _ _ _ _ (k .read-component .ensures .0) _ _ _ _ (n .next2 .given .1)
+returns-2 c =
+    let at-wide = c .before in
+    let at-if2 = at-wide .before .before in
+    laws.short-mark _ _ _ (at-if2 .before .before .short-size .ensures) _ (at-if2 .if2 .taken) _ (at-wide .wide .ensures) _ (c .mark-met .ensures)
 
-enum-known-next-3 : tie.Need-enum-known-next-3
-enum-known-next-3 c = search needs
+pass-long-requires : tie.Need-pass-long-requires
+pass-long-requires c κs = search needs
 
 returns-3 : tie.Need-returns-3
-returns-3 c = let n = c .before in
-    let k = n .before .before in
-    laws.numbers-passed _ _ _ _ (k .read-component .ensures .0) _ _ _ (n .next3 .given .1)
-
-enum-known-next-4 : tie.Need-enum-known-next-4
-enum-known-next-4 c = search needs
-
-returns-4 : tie.Need-returns-4
-returns-4 c = let n = c .before in
-    let k = n .before .before in
-    laws.names-passed _ _ _ _ (k .read-component .ensures .0) _ _ _ _ _ (n .next4 .given .1)
-
-enum-told : tie.Need-enum-told
-enum-told c = search needs
-
-returns-5 : tie.Need-returns-5
-returns-5 c = let k = c .before .before in
-    laws.fault-read _ _ _ _ _ (k .read-component .ensures .0) _ (c .enum-told .given .1)
+returns-3 c = c .pass-long .ensures
 
 pub pass-met-spec : {M : Type 1} → statement M
 pass-met-spec =
     tie.close
     (tie.spec
-    read-component-requires
-    enum-known-next
-    mark-met-requires
+    short-size-requires
+    add-t6
     returns
-    enum-known-next-2
+    add-mark-met
+    shared-slice-read-wide
+    wide-requires
+    mark-met-requires
     returns-2
-    enum-known-next-3
-    returns-3
-    enum-known-next-4
-    returns-4
-    enum-told
-    returns-5)
+    pass-long-requires
+    returns-3)

@@ -1,94 +1,58 @@
--- Each kind of component that is read by its own law: a mark by its kind, a text, two numbers or two texts by the test that they ask for, and a fault is a fault.
-use Rattle.segments.specs.Met.{handedElement}
+-- A short component with a text is tested by that text; any other as it is read.
 use Rattle.segments.proofs.CodePieceLaws as laws
 use borrow.Author.Needs.{needs}
 use Rattle.segments.proofs.pieces.test_met.Statement.{statement}
 use Rattle.segments.proofs.pieces.test_met.Tie as tie
 
-read-component-requires : tie.Need-read-component-requires
-read-component-requires c κs = search needs
+short-size-requires : tie.Need-short-size-requires
+short-size-requires c κs = search needs
 
-enum-known-next : tie.Need-enum-known-next
-enum-known-next c = search needs
+add-part-of : tie.Need-add-part-of
+add-part-of c = search needs
 
-mark-met-requires : tie.Need-mark-met-requires
-mark-met-requires c κs = search needs
-
-returns : tie.Need-returns
-returns c = let n = c .before .before in
-    let k = n .before .before in
-    laws.mark-read _ _ _ _ _ (k .read-component .ensures .0) _ _ (n .next .given .1) _ (c .mark-met .ensures)
-
-enum-known-next-2 : tie.Need-enum-known-next-2
-enum-known-next-2 c = search needs
+sub-part-of : tie.Need-sub-part-of
+sub-part-of c = search needs
 
 part-of-requires : tie.Need-part-of-requires
 part-of-requires c κs = search needs
 
+shared-slice-read-wide : tie.Need-shared-slice-read-wide
+shared-slice-read-wide c = search needs
+
+wide-requires : tie.Need-wide-requires
+wide-requires c κs = search needs
+
+add-t11 : tie.Need-add-t11
+add-t11 c = search needs
+
 name-passes-requires : tie.Need-name-passes-requires
 name-passes-requires c κs = search needs
 
+returns : tie.Need-returns
+returns c =
+    let at-wide = c .before in
+    let at-part-of = at-wide .before .before in
+    let at-if1 = at-part-of .before in
+    laws.short-tested _ _ _ (at-if1 .before .short-size .ensures) _ (at-if1 .if1 .taken) _ (at-wide .wide .ensures) _ (at-part-of .part-of .ensures) _ (c .name-passes .ensures _)
+
+test-long-requires : tie.Need-test-long-requires
+test-long-requires c κs = search needs
+
 returns-2 : tie.Need-returns-2
-returns-2 c = let n = c .before .before .before in
-    let k = n .before .before in
-    laws.name-tested _ _ _ _ (k .read-component .ensures .0) _ _ _ _ (n .next2 .given .1) _ (c .before .part-of .ensures) _ (c .name-passes .ensures _)
-
-enum-known-next-3 : tie.Need-enum-known-next-3
-enum-known-next-3 c = search needs
-
-nth-passes-requires : tie.Need-nth-passes-requires
-nth-passes-requires c κs = search needs
-
-returns-3 : tie.Need-returns-3
-unfolding handedElement
-returns-3 c = let n = c .before .before in
-    let k = n .before .before in
-    laws.numbers-tested _ _ _ _ (k .read-component .ensures .0) _ _ _ (n .next3 .given .1) _ (c .nth-passes .ensures)
-
-enum-known-next-4 : tie.Need-enum-known-next-4
-enum-known-next-4 c = search needs
-
-part-of-requires-2 : tie.Need-part-of-requires-2
-part-of-requires-2 c κs = search needs
-
-part-of-requires-3 : tie.Need-part-of-requires-3
-part-of-requires-3 c κs = search needs
-
-attribute-is-requires : tie.Need-attribute-is-requires
-attribute-is-requires c κs = search needs
-
-returns-4 : tie.Need-returns-4
-unfolding handedElement
-returns-4 c = let n = c .before .before .before .before in
-    let k = n .before .before in
-    laws.names-tested _ _ _ _ (k .read-component .ensures .0) _ _ _ _ _ (n .next4 .given .1) _ (c .before .before .part-of2 .ensures) _ (c .before .part-of3 .ensures) _ (c .attribute-is .ensures)
-
-enum-told : tie.Need-enum-told
-enum-told c = search needs
-
-returns-5 : tie.Need-returns-5
-returns-5 c = let k = c .before .before in
-    laws.fault-read _ _ _ _ _ (k .read-component .ensures .0) _ (c .enum-told .given .1)
+returns-2 c = c .test-long .ensures
 
 pub test-met-spec : {M : Type 1} → statement M
 test-met-spec =
     tie.close
     (tie.spec
-    read-component-requires
-    enum-known-next
-    mark-met-requires
-    returns
-    enum-known-next-2
+    short-size-requires
+    add-part-of
+    sub-part-of
     part-of-requires
+    shared-slice-read-wide
+    wide-requires
+    add-t11
     name-passes-requires
-    returns-2
-    enum-known-next-3
-    nth-passes-requires
-    returns-3
-    enum-known-next-4
-    part-of-requires-2
-    part-of-requires-3
-    attribute-is-requires
-    returns-4
-    enum-told
-    returns-5)
+    returns
+    test-long-requires
+    returns-2)

@@ -1,96 +1,53 @@
--- Each kind of component adds what its kind says.
+-- A short component adds what its size and its kind say; any other what is read of it.
 use Rattle.stepping.proofs.WeightLaws as laws
 use borrow.Author.Needs.{needs}
 use Rattle.stepping.proofs.specificity.read_weight.Statement.{statement}
 use Rattle.stepping.proofs.specificity.read_weight.Tie as tie
 
-read-component-requires : tie.Need-read-component-requires
-read-component-requires c κs = search needs
+short-size-requires : tie.Need-short-size-requires
+short-size-requires c κs = search needs
 
-enum-known-next : tie.Need-enum-known-next
-enum-known-next c = search needs
+add-t5 : tie.Need-add-t5
+add-t5 c = search needs
 
 returns : tie.Need-returns
-returns c = let n = c .before in
-    let k = n .before .before in
-    laws.mark-weight _ _ _ (k .read-component .ensures .0) _ _ (n .next .given .1)
+returns c = laws.short-alone _ _ _ (c .before .short-size .ensures) (c .if1 .taken)
 
-enum-known-next-2 : tie.Need-enum-known-next-2
-enum-known-next-2 c = search needs
+add-t7 : tie.Need-add-t7
+add-t7 c = search needs
 
-new-requires : tie.Need-new-requires
-new-requires c κs = search needs
+shared-slice-read-wide : tie.Need-shared-slice-read-wide
+shared-slice-read-wide c = search needs
+
+wide-requires : tie.Need-wide-requires
+wide-requires c κs = search needs
+
+name-weight-requires : tie.Need-name-weight-requires
+name-weight-requires c κs = search needs
 
 returns-2 : tie.Need-returns-2
-returns-2 c = let n = c .before .before .before in
-    let k = n .before .before in
-    laws.element-weight _ _ _ (k .read-component .ensures .0) _ _ _ _ (n .next2 .given .1) _ (c .before .if1 .taken) (c .new .ensures)
+returns-2 c =
+    let at-wide = c .before in
+    let at-if2 = at-wide .before .before in
+    laws.short-named _ _ _ (at-if2 .before .before .short-size .ensures) (at-if2 .if2 .taken) _ (at-wide .wide .ensures) _ (c .name-weight .ensures)
 
-new-requires-2 : tie.Need-new-requires-2
-new-requires-2 c κs = search needs
+read-long-weight-requires : tie.Need-read-long-weight-requires
+read-long-weight-requires c κs = search needs
 
 returns-3 : tie.Need-returns-3
-returns-3 c = let n = c .before .before .before .before in
-    let k = n .before .before in
-    laws.hash-weight _ _ _ (k .read-component .ensures .0) _ _ _ _ (n .next2 .given .1) _ (c .before .if2 .taken) (c .new2 .ensures)
-
-new-requires-3 : tie.Need-new-requires-3
-new-requires-3 c κs = search needs
-
-returns-4 : tie.Need-returns-4
-returns-4 c = let n = c .before .before .before .before in
-    let k = n .before .before in
-    laws.class-weight _ _ _ (k .read-component .ensures .0) _ _ _ _ (n .next2 .given .1) _ (c .before .before .if1 .left) (c .before .if2 .left) (c .new3 .ensures)
-
-enum-known-next-3 : tie.Need-enum-known-next-3
-enum-known-next-3 c = search needs
-
-new-requires-4 : tie.Need-new-requires-4
-new-requires-4 c κs = search needs
-
-returns-5 : tie.Need-returns-5
-returns-5 c = let n = c .before .before in
-    let k = n .before .before in
-    laws.numbers-weight _ _ _ (k .read-component .ensures .0) _ _ _ (n .next3 .given .1) _ (c .new4 .ensures)
-
-enum-known-next-4 : tie.Need-enum-known-next-4
-enum-known-next-4 c = search needs
-
-new-requires-5 : tie.Need-new-requires-5
-new-requires-5 c κs = search needs
-
-returns-6 : tie.Need-returns-6
-returns-6 c = let n = c .before .before in
-    let k = n .before .before in
-    laws.names-weight _ _ _ (k .read-component .ensures .0) _ _ _ _ _ (n .next4 .given .1) _ (c .new5 .ensures)
-
-enum-known-fault : tie.Need-enum-known-fault
-enum-known-fault c = search needs
-
-returns-7 : tie.Need-returns-7
-returns-7 c = let n = c .before in
-    let k = n .before .before in
-    laws.fault-weight _ _ _ (k .read-component .ensures .0) _ (n .fault .given .1)
+returns-3 c = c .read-long-weight .ensures
 
 pub read-weight-spec : {M : Type 1} → statement M
 read-weight-spec =
     tie.close
     (tie.spec
-    read-component-requires
-    enum-known-next
+    short-size-requires
+    add-t5
     returns
-    enum-known-next-2
-    new-requires
+    add-t7
+    shared-slice-read-wide
+    wide-requires
+    name-weight-requires
     returns-2
-    new-requires-2
-    returns-3
-    new-requires-3
-    returns-4
-    enum-known-next-3
-    new-requires-4
-    returns-5
-    enum-known-next-4
-    new-requires-5
-    returns-6
-    enum-known-fault
-    returns-7)
+    read-long-weight-requires
+    returns-3)

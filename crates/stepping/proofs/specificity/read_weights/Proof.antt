@@ -1,8 +1,8 @@
--- What was added with what the components left add is the whole, so at the end nothing is missing.
+-- What was added with what the components left add is the whole, so at the end nothing is missing; the first fault ends it.
 use Rattle.stepping.proofs.WeightLaws as laws
 use borrow.Author.Needs.{needs}
-use Rattle.stepping.proofs.specificity.specificity_at.Statement.{statement}
-use Rattle.stepping.proofs.specificity.specificity_at.Tie as tie
+use Rattle.stepping.proofs.specificity.read_weights.Statement.{statement}
+use Rattle.stepping.proofs.specificity.read_weights.Tie as tie
 
 abbrev Inv-loop : tie.InvT-loop
 Inv-loop compiled at count result₀ i₀ left₀ result i left = laws.Adding compiled at count result i left
@@ -11,7 +11,7 @@ abbrev μ-loop : tie.MeasureT-loop
 μ-loop compiled at count result₀ i₀ left₀ result i left = left
 
 loop-holds : tie.Need-loop-holds Inv-loop μ-loop
-loop-holds c = laws.add-begin _ _ _ (c .before .pre)
+loop-holds c = laws.add-begin _ _ _
 
 read-weight-requires : tie.Need-read-weight-requires Inv-loop μ-loop
 read-weight-requires c κs = search needs
@@ -24,12 +24,13 @@ add-requires c κs = let n = c .before in
     let k = n .before .before in
     laws.add-fits _ _ _ _ _ _ (k .before .before .loop .inv) (k .before .loop-test .taken) _ (k .read-weight .ensures) _ _ (n .next .given .1) (search needs)
 
-enum-told : tie.Need-enum-told Inv-loop μ-loop
-enum-told c = search needs
+enum-known-fault : tie.Need-enum-known-fault Inv-loop μ-loop
+enum-known-fault c = search needs
 
 returns : tie.Need-returns Inv-loop μ-loop
-returns c = let k = c .before .before in
-    absurd (laws.add-fault _ _ _ _ _ _ (k .before .before .loop .inv) (k .before .loop-test .taken) _ (k .read-weight .ensures) _ (c .enum-told .given .1))
+returns c = let n = c .before in
+    let k = n .before .before in
+    laws.add-fault _ _ _ _ _ _ (k .before .before .loop .inv) (k .before .loop-test .taken) _ (k .read-weight .ensures) _ (n .fault .given .1)
 
 sub-left : tie.Need-sub-left Inv-loop μ-loop
 sub-left c = search needs
@@ -45,8 +46,8 @@ loop-again c = let n = c .before .before in
 returns-2 : tie.Need-returns-2 Inv-loop μ-loop
 returns-2 c = laws.add-end _ _ _ _ _ _ (c .before .loop .inv) (c .loop-test .left)
 
-pub specificity-at-spec : {M : Type 1} → statement M
-specificity-at-spec =
+pub read-weights-spec : {M : Type 1} → statement M
+read-weights-spec =
     tie.close
     (tie.spec
     Inv-loop
@@ -55,7 +56,7 @@ specificity-at-spec =
     read-weight-requires
     enum-known-next
     add-requires
-    enum-told
+    enum-known-fault
     returns
     sub-left
     loop-less
