@@ -1052,10 +1052,15 @@ unfoldable after : List Frame → List ℕ → List ℕ
 after [] z = z
 after (f ∷ fs) z = closes (f .bracket) ∷ (writtenBalanced (f .behind) ++ after fs z)
 
--- the brackets that are awaited
-unfoldable stack : List Frame → List ℕ
-stack [] = []
-stack (f ∷ fs) = closes (f .bracket) ∷ stack fs
+-- the brackets that are awaited, where others are already
+unfoldable stack : List ℕ → List Frame → List ℕ
+stack base [] = base
+stack base (f ∷ fs) = closes (f .bracket) ∷ stack base fs
+
+-- inside no other
+stack-none : (base : List ℕ) → stack base [] ≡ base
+unfolding stack
+stack-none base = refl
 
 -- a bracket as the tokens have it
 unfoldable opening : Bracket → grammar.Opening
@@ -1082,17 +1087,23 @@ unfolding after
 after-halts [] z h = h
 after-halts (f ∷ fs) z h = subst (λ (x : ℕ). Halts (x ∷ (writtenBalanced (f .behind) ++ after fs z))) (opening-closes (f .bracket)) (closer-halts (opening (f .bracket)) _)
 
--- a brace closes no block outside all brackets
-unfoldable Closable : Bracket → List Frame → Type 0
-Closable round fs = Unit
-Closable square fs = Unit
-Closable curly [] = ⊥
-Closable curly (f ∷ fs) = Unit
+-- outside all brackets no semicolon and no brace block stands
+unfoldable pub Level : List ℕ → Balanced → Type 0
+Level [] v = Outside v
+Level (c ∷ cs) v = Unit
 
--- the text outside all brackets is as it must be there
-unfoldable Sound : Balanced → List Frame → Type 0
-Sound v [] = Outside v × Tight v
-Sound v (f ∷ fs) = Closable (f .bracket) fs × Sound (f .behind) fs
+-- nor does a brace close one
+unfoldable Closable : List ℕ → Bracket → List Frame → Type 0
+Closable base round fs = Unit
+Closable base square fs = Unit
+Closable [] curly [] = ⊥
+Closable (c ∷ cs) curly [] = Unit
+Closable base curly (f ∷ fs) = Unit
+
+-- the outermost text is as it must be there
+unfoldable Sound : List ℕ → Balanced → List Frame → Type 0
+Sound base v [] = Level base v × Tight v
+Sound base v (f ∷ fs) = Closable base (f .bracket) fs × Sound base (f .behind) fs
 
 -- all texts are clear
 unfoldable AllClear : Balanced → List Frame → Type 0
@@ -1105,22 +1116,33 @@ unfolding AllClear
 first-clear v [] c = c
 first-clear v (f ∷ fs) c = c .0
 
--- what is left of it
-left-sound : (v r : Balanced) (fs : List Frame) → Leaves v r → Sound v fs → Sound r fs
+-- what is left of a text
+left-level : (base : List ℕ) (v r : Balanced) → Leaves v r → Level base v → Level base r
+unfolding Level
+left-level [] v r l s = leaves-outside l s
+left-level (c ∷ cs) v r l s = tt
+
+-- what is left of the innermost
+left-sound : (base : List ℕ) (v r : Balanced) (fs : List Frame) → Leaves v r → Sound base v fs → Sound base r fs
 unfolding Sound
-left-sound v r [] l s = (leaves-outside l (s .0), leaves-tight l (s .1))
-left-sound v r (f ∷ fs) l s = s
+left-sound base v r [] l s = (left-level base v r l (s .0), leaves-tight l (s .1))
+left-sound base v r (f ∷ fs) l s = s
 
 left-clear : (v r : Balanced) (fs : List Frame) → Leaves v r → AllClear v fs → AllClear r fs
 unfolding AllClear
 left-clear v r [] l c = leaves-clear l c
 left-clear v r (f ∷ fs) l c = (leaves-clear l (c .0), c .1)
 
--- behind a string or a semicolon
-string-sound : (q : Quoted) (v : Balanced) (fs : List Frame) → Sound (quoted q v) fs → Sound v fs
-unfolding Sound Outside Tight
-string-sound q v [] s = s
-string-sound q v (f ∷ fs) s = s
+-- behind a string
+string-level : (base : List ℕ) (q : Quoted) (v : Balanced) → Level base (quoted q v) → Level base v
+unfolding Level Outside
+string-level [] q v s = s
+string-level (c ∷ cs) q v s = tt
+
+string-sound : (base : List ℕ) (q : Quoted) (v : Balanced) (fs : List Frame) → Sound base (quoted q v) fs → Sound base v fs
+unfolding Sound Tight
+string-sound base q v [] s = (string-level base q v (s .0), s .1)
+string-sound base q v (f ∷ fs) s = s
 
 string-clear : (q : Quoted) (v : Balanced) (fs : List Frame) → AllClear (quoted q v) fs → AllClear v fs
 unfolding AllClear Clear
@@ -1133,14 +1155,28 @@ semicolon-clear v [] c = c
 semicolon-clear v (f ∷ fs) c = c
 
 -- inside a block
-block-sound : (b : Bracket) (w v : Balanced) (fs : List Frame) → Sound (block b w v) fs → Sound w (record { bracket = b; behind = v } ∷ fs)
-unfolding Sound Outside Tight Closable
-block-sound round w v [] s = (tt, s)
-block-sound square w v [] s = (tt, s)
-block-sound curly w v [] s = absurd (s .0)
-block-sound round w v (f ∷ fs) s = (tt, s)
-block-sound square w v (f ∷ fs) s = (tt, s)
-block-sound curly w v (f ∷ fs) s = (tt, s)
+block-level : (base : List ℕ) (b : Bracket) (w v : Balanced) → Level base (block b w v) → Closable base b [] × Level base v
+unfolding Level Outside Closable
+block-level [] round w v s = (tt, s)
+block-level [] square w v s = (tt, s)
+block-level [] curly w v s = absurd s
+block-level (c ∷ cs) round w v s = (tt, tt)
+block-level (c ∷ cs) square w v s = (tt, tt)
+block-level (c ∷ cs) curly w v s = (tt, tt)
+
+block-closable : (base : List ℕ) (b : Bracket) (f : Frame) (fs : List Frame) → Closable base b (f ∷ fs)
+unfolding Closable
+block-closable [] round f fs = tt
+block-closable [] square f fs = tt
+block-closable [] curly f fs = tt
+block-closable (c ∷ cs) round f fs = tt
+block-closable (c ∷ cs) square f fs = tt
+block-closable (c ∷ cs) curly f fs = tt
+
+block-sound : (base : List ℕ) (b : Bracket) (w v : Balanced) (fs : List Frame) → Sound base (block b w v) fs → Sound base w (record { bracket = b; behind = v } ∷ fs)
+unfolding Sound Tight
+block-sound base b w v [] s = let k = block-level base b w v (s .0) in (k .0, (k .1, s .1))
+block-sound base b w v (f ∷ fs) s = (block-closable base b f fs, s)
 
 block-clear : (b : Bracket) (w v : Balanced) (fs : List Frame) → AllClear (block b w v) fs → AllClear w (record { bracket = b; behind = v } ∷ fs)
 unfolding AllClear Clear
@@ -1173,26 +1209,35 @@ module _ (include : Bool) where
   unfolding stepOf bracketOf bracketBy coded
   string-goes b cs = refl
 
-  semicolon-goes : (f : Frame) (fs : List Frame) → stepOf include (bracketOf tokens.semicolon) (stack (f ∷ fs)) ≡ values.next (stack (f ∷ fs))
-  unfolding stepOf bracketOf bracketBy coded values.ending stack
-  semicolon-goes f fs = refl
+  semicolon-goes : (c : ℕ) (cs : List ℕ) → stepOf include (bracketOf tokens.semicolon) (c ∷ cs) ≡ values.next (c ∷ cs)
+  unfolding stepOf bracketOf bracketBy coded values.ending
+  semicolon-goes c cs = refl
 
-  block-goes : (b : Bracket) (v : Balanced) (fs : List Frame)
-      → stepOf include (bracketOf (grammar.meansOpening (opening b))) (stack fs) ≡ values.next (stack (record { bracket = b; behind = v } ∷ fs))
+  block-goes : (base : List ℕ) (b : Bracket) (v : Balanced) (fs : List Frame)
+      → stepOf include (bracketOf (grammar.meansOpening (opening b))) (stack base fs) ≡ values.next (stack base (record { bracket = b; behind = v } ∷ fs))
   unfolding stepOf bracketOf bracketBy coded grammar.meansOpening opening closes stack
-  block-goes round v fs = refl
-  block-goes square v fs = refl
-  block-goes curly v fs = refl
+  block-goes base round v fs = refl
+  block-goes base square v fs = refl
+  block-goes base curly v fs = refl
 
-  close-goes : (b : Bracket) (v : Balanced) (fs : List Frame) → Closable b fs
-      → stepOf include (bracketOf (grammar.meansCloser (opening b))) (stack (record { bracket = b; behind = v } ∷ fs)) ≡ values.next (stack fs)
-  unfolding stepOf bracketOf bracketBy coded grammar.meansCloser opening closes stack values.closing pick is Closable
-  close-goes round v [] h = refl
-  close-goes round v (f ∷ fs) h = refl
-  close-goes square v [] h = refl
-  close-goes square v (f ∷ fs) h = refl
-  close-goes curly v [] h = absurd h
-  close-goes curly v (f ∷ fs) h = refl
+  close-one : (b : Bracket) (c : ℕ) (cs : List ℕ) → stepOf include (bracketOf (grammar.meansCloser (opening b))) (closes b ∷ c ∷ cs) ≡ values.next (c ∷ cs)
+  unfolding stepOf bracketOf bracketBy coded grammar.meansCloser opening closes values.closing pick is
+  close-one round c cs = refl
+  close-one square c cs = refl
+  close-one curly c cs = refl
+
+  close-last : (b : Bracket) → Closable [] b [] → stepOf include (bracketOf (grammar.meansCloser (opening b))) (closes b ∷ []) ≡ values.next []
+  unfolding stepOf bracketOf bracketBy coded grammar.meansCloser opening closes values.closing pick is Closable
+  close-last round h = refl
+  close-last square h = refl
+  close-last curly h = absurd h
+
+  close-goes : (base : List ℕ) (b : Bracket) (fs : List Frame) → Closable base b fs
+      → stepOf include (bracketOf (grammar.meansCloser (opening b))) (closes b ∷ stack base fs) ≡ values.next (stack base fs)
+  unfolding stack
+  close-goes [] b [] h = close-last b h
+  close-goes (c ∷ cs) b [] h = close-one b c cs
+  close-goes base b (f ∷ fs) h = close-one b (closes (f .bracket)) (stack base fs)
 
 -- brackets are no '!'
 brackets-unbanged : (b : Bracket)
@@ -1210,15 +1255,15 @@ others-unbanged b = (refl, refl, refl)
 
 -- ---- all of a text
 -- it passes, with tokens that are no '!'
-pub record Through (include : Bool) (s z : List ℕ) (at : ℕ) (cs : List ℕ) : Type 0 where
+pub record Through (include : Bool) (s z : List ℕ) (at : ℕ) (cs base : List ℕ) : Type 0 where
   pub ks : List Token
-  pub passes : Passes include s z at cs [] ks
+  pub passes : Passes include s z at cs base ks
   pub unbanged : Unbanged ks
 
-module _ (include : Bool) (z : List ℕ) (hz : Halts z) where
+module _ (include : Bool) (base : List ℕ) (z : List ℕ) (hz : Halts z) where
   -- one token, and the rest
   through-one : (s t : List ℕ) (at n : ℕ) (k : Token) (cs ds : List ℕ) → tokenOf s ≡ ok n k → drop n s ≡ t → stepOf include (bracketOf k) cs ≡ values.next ds
-      → isDelim ascii.exclamationMark k ≡ false → ((j : ℕ) → Through include t z j ds) → Through include s z at cs
+      → isDelim ascii.exclamationMark k ≡ false → ((j : ℕ) → Through include t z j ds base) → Through include s z at cs base
   unfolding Unbanged
   through-one s t at n k cs ds e d g u r =
       let f = token-fits s n k e in
@@ -1235,7 +1280,7 @@ module _ (include : Bool) (z : List ℕ) (hz : Halts z) where
 
   -- behind white space
   token-step : (l : ℕ) (b : Blanks) (u t : List ℕ) (at n : ℕ) (k : Token) (cs ds : List ℕ) → Begins u n k → drop n u ≡ t → stepOf include (bracketOf k) cs ≡ values.next ds
-      → isDelim ascii.exclamationMark k ≡ false → length (b .bytes ++ u) < suc l → ((j : ℕ) → length t < l → Through include t z j ds) → Through include (b .bytes ++ u) z at cs
+      → isDelim ascii.exclamationMark k ≡ false → length (b .bytes ++ u) < suc l → ((j : ℕ) → length t < l → Through include t z j ds base) → Through include (b .bytes ++ u) z at cs base
   token-step l b u t at n k cs ds e d g w h r =
       let m = length (b .bytes) + n in
       let o = token-read b u n k e in
@@ -1282,12 +1327,12 @@ string-drop q b t =
     let i : 1 + length b + 1 ≡ 1 + (length b + 1) = omega arith in
     ap (λ (n : ℕ). drop n (q ∷ (b ++ (q ∷ t)))) i ∙ drop-one (length b + 1) q (b ++ (q ∷ t)) ∙ drop-append-add b (q ∷ t) 1
 
-module _ (include : Bool) (z : List ℕ) (hz : Halts z) (l : ℕ)
-    (ih : (v : Balanced) (fs : List Frame) (at : ℕ) → length (writtenBalanced v ++ after fs z) < l → AllClear v fs → Sound v fs
-    → Through include (writtenBalanced v ++ after fs z) z at (stack fs)) where
+module _ (include : Bool) (base : List ℕ) (z : List ℕ) (hz : Halts z) (l : ℕ)
+    (ih : (v : Balanced) (fs : List Frame) (at : ℕ) → length (writtenBalanced v ++ after fs z) < l → AllClear v fs → Sound base v fs
+    → Through include (writtenBalanced v ++ after fs z) z at (stack base fs) base) where
   -- a plain character
   plain-step : (b : Blanks) (x : ℕ) (e : isPlain x ≡ true) (v : Balanced) (fs : List Frame) (at : ℕ) → length (b .bytes ++ (writtenBalanced (plain x e v) ++ after fs z)) < suc l
-      → AllClear (plain x e v) fs → Sound (plain x e v) fs → Through include (b .bytes ++ (writtenBalanced (plain x e v) ++ after fs z)) z at (stack fs)
+      → AllClear (plain x e v) fs → Sound base (plain x e v) fs → Through include (b .bytes ++ (writtenBalanced (plain x e v) ++ after fs z)) z at (stack base fs) base
   plain-step b x e v fs at h c s = by-token _ refl (start-in (after fs z) ha x e v k)
     where
       ha : Halts (after fs z)
@@ -1304,62 +1349,73 @@ module _ (include : Bool) (z : List ℕ) (hz : Halts z) (l : ℕ)
           plain-begins n j i q = unfold writtenBalanced in begins-by x (writtenBalanced v ++ after fs z) n j i (omega (arith, plain-byte x e .high)) q
 
       by-token : (p : Parsed Token) → tokens.tokenBy (startOf x) 1 x (writtenBalanced (plain x e v) ++ after fs z) ≡ p → TokenIn (plain x e v) (after fs z) p
-          → Through include (b .bytes ++ (writtenBalanced (plain x e v) ++ after fs z)) z at (stack fs)
+          → Through include (b .bytes ++ (writtenBalanced (plain x e v) ++ after fs z)) z at (stack base fs) base
       by-token _ q tokenless = absurd (start-some (after fs z) ha x e v k q)
       by-token _ q (token n j y f) =
-          token-step include z hz l b (writtenBalanced (plain x e v) ++ after fs z) _ at n j (stack fs) (stack fs) (begins n j q) (y .onto) (harmless-goes include j (stack fs) f) (f .1) h
-          (λ i w. ih (y .rest) fs i w (left-clear (plain x e v) (y .rest) fs (y .leaves) c) (left-sound (plain x e v) (y .rest) fs (y .leaves) s))
+          token-step include base z hz l b (writtenBalanced (plain x e v) ++ after fs z) _ at n j (stack base fs) (stack base fs) (begins n j q) (y .onto) (harmless-goes include j (stack base fs) f) (f .1) h
+          (λ i w. ih (y .rest) fs i w (left-clear (plain x e v) (y .rest) fs (y .leaves) c) (left-sound base (plain x e v) (y .rest) fs (y .leaves) s))
       by-token _ q (call n m w r y o) =
-          token-step include z hz l b (writtenBalanced (plain x e v) ++ after fs z) _ at n (tokens.function m) (stack fs) (closes round ∷ stack fs) (begins n (tokens.function m) q) o
-          (call-goes include m (stack fs)) (others-unbanged m .2) h
+          token-step include base z hz l b (writtenBalanced (plain x e v) ++ after fs z) _ at n (tokens.function m) (stack base fs) (closes round ∷ stack base fs) (begins n (tokens.function m) q) o
+          (call-goes include m (stack base fs)) (others-unbanged m .2) h
           (λ i d. inside w r y i d)
         where
           inside : (w r : Balanced) → Leaves (plain x e v) (block round w r) → (i : ℕ) → length (writtenBalanced w ++ (closes round ∷ (writtenBalanced r ++ after fs z))) < l
-              → Through include (writtenBalanced w ++ (closes round ∷ (writtenBalanced r ++ after fs z))) z i (closes round ∷ stack fs)
+              → Through include (writtenBalanced w ++ (closes round ∷ (writtenBalanced r ++ after fs z))) z i (closes round ∷ stack base fs) base
           inside w r y i d =
               unfold after stack in
               ih w (record { bracket = round; behind = r } ∷ fs) i d (block-clear round w r fs (left-clear (plain x e v) (block round w r) fs y c))
-              (block-sound round w r fs (left-sound (plain x e v) (block round w r) fs y s))
+              (block-sound base round w r fs (left-sound base (plain x e v) (block round w r) fs y s))
 
   -- a string
   string-step : (b : Blanks) (q : Quoted) (v : Balanced) (fs : List Frame) (at : ℕ) → length (b .bytes ++ (writtenBalanced (quoted q v) ++ after fs z)) < suc l
-      → AllClear (quoted q v) fs → Sound (quoted q v) fs → Through include (b .bytes ++ (writtenBalanced (quoted q v) ++ after fs z)) z at (stack fs)
+      → AllClear (quoted q v) fs → Sound base (quoted q v) fs → Through include (b .bytes ++ (writtenBalanced (quoted q v) ++ after fs z)) z at (stack base fs) base
   string-step b q v fs at h c s =
       let t = writtenBalanced v ++ after fs z in
       let n = 1 + length (q .bytes) + 1 in
       let e = quoted-onto q v (after fs z) in
       let k = subst (λ (u : List ℕ). Begins u n (tokens.string (q .body))) (sym e) (string-token q t) in
-      token-step include z hz l b (writtenBalanced (quoted q v) ++ after fs z) t at n (tokens.string (q .body)) (stack fs) (stack fs) k
-      (ap (drop n) e ∙ string-drop (q .quote) (q .bytes) t) (string-goes include (q .body) (stack fs)) (others-unbanged (q .body) .0) h
-      (λ i w. ih v fs i w (string-clear q v fs c) (string-sound q v fs s))
+      token-step include base z hz l b (writtenBalanced (quoted q v) ++ after fs z) t at n (tokens.string (q .body)) (stack base fs) (stack base fs) k
+      (ap (drop n) e ∙ string-drop (q .quote) (q .bytes) t) (string-goes include (q .body) (stack base fs)) (others-unbanged (q .body) .0) h
+      (λ i w. ih v fs i w (string-clear q v fs c) (string-sound base q v fs s))
 
   -- a semicolon inside brackets
+  semicolon-in : (b : Blanks) (v : Balanced) (fs : List Frame) (at c : ℕ) (cs : List ℕ) → stack base fs ≡ c ∷ cs → length (b .bytes ++ (writtenBalanced (semicolon v) ++ after fs z)) < suc l
+      → AllClear (semicolon v) fs → Sound base v fs → Through include (b .bytes ++ (writtenBalanced (semicolon v) ++ after fs z)) z at (stack base fs) base
+  unfolding writtenBalanced
+  semicolon-in b v fs at c cs e h k s =
+      let t = writtenBalanced v ++ after fs z in
+      token-step include base z hz l b (ascii.semicolon ∷ t) t at 1 tokens.semicolon (stack base fs) (stack base fs) (semicolon-token t) refl
+      (subst (λ (q : List ℕ). stepOf include (bracketOf tokens.semicolon) q ≡ values.next q) (sym e) (semicolon-goes include c cs)) (others-unbanged [] .1) h
+      (λ i w. ih v fs i w (semicolon-clear v fs k) s)
+
+  -- where one is awaited
   semicolon-step : (b : Blanks) (v : Balanced) (fs : List Frame) (at : ℕ) → length (b .bytes ++ (writtenBalanced (semicolon v) ++ after fs z)) < suc l
-      → AllClear (semicolon v) fs → Sound (semicolon v) fs → Through include (b .bytes ++ (writtenBalanced (semicolon v) ++ after fs z)) z at (stack fs)
-  unfolding writtenBalanced Sound Outside
-  semicolon-step b v [] at h c s = absurd (s .0)
-  semicolon-step b v (f ∷ fs) at h c s =
-      let t = writtenBalanced v ++ after (f ∷ fs) z in
-      token-step include z hz l b (ascii.semicolon ∷ t) t at 1 tokens.semicolon (stack (f ∷ fs)) (stack (f ∷ fs)) (semicolon-token t) refl (semicolon-goes include f fs) (others-unbanged [] .1) h
-      (λ i w. ih v (f ∷ fs) i w (semicolon-clear v (f ∷ fs) c) s)
+      → AllClear (semicolon v) fs → Sound base (semicolon v) fs → Through include (b .bytes ++ (writtenBalanced (semicolon v) ++ after fs z)) z at (stack base fs) base
+  semicolon-step b v [] at h c s = by-base base refl (unfold Sound in s)
+    where
+      by-base : (cs : List ℕ) → base ≡ cs → Level base (semicolon v) × Tight (semicolon v) → Through include (b .bytes ++ (writtenBalanced (semicolon v) ++ after [] z)) z at (stack base []) base
+      by-base [] e k = absurd (unfold Level Outside in subst (λ (q : List ℕ). Level q (semicolon v)) e (k .0))
+      by-base (x ∷ cs) e k =
+          semicolon-in b v [] at x cs (stack-none base ∙ e) h c (unfold Sound in (subst (λ (q : List ℕ). Level q v) (sym e) (unfold Level in tt), unfold Tight in k .1))
+  semicolon-step b v (f ∷ fs) at h c s = semicolon-in b v (f ∷ fs) at (closes (f .bracket)) (stack base fs) (unfold stack in refl) h c (unfold Sound in s)
 
   -- an opening bracket
   block-step : (b : Blanks) (k : Bracket) (w v : Balanced) (fs : List Frame) (at : ℕ) → length (b .bytes ++ (writtenBalanced (block k w v) ++ after fs z)) < suc l
-      → AllClear (block k w v) fs → Sound (block k w v) fs → Through include (b .bytes ++ (writtenBalanced (block k w v) ++ after fs z)) z at (stack fs)
+      → AllClear (block k w v) fs → Sound base (block k w v) fs → Through include (b .bytes ++ (writtenBalanced (block k w v) ++ after fs z)) z at (stack base fs) base
   block-step b k w v fs at h c s =
       let t = writtenBalanced w ++ (closes k ∷ (writtenBalanced v ++ after fs z)) in
       let e = block-onto k w v (after fs z) in
       let o = subst (λ (u : List ℕ). Begins u 1 (grammar.meansOpening (opening k))) (sym e) (bracket-begins k t .0) in
-      token-step include z hz l b (writtenBalanced (block k w v) ++ after fs z) t at 1 (grammar.meansOpening (opening k)) (stack fs) (stack (record { bracket = k; behind = v } ∷ fs)) o (ap (drop 1) e)
-      (block-goes include k v fs) (brackets-unbanged k .0) h (λ i d. inside i d)
+      token-step include base z hz l b (writtenBalanced (block k w v) ++ after fs z) t at 1 (grammar.meansOpening (opening k)) (stack base fs) (stack base (record { bracket = k; behind = v } ∷ fs)) o (ap (drop 1) e)
+      (block-goes include base k v fs) (brackets-unbanged k .0) h (λ i d. inside i d)
     where
       inside : (i : ℕ) → length (writtenBalanced w ++ (closes k ∷ (writtenBalanced v ++ after fs z))) < l
-          → Through include (writtenBalanced w ++ (closes k ∷ (writtenBalanced v ++ after fs z))) z i (stack (record { bracket = k; behind = v } ∷ fs))
-      inside i d = unfold after in ih w (record { bracket = k; behind = v } ∷ fs) i d (block-clear k w v fs c) (block-sound k w v fs s)
+          → Through include (writtenBalanced w ++ (closes k ∷ (writtenBalanced v ++ after fs z))) z i (stack base (record { bracket = k; behind = v } ∷ fs)) base
+      inside i d = unfold after in ih w (record { bracket = k; behind = v } ∷ fs) i d (block-clear k w v fs c) (block-sound base k w v fs s)
 
   -- what a text begins with
   solid-step : (b : Blanks) (v : Balanced) (fs : List Frame) (at : ℕ) → Solid v → length (b .bytes ++ (writtenBalanced v ++ after fs z)) < suc l
-      → AllClear v fs → Sound v fs → Through include (b .bytes ++ (writtenBalanced v ++ after fs z)) z at (stack fs)
+      → AllClear v fs → Sound base v fs → Through include (b .bytes ++ (writtenBalanced v ++ after fs z)) z at (stack base fs) base
   solid-step b end fs at o h c s = absurd (unfold Solid in o)
   solid-step b (space x w v) fs at o h c s = absurd (unfold Solid in o)
   solid-step b (remark d w v) fs at o h c s = absurd (unfold Solid in o)
@@ -1370,36 +1426,37 @@ module _ (include : Bool) (z : List ℕ) (hz : Halts z) (l : ℕ)
 
   -- what closes it
   void-step : (b : Blanks) (v : Balanced) (fs : List Frame) (at : ℕ) → Void v → writtenBalanced v ≡ b .bytes → length (writtenBalanced v ++ after fs z) < suc l
-      → AllClear v fs → Sound v fs → Through include (writtenBalanced v ++ after fs z) z at (stack fs)
+      → AllClear v fs → Sound base v fs → Through include (writtenBalanced v ++ after fs z) z at (stack base fs) base
   unfolding after stack AllClear Sound Unbanged
   void-step b v [] at o e h c s =
-      subst (λ (u : List ℕ). Through include (u ++ z) z at []) (sym (void-empty v o (s .1))) (record { ks = []; passes = passes-none {include = include} z at []; unbanged = tt })
+      subst (λ (u : List ℕ). Through include (u ++ z) z at base base) (sym (void-empty v o (s .1))) (record { ks = []; passes = passes-none {include = include} z at base; unbanged = tt })
   void-step b v (f ∷ fs) at o e h c s =
       let t = writtenBalanced (f .behind) ++ after fs z in
       let k = f .bracket in
-      subst (λ (u : List ℕ). Through include (u ++ (closes k ∷ t)) z at (closes k ∷ stack fs)) (sym e)
-      (token-step include z hz l b (closes k ∷ t) t at 1 (grammar.meansCloser (opening k)) (closes k ∷ stack fs) (stack fs) (bracket-begins k t .1) refl (close-goes include k (f .behind) fs (s .0))
+      subst (λ (u : List ℕ). Through include (u ++ (closes k ∷ t)) z at (closes k ∷ stack base fs) base) (sym e)
+      (token-step include base z hz l b (closes k ∷ t) t at 1 (grammar.meansCloser (opening k)) (closes k ∷ stack base fs) (stack base fs) (bracket-begins k t .1) refl (close-goes include base k fs (s .0))
       (brackets-unbanged k .1) (subst (λ (u : List ℕ). length (u ++ (closes k ∷ t)) < suc l) e h) (λ i w. ih (f .behind) fs i w (c .1) (s .1)))
 
   -- every text
-  text-step : (v : Balanced) (fs : List Frame) (at : ℕ) → length (writtenBalanced v ++ after fs z) < suc l → AllClear v fs → Sound v fs
-      → Through include (writtenBalanced v ++ after fs z) z at (stack fs)
+  text-step : (v : Balanced) (fs : List Frame) (at : ℕ) → length (writtenBalanced v ++ after fs z) < suc l → AllClear v fs → Sound base v fs
+      → Through include (writtenBalanced v ++ after fs z) z at (stack base fs) base
   text-step v fs at h c s = by-skipped (skipped v (after fs z) (first-clear v fs c) (after-halts fs z hz))
     where
-      by-skipped : Skipped (after fs z) v → Through include (writtenBalanced v ++ after fs z) z at (stack fs)
+      by-skipped : Skipped (after fs z) v → Through include (writtenBalanced v ++ after fs z) z at (stack base fs) base
       by-skipped (solid rest b o e y i) =
           let q = skipped-onto v rest b e (after fs z) in
-          subst (λ (u : List ℕ). Through include u z at (stack fs)) (sym q)
-          (solid-step b rest fs at o (subst (λ (u : List ℕ). length u < suc l) q h) (left-clear v rest fs y c) (left-sound v rest fs y s))
+          subst (λ (u : List ℕ). Through include u z at (stack base fs) base) (sym q)
+          (solid-step b rest fs at o (subst (λ (u : List ℕ). length u < suc l) q h) (left-clear v rest fs y c) (left-sound base v rest fs y s))
       by-skipped (empty b o e) = void-step b v fs at o e h c s
 
 -- a text in brackets, with turns enough
-through : (include : Bool) (z : List ℕ) → Halts z → (l : ℕ) (v : Balanced) (fs : List Frame) (at : ℕ) → length (writtenBalanced v ++ after fs z) < l → AllClear v fs → Sound v fs
-    → Through include (writtenBalanced v ++ after fs z) z at (stack fs)
-through include z hz zero v fs at h c s = absurd (omega arith)
-through include z hz (suc l) v fs at h c s = text-step include z hz l (through include z hz l) v fs at h c s
+through : (include : Bool) (base z : List ℕ) → Halts z → (l : ℕ) (v : Balanced) (fs : List Frame) (at : ℕ) → length (writtenBalanced v ++ after fs z) < l → AllClear v fs
+    → Sound base v fs → Through include (writtenBalanced v ++ after fs z) z at (stack base fs) base
+through include base z hz zero v fs at h c s = absurd (omega arith)
+through include base z hz (suc l) v fs at h c s = text-step include base z hz l (through include base z hz l) v fs at h c s
 
--- a text in which brackets match, outside all brackets, is passed over up to what may stand behind a value
-pub balanced-pass : (include : Bool) (v : Balanced) (z : List ℕ) → Clear v → Outside v → Tight v → Halts z → Through include (writtenBalanced v ++ z) z 0 []
+-- a text in which brackets match is passed over up to what may stand behind it
+pub balanced-pass : (include : Bool) (base : List ℕ) (v : Balanced) (z : List ℕ) (at : ℕ) → Clear v → Level base v → Tight v → Halts z
+    → Through include (writtenBalanced v ++ z) z at base base
 unfolding after stack AllClear Sound
-balanced-pass include v z c o t h = through include z h (suc (length (writtenBalanced v ++ z))) v [] 0 (omega arith) c (o, t)
+balanced-pass include base v z at c o t h = through include base z h (suc (length (writtenBalanced v ++ z))) v [] at (omega arith) c (o, t)

@@ -23,7 +23,7 @@ use Rattle.grammar.specs.Sheets.{Item, writtenItem, meansItem}
 use Rattle.grammar.proofs.ComponentsRead.{Ended}
 use Rattle.grammar.proofs.SelectorsRead.{blank-ended}
 use Rattle.grammar.proofs.TokensRead.{atom-begins, opening-begins}
-use Rattle.grammar.proofs.ValuesRead.{unspaced, Halts, halts, at-bang, follows, then-onto, block-onto, ValueEnds, ends-halt, value-read}
+use Rattle.grammar.proofs.ValuesRead.{unspaced, Halts, halts, at-bang, follows, then-onto, block-onto, ValueEnds, mark-halts, ends-halt, value-read}
 use Rattle.grammar.proofs.DeclarationsMeant.{declared-value, declared-meant}
 
 -- ---- white space before a value
@@ -67,13 +67,6 @@ unled-item (end b) z h g = absurd (h .some)
 unled-item (then b a v) z h g =
     ap whitespaceItem (then-onto unspaced a v z) ∙ atom-begins a (writtenValues v ++ z) (follows a v z (h .apart .0) (h .apart .1) g) .item
 unled-item (block b o w v) z h g = ap whitespaceItem (block-onto unspaced o w v z) ∙ opening-begins o (writtenValues w ++ (closer o ∷ (writtenValues v ++ z))) .item
-
--- a mark may stand behind a value
-mark-halts : (m : Importance) (z : List ℕ) → Halts z → Halts (writtenImportance m ++ z)
-unfolding writtenImportance
-mark-halts normal z h = h
-mark-halts (important b c n i) z h =
-    subst Halts (sym (append-assoc (b .bytes) (ascii.exclamationMark ∷ (c .bytes ++ n .bytes)) z)) (halts (b .blank) (at-bang ((c .bytes ++ n .bytes) ++ z)))
 
 -- ---- a declaration
 -- its name is read whole, in small letters, where it ends

@@ -619,22 +619,26 @@ unfolding writtenAtom meansAtom
 important-begins n e _ (halts {l} {t} h c) =
     subst (λ (w : List ℕ). Begins (n .bytes ++ (l ++ t)) (length (n .bytes)) (tokens.ident w)) e (atom-begins (word n) (l ++ t) (blank-ends (word n) t h c))
 
-module _ (v : Values) (b c : Blanks) (n : Ident) (i : folded n ≡ text "important") (z : List ℕ) where
-  -- a value and its mark, with z behind it
-  marked-onto : (writtenValues v ++ writtenImportance (important b c n i)) ++ z ≡ writtenValues v ++ (b .bytes ++ (ascii.exclamationMark ∷ (c .bytes ++ (n .bytes ++ z))))
-  unfolding writtenImportance
-  marked-onto =
-      append-assoc (writtenValues v) (b .bytes ++ (ascii.exclamationMark ∷ (c .bytes ++ n .bytes))) z
-      ∙ ap (λ (l : List ℕ). writtenValues v ++ l)
-      (append-assoc (b .bytes) (ascii.exclamationMark ∷ (c .bytes ++ n .bytes)) z
-      ∙ ap (λ (l : List ℕ). b .bytes ++ (ascii.exclamationMark ∷ l)) (append-assoc (c .bytes) (n .bytes) z))
+-- a mark may stand behind a value
+pub mark-halts : (m : Importance) (z : List ℕ) → Halts z → Halts (writtenImportance m ++ z)
+unfolding writtenImportance
+mark-halts normal z h = h
+mark-halts (important b c n i) z h =
+    subst Halts (sym (append-assoc (b .bytes) (ascii.exclamationMark ∷ (c .bytes ++ n .bytes)) z)) (halts (b .blank) (at-bang ((c .bytes ++ n .bytes) ++ z)))
 
-  -- both pass
-  marked-pass : Apart v → Outermost v → Halts z
-      → Passes false (writtenValues v ++ (b .bytes ++ (ascii.exclamationMark ∷ (c .bytes ++ (n .bytes ++ z))))) z 0 [] [] (meansValues v ++ markTokens)
-  marked-pass h o g =
+module _ (b c : Blanks) (n : Ident) (i : folded n ≡ text "important") (z : List ℕ) where
+  -- the mark, with z behind it
+  mark-onto : writtenImportance (important b c n i) ++ z ≡ b .bytes ++ (ascii.exclamationMark ∷ (c .bytes ++ (n .bytes ++ z)))
+  unfolding writtenImportance
+  mark-onto =
+      append-assoc (b .bytes) (ascii.exclamationMark ∷ (c .bytes ++ n .bytes)) z
+      ∙ ap (λ (l : List ℕ). b .bytes ++ (ascii.exclamationMark ∷ l)) (append-assoc (c .bytes) (n .bytes) z)
+
+  -- its tokens pass behind others
+  mark-pass : {s : List ℕ} {ks : List Token} → Passes false s (writtenImportance (important b c n i) ++ z) 0 [] [] ks → Halts z → Passes false s z 0 [] [] (ks ++ markTokens)
+  mark-pass {s} {ks} k g =
       let x = c .bytes ++ (n .bytes ++ z) in
-      let p = outer-pass {include = false} v (b .bytes ++ (ascii.exclamationMark ∷ x)) h o (halts (b .blank) (at-bang x)) in
+      let p = subst (λ (l : List ℕ). Passes false s l 0 [] [] ks) mark-onto k in
       let q = passes-token {include = false} b (ascii.exclamationMark ∷ []) x (0 + p .taken) (tokens.delim ascii.exclamationMark) [] [] (bang-begins x) (mark-goes .0) in
       passes-on p (passes-on q (passes-token {include = false} c (n .bytes) z (0 + p .taken + q .taken) (tokens.ident (text "important")) [] [] (important-begins n i z g) (mark-goes .1)))
 
@@ -645,20 +649,26 @@ value-by : (s : List ℕ) (n : ℕ) (ks js : List Token) (i : Bool) → Stated f
 unfolding valueOf valueFrom pick
 value-by s n ks js i t e d = rw (t .states, t .tokens, e, d)
 
+-- tokens that pass, up to where the document ends a value
+pass-value : (w : List ℕ) {s z : List ℕ} {ks : List Token} (js : List Token) (i : Bool) → s ≡ w ++ z → Passes false s z 0 [] [] ks → ValueEnds z → withoutMark ks ≡ js → isImportant ks ≡ i
+    → valueOf s ≡ ok (length w) (record { tokens = js; important = i })
+pass-value w {s} {z} {ks} js i e p h d k =
+    value-by s (length w) ks js i (subst (λ (n : ℕ). Stated false s n ks) (passed-length w e p) (stated p (value-stops h))) d k
+
+-- a text whose tokens pass and have no mark, and a mark behind it or none
+pub marked-read : (w : List ℕ) (m : Importance) (z : List ℕ) {ks : List Token} → Passes false (w ++ (writtenImportance m ++ z)) (writtenImportance m ++ z) 0 [] [] ks → isImportant ks ≡ false
+    → ValueEnds z → valueOf ((w ++ writtenImportance m) ++ z) ≡ ok (length (w ++ writtenImportance m)) (record { tokens = ks; important = isMarked m })
+unfolding isMarked writtenImportance
+marked-read w normal z {ks} p u e =
+    ap valueOf (append-assoc w (writtenImportance normal) z)
+    ∙ pass-value (w ++ writtenImportance normal) ks false (sym (append-assoc w (writtenImportance normal) z)) p e (unmarked-whole ks u) u
+marked-read w (important b c n i) z {ks} p u e =
+    ap valueOf (append-assoc w (writtenImportance (important b c n i)) z)
+    ∙ pass-value (w ++ writtenImportance (important b c n i)) ks true (sym (append-assoc w (writtenImportance (important b c n i)) z)) (mark-pass b c n i z p (ends-halt e)) e (marked-without ks)
+    (marked-is ks)
+
 -- a value of the grammar and its mark, if it has one, are read whole, up to where the document ends them
 pub value-read : (v : Values) (m : Importance) (z : List ℕ) → DeclarationValue v → ValueEnds z
     → valueOf ((writtenValues v ++ writtenImportance m) ++ z) ≡ ok (length (writtenValues v ++ writtenImportance m)) (record { tokens = meansValues v; important = isMarked m })
-unfolding isMarked
-value-read v normal z h e =
-    let w : writtenValues v ++ writtenImportance normal ≡ writtenValues v = unfold writtenImportance in append-nil (writtenValues v) in
-    let k = values-unmarked v (h .unmarked) in
-    ap (λ (l : List ℕ). valueOf (l ++ z)) w ∙ value-by (writtenValues v ++ z) _ (meansValues v) _ _ (value-ends v z (h .apart) (h .outermost) e) (unmarked-whole (meansValues v) k) k
-    ∙ ap (λ (l : List ℕ). ok (length l) (record { tokens = meansValues v; important = false })) (sym w)
-value-read v (important b c n i) z h e =
-    let s = writtenValues v ++ writtenImportance (important b c n i) in
-    let p = marked-pass v b c n i z (h .apart) (h .outermost) (ends-halt e) in
-    let d = sym (marked-onto v b c n i z) in
-    value-by (s ++ z) (length s) (meansValues v ++ markTokens) (meansValues v) true
-    (subst (λ (l : List ℕ). Stated false l (length s) (meansValues v ++ markTokens)) d
-    (subst (λ (m : ℕ). Stated false (writtenValues v ++ (b .bytes ++ (ascii.exclamationMark ∷ (c .bytes ++ (n .bytes ++ z))))) m (meansValues v ++ markTokens)) (passed-length s d p) (stated p (value-stops e))))
-    (marked-without (meansValues v)) (marked-is (meansValues v))
+value-read v m z h e =
+    marked-read (writtenValues v) m z (outer-pass v (writtenImportance m ++ z) (h .apart) (h .outermost) (mark-halts m z (ends-halt e))) (values-unmarked v (h .unmarked)) e
