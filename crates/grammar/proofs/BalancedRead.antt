@@ -1190,7 +1190,7 @@ Unbanged [] = Unit
 Unbanged (k ∷ ks) = (isDelim ascii.exclamationMark k ≡ false) × Unbanged ks
 
 -- so they have no mark
-unbanged-plain : (ks : List Token) → Unbanged ks → isImportant ks ≡ false
+pub unbanged-plain : (ks : List Token) → Unbanged ks → isImportant ks ≡ false
 unfolding Unbanged
 unbanged-plain [] h = unfold isImportant in refl
 unbanged-plain (k ∷ ks) h = plain-first k ks (h .0) ∙ unbanged-plain ks (h .1)
@@ -1460,3 +1460,23 @@ pub balanced-pass : (include : Bool) (base : List ℕ) (v : Balanced) (z : List 
     → Through include (writtenBalanced v ++ z) z at base base
 unfolding after stack AllClear Sound
 balanced-pass include base v z at c o t h = through include base z h (suc (length (writtenBalanced v ++ z))) v [] at (omega arith) c (o, t)
+
+-- ---- white space before a text
+-- what stands behind it
+pub record Behind (v : Balanced) (z : List ℕ) : Type 0 where
+  pub before : Blanks
+  pub rest : Balanced
+  pub parts : writtenBalanced v ≡ before .bytes ++ writtenBalanced rest
+  pub item : whitespaceItem (writtenBalanced rest ++ z) ≡ 0
+  pub keeps-clear : Clear v → Clear rest
+  pub keeps-outside : Outside v → Outside rest
+  pub keeps-tight : Tight v → Tight rest
+
+-- of a text with something in it that does not end with white space
+pub balanced-behind : (v : Balanced) (z : List ℕ) → More v → Clear v → Tight v → Halts z → Behind v z
+balanced-behind v z m c t h = by-skipped (skipped v z c h)
+  where
+    by-skipped : Skipped z v → Behind v z
+    by-skipped (solid rest b o e l i) =
+        record { before = b; rest = rest; parts = e; item = i; keeps-clear = leaves-clear l; keeps-outside = leaves-outside l; keeps-tight = leaves-tight l }
+    by-skipped (empty b o e) = absurd (void-tight v o m t)

@@ -85,7 +85,7 @@ Outside (block round w v) = Outside v
 Outside (block square w v) = Outside v
 Outside (block curly w v) = ⊥
 
--- it does not end with white space, which belongs to what follows
+-- something is written
 unfoldable pub More : Balanced → Type 0
 More end = ⊥
 More (space x w v) = Unit
@@ -95,6 +95,7 @@ More (quoted q v) = Unit
 More (semicolon v) = Unit
 More (block b w v) = Unit
 
+-- it does not end with white space, which belongs to what follows
 unfoldable pub Tight : Balanced → Type 0
 Tight end = Unit
 Tight (space x w v) = More v × Tight v
@@ -103,3 +104,10 @@ Tight (plain x e v) = Tight v
 Tight (quoted q v) = Tight v
 Tight (semicolon v) = Tight v
 Tight (block b w v) = Tight v
+
+-- <declaration-value>: something, with no semicolon and no '!' outside brackets
+pub record AnyValue (v : Balanced) : Type 0 where
+  pub some : More v
+  pub clear : Clear v
+  pub outside : Outside v
+  pub tight : Tight v
