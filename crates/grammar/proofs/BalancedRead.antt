@@ -1,11 +1,10 @@
 -- Texts in which brackets match are passed over whole, whatever tokens the reader makes of them.
 use mathlib.Core.Path.{_≡_, refl, ap, sym, subst, _∙_}
 use mathlib.Core.Bool.{Bool, true, false, not}
-use mathlib.Core.List.{List, [], _∷_, _++_, map, append-assoc, append-nil}
-use Prim.Native.Nat.{ℕ, zero, suc, _+_, _-_, _≤_, _<_}
-use native.Mathlib.Nat.{zero-add, add-zero}
+use mathlib.Core.List.{List, [], _∷_, _++_, append-assoc}
+use Prim.Native.Nat.{ℕ, zero, suc, _+_, _≤_, _<_}
 use native.Mathlib.Omega.{arith}
-use lib.ListN.{length, getD, take, drop, length-append, length-drop}
+use lib.ListN.{length, getD, take, drop, length-drop}
 use borrow.Author.Tests.{leb-true}
 use lib.Seq.{drop-append-add, drop-append-seam, drop-drop}
 use Rattle.combinators.specs.Ascii as ascii
@@ -19,7 +18,7 @@ use Rattle.combinators.proofs.Repeats.{many-took, many-stop, many-from}
 use Rattle.combinators.proofs.Rules as rules
 use Rattle.combinators.proofs.Rules.{never, and-true, and-left, is-true, is-no, within-true, pick-holds, or-none}
 use Rattle.unicode.specs.Literal.{text}
-use Rattle.unicode.specs.Utf8.{utf8, scalarOf, takenOf}
+use Rattle.unicode.specs.Utf8.{utf8, takenOf}
 use Rattle.unicode.specs.WhiteSpace.{member}
 use Rattle.unicode.specs.declared.utf8.Scalar.{Scalar}
 use Rattle.unicode.specs.declared.utf8.Scalar.the-variants.{Value, NoScalar}
@@ -28,7 +27,7 @@ use Rattle.lexer.specs.Number.{isDigit, oneDigit, digits}
 use Rattle.lexer.specs.Number as numbers
 use Rattle.lexer.specs.declared.tokens.Start.{Start}
 use Rattle.lexer.specs.declared.tokens.Start.the-variants.{Quote, Hash, Plus, Minus, Dot, Less, Backslash, Letter, Digit, Other}
-use Rattle.lexer.specs.Token.{Token, tokenOf, tokenAt, startOf, isIdentStart, coded, isQuote, numericFrom, numericOf, identLikeOf}
+use Rattle.lexer.specs.Token.{Token, tokenOf, startOf, isIdentStart, coded, isQuote, numericFrom, numericOf, identLikeOf}
 use Rattle.lexer.specs.TokenRow.{columnsOf}
 use Rattle.lexer.specs.Token as tokens
 use Rattle.lexer.specs.Whitespace.{isWhitespace, commentEnd, commentOf, whitespaceItem, skipWhitespace}
@@ -36,7 +35,7 @@ use Rattle.lexer.proofs.TokenBounds.{token-fits}
 use Rattle.lexer.proofs.Comments.{above-space}
 use Rattle.lexer.proofs.Characters.{nmstart-nmchar}
 use Rattle.lexer.proofs.Idents.{char-plain, start-plain, name-some, name-none}
-use Rattle.lexer.proofs.SyntaxWhitespace.{White, Comment, Blank, none, white, comment, skips-blank}
+use Rattle.lexer.proofs.SyntaxWhitespace.{White, Comment, none, white, comment, skips-blank}
 use Rattle.values.specs.Value.{bracketBy, bracketOf, stepOf, isImportant}
 use Rattle.values.specs.Value as values
 use Rattle.values.specs.Words.{kindOf, firstOf, isKind, isDelim}
@@ -44,7 +43,7 @@ use Rattle.grammar.specs.Nth.{Blanks}
 use Rattle.grammar.specs.Selectors.{Quoted}
 use Rattle.grammar.specs.Balanced.{tilde, isPlain, Bracket, round, square, curly, Balanced, end, space, remark, plain, quoted, semicolon, block, opens, closes, writtenBalanced, isMark, Clear, Outside, More, Tight}
 use Rattle.grammar.proofs.StringsRead.{untrue}
-use Rattle.grammar.proofs.Places.{differs, Unblank, white-first, comment-first, blank-first, unblank-item}
+use Rattle.grammar.proofs.Places.{differs, Unblank, white-first, comment-first, blank-first}
 use Rattle.grammar.proofs.TokensRead.{Begins, token-read, begins-by, neither, string-token, semicolon-token, opening-begins, closer-token}
 use Rattle.grammar.proofs.ValuesRead.{Passes, passes-none, passes-one, passes-on, plain-first, blank-append, closer-halts, Closes, Halts, halts, nothing, closed, at-semicolon, at-bang, at-brace}
 use Rattle.grammar.specs.Tokens as grammar
@@ -358,6 +357,7 @@ digits-plainly =
 unfoldable isNumberMark : ℕ → Bool
 isNumberMark x = or (is x ascii.fullStop) (or (is x ascii.percentSign) (or (is x ascii.hyphenMinus) (is x ascii.plusSign)))
 
+-- which is plain
 marks-plainly : Plainly isNumberMark
 unfolding isNumberMark or is opens closes
 marks-plainly =
@@ -527,12 +527,14 @@ mark-items : (l : List ℕ) → (whitespaceItem (ascii.semicolon ∷ l) ≡ 0) �
 unfolding whitespaceItem isWhitespace commentOf pick or is
 mark-items l = (refl, refl, refl)
 
+-- of an opening bracket
 bracket-item : (b : Bracket) (l : List ℕ) → whitespaceItem (opens b ∷ l) ≡ 0
 unfolding opens whitespaceItem isWhitespace commentOf pick or is
 bracket-item round l = refl
 bracket-item square l = refl
 bracket-item curly l = refl
 
+-- of a quote
 quote-item : (q : ℕ) (l : List ℕ) → isQuote q ≡ true → whitespaceItem (q ∷ l) ≡ 0
 unfolding isQuote
 quote-item q l e =
@@ -604,6 +606,7 @@ closes-unnamed (at-brace r) = (refl, refl, refl, refl)
 data Ahead (s : List ℕ) : Type 0 where
   ahead : (n : ℕ) (c : List ℕ) → skipWhitespace s ≡ n → drop n s ≡ c → Closes c → Ahead s
 
+-- of what may stand behind a value
 halts-ahead : (b : Blanks) {t : List ℕ} → Halts t → Ahead (b .bytes ++ t)
 halts-ahead b (halts {l} {t} h c) =
     let k = blank-append (b .blank) h in
@@ -683,6 +686,7 @@ harmless-number : (b : List ℕ) → Harmless (tokens.number b) × Harmless (tok
 unfolding bracketOf bracketBy coded isDelim isKind kindOf columnsOf and is
 harmless-number b = ((refl, refl), (refl, refl), (refl, refl), (refl, refl))
 
+-- a dimension
 harmless-dimension : (b u : List ℕ) → Harmless (tokens.dimension b u)
 unfolding bracketOf bracketBy coded isDelim isKind kindOf columnsOf and is
 harmless-dimension b u = (refl, refl)
@@ -728,6 +732,7 @@ unrounded : Unblank (λ x. is x ascii.leftParenthesis)
 unfolding is
 unrounded = record { of-space = refl; of-tab = refl; of-line-feed = refl; of-carriage-return = refl; of-form-feed = refl; of-solidus = refl }
 
+-- what closes does not
 closes-unrounded : {c : List ℕ} → Closes c → is (getD c 0 0) ascii.leftParenthesis ≡ false
 unfolding grammar.closer is
 closes-unrounded nothing = refl
@@ -740,9 +745,11 @@ closes-unrounded (at-semicolon r) = refl
 closes-unrounded (at-bang r) = refl
 closes-unrounded (at-brace r) = refl
 
+-- nor what may stand behind a value
 halts-unrounded : {t : List ℕ} → Halts t → is (getD t 0 0) ascii.leftParenthesis ≡ false
 halts-unrounded (halts {l} {t} h c) = blank-first (λ x. is x ascii.leftParenthesis) unrounded t h (closes-unrounded c)
 
+-- nor a quote
 quote-unrounded : (q : ℕ) → isQuote q ≡ true → is q ascii.leftParenthesis ≡ false
 unfolding isQuote
 quote-unrounded q e =
@@ -844,6 +851,7 @@ dash-plainly =
       of-close = all-brackets (λ x. is x ascii.hyphenMinus) closes refl refl refl;
     }
 
+-- '>' alone
 greater-plainly : Plainly (λ x. is x ascii.greaterThanSign)
 unfolding is opens closes
 greater-plainly =
@@ -1012,6 +1020,7 @@ module _ (t : List ℕ) (h : Halts t) (x : ℕ) (e : isPlain x ≡ true) (v : Ba
   unfolding writtenBalanced
   letter-there q d = letter-some x (writtenBalanced v ++ t) _ _ (letter-named x (writtenBalanced v ++ t) there-item d (letter-start x (plain-byte x e .high) q))
 
+  -- or a digit
   digit-there : isDigit x ≡ true → ¬ (numericOf text-there ≡ err)
   unfolding writtenBalanced
   digit-there q = numeric-some (x ∷ (writtenBalanced v ++ t)) (digit-some x (writtenBalanced v ++ t) there-item q)
@@ -1020,6 +1029,7 @@ module _ (t : List ℕ) (h : Halts t) (x : ℕ) (e : isPlain x ≡ true) (v : Ba
   abbrev Some : Start → Type 0
   Some s = ¬ (tokens.tokenBy s 1 x text-there ≡ err)
 
+  -- whatever it selects
   start-some : Some (startOf x)
   unfolding startOf isQuote
   start-some =
@@ -1075,6 +1085,7 @@ opening-opens round = refl
 opening-opens square = refl
 opening-opens curly = refl
 
+-- closing ones too
 opening-closes : (b : Bracket) → grammar.closer (opening b) ≡ closes b
 unfolding opening closes grammar.closer
 opening-closes round = refl
@@ -1128,6 +1139,7 @@ unfolding Sound
 left-sound base v r [] l s = (left-level base v r l (s .0), leaves-tight l (s .1))
 left-sound base v r (f ∷ fs) l s = s
 
+-- and of all texts
 left-clear : (v r : Balanced) (fs : List Frame) → Leaves v r → AllClear v fs → AllClear r fs
 unfolding AllClear
 left-clear v r [] l c = leaves-clear l c
@@ -1139,16 +1151,19 @@ unfolding Level Outside
 string-level [] q v s = s
 string-level (c ∷ cs) q v s = tt
 
+-- with those around it
 string-sound : (base : List ℕ) (q : Quoted) (v : Balanced) (fs : List Frame) → Sound base (quoted q v) fs → Sound base v fs
 unfolding Sound Tight
 string-sound base q v [] s = (string-level base q v (s .0), s .1)
 string-sound base q v (f ∷ fs) s = s
 
+-- it is as clear
 string-clear : (q : Quoted) (v : Balanced) (fs : List Frame) → AllClear (quoted q v) fs → AllClear v fs
 unfolding AllClear Clear
 string-clear q v [] c = c
 string-clear q v (f ∷ fs) c = c
 
+-- so is what stands behind a semicolon
 semicolon-clear : (v : Balanced) (fs : List Frame) → AllClear (semicolon v) fs → AllClear v fs
 unfolding AllClear Clear
 semicolon-clear v [] c = c
@@ -1164,6 +1179,7 @@ block-level (c ∷ cs) round w v s = (tt, tt)
 block-level (c ∷ cs) square w v s = (tt, tt)
 block-level (c ∷ cs) curly w v s = (tt, tt)
 
+-- a block inside another may be of braces
 block-closable : (base : List ℕ) (b : Bracket) (f : Frame) (fs : List Frame) → Closable base b (f ∷ fs)
 unfolding Closable
 block-closable [] round f fs = tt
@@ -1173,11 +1189,13 @@ block-closable (c ∷ cs) round f fs = tt
 block-closable (c ∷ cs) square f fs = tt
 block-closable (c ∷ cs) curly f fs = tt
 
+-- with those around it
 block-sound : (base : List ℕ) (b : Bracket) (w v : Balanced) (fs : List Frame) → Sound base (block b w v) fs → Sound base w (record { bracket = b; behind = v } ∷ fs)
 unfolding Sound Tight
 block-sound base b w v [] s = let k = block-level base b w v (s .0) in (k .0, (k .1, s .1))
 block-sound base b w v (f ∷ fs) s = (block-closable base b f fs, s)
 
+-- it is as clear
 block-clear : (b : Bracket) (w v : Balanced) (fs : List Frame) → AllClear (block b w v) fs → AllClear w (record { bracket = b; behind = v } ∷ fs)
 unfolding AllClear Clear
 block-clear b w v [] c = c
@@ -1197,22 +1215,27 @@ unbanged-plain (k ∷ ks) h = plain-first k ks (h .0) ∙ unbanged-plain ks (h .
 
 -- steps at tokens
 module _ (include : Bool) where
+  -- one without brackets
   harmless-goes : (k : Token) (cs : List ℕ) → Harmless k → stepOf include (bracketOf k) cs ≡ values.next cs
   unfolding stepOf
   harmless-goes k cs h = rw (h .0)
 
+  -- a function
   call-goes : (b : List ℕ) (cs : List ℕ) → stepOf include (bracketOf (tokens.function b)) cs ≡ values.next (closes round ∷ cs)
   unfolding stepOf bracketOf bracketBy coded closes
   call-goes b cs = refl
 
+  -- a string
   string-goes : (b : List ℕ) (cs : List ℕ) → stepOf include (bracketOf (tokens.string b)) cs ≡ values.next cs
   unfolding stepOf bracketOf bracketBy coded
   string-goes b cs = refl
 
+  -- a semicolon inside brackets
   semicolon-goes : (c : ℕ) (cs : List ℕ) → stepOf include (bracketOf tokens.semicolon) (c ∷ cs) ≡ values.next (c ∷ cs)
   unfolding stepOf bracketOf bracketBy coded values.ending
   semicolon-goes c cs = refl
 
+  -- an opening bracket
   block-goes : (base : List ℕ) (b : Bracket) (v : Balanced) (fs : List Frame)
       → stepOf include (bracketOf (grammar.meansOpening (opening b))) (stack base fs) ≡ values.next (stack base (record { bracket = b; behind = v } ∷ fs))
   unfolding stepOf bracketOf bracketBy coded grammar.meansOpening opening closes stack
@@ -1220,18 +1243,21 @@ module _ (include : Bool) where
   block-goes base square v fs = refl
   block-goes base curly v fs = refl
 
+  -- a closing one inside another
   close-one : (b : Bracket) (c : ℕ) (cs : List ℕ) → stepOf include (bracketOf (grammar.meansCloser (opening b))) (closes b ∷ c ∷ cs) ≡ values.next (c ∷ cs)
   unfolding stepOf bracketOf bracketBy coded grammar.meansCloser opening closes values.closing pick is
   close-one round c cs = refl
   close-one square c cs = refl
   close-one curly c cs = refl
 
+  -- a closing one outside
   close-last : (b : Bracket) → Closable [] b [] → stepOf include (bracketOf (grammar.meansCloser (opening b))) (closes b ∷ []) ≡ values.next []
   unfolding stepOf bracketOf bracketBy coded grammar.meansCloser opening closes values.closing pick is Closable
   close-last round h = refl
   close-last square h = refl
   close-last curly h = absurd h
 
+  -- either
   close-goes : (base : List ℕ) (b : Bracket) (fs : List Frame) → Closable base b fs
       → stepOf include (bracketOf (grammar.meansCloser (opening b))) (closes b ∷ stack base fs) ≡ values.next (stack base fs)
   unfolding stack

@@ -1,5 +1,5 @@
 -- A declaration of the grammar is read whole, before what may stand behind a value.
-use mathlib.Core.Path.{_≡_, refl, ap, sym, subst, _∙_}
+use mathlib.Core.Path.{_≡_, refl, ap, sym, _∙_}
 use mathlib.Core.Bool.{false}
 use mathlib.Core.List.{List, [], _∷_, _++_, append-assoc, append-nil}
 use Prim.Native.Nat.{ℕ, suc, _+_}
@@ -21,14 +21,14 @@ use Rattle.values.specs.Value.{valueOf}
 use Rattle.declarations.specs.Rules.{colonBehind, propertyOf, valueBehind, declarationOf}
 use Rattle.grammar.specs.Nth.{Blanks}
 use Rattle.grammar.specs.Tokens.{closer, Ident, folded}
-use Rattle.grammar.specs.Values.{Values, end, then, block, writtenValues, meansValues, Apart, Outermost, Unmarked, Some, DeclarationValue, Importance, normal, important, writtenImportance, isMarked}
+use Rattle.grammar.specs.Values.{Values, end, then, block, writtenValues, meansValues, Apart, Outermost, Unmarked, Some, DeclarationValue, Importance, important, writtenImportance, isMarked}
 use Rattle.grammar.specs.Balanced.{Balanced, writtenBalanced, AnyValue}
 use Rattle.grammar.specs.Declarations.{Declared, known, other, property, knownValues, writtenValue, meansKnown, meansDeclared}
 use Rattle.grammar.specs.Sheets.{Item, writtenItem, meansItem}
 use Rattle.grammar.proofs.ComponentsRead.{Ended}
 use Rattle.grammar.proofs.SelectorsRead.{blank-ended}
 use Rattle.grammar.proofs.TokensRead.{atom-begins, opening-begins}
-use Rattle.grammar.proofs.ValuesRead.{unspaced, Halts, halts, at-bang, follows, then-onto, block-onto, ValueEnds, mark-halts, ends-halt, marked-read, value-read}
+use Rattle.grammar.proofs.ValuesRead.{unspaced, Halts, follows, then-onto, block-onto, ValueEnds, mark-halts, ends-halt, marked-read, value-read}
 use Rattle.grammar.proofs.BalancedRead.{Level, balanced-behind, balanced-pass, unbanged-plain}
 use Rattle.grammar.proofs.DeclarationsMeant.{declared-meant, other-meant, known-value}
 

@@ -31,8 +31,8 @@ use Rattle.selectors.specs.Selector.{signed}
 use Rattle.sheets.specs.Sheet.{sheetOf}
 use Rattle.grammar.specs.Nth.{Blanks, unsigned, Count, sum, writtenSign, signByte, writtenArgument, negative, worth, meansArgument}
 use Rattle.grammar.specs.Selectors.{Quoted, unprocessed, class, nthChild, typed, child, one, joined, writtenSimple, writtenSimples, writtenCompound, writtenCombinator, written, meansSimple, meansCompound, meansCombinator, inOrder, Agrees, writtenPseudo, Tight, last, several, writtenChosen, writtenGroup, meansChosen, meansGroup}
-use Rattle.grammar.specs.Tokens.{Numeral, Hashed, isExponent, isDelimiter, word, string, hash, dimension, colon, semicolon, delimiter, function, square, brace, meansAtom, meansOpening, meansCloser, writtenStop, writtenNumeral, writtenAtom, writtenOpening, closer, endsName, mayFollow, folded}
-use Rattle.grammar.specs.Values.{Values, end, then, block, writtenValues, meansValues, isBrace, Follows, Apart, isSemicolon, isBang, Outermost, Unmarked, Some, normal, important, writtenImportance, isMarked}
+use Rattle.grammar.specs.Tokens.{string, semicolon, function, square, meansAtom, meansOpening, meansCloser, writtenStop, writtenNumeral, writtenAtom, writtenOpening, closer, endsName, mayFollow, folded}
+use Rattle.grammar.specs.Values.{Values, end, then, block, writtenValues, meansValues, isBrace, Follows, Apart, Outermost, normal, important, writtenImportance, isMarked}
 use Rattle.grammar.specs.Declarations.{named, three, shade, isZero, bare, color, backgroundColor, height, display, content, Declared, known, other, knownName, property, shadeValues, colourValues, lengthValues, stringValues, knownValues, writtenValue, pair, meansShade, meansColour, meansLength, meansStrings, meansKnown, meansDeclared}
 use Rattle.grammar.specs.Balanced as balanced
 use Rattle.grammar.specs.Declarations as declarations
@@ -144,7 +144,7 @@ away =
 
 -- ---- `@media print { nav > a { color: blue; } }`
 unfoldable media : AtRule
-unfolding plains balanced.isPlain balanced.isMark balanced.Clear balanced.Outside balanced.More balanced.Tight balanced.writtenBalanced balanced.opens balanced.closes endsName identCodePoint identStart letter member startsWith isSpelt allOf spelt pick or and is within text utf8 ident folded lower
+unfolding plains balanced.isPlain balanced.isMark balanced.isOddUrl balanced.isAddress balanced.Clear balanced.Outside balanced.More balanced.Tight balanced.writtenBalanced balanced.opens balanced.closes endsName identCodePoint identStart letter member startsWith isSpelt allOf spelt pick or and is within text utf8 ident folded lower
 media =
     record {
       name = ident (text "media") refl;
@@ -164,7 +164,7 @@ media =
 
 -- ---- `p.note {`, `margin: 0 Auto calc(1.5em - 2px);`, `height: 0`, `}`
 unfoldable margin : Declared
-unfolding plains balanced.isPlain balanced.isMark balanced.Clear balanced.Outside balanced.More balanced.Tight balanced.writtenBalanced balanced.opens balanced.closes member startsWith anyOf sameText identCodePoint identStart letter isSpelt allOf spelt pick or and is within text utf8 continuation ident folded lower
+unfolding plains balanced.isPlain balanced.isMark balanced.isOddUrl balanced.isAddress balanced.Clear balanced.Outside balanced.More balanced.Tight balanced.writtenBalanced balanced.opens balanced.closes member startsWith anyOf sameText identCodePoint identStart letter isSpelt allOf spelt pick or and is within text utf8 continuation ident folded lower
 margin =
     other (ident (text "margin") refl) refl
     (spaced (plains (text "0") refl (spaced (plains (text "Auto") refl (spaced (plains (text "calc") refl

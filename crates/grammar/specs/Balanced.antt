@@ -1,17 +1,19 @@
 -- Texts in which brackets match, byte by byte, in the words of CSS Syntax Level 3 (section 8.2, <any-value> and <declaration-value>): the value of a
 -- property that the engine does not know, and what an at-rule has. What its tokens are does not matter there, only where it ends; so numbers
 -- such as `1.5`, names with capital letters and `0 auto` are in it, which the reader takes apart in another way than the document.
-use mathlib.Core.Path.{_≡_}
+use mathlib.Core.Path.{_≡_, refl}
 use mathlib.Core.Bool.{Bool, true, false, not}
 use mathlib.Core.List.{List, [], _∷_, _++_, map}
 use Prim.Native.Nat.{ℕ}
+use lib.ListN.{getD, drop}
 use Rattle.combinators.specs.Ascii as ascii
-use Rattle.combinators.specs.Choice.{or, and, within}
+use Rattle.combinators.specs.Choice.{pick, or, and, is, within}
 use Rattle.combinators.specs.Word.{startsWith}
 use Rattle.unicode.specs.Literal.{text}
+use Rattle.unicode.specs.Utf8.{utf8}
 use Rattle.unicode.specs.WhiteSpace.{member}
 use Rattle.lexer.specs.Name.{lower}
-use Rattle.lexer.specs.Token.{cdcMark}
+use Rattle.lexer.specs.Token.{cdcMark, isQuote}
 use Rattle.lexer.proofs.SyntaxWhitespace.{White, Comment}
 use Rattle.grammar.specs.Selectors.{Quoted}
 
@@ -59,10 +61,24 @@ writtenBalanced (quoted q v) = q .quote ∷ (q .bytes ++ (q .quote ∷ writtenBa
 writtenBalanced (semicolon v) = ascii.semicolon ∷ writtenBalanced v
 writtenBalanced (block b w v) = opens b ∷ (writtenBalanced w ++ (closes b ∷ writtenBalanced v))
 
--- ---- what makes its parts what they are: no `/*` and no `-->` begins among plain characters; nor does `url(`, behind which the document takes all up to
--- the next `)` for a <url-token>
+-- ---- what makes its parts what they are
+-- printed characters up to a `)`: behind `url(` the document takes them for one <url-token> (4.3.6, Consume a url token)
+unfoldable pub isAddress : List ℕ → Bool
+isAddress [] = false
+isAddress (x ∷ t) = or (is x ascii.rightParenthesis) (and (isPlain x) (isAddress t))
+
+-- `url(`, in letters of either case, with neither a string nor such characters behind it
+unfoldable pub isOddUrl : List ℕ → Bool
+isOddUrl s = and (startsWith (text "url(") (map lower s)) (not (or (isQuote (getD s 4 0)) (isAddress (drop 4 s))))
+
+-- among plain characters no `/*` begins, no `-->`, and no such `url(`
 unfoldable pub isMark : List ℕ → Bool
-isMark s = or (startsWith (text "/*") s) (or (startsWith cdcMark s) (startsWith (text "url(") (map lower s)))
+isMark s = or (startsWith (text "/*") s) (or (startsWith cdcMark s) (isOddUrl s))
+
+test-marks : (isMark (text "url(a.png)") ≡ false) × (isMark (text "URL('a b')") ≡ false) × (isMark (text "url(a b)") ≡ true) × (isMark (text "-->") ≡ true) × (isMark (text "/*") ≡ true)
+    × (isMark (text "/2") ≡ false)
+unfolding isMark isOddUrl isAddress isPlain isQuote startsWith member lower or and is within text utf8 pick
+test-marks = (refl, refl, refl, refl, refl, refl)
 
 unfoldable pub Clear : Balanced → Type 0
 Clear end = Unit
