@@ -187,7 +187,6 @@ halts-first p k (halts {l} {t} h c) = blank-first p (k .unblank) t h (closes-fir
     closes-first : {t : List ℕ} → Closes t → p (getD t 0 0) ≡ false
     closes-first nothing = k .of-zero
     closes-first (closed (grammar.function n d) r) = unfold grammar.closer closes in k .of-close round
-    closes-first (closed (grammar.link n d) r) = unfold grammar.closer closes in k .of-close round
     closes-first (closed grammar.round r) = unfold grammar.closer closes in k .of-close round
     closes-first (closed grammar.square r) = unfold grammar.closer closes in k .of-close square
     closes-first (closed grammar.brace r) = unfold grammar.closer closes in k .of-close curly
@@ -594,7 +593,6 @@ closes-unnamed : {c : List ℕ} → Closes c → (nameOf c ≡ err) × (charsOf 
 unfolding grammar.closer nameOf nameFrom dash nmstartOf either nmstartCharOf foldedChar identEscapeOf isNmstart charsOf charsEnd charTaken nmcharOf nmcharCharOf isNmchar takenOf numbers.signed numbers.sign numbers.unsigned numbers.decimal digits oneDigit isDigit many took whitespaceItem isWhitespace commentOf pick or and within is
 closes-unnamed nothing = (refl, refl, refl, refl)
 closes-unnamed (closed (grammar.function n d) r) = (refl, refl, refl, refl)
-closes-unnamed (closed (grammar.link n d) r) = (refl, refl, refl, refl)
 closes-unnamed (closed grammar.round r) = (refl, refl, refl, refl)
 closes-unnamed (closed grammar.square r) = (refl, refl, refl, refl)
 closes-unnamed (closed grammar.brace r) = (refl, refl, refl, refl)
@@ -737,7 +735,6 @@ closes-unrounded : {c : List ℕ} → Closes c → is (getD c 0 0) ascii.leftPar
 unfolding grammar.closer is
 closes-unrounded nothing = refl
 closes-unrounded (closed (grammar.function n d) r) = refl
-closes-unrounded (closed (grammar.link n d) r) = refl
 closes-unrounded (closed grammar.round r) = refl
 closes-unrounded (closed grammar.square r) = refl
 closes-unrounded (closed grammar.brace r) = refl

@@ -27,8 +27,8 @@ use Rattle.lexer.proofs.TokenBounds.{token-fits}
 use Rattle.values.specs.Value.{Placed, bracketBy, bracketOf, next, before, behind, closing, ending, stepOf, Statement, stop, cons, onStep, scan, statementOf, tokensOf, isMark, isImportant, withoutMark, valueFrom, valueOf}
 use Rattle.values.specs.Words.{kindOf, firstOf, isKind, isWord, isDelim}
 use Rattle.grammar.specs.Nth.{Blanks}
-use Rattle.grammar.specs.Tokens.{isDelimiter, Atom, word, string, hash, number, percentage, dimension, comma, colon, semicolon, delimiter, point, hyphen, addition, whole, spaced, commercialAt, Opening, function, link, round, square, brace, writtenAtom, writtenOpening, closer, meansAtom, meansOpening, meansCloser, endsName, beginsName, beginsNumber, mayFollow, MayFollow, EndsBefore, Ident, folded}
-use Rattle.grammar.specs.Values.{Values, end, then, block, writtenValues, meansValues, Follows, Address, Inside, Apart, isSemicolon, isBang, isBrace, Outermost, Unmarked, DeclarationValue, Importance, normal, important, writtenImportance, isMarked}
+use Rattle.grammar.specs.Tokens.{isDelimiter, Atom, word, string, hash, number, percentage, dimension, comma, colon, semicolon, delimiter, point, hyphen, addition, Opening, function, round, square, brace, writtenAtom, writtenOpening, closer, meansAtom, meansOpening, meansCloser, endsName, beginsName, beginsNumber, mayFollow, MayFollow, EndsBefore, Ident, folded}
+use Rattle.grammar.specs.Values.{Values, end, then, block, writtenValues, meansValues, Follows, Apart, isSemicolon, isBang, isBrace, Outermost, Unmarked, DeclarationValue, Importance, normal, important, writtenImportance, isMarked}
 use Rattle.grammar.proofs.Places.{Unblank, blank-first}
 use Rattle.grammar.proofs.StringsRead.{untrue}
 use Rattle.grammar.proofs.TokensRead.{ended-digit, Begins, token-read, semicolon-token, closer-token, atom-begins, opening-begins, closer-read, ends-behind, neither}
@@ -155,15 +155,11 @@ module _ (include : Bool) (b : Blanks) where
   atom-goes point v cs h = refl
   atom-goes hyphen v cs h = refl
   atom-goes addition v cs h = refl
-  atom-goes (whole n) v cs h = refl
-  atom-goes (spaced n s w) v cs h = refl
-  atom-goes commercialAt v cs h = refl
 
   -- an opening token awaits its closing one
   pub opening-goes : (o : Opening) (cs : List ℕ) → stepOf include (bracketOf (meansOpening o)) cs ≡ next (closer o ∷ cs)
   unfolding stepOf bracketOf bracketBy coded meansOpening closer
   opening-goes (function n d) cs = refl
-  opening-goes (link n d) cs = refl
   opening-goes round cs = refl
   opening-goes square cs = refl
   opening-goes brace cs = refl
@@ -173,8 +169,6 @@ module _ (include : Bool) (b : Blanks) where
   unfolding stepOf bracketOf bracketBy coded meansCloser closer closing pick is Within Outermost isBrace
   closing-goes (function n d) w v [] h = refl
   closing-goes (function n d) w v (c ∷ cs) h = refl
-  closing-goes (link n d) w v [] h = refl
-  closing-goes (link n d) w v (c ∷ cs) h = refl
   closing-goes round w v [] h = refl
   closing-goes round w v (c ∷ cs) h = refl
   closing-goes square w v [] h = refl
@@ -239,9 +233,6 @@ atom-ends (delimiter c h) x y z e d f = ap not (and-right (is c ascii.solidus) (
 atom-ends point x y z e d f = ap not (ended-digit x (quiet x e .no-code-point))
 atom-ends hyphen x y z e d f = let q = quiet x e in rw (q .no-code-point, q .no-escape, q .no-stop)
 atom-ends addition x y z e d f = ap not f
-atom-ends (whole n) x y z e d f = let q = quiet x e in rw (q .no-code-point, q .no-escape, q .no-percent, d)
-atom-ends (spaced n s w) x y z e d f = let q = quiet x e in rw (q .no-code-point, q .no-escape)
-atom-ends commercialAt x y z e d f = refl
 
 -- white space and comments begin with none of them
 unblank : Unblank continues
@@ -253,7 +244,6 @@ closes-first : {t : List ℕ} → Closes t → (continues (getD t 0 0) ≡ false
 unfolding continues beginsName beginsNumber isDigit identCodePoint identStart letter closer whitespaceItem isWhitespace commentOf pick or and within is
 closes-first nothing = (refl, (λ z. refl), refl, refl)
 closes-first (closed (function n d) r) = (refl, (λ z. refl), refl, refl)
-closes-first (closed (link n d) r) = (refl, (λ z. refl), refl, refl)
 closes-first (closed round r) = (refl, (λ z. refl), refl, refl)
 closes-first (closed square r) = (refl, (λ z. refl), refl, refl)
 closes-first (closed brace r) = (refl, (λ z. refl), refl, refl)
@@ -319,12 +309,6 @@ any-follows (delimiter c d) x y e z = e
 any-follows point x y e z = e
 any-follows hyphen x y e z = e
 any-follows addition x y e z = e
-any-follows (whole n) x y e z =
-    let a = and-true (endsName x) _ e in
-    let c = and-true (not (is x ascii.percentSign)) _ (a .1) in
-    and-both _ _ (a .0) (and-both _ _ (c .0) (ap not (any-second y (untrue _ (c .1)) z)))
-any-follows (spaced n s w) x y e z = e
-any-follows commercialAt x y e z = e
 
 -- of a text that is not empty the first two bytes, or the first alone
 second-follows : (a : Atom) (x : ℕ) (w r : List ℕ) → 1 ≤ length w → mayFollow a x (getD w 0 0) (getD w 1 0) ≡ true → mayFollow a x (getD (w ++ r) 0 0) (getD (w ++ r) 1 0) ≡ true
@@ -406,16 +390,12 @@ atom-plain (delimiter c d) e = e
 atom-plain point e = refl
 atom-plain hyphen e = refl
 atom-plain addition e = refl
-atom-plain (whole n) e = refl
-atom-plain (spaced n s w) e = refl
-atom-plain commercialAt e = refl
 
 -- nor is a bracket, which is no word either
 brackets-plain : (o : Opening) → (isDelim ascii.exclamationMark (meansOpening o) ≡ false) × (isDelim ascii.exclamationMark (meansCloser o) ≡ false)
     × (isWord (text "important") (meansCloser o) ≡ false)
 unfolding meansOpening meansCloser isDelim isWord isKind kindOf columnsOf coded and is
 brackets-plain (function n d) = (refl, refl, refl)
-brackets-plain (link n d) = (refl, refl, refl)
 brackets-plain round = (refl, refl, refl)
 brackets-plain square = (refl, refl, refl)
 brackets-plain brace = (refl, refl, refl)
@@ -469,14 +449,6 @@ follows a (block b o w v) z f h g =
     subst (EndsBefore a) (sym (block-onto b o w v z))
     (token-ends a b (writtenOpening o) (writtenValues w ++ (closer o ∷ (writtenValues v ++ z))) (meansOpening o) (opening-begins o (writtenValues w ++ (closer o ∷ (writtenValues v ++ z)))) f)
 
--- what stands in brackets is told apart
-inside-apart : (o : Opening) (address apart : Type 0) → Inside o address apart → apart
-inside-apart (function n d) address apart h = h
-inside-apart (link n d) address apart h = h .1
-inside-apart round address apart h = h
-inside-apart square address apart h = h
-inside-apart brace address apart h = h
-
 module _ {include : Bool} where
   -- a token behind white space
   pub passes-token : (b : Blanks) (w r : List ℕ) (at : ℕ) (k : Token) (cs ds : List ℕ) → Begins (w ++ r) (length w) k → stepOf include (bracketOf k) cs ≡ next ds
@@ -503,7 +475,7 @@ module _ {include : Bool} where
       let r = writtenValues v ++ z in
       let q = closer o ∷ r in
       let p = passes-token b (writtenOpening o) (writtenValues w ++ q) at (meansOpening o) cs (closer o ∷ cs) (opening-begins o (writtenValues w ++ q)) (opening-goes include b o cs) in
-      let m = values-pass w q (at + p .taken) (closer o ∷ cs) (inside-apart o (Address w) (Apart w) (h .0)) (closer-halts o r) (unfold Within in tt) in
+      let m = values-pass w q (at + p .taken) (closer o ∷ cs) (h .0) (closer-halts o r) (unfold Within in tt) in
       let e = passes-token (trail w) (closer o ∷ []) r (at + p .taken + m .taken) (meansCloser o) (closer o ∷ cs) cs (closer-token o r) (closing-goes include b o w v cs i) in
       passes-as (block-onto b o w v z)
       (passes-on p (passes-on m (passes-on e (values-pass v z (at + p .taken + m .taken + e .taken) cs (h .1) g (within-block cs b o w v i)))))
