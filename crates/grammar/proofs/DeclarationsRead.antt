@@ -1,7 +1,6 @@
 -- A declaration of the grammar is read whole, before what may stand behind a value.
 use mathlib.Core.Path.{_≡_, refl, ap, sym, _∙_}
-use mathlib.Core.Bool.{false}
-use mathlib.Core.List.{List, [], _∷_, _++_, append-assoc, append-nil}
+use mathlib.Core.List.{List, _∷_, _++_, append-assoc, append-nil}
 use Prim.Native.Nat.{ℕ, suc, _+_}
 use native.Mathlib.Omega.{arith}
 use lib.ListN.{length, drop, length-append}
@@ -29,7 +28,7 @@ use Rattle.grammar.proofs.ComponentsRead.{Ended}
 use Rattle.grammar.proofs.SelectorsRead.{blank-ended}
 use Rattle.grammar.proofs.TokensRead.{atom-begins, opening-begins}
 use Rattle.grammar.proofs.ValuesRead.{unspaced, Halts, follows, then-onto, block-onto, ValueEnds, mark-halts, ends-halt, marked-read, value-read}
-use Rattle.grammar.proofs.BalancedRead.{Level, balanced-behind, balanced-pass, unbanged-plain}
+use Rattle.grammar.proofs.BalancedRead.{unbanged-plain, calm-pass, balanced-behind}
 use Rattle.grammar.proofs.DeclarationsMeant.{declared-meant, other-meant, known-value}
 
 -- ---- white space before a value
@@ -103,18 +102,17 @@ values-read v m t name means h e z =
 -- of a text in which brackets match, whatever its tokens are
 any-read : (v : Balanced) (m : Importance) (t name : List ℕ) (means : Decl) → AnyValue v → ((ks : List Token) → declOf name ks ≡ means) → ValueEnds t
     → ValueRead (writtenBalanced v) m t name means
-unfolding Level
 any-read v m t name means h e z =
     let k = balanced-behind v (writtenImportance m ++ t) (h .some) (h .clear) (h .tight) (mark-halts m t (ends-halt z)) in
     let r = k .rest in
-    let p = balanced-pass false [] r (writtenImportance m ++ t) 0 (k .keeps-clear (h .clear)) (k .keeps-outside (h .outside)) (k .keeps-tight (h .tight)) (mark-halts m t (ends-halt z)) in
+    let p = calm-pass r (writtenImportance m ++ t) (k .keeps-clear (h .clear)) (k .keeps-outside (h .outside)) (k .keeps-tight (h .tight)) (k .keeps-calm (h .calm)) (mark-halts m t (ends-halt z)) in
     record {
       before = k .before;
       left = writtenBalanced r ++ writtenImportance m;
       onto = ap (λ (l : List ℕ). l ++ writtenImportance m) (k .parts) ∙ append-assoc (k .before .bytes) (writtenBalanced r) (writtenImportance m);
       item = ap whitespaceItem (append-assoc (writtenBalanced r) (writtenImportance m) t) ∙ k .item;
       tokens = p .ks;
-      reads = marked-read (writtenBalanced r) m t (p .passes) (unbanged-plain (p .ks) (p .unbanged)) z;
+      reads = marked-read (writtenBalanced r) m t (p .passes) (unbanged-plain (p .ks) (p .unbanged refl)) z;
       meant = e (p .ks);
     }
 

@@ -142,7 +142,7 @@ away =
       behind = line;
     }
 
--- ---- `@media print { nav > a { color: blue; } }`
+-- ---- `@media print { nav > a { color: blue!important; } }`
 unfoldable media : AtRule
 unfolding plains balanced.isPlain balanced.isMark balanced.isOddUrl balanced.isAddress balanced.Clear balanced.Outside balanced.More balanced.Tight balanced.writtenBalanced balanced.opens balanced.closes endsName identCodePoint identStart letter member startsWith isSpelt allOf spelt pick or and is within text utf8 ident folded lower
 media =
@@ -157,19 +157,19 @@ media =
       end =
           braces
           (spaced (plains (text "nav") refl (spaced (plains (text ">") refl (spaced (plains (text "a") refl (spaced
-          (balanced.block balanced.curly (spaced (plains (text "color:") refl (spaced (plains (text "blue") refl (balanced.semicolon (spaced balanced.end)))))) balanced.end))))))))
-          (refl, (refl, (refl, (refl, (refl, ((refl, (refl, (refl, (refl, (refl, (refl, (refl, (refl, (refl, (refl, tt)))))))))), tt)))))) (tt, (tt, (tt, (tt, tt)))) blank;
+          (balanced.block balanced.curly (spaced (plains (text "color:") refl (spaced (plains (text "blue") refl (balanced.bang (plains (text "important") refl (balanced.semicolon (spaced balanced.end)))))))) balanced.end))))))))
+          (refl, (refl, (refl, (refl, (refl, ((refl, (refl, (refl, (refl, (refl, (refl, (refl, (refl, (refl, (refl, (refl, (refl, (refl, (refl, (refl, (refl, (refl, (refl, (refl, tt))))))))))))))))))), tt)))))) (tt, (tt, (tt, (tt, tt)))) blank;
       behind = line;
     }
 
 -- ---- `p.note {`, `margin: 0 Auto calc(1.5em - 2px);`, `height: 0`, `}`
 unfoldable margin : Declared
-unfolding plains balanced.isPlain balanced.isMark balanced.isOddUrl balanced.isAddress balanced.Clear balanced.Outside balanced.More balanced.Tight balanced.writtenBalanced balanced.opens balanced.closes member startsWith anyOf sameText identCodePoint identStart letter isSpelt allOf spelt pick or and is within text utf8 continuation ident folded lower
+unfolding plains balanced.isPlain balanced.isMark balanced.isOddUrl balanced.isAddress balanced.Clear balanced.Outside balanced.More balanced.Tight balanced.Calm balanced.writtenBalanced balanced.opens balanced.closes member startsWith anyOf sameText identCodePoint identStart letter isSpelt allOf spelt pick or and is within text utf8 continuation ident folded lower
 margin =
     other (ident (text "margin") refl) refl
     (spaced (plains (text "0") refl (spaced (plains (text "Auto") refl (spaced (plains (text "calc") refl
     (balanced.block balanced.round (plains (text "1.5em") refl (spaced (plains (text "-") refl (spaced (plains (text "2px") refl balanced.end))))) balanced.end)))))))
-    (record { some = tt; clear = (refl, (refl, (refl, (refl, (refl, (refl, (refl, (refl, (refl, ((refl, (refl, (refl, (refl, (refl, (refl, (refl, (refl, (refl, tt))))))))), tt)))))))))); outside = tt; tight = (tt, (tt, (tt, tt))) })
+    (record { some = tt; clear = (refl, (refl, (refl, (refl, (refl, (refl, (refl, (refl, (refl, ((refl, (refl, (refl, (refl, (refl, (refl, (refl, (refl, (refl, tt))))))))), tt)))))))))); outside = tt; tight = (tt, (tt, (tt, tt))); calm = (tt, tt) })
 
 unfoldable flat : Declared
 unfolding isDigit isZero allOf text utf8 continuation pick and is within isSpelt ident folded lower identStart identCodePoint letter knownName or
@@ -221,7 +221,7 @@ page = record { lead = nothing; statements = atRule charset ∷ rule body ∷ ru
 -- how it is written
 unfoldable pageText : List ℕ
 pageText =
-    text "@charset \"utf-8\";\n/* page */\nbody { color: #333; background-color: white }\nnav, a::before { display: none !important; }\n@media print { nav > a { color: blue; } }\np.note {\n  margin: 0 Auto calc(1.5em - 2px);\n  height: 0\n}\nul > li:nth-child(2n+1) { content: \"* \" }\n"
+    text "@charset \"utf-8\";\n/* page */\nbody { color: #333; background-color: white }\nnav, a::before { display: none !important; }\n@media print { nav > a { color: blue!important; } }\np.note {\n  margin: 0 Auto calc(1.5em - 2px);\n  height: 0\n}\nul > li:nth-child(2n+1) { content: \"* \" }\n"
 
 test-text : writtenSheet page ≡ pageText
 unfolding pageText page charset encoding remark body dark bright away hidden media note margin plains flat items two odd star bullet ident spelt folded lower hashed writtenSheet writtenStatements writtenStatement writtenRule writtenAt writtenAtEnd writtenBlock writtenEnd writtenShut writtenNexts writtenNext writtenItem writtenImportance writtenGroup writtenChosen writtenPseudo written writtenCompound writtenCombinator writtenSimples writtenSimple writtenArgument writtenSign signByte property knownName writtenValue balanced.writtenBalanced balanced.opens balanced.closes knownValues colourValues shadeValues lengthValues stringValues writtenValues writtenAtom writtenNumeral writtenStop writtenOpening closer text utf8 continuation pick quoted
@@ -229,7 +229,7 @@ test-text = refl
 
 -- what it is read as
 test-sheet : sheetOf pageText
-    ≡ reads 263
+    ≡ reads 273
     (record {
       selectors = record { components = syntax.element (text "body") ∷ []; pseudo = syntax.none } ∷ [];
       declarations =
@@ -246,14 +246,14 @@ test-sheet : sheetOf pageText
     ∷ record {
       selectors = record { components = syntax.class (text "note") ∷ syntax.element (text "p") ∷ []; pseudo = syntax.none } ∷ [];
       declarations =
-          record { decl = means.unknown (text "margin"); important = false; start = 173 } ∷ record { decl = means.height true; important = false; start = 209 } ∷ [];
-      start = 162;
+          record { decl = means.unknown (text "margin"); important = false; start = 183 } ∷ record { decl = means.height true; important = false; start = 219 } ∷ [];
+      start = 172;
     }
     ∷ record {
       selectors =
           record { components = syntax.nth (pos 2) (pos 1) ∷ syntax.element (text "li") ∷ syntax.child ∷ syntax.element (text "ul") ∷ []; pseudo = syntax.none } ∷ [];
-      declarations = record { decl = means.content (text "* "); important = false; start = 247 } ∷ [];
-      start = 221;
+      declarations = record { decl = means.content (text "* "); important = false; start = 257 } ∷ [];
+      start = 231;
     }
     ∷ [])
 unfolding page charset encoding remark body dark bright away hidden media note margin plains flat items two odd star bullet ident spelt folded lower hashed writtenSheet writtenStatements writtenStatement writtenRule writtenAt writtenAtEnd writtenBlock writtenEnd writtenShut writtenNexts writtenNext writtenItem writtenImportance writtenGroup writtenChosen writtenPseudo written writtenCompound writtenCombinator writtenSimples writtenSimple writtenArgument writtenSign signByte property knownName writtenValue balanced.writtenBalanced balanced.opens balanced.closes knownValues colourValues shadeValues lengthValues stringValues writtenValues writtenAtom writtenNumeral writtenStop writtenOpening closer text utf8 continuation pick meansSheet meansStatements meansRule meansBlock meansNexts meansItem isMarked meansDeclared meansKnown meansColour meansShade pair hexDigit meansLength meansStrings meansGroup meansChosen inOrder meansCompound meansCombinator meansSimple meansArgument negative worth numeral signed unread unreadBehind and is within quoted

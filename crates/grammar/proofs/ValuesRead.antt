@@ -514,7 +514,7 @@ unfolding stepOf bracketOf bracketBy coded meansAtom meansCloser closing ending 
 mark-steps = (refl, refl)
 
 -- so the tokens of a value stop where it ends
-value-stops : {z : List ℕ} → ValueEnds z → (l at : ℕ) → scan l false z at [] ≡ stop at true
+pub value-stops : {z : List ℕ} → ValueEnds z → (l at : ℕ) → scan l false z at [] ≡ stop at true
 unfolding closer meansCloser
 value-stops (at-end b) l at = none-scan l (b .bytes) at (blank-token b)
 value-stops (before-semicolon b r) l at =
@@ -570,10 +570,10 @@ outer-pass {include} v z h o g =
     subst (λ (l : List ℕ). Passes include (writtenValues v ++ z) (l ++ z) 0 [] [] (meansValues v)) (outer-trail v o) (values-pass v z 0 [] h g (unfold Within in o))
 
 -- all of them is taken
-passed-length : {include : Bool} {s z : List ℕ} {ks : List Token} (w : List ℕ) → s ≡ w ++ z → (p : Passes include s z 0 [] [] ks) → p .taken ≡ length w
+pub passed-length : {include : Bool} {s z : List ℕ} {ks : List Token} (w : List ℕ) → s ≡ w ++ z → (p : Passes include s z 0 [] [] ks) → p .taken ≡ length w
 passed-length {include} {s} {z} w e p = omega (arith, p .all, ap length e, length-append w z)
 
--- Blocks: a value ends before the first semicolon or closing brace outside strings, comments and brackets, or at the end of the text
+-- values end before the first semicolon or closing brace outside strings, comments and brackets, or at the end of the text
 pub value-ends : (v : Values) (z : List ℕ) → Apart v → Outermost v → ValueEnds z → Stated false (writtenValues v ++ z) (length (writtenValues v)) (meansValues v)
 value-ends v z h o e =
     let p = outer-pass {include = false} v z h o (ends-halt e) in
@@ -581,7 +581,7 @@ value-ends v z h o e =
 
 -- ---- the mark `!important`
 -- the '!' is a delimiter
-bang-begins : (t : List ℕ) → Begins (ascii.exclamationMark ∷ t) 1 (tokens.delim ascii.exclamationMark)
+pub bang-begins : (t : List ℕ) → Begins (ascii.exclamationMark ∷ t) 1 (tokens.delim ascii.exclamationMark)
 unfolding isDelimiter member text utf8 writtenAtom meansAtom mayFollow or and is pick
 bang-begins t = atom-begins (delimiter ascii.exclamationMark refl) t refl
 

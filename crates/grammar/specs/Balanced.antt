@@ -38,6 +38,7 @@ pub data Balanced : Type 0 where
   plain : (x : ℕ) → isPlain x ≡ true → Balanced → Balanced
   quoted : Quoted → Balanced → Balanced
   semicolon : Balanced → Balanced
+  bang : Balanced → Balanced
   -- what stands between the brackets, and what stands behind them
   block : Bracket → Balanced → Balanced → Balanced
 
@@ -59,6 +60,7 @@ writtenBalanced (remark c w v) = c ++ writtenBalanced v
 writtenBalanced (plain x e v) = x ∷ writtenBalanced v
 writtenBalanced (quoted q v) = q .quote ∷ (q .bytes ++ (q .quote ∷ writtenBalanced v))
 writtenBalanced (semicolon v) = ascii.semicolon ∷ writtenBalanced v
+writtenBalanced (bang v) = ascii.exclamationMark ∷ writtenBalanced v
 writtenBalanced (block b w v) = opens b ∷ (writtenBalanced w ++ (closes b ∷ writtenBalanced v))
 
 -- ---- what makes its parts what they are
@@ -87,6 +89,7 @@ Clear (remark c w v) = Clear v
 Clear (plain x e v) = (isMark (x ∷ writtenBalanced v) ≡ false) × Clear v
 Clear (quoted q v) = Clear v
 Clear (semicolon v) = Clear v
+Clear (bang v) = Clear v
 Clear (block b w v) = Clear w × Clear v
 
 -- outside all brackets: no semicolon, and no brace block, behind which the reader ends the statement
@@ -97,6 +100,7 @@ Outside (remark c w v) = Outside v
 Outside (plain x e v) = Outside v
 Outside (quoted q v) = Outside v
 Outside (semicolon v) = ⊥
+Outside (bang v) = Outside v
 Outside (block round w v) = Outside v
 Outside (block square w v) = Outside v
 Outside (block curly w v) = ⊥
@@ -109,6 +113,7 @@ More (remark c w v) = Unit
 More (plain x e v) = Unit
 More (quoted q v) = Unit
 More (semicolon v) = Unit
+More (bang v) = Unit
 More (block b w v) = Unit
 
 -- it does not end with white space, which belongs to what follows
@@ -119,11 +124,24 @@ Tight (remark c w v) = More v × Tight v
 Tight (plain x e v) = Tight v
 Tight (quoted q v) = Tight v
 Tight (semicolon v) = Tight v
+Tight (bang v) = Tight v
 Tight (block b w v) = Tight v
 
--- <declaration-value>: something, with no semicolon and no '!' outside brackets
+-- no '!' outside strings and comments
+unfoldable pub Calm : Balanced → Type 0
+Calm end = Unit
+Calm (space x w v) = Calm v
+Calm (remark c w v) = Calm v
+Calm (plain x e v) = Calm v
+Calm (quoted q v) = Calm v
+Calm (semicolon v) = Calm v
+Calm (bang v) = ⊥
+Calm (block b w v) = Calm w × Calm v
+
+-- <declaration-value>: something, with no semicolon outside brackets, and no '!', which the document allows inside brackets
 pub record AnyValue (v : Balanced) : Type 0 where
   pub some : More v
   pub clear : Clear v
   pub outside : Outside v
   pub tight : Tight v
+  pub calm : Calm v
