@@ -1,11 +1,10 @@
 -- Texts in which brackets match are passed over whole, whatever tokens the reader makes of them.
 use mathlib.Core.Path.{_≡_, refl, ap, sym, subst, _∙_}
 use mathlib.Core.Bool.{Bool, true, false, not}
-use mathlib.Core.List.{List, [], _∷_, _++_, map, append-assoc, append-nil}
-use Prim.Native.Nat.{ℕ, zero, suc, _+_, _-_, _≤_, _<_}
-use native.Mathlib.Nat.{zero-add, add-zero}
+use mathlib.Core.List.{List, [], _∷_, _++_, append-assoc}
+use Prim.Native.Nat.{ℕ, zero, suc, _+_, _≤_, _<_}
 use native.Mathlib.Omega.{arith}
-use lib.ListN.{length, getD, take, drop, length-append, length-drop}
+use lib.ListN.{length, getD, take, drop, length-drop}
 use borrow.Author.Tests.{leb-true}
 use lib.Seq.{drop-append-add, drop-append-seam, drop-drop}
 use Rattle.combinators.specs.Ascii as ascii
@@ -19,7 +18,7 @@ use Rattle.combinators.proofs.Repeats.{many-took, many-stop, many-from}
 use Rattle.combinators.proofs.Rules as rules
 use Rattle.combinators.proofs.Rules.{never, and-true, and-left, is-true, is-no, within-true, pick-holds, or-none}
 use Rattle.unicode.specs.Literal.{text}
-use Rattle.unicode.specs.Utf8.{utf8, scalarOf, takenOf}
+use Rattle.unicode.specs.Utf8.{utf8, takenOf}
 use Rattle.unicode.specs.WhiteSpace.{member}
 use Rattle.unicode.specs.declared.utf8.Scalar.{Scalar}
 use Rattle.unicode.specs.declared.utf8.Scalar.the-variants.{Value, NoScalar}
@@ -28,7 +27,7 @@ use Rattle.lexer.specs.Number.{isDigit, oneDigit, digits}
 use Rattle.lexer.specs.Number as numbers
 use Rattle.lexer.specs.declared.tokens.Start.{Start}
 use Rattle.lexer.specs.declared.tokens.Start.the-variants.{Quote, Hash, Plus, Minus, Dot, Less, Backslash, Letter, Digit, Other}
-use Rattle.lexer.specs.Token.{Token, tokenOf, tokenAt, startOf, isIdentStart, coded, isQuote, numericFrom, numericOf, identLikeOf}
+use Rattle.lexer.specs.Token.{Token, tokenOf, startOf, isIdentStart, coded, isQuote, numericFrom, numericOf, identLikeOf}
 use Rattle.lexer.specs.TokenRow.{columnsOf}
 use Rattle.lexer.specs.Token as tokens
 use Rattle.lexer.specs.Whitespace.{isWhitespace, commentEnd, commentOf, whitespaceItem, skipWhitespace}
@@ -36,17 +35,17 @@ use Rattle.lexer.proofs.TokenBounds.{token-fits}
 use Rattle.lexer.proofs.Comments.{above-space}
 use Rattle.lexer.proofs.Characters.{nmstart-nmchar}
 use Rattle.lexer.proofs.Idents.{char-plain, start-plain, name-some, name-none}
-use Rattle.lexer.proofs.SyntaxWhitespace.{White, Comment, Blank, none, white, comment, skips-blank}
-use Rattle.values.specs.Value.{bracketBy, bracketOf, stepOf, isImportant}
+use Rattle.lexer.proofs.SyntaxWhitespace.{White, Comment, none, white, comment, skips-blank}
+use Rattle.values.specs.Value.{bracketBy, bracketOf, stepOf, statementOf, isImportant}
 use Rattle.values.specs.Value as values
 use Rattle.values.specs.Words.{kindOf, firstOf, isKind, isDelim}
 use Rattle.grammar.specs.Nth.{Blanks}
 use Rattle.grammar.specs.Selectors.{Quoted}
-use Rattle.grammar.specs.Balanced.{tilde, isPlain, Bracket, round, square, curly, Balanced, end, space, remark, plain, quoted, semicolon, block, opens, closes, writtenBalanced, isMark, Clear, Outside, More, Tight}
+use Rattle.grammar.specs.Balanced.{tilde, isPlain, Bracket, round, square, curly, Balanced, end, space, remark, plain, quoted, semicolon, bang, block, opens, closes, writtenBalanced, isMark, Clear, Outside, More, Tight, Calm}
 use Rattle.grammar.proofs.StringsRead.{untrue}
-use Rattle.grammar.proofs.Places.{differs, Unblank, white-first, comment-first, blank-first, unblank-item}
+use Rattle.grammar.proofs.Places.{differs, Unblank, white-first, comment-first, blank-first}
 use Rattle.grammar.proofs.TokensRead.{Begins, token-read, begins-by, neither, string-token, semicolon-token, opening-begins, closer-token}
-use Rattle.grammar.proofs.ValuesRead.{Passes, passes-none, passes-one, passes-on, plain-first, blank-append, closer-halts, Closes, Halts, halts, nothing, closed, at-semicolon, at-bang, at-brace}
+use Rattle.grammar.proofs.ValuesRead.{bang-begins, Passes, passes-none, passes-one, passes-on, plain-first, blank-append, closer-halts, ValueEnds, value-stops, ends-halt, stated, passed-length, Closes, Halts, halts, nothing, closed, at-semicolon, at-bang, at-brace}
 use Rattle.grammar.specs.Tokens as grammar
 
 -- ---- plain characters
@@ -151,6 +150,14 @@ leaves-tight (past-space x w v r h) c = leaves-tight h (c .1)
 leaves-tight (past-remark d w v r h) c = leaves-tight h (c .1)
 leaves-tight (past-plain x e v r h) c = leaves-tight h c
 
+-- with no '!' where there was none
+leaves-calm : {v r : Balanced} → Leaves v r → Calm v → Calm r
+unfolding Calm
+leaves-calm (here v) c = c
+leaves-calm (past-space x w v r h) c = leaves-calm h c
+leaves-calm (past-remark d w v r h) c = leaves-calm h c
+leaves-calm (past-plain x e v r h) c = leaves-calm h c
+
 -- n bytes of v, with t behind it, are taken
 record Eaten (v : Balanced) (t : List ℕ) (n : ℕ) : Type 0 where
   rest : Balanced
@@ -188,7 +195,6 @@ halts-first p k (halts {l} {t} h c) = blank-first p (k .unblank) t h (closes-fir
     closes-first : {t : List ℕ} → Closes t → p (getD t 0 0) ≡ false
     closes-first nothing = k .of-zero
     closes-first (closed (grammar.function n d) r) = unfold grammar.closer closes in k .of-close round
-    closes-first (closed (grammar.link n d) r) = unfold grammar.closer closes in k .of-close round
     closes-first (closed grammar.round r) = unfold grammar.closer closes in k .of-close round
     closes-first (closed grammar.square r) = unfold grammar.closer closes in k .of-close square
     closes-first (closed grammar.brace r) = unfold grammar.closer closes in k .of-close curly
@@ -210,6 +216,7 @@ Otherwise (remark c w v) = Unit
 Otherwise (plain x e v) = ⊥
 Otherwise (quoted q v) = Unit
 Otherwise (semicolon v) = Unit
+Otherwise (bang v) = Unit
 Otherwise (block b w v) = Unit
 
 -- then the test fails of its first byte
@@ -221,6 +228,7 @@ head-fails p k t h (remark c w v) o = ap (λ (l : List ℕ). p (getD l 0 0)) (ap
 head-fails p k t h (plain x e v) o = absurd o
 head-fails p k t h (quoted q v) o = quote-first p k (q .quote) (q .quotes)
 head-fails p k t h (semicolon v) o = k .of-semicolon
+head-fails p k t h (bang v) o = k .of-bang
 head-fails p k t h (block b w v) o = k .of-open b
 
 -- ---- characters that pass a test, one behind the other
@@ -262,6 +270,7 @@ no-escape-first (space x w v) t h = head-fails (λ x. is x ascii.reverseSolidus)
 no-escape-first (remark c w v) t h = head-fails (λ x. is x ascii.reverseSolidus) escapeless t h (remark c w v) tt
 no-escape-first (quoted q v) t h = head-fails (λ x. is x ascii.reverseSolidus) escapeless t h (quoted q v) tt
 no-escape-first (semicolon v) t h = head-fails (λ x. is x ascii.reverseSolidus) escapeless t h (semicolon v) tt
+no-escape-first (bang v) t h = head-fails (λ x. is x ascii.reverseSolidus) escapeless t h (bang v) tt
 no-escape-first (block b w v) t h = head-fails (λ x. is x ascii.reverseSolidus) escapeless t h (block b w v) tt
 
 module _ (u : List ℕ → ℕ) (p : ℕ → Bool) (k : Plainly p) (z : Takes u p) (t : List ℕ) (h : Halts t) where
@@ -298,6 +307,7 @@ module _ (u : List ℕ → ℕ) (p : ℕ → Bool) (k : Plainly p) (z : Takes u 
   eat-many (plain x e v) = eat-plain x e v (p x) refl (eat-many v)
   eat-many (quoted q v) = eat-none (quoted q v) (head-fails p k t h (quoted q v) tt)
   eat-many (semicolon v) = eat-none (semicolon v) (head-fails p k t h (semicolon v) tt)
+  eat-many (bang v) = eat-none (bang v) (head-fails p k t h (bang v) tt)
   eat-many (block b w v) = eat-none (block b w v) (head-fails p k t h (block b w v) tt)
 
 -- what passes a test of plain characters is one
@@ -309,6 +319,7 @@ eat-one p k t h (space x w v) d = never (sym (head-fails p k t h (space x w v) t
 eat-one p k t h (remark c w v) d = never (sym (head-fails p k t h (remark c w v) tt) ∙ d)
 eat-one p k t h (quoted q v) d = never (sym (head-fails p k t h (quoted q v) tt) ∙ d)
 eat-one p k t h (semicolon v) d = never (sym (head-fails p k t h (semicolon v) tt) ∙ d)
+eat-one p k t h (bang v) d = never (sym (head-fails p k t h (bang v) tt) ∙ d)
 eat-one p k t h (block b w v) d = never (sym (head-fails p k t h (block b w v) tt) ∙ d)
 
 -- ---- tests
@@ -358,6 +369,7 @@ digits-plainly =
 unfoldable isNumberMark : ℕ → Bool
 isNumberMark x = or (is x ascii.fullStop) (or (is x ascii.percentSign) (or (is x ascii.hyphenMinus) (is x ascii.plusSign)))
 
+-- which is plain
 marks-plainly : Plainly isNumberMark
 unfolding isNumberMark or is opens closes
 marks-plainly =
@@ -486,6 +498,7 @@ Solid (remark c w v) = ⊥
 Solid (plain x e v) = Unit
 Solid (quoted q v) = Unit
 Solid (semicolon v) = Unit
+Solid (bang v) = Unit
 Solid (block b w v) = Unit
 
 -- or has none
@@ -496,6 +509,7 @@ Void (remark c w v) = Void v
 Void (plain x e v) = ⊥
 Void (quoted q v) = ⊥
 Void (semicolon v) = ⊥
+Void (bang v) = ⊥
 Void (block b w v) = ⊥
 
 -- white space and comments at the start, and what stands behind them, if anything does
@@ -524,15 +538,18 @@ nowhite = record { bytes = []; blank = none }
 
 -- brackets, semicolons and quotes begin none
 mark-items : (l : List ℕ) → (whitespaceItem (ascii.semicolon ∷ l) ≡ 0) × (whitespaceItem (ascii.quotationMark ∷ l) ≡ 0) × (whitespaceItem (ascii.apostrophe ∷ l) ≡ 0)
+    × (whitespaceItem (ascii.exclamationMark ∷ l) ≡ 0)
 unfolding whitespaceItem isWhitespace commentOf pick or is
-mark-items l = (refl, refl, refl)
+mark-items l = (refl, refl, refl, refl)
 
+-- of an opening bracket
 bracket-item : (b : Bracket) (l : List ℕ) → whitespaceItem (opens b ∷ l) ≡ 0
 unfolding opens whitespaceItem isWhitespace commentOf pick or is
 bracket-item round l = refl
 bracket-item square l = refl
 bracket-item curly l = refl
 
+-- of a quote
 quote-item : (q : ℕ) (l : List ℕ) → isQuote q ≡ true → whitespaceItem (q ∷ l) ≡ 0
 unfolding isQuote
 quote-item q l e =
@@ -548,6 +565,7 @@ skipped (remark d w v) t c h = remark-skipped t d w v (skipped v t c h)
 skipped (plain x e v) t c h = solid (plain x e v) nowhite tt refl (here (plain x e v)) (plain-item x (writtenBalanced v) t (plain-byte x e) (c .0) h)
 skipped (quoted q v) t c h = solid (quoted q v) nowhite tt refl (here (quoted q v)) (quote-item (q .quote) _ (q .quotes))
 skipped (semicolon v) t c h = solid (semicolon v) nowhite tt refl (here (semicolon v)) (mark-items _ .0)
+skipped (bang v) t c h = solid (bang v) nowhite tt refl (here (bang v)) (mark-items _ .3)
 skipped (block b w v) t c h = solid (block b w v) nowhite tt refl (here (block b w v)) (bracket-item b _)
 
 -- what is skipped is taken
@@ -592,7 +610,6 @@ closes-unnamed : {c : List ℕ} → Closes c → (nameOf c ≡ err) × (charsOf 
 unfolding grammar.closer nameOf nameFrom dash nmstartOf either nmstartCharOf foldedChar identEscapeOf isNmstart charsOf charsEnd charTaken nmcharOf nmcharCharOf isNmchar takenOf numbers.signed numbers.sign numbers.unsigned numbers.decimal digits oneDigit isDigit many took whitespaceItem isWhitespace commentOf pick or and within is
 closes-unnamed nothing = (refl, refl, refl, refl)
 closes-unnamed (closed (grammar.function n d) r) = (refl, refl, refl, refl)
-closes-unnamed (closed (grammar.link n d) r) = (refl, refl, refl, refl)
 closes-unnamed (closed grammar.round r) = (refl, refl, refl, refl)
 closes-unnamed (closed grammar.square r) = (refl, refl, refl, refl)
 closes-unnamed (closed grammar.brace r) = (refl, refl, refl, refl)
@@ -604,6 +621,7 @@ closes-unnamed (at-brace r) = (refl, refl, refl, refl)
 data Ahead (s : List ℕ) : Type 0 where
   ahead : (n : ℕ) (c : List ℕ) → skipWhitespace s ≡ n → drop n s ≡ c → Closes c → Ahead s
 
+-- of what may stand behind a value
 halts-ahead : (b : Blanks) {t : List ℕ} → Halts t → Ahead (b .bytes ++ t)
 halts-ahead b (halts {l} {t} h c) =
     let k = blank-append (b .blank) h in
@@ -683,6 +701,7 @@ harmless-number : (b : List ℕ) → Harmless (tokens.number b) × Harmless (tok
 unfolding bracketOf bracketBy coded isDelim isKind kindOf columnsOf and is
 harmless-number b = ((refl, refl), (refl, refl), (refl, refl), (refl, refl))
 
+-- a dimension
 harmless-dimension : (b u : List ℕ) → Harmless (tokens.dimension b u)
 unfolding bracketOf bracketBy coded isDelim isKind kindOf columnsOf and is
 harmless-dimension b u = (refl, refl)
@@ -728,11 +747,11 @@ unrounded : Unblank (λ x. is x ascii.leftParenthesis)
 unfolding is
 unrounded = record { of-space = refl; of-tab = refl; of-line-feed = refl; of-carriage-return = refl; of-form-feed = refl; of-solidus = refl }
 
+-- what closes does not
 closes-unrounded : {c : List ℕ} → Closes c → is (getD c 0 0) ascii.leftParenthesis ≡ false
 unfolding grammar.closer is
 closes-unrounded nothing = refl
 closes-unrounded (closed (grammar.function n d) r) = refl
-closes-unrounded (closed (grammar.link n d) r) = refl
 closes-unrounded (closed grammar.round r) = refl
 closes-unrounded (closed grammar.square r) = refl
 closes-unrounded (closed grammar.brace r) = refl
@@ -740,9 +759,11 @@ closes-unrounded (at-semicolon r) = refl
 closes-unrounded (at-bang r) = refl
 closes-unrounded (at-brace r) = refl
 
+-- nor what may stand behind a value
 halts-unrounded : {t : List ℕ} → Halts t → is (getD t 0 0) ascii.leftParenthesis ≡ false
 halts-unrounded (halts {l} {t} h c) = blank-first (λ x. is x ascii.leftParenthesis) unrounded t h (closes-unrounded c)
 
+-- nor a quote
 quote-unrounded : (q : ℕ) → isQuote q ≡ true → is q ascii.leftParenthesis ≡ false
 unfolding isQuote
 quote-unrounded q e =
@@ -759,6 +780,7 @@ round-called (remark c w v) t h e =
 round-called (plain x p v) t h e = never (sym (plain-byte x p .no-open-round) ∙ e)
 round-called (quoted q v) t h e = never (sym (quote-unrounded (q .quote) (q .quotes)) ∙ e)
 round-called (semicolon v) t h e = unfold is in never e
+round-called (bang v) t h e = unfold is in never e
 round-called (block round w v) t h e = called w v
 round-called (block square w v) t h e = unfold opens is in never e
 round-called (block curly w v) t h e = unfold opens is in never e
@@ -844,6 +866,7 @@ dash-plainly =
       of-close = all-brackets (λ x. is x ascii.hyphenMinus) closes refl refl refl;
     }
 
+-- '>' alone
 greater-plainly : Plainly (λ x. is x ascii.greaterThanSign)
 unfolding is opens closes
 greater-plainly =
@@ -1012,6 +1035,7 @@ module _ (t : List ℕ) (h : Halts t) (x : ℕ) (e : isPlain x ≡ true) (v : Ba
   unfolding writtenBalanced
   letter-there q d = letter-some x (writtenBalanced v ++ t) _ _ (letter-named x (writtenBalanced v ++ t) there-item d (letter-start x (plain-byte x e .high) q))
 
+  -- or a digit
   digit-there : isDigit x ≡ true → ¬ (numericOf text-there ≡ err)
   unfolding writtenBalanced
   digit-there q = numeric-some (x ∷ (writtenBalanced v ++ t)) (digit-some x (writtenBalanced v ++ t) there-item q)
@@ -1020,6 +1044,7 @@ module _ (t : List ℕ) (h : Halts t) (x : ℕ) (e : isPlain x ≡ true) (v : Ba
   abbrev Some : Start → Type 0
   Some s = ¬ (tokens.tokenBy s 1 x text-there ≡ err)
 
+  -- whatever it selects
   start-some : Some (startOf x)
   unfolding startOf isQuote
   start-some =
@@ -1052,10 +1077,15 @@ unfoldable after : List Frame → List ℕ → List ℕ
 after [] z = z
 after (f ∷ fs) z = closes (f .bracket) ∷ (writtenBalanced (f .behind) ++ after fs z)
 
--- the brackets that are awaited
-unfoldable stack : List Frame → List ℕ
-stack [] = []
-stack (f ∷ fs) = closes (f .bracket) ∷ stack fs
+-- the brackets that are awaited, where others are already
+unfoldable stack : List ℕ → List Frame → List ℕ
+stack base [] = base
+stack base (f ∷ fs) = closes (f .bracket) ∷ stack base fs
+
+-- inside no other
+stack-none : (base : List ℕ) → stack base [] ≡ base
+unfolding stack
+stack-none base = refl
 
 -- a bracket as the tokens have it
 unfoldable opening : Bracket → grammar.Opening
@@ -1070,6 +1100,7 @@ opening-opens round = refl
 opening-opens square = refl
 opening-opens curly = refl
 
+-- closing ones too
 opening-closes : (b : Bracket) → grammar.closer (opening b) ≡ closes b
 unfolding opening closes grammar.closer
 opening-closes round = refl
@@ -1082,70 +1113,162 @@ unfolding after
 after-halts [] z h = h
 after-halts (f ∷ fs) z h = subst (λ (x : ℕ). Halts (x ∷ (writtenBalanced (f .behind) ++ after fs z))) (opening-closes (f .bracket)) (closer-halts (opening (f .bracket)) _)
 
--- a brace closes no block outside all brackets
-unfoldable Closable : Bracket → List Frame → Type 0
-Closable round fs = Unit
-Closable square fs = Unit
-Closable curly [] = ⊥
-Closable curly (f ∷ fs) = Unit
+-- outside all brackets no semicolon and no brace block stands
+unfoldable pub Level : List ℕ → Balanced → Type 0
+Level [] v = Outside v
+Level (c ∷ cs) v = Unit
 
--- the text outside all brackets is as it must be there
-unfoldable Sound : Balanced → List Frame → Type 0
-Sound v [] = Outside v × Tight v
-Sound v (f ∷ fs) = Closable (f .bracket) fs × Sound (f .behind) fs
+-- nor does a brace close one
+unfoldable Closable : List ℕ → Bracket → List Frame → Type 0
+Closable base round fs = Unit
+Closable base square fs = Unit
+Closable [] curly [] = ⊥
+Closable (c ∷ cs) curly [] = Unit
+Closable base curly (f ∷ fs) = Unit
+
+-- the outermost text is as it must be there
+unfoldable Sound : List ℕ → Balanced → List Frame → Type 0
+Sound base v [] = Level base v × Tight v
+Sound base v (f ∷ fs) = Closable base (f .bracket) fs × Sound base (f .behind) fs
+
+-- no '!' stands where it is asked for
+unfoldable CalmIf : Bool → Balanced → Type 0
+CalmIf true v = Calm v
+CalmIf false v = Unit
 
 -- all texts are clear
-unfoldable AllClear : Balanced → List Frame → Type 0
-AllClear v [] = Clear v
-AllClear v (f ∷ fs) = Clear v × AllClear (f .behind) fs
+unfoldable AllClear : Bool → Balanced → List Frame → Type 0
+AllClear calm v [] = Clear v × CalmIf calm v
+AllClear calm v (f ∷ fs) = (Clear v × CalmIf calm v) × AllClear calm (f .behind) fs
 
 -- so is the innermost
-first-clear : (v : Balanced) (fs : List Frame) → AllClear v fs → Clear v
+all-first : (calm : Bool) (v : Balanced) (fs : List Frame) → AllClear calm v fs → Clear v × CalmIf calm v
 unfolding AllClear
-first-clear v [] c = c
-first-clear v (f ∷ fs) c = c .0
+all-first calm v [] c = c
+all-first calm v (f ∷ fs) c = c .0
 
--- what is left of it
-left-sound : (v r : Balanced) (fs : List Frame) → Leaves v r → Sound v fs → Sound r fs
+-- which may be another
+all-other : (calm : Bool) (v r : Balanced) (fs : List Frame) → AllClear calm v fs → Clear r × CalmIf calm r → AllClear calm r fs
+unfolding AllClear
+all-other calm v r [] c k = k
+all-other calm v r (f ∷ fs) c k = (k, c .1)
+
+-- and has a block more around it
+all-inside : (calm : Bool) (b : Bracket) (v w r : Balanced) (fs : List Frame) → AllClear calm v fs → Clear w × CalmIf calm w → Clear r × CalmIf calm r
+    → AllClear calm w (record { bracket = b; behind = r } ∷ fs)
+unfolding AllClear
+all-inside calm b v w r [] c k j = (k, j)
+all-inside calm b v w r (f ∷ fs) c k j = (k, (j, c .1))
+
+-- its text is clear
+first-clear : (calm : Bool) (v : Balanced) (fs : List Frame) → AllClear calm v fs → Clear v
+first-clear calm v fs c = all-first calm v fs c .0
+
+-- what is left of a text
+left-level : (base : List ℕ) (v r : Balanced) → Leaves v r → Level base v → Level base r
+unfolding Level
+left-level [] v r l s = leaves-outside l s
+left-level (c ∷ cs) v r l s = tt
+
+-- what is left of the innermost
+left-sound : (base : List ℕ) (v r : Balanced) (fs : List Frame) → Leaves v r → Sound base v fs → Sound base r fs
 unfolding Sound
-left-sound v r [] l s = (leaves-outside l (s .0), leaves-tight l (s .1))
-left-sound v r (f ∷ fs) l s = s
+left-sound base v r [] l s = (left-level base v r l (s .0), leaves-tight l (s .1))
+left-sound base v r (f ∷ fs) l s = s
 
-left-clear : (v r : Balanced) (fs : List Frame) → Leaves v r → AllClear v fs → AllClear r fs
-unfolding AllClear
-left-clear v r [] l c = leaves-clear l c
-left-clear v r (f ∷ fs) l c = (leaves-clear l (c .0), c .1)
+-- and of all texts
+left-calm : (calm : Bool) (v r : Balanced) → Leaves v r → CalmIf calm v → CalmIf calm r
+unfolding CalmIf
+left-calm true v r l c = leaves-calm l c
+left-calm false v r l c = tt
 
--- behind a string or a semicolon
-string-sound : (q : Quoted) (v : Balanced) (fs : List Frame) → Sound (quoted q v) fs → Sound v fs
-unfolding Sound Outside Tight
-string-sound q v [] s = s
-string-sound q v (f ∷ fs) s = s
+-- clear as they were
+left-clear : (calm : Bool) (v r : Balanced) (fs : List Frame) → Leaves v r → AllClear calm v fs → AllClear calm r fs
+left-clear calm v r fs l c =
+    let k = all-first calm v fs c in
+    all-other calm v r fs c (leaves-clear l (k .0), left-calm calm v r l (k .1))
 
-string-clear : (q : Quoted) (v : Balanced) (fs : List Frame) → AllClear (quoted q v) fs → AllClear v fs
-unfolding AllClear Clear
-string-clear q v [] c = c
-string-clear q v (f ∷ fs) c = c
+-- behind a string
+string-level : (base : List ℕ) (q : Quoted) (v : Balanced) → Level base (quoted q v) → Level base v
+unfolding Level Outside
+string-level [] q v s = s
+string-level (c ∷ cs) q v s = tt
 
-semicolon-clear : (v : Balanced) (fs : List Frame) → AllClear (semicolon v) fs → AllClear v fs
-unfolding AllClear Clear
-semicolon-clear v [] c = c
-semicolon-clear v (f ∷ fs) c = c
+-- with those around it
+string-sound : (base : List ℕ) (q : Quoted) (v : Balanced) (fs : List Frame) → Sound base (quoted q v) fs → Sound base v fs
+unfolding Sound Tight
+string-sound base q v [] s = (string-level base q v (s .0), s .1)
+string-sound base q v (f ∷ fs) s = s
+
+-- it is as clear
+string-clear : (calm : Bool) (q : Quoted) (v : Balanced) (fs : List Frame) → AllClear calm (quoted q v) fs → AllClear calm v fs
+string-clear calm q v fs c = all-other calm (quoted q v) v fs c (by-calm calm (all-first calm (quoted q v) fs c))
+  where
+    by-calm : (b : Bool) → Clear (quoted q v) × CalmIf b (quoted q v) → Clear v × CalmIf b v
+    by-calm true k = unfold Clear CalmIf Calm in k
+    by-calm false k = unfold Clear CalmIf in k
+
+-- so is what stands behind a semicolon
+semicolon-clear : (calm : Bool) (v : Balanced) (fs : List Frame) → AllClear calm (semicolon v) fs → AllClear calm v fs
+semicolon-clear calm v fs c = all-other calm (semicolon v) v fs c (by-calm calm (all-first calm (semicolon v) fs c))
+  where
+    by-calm : (b : Bool) → Clear (semicolon v) × CalmIf b (semicolon v) → Clear v × CalmIf b v
+    by-calm true k = unfold Clear CalmIf Calm in k
+    by-calm false k = unfold Clear CalmIf in k
+
+-- and behind a '!', which stands where none is forbidden
+bang-clear : (calm : Bool) (v : Balanced) (fs : List Frame) → AllClear calm (bang v) fs → (calm ≡ true → ⊥) × AllClear calm v fs
+bang-clear calm v fs c = let k = by-calm calm (all-first calm (bang v) fs c) in (k .0, all-other calm (bang v) v fs c (k .1))
+  where
+    by-calm : (b : Bool) → Clear (bang v) × CalmIf b (bang v) → (b ≡ true → ⊥) × (Clear v × CalmIf b v)
+    by-calm true k = absurd (unfold CalmIf Calm in k .1)
+    by-calm false k = unfold Clear CalmIf in ((λ e. never e), (k .0, tt))
 
 -- inside a block
-block-sound : (b : Bracket) (w v : Balanced) (fs : List Frame) → Sound (block b w v) fs → Sound w (record { bracket = b; behind = v } ∷ fs)
-unfolding Sound Outside Tight Closable
-block-sound round w v [] s = (tt, s)
-block-sound square w v [] s = (tt, s)
-block-sound curly w v [] s = absurd (s .0)
-block-sound round w v (f ∷ fs) s = (tt, s)
-block-sound square w v (f ∷ fs) s = (tt, s)
-block-sound curly w v (f ∷ fs) s = (tt, s)
+block-level : (base : List ℕ) (b : Bracket) (w v : Balanced) → Level base (block b w v) → Closable base b [] × Level base v
+unfolding Level Outside Closable
+block-level [] round w v s = (tt, s)
+block-level [] square w v s = (tt, s)
+block-level [] curly w v s = absurd s
+block-level (c ∷ cs) round w v s = (tt, tt)
+block-level (c ∷ cs) square w v s = (tt, tt)
+block-level (c ∷ cs) curly w v s = (tt, tt)
 
-block-clear : (b : Bracket) (w v : Balanced) (fs : List Frame) → AllClear (block b w v) fs → AllClear w (record { bracket = b; behind = v } ∷ fs)
-unfolding AllClear Clear
-block-clear b w v [] c = c
-block-clear b w v (f ∷ fs) c = (c .0 .0, (c .0 .1, c .1))
+-- a block inside another may be of braces
+block-closable : (base : List ℕ) (b : Bracket) (f : Frame) (fs : List Frame) → Closable base b (f ∷ fs)
+unfolding Closable
+block-closable [] round f fs = tt
+block-closable [] square f fs = tt
+block-closable [] curly f fs = tt
+block-closable (c ∷ cs) round f fs = tt
+block-closable (c ∷ cs) square f fs = tt
+block-closable (c ∷ cs) curly f fs = tt
+
+-- with those around it
+block-sound : (base : List ℕ) (b : Bracket) (w v : Balanced) (fs : List Frame) → Sound base (block b w v) fs → Sound base w (record { bracket = b; behind = v } ∷ fs)
+unfolding Sound Tight
+block-sound base b w v [] s = let k = block-level base b w v (s .0) in (k .0, (k .1, s .1))
+block-sound base b w v (f ∷ fs) s = (block-closable base b f fs, s)
+
+-- it is as clear
+block-clear : (calm : Bool) (b : Bracket) (w v : Balanced) (fs : List Frame) → AllClear calm (block b w v) fs → AllClear calm w (record { bracket = b; behind = v } ∷ fs)
+block-clear calm b w v fs c = let k = by-calm calm (all-first calm (block b w v) fs c) in all-inside calm b (block b w v) w v fs c (k .0) (k .1)
+  where
+    by-calm : (d : Bool) → Clear (block b w v) × CalmIf d (block b w v) → (Clear w × CalmIf d w) × (Clear v × CalmIf d v)
+    by-calm true k = unfold Clear CalmIf Calm in ((k .0 .0, k .1 .0), (k .0 .1, k .1 .1))
+    by-calm false k = unfold Clear CalmIf in ((k .0 .0, tt), (k .0 .1, tt))
+
+-- behind a '!'
+bang-level : (base : List ℕ) (v : Balanced) → Level base (bang v) → Level base v
+unfolding Level Outside
+bang-level [] v s = s
+bang-level (c ∷ cs) v s = tt
+
+-- with those around it
+bang-sound : (base : List ℕ) (v : Balanced) (fs : List Frame) → Sound base (bang v) fs → Sound base v fs
+unfolding Sound Tight
+bang-sound base v [] s = (bang-level base v (s .0), s .1)
+bang-sound base v (f ∷ fs) s = s
 
 -- ---- steps
 -- no token is a '!'
@@ -1154,45 +1277,67 @@ Unbanged [] = Unit
 Unbanged (k ∷ ks) = (isDelim ascii.exclamationMark k ≡ false) × Unbanged ks
 
 -- so they have no mark
-unbanged-plain : (ks : List Token) → Unbanged ks → isImportant ks ≡ false
+pub unbanged-plain : (ks : List Token) → Unbanged ks → isImportant ks ≡ false
 unfolding Unbanged
 unbanged-plain [] h = unfold isImportant in refl
 unbanged-plain (k ∷ ks) h = plain-first k ks (h .0) ∙ unbanged-plain ks (h .1)
 
 -- steps at tokens
 module _ (include : Bool) where
+  -- one without brackets
   harmless-goes : (k : Token) (cs : List ℕ) → Harmless k → stepOf include (bracketOf k) cs ≡ values.next cs
   unfolding stepOf
   harmless-goes k cs h = rw (h .0)
 
+  -- a function
   call-goes : (b : List ℕ) (cs : List ℕ) → stepOf include (bracketOf (tokens.function b)) cs ≡ values.next (closes round ∷ cs)
   unfolding stepOf bracketOf bracketBy coded closes
   call-goes b cs = refl
 
+  -- a string
   string-goes : (b : List ℕ) (cs : List ℕ) → stepOf include (bracketOf (tokens.string b)) cs ≡ values.next cs
   unfolding stepOf bracketOf bracketBy coded
   string-goes b cs = refl
 
-  semicolon-goes : (f : Frame) (fs : List Frame) → stepOf include (bracketOf tokens.semicolon) (stack (f ∷ fs)) ≡ values.next (stack (f ∷ fs))
-  unfolding stepOf bracketOf bracketBy coded values.ending stack
-  semicolon-goes f fs = refl
+  -- a semicolon inside brackets
+  semicolon-goes : (c : ℕ) (cs : List ℕ) → stepOf include (bracketOf tokens.semicolon) (c ∷ cs) ≡ values.next (c ∷ cs)
+  unfolding stepOf bracketOf bracketBy coded values.ending
+  semicolon-goes c cs = refl
 
-  block-goes : (b : Bracket) (v : Balanced) (fs : List Frame)
-      → stepOf include (bracketOf (grammar.meansOpening (opening b))) (stack fs) ≡ values.next (stack (record { bracket = b; behind = v } ∷ fs))
+  -- a '!'
+  bang-goes : (cs : List ℕ) → stepOf include (bracketOf (tokens.delim ascii.exclamationMark)) cs ≡ values.next cs
+  unfolding stepOf bracketOf bracketBy coded
+  bang-goes cs = refl
+
+  -- an opening bracket
+  block-goes : (base : List ℕ) (b : Bracket) (v : Balanced) (fs : List Frame)
+      → stepOf include (bracketOf (grammar.meansOpening (opening b))) (stack base fs) ≡ values.next (stack base (record { bracket = b; behind = v } ∷ fs))
   unfolding stepOf bracketOf bracketBy coded grammar.meansOpening opening closes stack
-  block-goes round v fs = refl
-  block-goes square v fs = refl
-  block-goes curly v fs = refl
+  block-goes base round v fs = refl
+  block-goes base square v fs = refl
+  block-goes base curly v fs = refl
 
-  close-goes : (b : Bracket) (v : Balanced) (fs : List Frame) → Closable b fs
-      → stepOf include (bracketOf (grammar.meansCloser (opening b))) (stack (record { bracket = b; behind = v } ∷ fs)) ≡ values.next (stack fs)
-  unfolding stepOf bracketOf bracketBy coded grammar.meansCloser opening closes stack values.closing pick is Closable
-  close-goes round v [] h = refl
-  close-goes round v (f ∷ fs) h = refl
-  close-goes square v [] h = refl
-  close-goes square v (f ∷ fs) h = refl
-  close-goes curly v [] h = absurd h
-  close-goes curly v (f ∷ fs) h = refl
+  -- a closing one inside another
+  close-one : (b : Bracket) (c : ℕ) (cs : List ℕ) → stepOf include (bracketOf (grammar.meansCloser (opening b))) (closes b ∷ c ∷ cs) ≡ values.next (c ∷ cs)
+  unfolding stepOf bracketOf bracketBy coded grammar.meansCloser opening closes values.closing pick is
+  close-one round c cs = refl
+  close-one square c cs = refl
+  close-one curly c cs = refl
+
+  -- a closing one outside
+  close-last : (b : Bracket) → Closable [] b [] → stepOf include (bracketOf (grammar.meansCloser (opening b))) (closes b ∷ []) ≡ values.next []
+  unfolding stepOf bracketOf bracketBy coded grammar.meansCloser opening closes values.closing pick is Closable
+  close-last round h = refl
+  close-last square h = refl
+  close-last curly h = absurd h
+
+  -- either
+  close-goes : (base : List ℕ) (b : Bracket) (fs : List Frame) → Closable base b fs
+      → stepOf include (bracketOf (grammar.meansCloser (opening b))) (closes b ∷ stack base fs) ≡ values.next (stack base fs)
+  unfolding stack
+  close-goes [] b [] h = close-last b h
+  close-goes (c ∷ cs) b [] h = close-one b c cs
+  close-goes base b (f ∷ fs) h = close-one b (closes (f .bracket)) (stack base fs)
 
 -- brackets are no '!'
 brackets-unbanged : (b : Bracket)
@@ -1210,22 +1355,22 @@ others-unbanged b = (refl, refl, refl)
 
 -- ---- all of a text
 -- it passes, with tokens that are no '!'
-pub record Through (include : Bool) (s z : List ℕ) (at : ℕ) (cs : List ℕ) : Type 0 where
+pub record Through (include calm : Bool) (s z : List ℕ) (at : ℕ) (cs base : List ℕ) : Type 0 where
   pub ks : List Token
-  pub passes : Passes include s z at cs [] ks
-  pub unbanged : Unbanged ks
+  pub passes : Passes include s z at cs base ks
+  pub unbanged : calm ≡ true → Unbanged ks
 
-module _ (include : Bool) (z : List ℕ) (hz : Halts z) where
+module _ (include calm : Bool) (base : List ℕ) (z : List ℕ) (hz : Halts z) where
   -- one token, and the rest
   through-one : (s t : List ℕ) (at n : ℕ) (k : Token) (cs ds : List ℕ) → tokenOf s ≡ ok n k → drop n s ≡ t → stepOf include (bracketOf k) cs ≡ values.next ds
-      → isDelim ascii.exclamationMark k ≡ false → ((j : ℕ) → Through include t z j ds) → Through include s z at cs
+      → (calm ≡ true → isDelim ascii.exclamationMark k ≡ false) → ((j : ℕ) → Through include calm t z j ds base) → Through include calm s z at cs base
   unfolding Unbanged
   through-one s t at n k cs ds e d g u r =
       let f = token-fits s n k e in
       let a : n + length t ≡ length s = omega (arith, f .within-text, length-drop n s, ap length d) in
       let p = passes-one {include = include} s t at n k cs ds e d a (f .some) g in
       let q = r (at + p .taken) in
-      record { ks = k ∷ q .ks; passes = passes-on p (q .passes); unbanged = (u, q .unbanged) }
+      record { ks = k ∷ q .ks; passes = passes-on p (q .passes); unbanged = λ y. (u y, q .unbanged y) }
 
   -- a token takes a byte or more
   shorter : (s t : List ℕ) (n : ℕ) (k : Token) (l : ℕ) → tokenOf s ≡ ok n k → drop n s ≡ t → length s < suc l → length t < l
@@ -1235,7 +1380,7 @@ module _ (include : Bool) (z : List ℕ) (hz : Halts z) where
 
   -- behind white space
   token-step : (l : ℕ) (b : Blanks) (u t : List ℕ) (at n : ℕ) (k : Token) (cs ds : List ℕ) → Begins u n k → drop n u ≡ t → stepOf include (bracketOf k) cs ≡ values.next ds
-      → isDelim ascii.exclamationMark k ≡ false → length (b .bytes ++ u) < suc l → ((j : ℕ) → length t < l → Through include t z j ds) → Through include (b .bytes ++ u) z at cs
+      → (calm ≡ true → isDelim ascii.exclamationMark k ≡ false) → length (b .bytes ++ u) < suc l → ((j : ℕ) → length t < l → Through include calm t z j ds base) → Through include calm (b .bytes ++ u) z at cs base
   token-step l b u t at n k cs ds e d g w h r =
       let m = length (b .bytes) + n in
       let o = token-read b u n k e in
@@ -1259,6 +1404,7 @@ void-tight (remark c w v) o m t = void-tight v o (t .0) (t .1)
 void-tight (plain x e v) o m t = o
 void-tight (quoted q v) o m t = o
 void-tight (semicolon v) o m t = o
+void-tight (bang v) o m t = o
 void-tight (block b w v) o m t = o
 
 -- so it is empty
@@ -1269,6 +1415,7 @@ void-empty (remark c w v) o t = absurd (void-tight (remark c w v) o (unfold More
 void-empty (plain x e v) o t = absurd (unfold Void in o)
 void-empty (quoted q v) o t = absurd (unfold Void in o)
 void-empty (semicolon v) o t = absurd (unfold Void in o)
+void-empty (bang v) o t = absurd (unfold Void in o)
 void-empty (block b w v) o t = absurd (unfold Void in o)
 
 -- a string, with t behind it
@@ -1282,19 +1429,19 @@ string-drop q b t =
     let i : 1 + length b + 1 ≡ 1 + (length b + 1) = omega arith in
     ap (λ (n : ℕ). drop n (q ∷ (b ++ (q ∷ t)))) i ∙ drop-one (length b + 1) q (b ++ (q ∷ t)) ∙ drop-append-add b (q ∷ t) 1
 
-module _ (include : Bool) (z : List ℕ) (hz : Halts z) (l : ℕ)
-    (ih : (v : Balanced) (fs : List Frame) (at : ℕ) → length (writtenBalanced v ++ after fs z) < l → AllClear v fs → Sound v fs
-    → Through include (writtenBalanced v ++ after fs z) z at (stack fs)) where
+module _ (include calm : Bool) (base : List ℕ) (z : List ℕ) (hz : Halts z) (l : ℕ)
+    (ih : (v : Balanced) (fs : List Frame) (at : ℕ) → length (writtenBalanced v ++ after fs z) < l → AllClear calm v fs → Sound base v fs
+    → Through include calm (writtenBalanced v ++ after fs z) z at (stack base fs) base) where
   -- a plain character
   plain-step : (b : Blanks) (x : ℕ) (e : isPlain x ≡ true) (v : Balanced) (fs : List Frame) (at : ℕ) → length (b .bytes ++ (writtenBalanced (plain x e v) ++ after fs z)) < suc l
-      → AllClear (plain x e v) fs → Sound (plain x e v) fs → Through include (b .bytes ++ (writtenBalanced (plain x e v) ++ after fs z)) z at (stack fs)
+      → AllClear calm (plain x e v) fs → Sound base (plain x e v) fs → Through include calm (b .bytes ++ (writtenBalanced (plain x e v) ++ after fs z)) z at (stack base fs) base
   plain-step b x e v fs at h c s = by-token _ refl (start-in (after fs z) ha x e v k)
     where
       ha : Halts (after fs z)
       ha = after-halts fs z hz
 
       k : Clear (plain x e v)
-      k = first-clear (plain x e v) fs c
+      k = first-clear calm (plain x e v) fs c
 
       begins : (n : ℕ) (j : Token) → tokens.tokenBy (startOf x) 1 x (writtenBalanced (plain x e v) ++ after fs z) ≡ ok n j → Begins (writtenBalanced (plain x e v) ++ after fs z) n j
       begins n j q = plain-begins n j (there-item (after fs z) ha x e v k) q
@@ -1304,102 +1451,160 @@ module _ (include : Bool) (z : List ℕ) (hz : Halts z) (l : ℕ)
           plain-begins n j i q = unfold writtenBalanced in begins-by x (writtenBalanced v ++ after fs z) n j i (omega (arith, plain-byte x e .high)) q
 
       by-token : (p : Parsed Token) → tokens.tokenBy (startOf x) 1 x (writtenBalanced (plain x e v) ++ after fs z) ≡ p → TokenIn (plain x e v) (after fs z) p
-          → Through include (b .bytes ++ (writtenBalanced (plain x e v) ++ after fs z)) z at (stack fs)
+          → Through include calm (b .bytes ++ (writtenBalanced (plain x e v) ++ after fs z)) z at (stack base fs) base
       by-token _ q tokenless = absurd (start-some (after fs z) ha x e v k q)
       by-token _ q (token n j y f) =
-          token-step include z hz l b (writtenBalanced (plain x e v) ++ after fs z) _ at n j (stack fs) (stack fs) (begins n j q) (y .onto) (harmless-goes include j (stack fs) f) (f .1) h
-          (λ i w. ih (y .rest) fs i w (left-clear (plain x e v) (y .rest) fs (y .leaves) c) (left-sound (plain x e v) (y .rest) fs (y .leaves) s))
+          token-step include calm base z hz l b (writtenBalanced (plain x e v) ++ after fs z) _ at n j (stack base fs) (stack base fs) (begins n j q) (y .onto) (harmless-goes include j (stack base fs) f) (λ _. f .1) h
+          (λ i w. ih (y .rest) fs i w (left-clear calm (plain x e v) (y .rest) fs (y .leaves) c) (left-sound base (plain x e v) (y .rest) fs (y .leaves) s))
       by-token _ q (call n m w r y o) =
-          token-step include z hz l b (writtenBalanced (plain x e v) ++ after fs z) _ at n (tokens.function m) (stack fs) (closes round ∷ stack fs) (begins n (tokens.function m) q) o
-          (call-goes include m (stack fs)) (others-unbanged m .2) h
+          token-step include calm base z hz l b (writtenBalanced (plain x e v) ++ after fs z) _ at n (tokens.function m) (stack base fs) (closes round ∷ stack base fs) (begins n (tokens.function m) q) o
+          (call-goes include m (stack base fs)) (λ _. others-unbanged m .2) h
           (λ i d. inside w r y i d)
         where
           inside : (w r : Balanced) → Leaves (plain x e v) (block round w r) → (i : ℕ) → length (writtenBalanced w ++ (closes round ∷ (writtenBalanced r ++ after fs z))) < l
-              → Through include (writtenBalanced w ++ (closes round ∷ (writtenBalanced r ++ after fs z))) z i (closes round ∷ stack fs)
+              → Through include calm (writtenBalanced w ++ (closes round ∷ (writtenBalanced r ++ after fs z))) z i (closes round ∷ stack base fs) base
           inside w r y i d =
               unfold after stack in
-              ih w (record { bracket = round; behind = r } ∷ fs) i d (block-clear round w r fs (left-clear (plain x e v) (block round w r) fs y c))
-              (block-sound round w r fs (left-sound (plain x e v) (block round w r) fs y s))
+              ih w (record { bracket = round; behind = r } ∷ fs) i d (block-clear calm round w r fs (left-clear calm (plain x e v) (block round w r) fs y c))
+              (block-sound base round w r fs (left-sound base (plain x e v) (block round w r) fs y s))
 
   -- a string
   string-step : (b : Blanks) (q : Quoted) (v : Balanced) (fs : List Frame) (at : ℕ) → length (b .bytes ++ (writtenBalanced (quoted q v) ++ after fs z)) < suc l
-      → AllClear (quoted q v) fs → Sound (quoted q v) fs → Through include (b .bytes ++ (writtenBalanced (quoted q v) ++ after fs z)) z at (stack fs)
+      → AllClear calm (quoted q v) fs → Sound base (quoted q v) fs → Through include calm (b .bytes ++ (writtenBalanced (quoted q v) ++ after fs z)) z at (stack base fs) base
   string-step b q v fs at h c s =
       let t = writtenBalanced v ++ after fs z in
       let n = 1 + length (q .bytes) + 1 in
       let e = quoted-onto q v (after fs z) in
       let k = subst (λ (u : List ℕ). Begins u n (tokens.string (q .body))) (sym e) (string-token q t) in
-      token-step include z hz l b (writtenBalanced (quoted q v) ++ after fs z) t at n (tokens.string (q .body)) (stack fs) (stack fs) k
-      (ap (drop n) e ∙ string-drop (q .quote) (q .bytes) t) (string-goes include (q .body) (stack fs)) (others-unbanged (q .body) .0) h
-      (λ i w. ih v fs i w (string-clear q v fs c) (string-sound q v fs s))
+      token-step include calm base z hz l b (writtenBalanced (quoted q v) ++ after fs z) t at n (tokens.string (q .body)) (stack base fs) (stack base fs) k
+      (ap (drop n) e ∙ string-drop (q .quote) (q .bytes) t) (string-goes include (q .body) (stack base fs)) (λ _. others-unbanged (q .body) .0) h
+      (λ i w. ih v fs i w (string-clear calm q v fs c) (string-sound base q v fs s))
 
   -- a semicolon inside brackets
+  semicolon-in : (b : Blanks) (v : Balanced) (fs : List Frame) (at c : ℕ) (cs : List ℕ) → stack base fs ≡ c ∷ cs → length (b .bytes ++ (writtenBalanced (semicolon v) ++ after fs z)) < suc l
+      → AllClear calm (semicolon v) fs → Sound base v fs → Through include calm (b .bytes ++ (writtenBalanced (semicolon v) ++ after fs z)) z at (stack base fs) base
+  unfolding writtenBalanced
+  semicolon-in b v fs at c cs e h k s =
+      let t = writtenBalanced v ++ after fs z in
+      token-step include calm base z hz l b (ascii.semicolon ∷ t) t at 1 tokens.semicolon (stack base fs) (stack base fs) (semicolon-token t) refl
+      (subst (λ (q : List ℕ). stepOf include (bracketOf tokens.semicolon) q ≡ values.next q) (sym e) (semicolon-goes include c cs)) (λ _. others-unbanged [] .1) h
+      (λ i w. ih v fs i w (semicolon-clear calm v fs k) s)
+
+  -- where one is awaited
   semicolon-step : (b : Blanks) (v : Balanced) (fs : List Frame) (at : ℕ) → length (b .bytes ++ (writtenBalanced (semicolon v) ++ after fs z)) < suc l
-      → AllClear (semicolon v) fs → Sound (semicolon v) fs → Through include (b .bytes ++ (writtenBalanced (semicolon v) ++ after fs z)) z at (stack fs)
-  unfolding writtenBalanced Sound Outside
-  semicolon-step b v [] at h c s = absurd (s .0)
-  semicolon-step b v (f ∷ fs) at h c s =
-      let t = writtenBalanced v ++ after (f ∷ fs) z in
-      token-step include z hz l b (ascii.semicolon ∷ t) t at 1 tokens.semicolon (stack (f ∷ fs)) (stack (f ∷ fs)) (semicolon-token t) refl (semicolon-goes include f fs) (others-unbanged [] .1) h
-      (λ i w. ih v (f ∷ fs) i w (semicolon-clear v (f ∷ fs) c) s)
+      → AllClear calm (semicolon v) fs → Sound base (semicolon v) fs → Through include calm (b .bytes ++ (writtenBalanced (semicolon v) ++ after fs z)) z at (stack base fs) base
+  semicolon-step b v [] at h c s = by-base base refl (unfold Sound in s)
+    where
+      by-base : (cs : List ℕ) → base ≡ cs → Level base (semicolon v) × Tight (semicolon v) → Through include calm (b .bytes ++ (writtenBalanced (semicolon v) ++ after [] z)) z at (stack base []) base
+      by-base [] e k = absurd (unfold Level Outside in subst (λ (q : List ℕ). Level q (semicolon v)) e (k .0))
+      by-base (x ∷ cs) e k =
+          semicolon-in b v [] at x cs (stack-none base ∙ e) h c (unfold Sound in (subst (λ (q : List ℕ). Level q v) (sym e) (unfold Level in tt), unfold Tight in k .1))
+  semicolon-step b v (f ∷ fs) at h c s = semicolon-in b v (f ∷ fs) at (closes (f .bracket)) (stack base fs) (unfold stack in refl) h c (unfold Sound in s)
+
+  -- a '!'
+  bang-step : (b : Blanks) (v : Balanced) (fs : List Frame) (at : ℕ) → length (b .bytes ++ (writtenBalanced (bang v) ++ after fs z)) < suc l
+      → AllClear calm (bang v) fs → Sound base (bang v) fs → Through include calm (b .bytes ++ (writtenBalanced (bang v) ++ after fs z)) z at (stack base fs) base
+  unfolding writtenBalanced
+  bang-step b v fs at h c s =
+      let t = writtenBalanced v ++ after fs z in
+      let k = bang-clear calm v fs c in
+      token-step include calm base z hz l b (ascii.exclamationMark ∷ t) t at 1 (tokens.delim ascii.exclamationMark) (stack base fs) (stack base fs) (bang-begins t) refl (bang-goes include (stack base fs))
+      (λ e. absurd (k .0 e)) h (λ i w. ih v fs i w (k .1) (bang-sound base v fs s))
 
   -- an opening bracket
   block-step : (b : Blanks) (k : Bracket) (w v : Balanced) (fs : List Frame) (at : ℕ) → length (b .bytes ++ (writtenBalanced (block k w v) ++ after fs z)) < suc l
-      → AllClear (block k w v) fs → Sound (block k w v) fs → Through include (b .bytes ++ (writtenBalanced (block k w v) ++ after fs z)) z at (stack fs)
+      → AllClear calm (block k w v) fs → Sound base (block k w v) fs → Through include calm (b .bytes ++ (writtenBalanced (block k w v) ++ after fs z)) z at (stack base fs) base
   block-step b k w v fs at h c s =
       let t = writtenBalanced w ++ (closes k ∷ (writtenBalanced v ++ after fs z)) in
       let e = block-onto k w v (after fs z) in
       let o = subst (λ (u : List ℕ). Begins u 1 (grammar.meansOpening (opening k))) (sym e) (bracket-begins k t .0) in
-      token-step include z hz l b (writtenBalanced (block k w v) ++ after fs z) t at 1 (grammar.meansOpening (opening k)) (stack fs) (stack (record { bracket = k; behind = v } ∷ fs)) o (ap (drop 1) e)
-      (block-goes include k v fs) (brackets-unbanged k .0) h (λ i d. inside i d)
+      token-step include calm base z hz l b (writtenBalanced (block k w v) ++ after fs z) t at 1 (grammar.meansOpening (opening k)) (stack base fs) (stack base (record { bracket = k; behind = v } ∷ fs)) o (ap (drop 1) e)
+      (block-goes include base k v fs) (λ _. brackets-unbanged k .0) h (λ i d. inside i d)
     where
       inside : (i : ℕ) → length (writtenBalanced w ++ (closes k ∷ (writtenBalanced v ++ after fs z))) < l
-          → Through include (writtenBalanced w ++ (closes k ∷ (writtenBalanced v ++ after fs z))) z i (stack (record { bracket = k; behind = v } ∷ fs))
-      inside i d = unfold after in ih w (record { bracket = k; behind = v } ∷ fs) i d (block-clear k w v fs c) (block-sound k w v fs s)
+          → Through include calm (writtenBalanced w ++ (closes k ∷ (writtenBalanced v ++ after fs z))) z i (stack base (record { bracket = k; behind = v } ∷ fs)) base
+      inside i d = unfold after in ih w (record { bracket = k; behind = v } ∷ fs) i d (block-clear calm k w v fs c) (block-sound base k w v fs s)
 
   -- what a text begins with
   solid-step : (b : Blanks) (v : Balanced) (fs : List Frame) (at : ℕ) → Solid v → length (b .bytes ++ (writtenBalanced v ++ after fs z)) < suc l
-      → AllClear v fs → Sound v fs → Through include (b .bytes ++ (writtenBalanced v ++ after fs z)) z at (stack fs)
+      → AllClear calm v fs → Sound base v fs → Through include calm (b .bytes ++ (writtenBalanced v ++ after fs z)) z at (stack base fs) base
   solid-step b end fs at o h c s = absurd (unfold Solid in o)
   solid-step b (space x w v) fs at o h c s = absurd (unfold Solid in o)
   solid-step b (remark d w v) fs at o h c s = absurd (unfold Solid in o)
   solid-step b (plain x e v) fs at o h c s = plain-step b x e v fs at h c s
   solid-step b (quoted q v) fs at o h c s = string-step b q v fs at h c s
   solid-step b (semicolon v) fs at o h c s = semicolon-step b v fs at h c s
+  solid-step b (bang v) fs at o h c s = bang-step b v fs at h c s
   solid-step b (block k w v) fs at o h c s = block-step b k w v fs at h c s
 
   -- what closes it
   void-step : (b : Blanks) (v : Balanced) (fs : List Frame) (at : ℕ) → Void v → writtenBalanced v ≡ b .bytes → length (writtenBalanced v ++ after fs z) < suc l
-      → AllClear v fs → Sound v fs → Through include (writtenBalanced v ++ after fs z) z at (stack fs)
+      → AllClear calm v fs → Sound base v fs → Through include calm (writtenBalanced v ++ after fs z) z at (stack base fs) base
   unfolding after stack AllClear Sound Unbanged
   void-step b v [] at o e h c s =
-      subst (λ (u : List ℕ). Through include (u ++ z) z at []) (sym (void-empty v o (s .1))) (record { ks = []; passes = passes-none {include = include} z at []; unbanged = tt })
+      subst (λ (u : List ℕ). Through include calm (u ++ z) z at base base) (sym (void-empty v o (s .1))) (record { ks = []; passes = passes-none {include = include} z at base; unbanged = λ y. tt })
   void-step b v (f ∷ fs) at o e h c s =
       let t = writtenBalanced (f .behind) ++ after fs z in
       let k = f .bracket in
-      subst (λ (u : List ℕ). Through include (u ++ (closes k ∷ t)) z at (closes k ∷ stack fs)) (sym e)
-      (token-step include z hz l b (closes k ∷ t) t at 1 (grammar.meansCloser (opening k)) (closes k ∷ stack fs) (stack fs) (bracket-begins k t .1) refl (close-goes include k (f .behind) fs (s .0))
-      (brackets-unbanged k .1) (subst (λ (u : List ℕ). length (u ++ (closes k ∷ t)) < suc l) e h) (λ i w. ih (f .behind) fs i w (c .1) (s .1)))
+      subst (λ (u : List ℕ). Through include calm (u ++ (closes k ∷ t)) z at (closes k ∷ stack base fs) base) (sym e)
+      (token-step include calm base z hz l b (closes k ∷ t) t at 1 (grammar.meansCloser (opening k)) (closes k ∷ stack base fs) (stack base fs) (bracket-begins k t .1) refl (close-goes include base k fs (s .0))
+      (λ _. brackets-unbanged k .1) (subst (λ (u : List ℕ). length (u ++ (closes k ∷ t)) < suc l) e h) (λ i w. ih (f .behind) fs i w (c .1) (s .1)))
 
   -- every text
-  text-step : (v : Balanced) (fs : List Frame) (at : ℕ) → length (writtenBalanced v ++ after fs z) < suc l → AllClear v fs → Sound v fs
-      → Through include (writtenBalanced v ++ after fs z) z at (stack fs)
-  text-step v fs at h c s = by-skipped (skipped v (after fs z) (first-clear v fs c) (after-halts fs z hz))
+  text-step : (v : Balanced) (fs : List Frame) (at : ℕ) → length (writtenBalanced v ++ after fs z) < suc l → AllClear calm v fs → Sound base v fs
+      → Through include calm (writtenBalanced v ++ after fs z) z at (stack base fs) base
+  text-step v fs at h c s = by-skipped (skipped v (after fs z) (first-clear calm v fs c) (after-halts fs z hz))
     where
-      by-skipped : Skipped (after fs z) v → Through include (writtenBalanced v ++ after fs z) z at (stack fs)
+      by-skipped : Skipped (after fs z) v → Through include calm (writtenBalanced v ++ after fs z) z at (stack base fs) base
       by-skipped (solid rest b o e y i) =
           let q = skipped-onto v rest b e (after fs z) in
-          subst (λ (u : List ℕ). Through include u z at (stack fs)) (sym q)
-          (solid-step b rest fs at o (subst (λ (u : List ℕ). length u < suc l) q h) (left-clear v rest fs y c) (left-sound v rest fs y s))
+          subst (λ (u : List ℕ). Through include calm u z at (stack base fs) base) (sym q)
+          (solid-step b rest fs at o (subst (λ (u : List ℕ). length u < suc l) q h) (left-clear calm v rest fs y c) (left-sound base v rest fs y s))
       by-skipped (empty b o e) = void-step b v fs at o e h c s
 
 -- a text in brackets, with turns enough
-through : (include : Bool) (z : List ℕ) → Halts z → (l : ℕ) (v : Balanced) (fs : List Frame) (at : ℕ) → length (writtenBalanced v ++ after fs z) < l → AllClear v fs → Sound v fs
-    → Through include (writtenBalanced v ++ after fs z) z at (stack fs)
-through include z hz zero v fs at h c s = absurd (omega arith)
-through include z hz (suc l) v fs at h c s = text-step include z hz l (through include z hz l) v fs at h c s
+through : (include calm : Bool) (base z : List ℕ) → Halts z → (l : ℕ) (v : Balanced) (fs : List Frame) (at : ℕ) → length (writtenBalanced v ++ after fs z) < l → AllClear calm v fs
+    → Sound base v fs → Through include calm (writtenBalanced v ++ after fs z) z at (stack base fs) base
+through include calm base z hz zero v fs at h c s = absurd (omega arith)
+through include calm base z hz (suc l) v fs at h c s = text-step include calm base z hz l (through include calm base z hz l) v fs at h c s
 
--- a text in which brackets match, outside all brackets, is passed over up to what may stand behind a value
-pub balanced-pass : (include : Bool) (v : Balanced) (z : List ℕ) → Clear v → Outside v → Tight v → Halts z → Through include (writtenBalanced v ++ z) z 0 []
-unfolding after stack AllClear Sound
-balanced-pass include v z c o t h = through include z h (suc (length (writtenBalanced v ++ z))) v [] 0 (omega arith) c (o, t)
+-- a text in which brackets match is passed over up to what may stand behind it
+pub balanced-pass : (include : Bool) (base : List ℕ) (v : Balanced) (z : List ℕ) (at : ℕ) → Clear v → Level base v → Tight v → Halts z
+    → Through include false (writtenBalanced v ++ z) z at base base
+unfolding after stack AllClear CalmIf Sound
+balanced-pass include base v z at c o t h = through include false base z h (suc (length (writtenBalanced v ++ z))) v [] at (omega arith) (c, tt) (o, t)
+
+-- so is a value, whose tokens are no '!'
+pub calm-pass : (v : Balanced) (z : List ℕ) → Clear v → Outside v → Tight v → Calm v → Halts z → Through false true (writtenBalanced v ++ z) z 0 [] []
+unfolding after stack AllClear CalmIf Sound Level
+calm-pass v z c o t k h = through false true [] z h (suc (length (writtenBalanced v ++ z))) v [] 0 (omega arith) (c, k) (o, t)
+
+-- ---- white space before a text
+-- what stands behind it
+pub record Behind (v : Balanced) (z : List ℕ) : Type 0 where
+  pub before : Blanks
+  pub rest : Balanced
+  pub parts : writtenBalanced v ≡ before .bytes ++ writtenBalanced rest
+  pub item : whitespaceItem (writtenBalanced rest ++ z) ≡ 0
+  pub keeps-clear : Clear v → Clear rest
+  pub keeps-outside : Outside v → Outside rest
+  pub keeps-tight : Tight v → Tight rest
+  pub keeps-calm : Calm v → Calm rest
+
+-- of a text with something in it that does not end with white space
+pub balanced-behind : (v : Balanced) (z : List ℕ) → More v → Clear v → Tight v → Halts z → Behind v z
+balanced-behind v z m c t h = by-skipped (skipped v z c h)
+  where
+    by-skipped : Skipped z v → Behind v z
+    by-skipped (solid rest b o e l i) =
+        record { before = b; rest = rest; parts = e; item = i; keeps-clear = leaves-clear l; keeps-outside = leaves-outside l; keeps-tight = leaves-tight l; keeps-calm = leaves-calm l }
+    by-skipped (empty b o e) = absurd (void-tight v o m t)
+
+-- ---- Blocks: a value ends before the first semicolon or closing brace outside strings, comments and brackets, or at the end of the text
+pub text-ends : (v : Balanced) (z : List ℕ) → Clear v → Outside v → Tight v → ValueEnds z
+    → (statementOf false (writtenBalanced v ++ z) .taken ≡ length (writtenBalanced v)) × (statementOf false (writtenBalanced v ++ z) .balanced ≡ true)
+unfolding Level
+text-ends v z c o t e =
+    let p = balanced-pass false [] v z 0 c o t (ends-halt e) .passes in
+    let s = stated p (value-stops e) in
+    (ap (λ (r : values.Statement). r .taken) (s .states) ∙ passed-length (writtenBalanced v) refl p, ap (λ (r : values.Statement). r .balanced) (s .states))

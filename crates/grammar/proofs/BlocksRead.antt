@@ -20,8 +20,8 @@ use Rattle.selectors.specs.Outcome.{reads}
 use Rattle.sheets.specs.Sheet.{spaced, beforeEnd, blockOf}
 use Rattle.grammar.specs.Nth.{Blanks}
 use Rattle.grammar.proofs.Places.{Unblank, white-first, comment-first, blank-first, rest-on, rest-one, byte-on, spaced-on, spaced-none}
-use Rattle.grammar.specs.Values.{writtenValues, writtenImportance}
-use Rattle.grammar.specs.Declarations.{property, valuesOf}
+use Rattle.grammar.specs.Values.{writtenImportance}
+use Rattle.grammar.specs.Declarations.{property, writtenValue}
 use Rattle.grammar.specs.Sheets.{Item, Next, Shut, closed, parted, End, Block, empty, filled, writtenItem, writtenNext, writtenNexts, writtenShut, writtenEnd, writtenBlock, meansItem, meansNexts, meansBlock}
 use Rattle.grammar.proofs.ValuesRead.{unspaced, ValueEnds, before-semicolon, before-brace}
 use Rattle.grammar.proofs.TokensRead.{name-item}
@@ -140,7 +140,7 @@ nexts-length m ms = length-append (writtenNext m) (writtenNexts ms)
 item-item : (d : Item) (t : List ℕ) → whitespaceItem (writtenItem d ++ t) ≡ 0
 unfolding writtenItem
 item-item d t =
-    let q = d .before-colon .bytes ++ (ascii.colon ∷ (writtenValues (valuesOf (d .declared)) ++ writtenImportance (d .importance))) in
+    let q = d .before-colon .bytes ++ (ascii.colon ∷ (writtenValue (d .declared) ++ writtenImportance (d .importance))) in
     ap whitespaceItem (append-assoc (property (d .declared) .bytes) q t) ∙ name-item (property (d .declared)) (q ++ t)
 
 -- a declaration where it starts

@@ -31,7 +31,7 @@ use Rattle.grammar.specs.Selectors.{Quoted, byte, escaped, unprocessed, 
 use Rattle.grammar.specs.Selectors as selectors
 use Rattle.grammar.specs.Tokens.{Numeral, folded, isExponent, writtenStop, writtenNumeral, writtenAtom, writtenOpening, closer}
 use Rattle.grammar.specs.Values.{writtenValues}
-use Rattle.grammar.specs.Declarations.{named, three, shade, parts, isZero, measured, bare, last, color, background, height, maxHeight, content, Declared, known, knownName, property, shadeValues, partValues, colourValues, lengthValues, stringValues, knownValues, valuesOf, pair, meansShade, meansColour, meansLength, meansStrings, meansKnown, meansDeclared}
+use Rattle.grammar.specs.Declarations.{named, three, shade, parts, isZero, measured, bare, last, color, background, height, maxHeight, content, Declared, known, knownName, property, shadeValues, partValues, colourValues, lengthValues, stringValues, knownValues, writtenValue, pair, meansShade, meansColour, meansLength, meansStrings, meansKnown, meansDeclared}
 use Rattle.grammar.specs.Declarations as declarations
 use Rattle.grammar.proofs.Spelling.{isSpelt, ident, spelt, hashed, quoted}
 use Rattle.grammar.proofs.GrammarCases.{nothing, blank}
@@ -43,8 +43,8 @@ green =
     known (ident (text "Color") refl) blank
     (color (shade (three (hashed (text "0F0") refl (omega arith)) ascii.digitZero ascii.capitalF ascii.digitZero refl refl))) refl
 
-test-green : (property green .bytes ≡ text "Color") × (writtenValues (valuesOf green) ≡ text " #0F0") × (meansDeclared green ≡ syntax.color (rgb 0 255 0))
-unfolding green property ident valuesOf knownValues colourValues shadeValues hashed writtenValues writtenAtom meansDeclared meansKnown meansColour meansShade pair hexDigit text utf8 continuation pick and within
+test-green : (property green .bytes ≡ text "Color") × (writtenValue green ≡ text " #0F0") × (meansDeclared green ≡ syntax.color (rgb 0 255 0))
+unfolding green property ident writtenValue knownValues colourValues shadeValues hashed writtenValues writtenAtom meansDeclared meansKnown meansColour meansShade pair hexDigit text utf8 continuation pick and within
 test-green = (refl, refl, refl)
 
 -- `background:Orange`
@@ -52,8 +52,8 @@ unfoldable orange : Declared
 unfolding isSpelt allOf ident folded lower identStart identCodePoint letter knownName lookup foundOr sameText text utf8 continuation pick or and is within
 orange = known (ident (text "background") refl) nothing (background (named (record { name = ident (text "Orange") refl; means = rgb 255 165 0; listed = refl }))) refl
 
-test-orange : (writtenValues (valuesOf orange) ≡ text "Orange") × (meansDeclared orange ≡ syntax.backgroundColor (rgb 255 165 0))
-unfolding orange ident valuesOf knownValues shadeValues writtenValues writtenAtom meansDeclared meansKnown meansShade text utf8 continuation pick
+test-orange : (writtenValue orange ≡ text "Orange") × (meansDeclared orange ≡ syntax.backgroundColor (rgb 255 165 0))
+unfolding orange ident writtenValue knownValues shadeValues writtenValues writtenAtom meansDeclared meansKnown meansShade text utf8 continuation pick
 test-orange = (refl, refl)
 
 -- `color:RGB( 7,+20 ,255)`
@@ -77,8 +77,8 @@ mixed =
     (record { before = nothing; numeral = twenty; whole = refl; positive = refl; byte = omega arith; behind = blank })
     (record { before = nothing; numeral = full; whole = refl; positive = refl; byte = omega arith; behind = nothing }))) refl
 
-test-mixed : (writtenValues (valuesOf mixed) ≡ text "RGB( 7,+20 ,255)") × (meansDeclared mixed ≡ syntax.color (rgb 7 20 255))
-unfolding mixed seven twenty full ident valuesOf knownValues colourValues partValues writtenValues writtenAtom writtenNumeral writtenSign writtenStop writtenOpening closer meansDeclared meansKnown meansColour worth numeral text utf8 continuation pick
+test-mixed : (writtenValue mixed ≡ text "RGB( 7,+20 ,255)") × (meansDeclared mixed ≡ syntax.color (rgb 7 20 255))
+unfolding mixed seven twenty full ident writtenValue knownValues colourValues partValues writtenValues writtenAtom writtenNumeral writtenSign writtenStop writtenOpening closer meansDeclared meansKnown meansColour worth numeral text utf8 continuation pick
 test-mixed = (refl, refl)
 
 -- `height:.05EM`, `max-height:-0`
@@ -97,9 +97,9 @@ unfoldable nil : Declared
 unfolding isDigit isZero isSpelt allOf ident folded lower identStart identCodePoint letter knownName text utf8 continuation pick or and is within
 nil = known (ident (text "max-height") refl) nothing (maxHeight (bare (record { sign = minus; fraction = false; digits = text "0"; are = more refl each.none; some = omega arith }) refl)) refl
 
-test-lengths : (writtenValues (valuesOf tiny) ≡ text ".05EM") × (meansDeclared tiny ≡ syntax.height false)
-    × (writtenValues (valuesOf nil) ≡ text "-0") × (meansDeclared nil ≡ syntax.maxHeight true)
-unfolding tiny nil ident valuesOf knownValues lengthValues writtenValues writtenAtom writtenNumeral writtenSign writtenStop meansDeclared meansKnown meansLength isZero allOf text utf8 continuation pick and is
+test-lengths : (writtenValue tiny ≡ text ".05EM") × (meansDeclared tiny ≡ syntax.height false)
+    × (writtenValue nil ≡ text "-0") × (meansDeclared nil ≡ syntax.maxHeight true)
+unfolding tiny nil ident writtenValue knownValues lengthValues writtenValues writtenAtom writtenNumeral writtenSign writtenStop meansDeclared meansKnown meansLength isZero allOf text utf8 continuation pick and is
 test-lengths = (refl, refl, refl, refl)
 
 -- `content:"a\"" 'b'`: an escaped quote
@@ -123,8 +123,8 @@ unfoldable said : Declared
 unfolding isSpelt allOf ident folded lower identStart identCodePoint letter knownName text utf8 pick or and is within
 said = known (ident (text "content") refl) nothing (content (declarations.more doubled blank (last single))) refl
 
-test-said : (writtenValues (valuesOf said) ≡ text "\"a\\\"\" 'b'") × (meansDeclared said ≡ syntax.content (text "a\"b"))
-unfolding said doubled single quoted ident valuesOf knownValues stringValues writtenValues writtenAtom meansDeclared meansKnown meansStrings text utf8 continuation pick
+test-said : (writtenValue said ≡ text "\"a\\\"\" 'b'") × (meansDeclared said ≡ syntax.content (text "a\"b"))
+unfolding said doubled single quoted ident writtenValue knownValues stringValues writtenValues writtenAtom meansDeclared meansKnown meansStrings text utf8 continuation pick
 test-said = (refl, refl)
 
 -- ---- `a::before,*::after `: white space may stand behind the last pseudo element

@@ -29,7 +29,7 @@ use Rattle.grammar.specs.Nth.{Blanks}
 use Rattle.grammar.specs.Selectors.{Quoted}
 use Rattle.grammar.specs.Tokens.{Numeral, Ident, folded, Atom, word, string, number, dimension, comma, writtenAtom, meansAtom, meansOpening, meansCloser, meansNumeral, endsName, beginsName, mayFollow, MayFollow}
 use Rattle.grammar.specs.Values.{Values, end, then, block, meansValues, Follows, Apart, isSemicolon, isBang, isBrace, Outermost, Unmarked, Some, DeclarationValue}
-use Rattle.grammar.specs.Declarations.{Keyword, colourNames, Shade, named, three, six, ColourValue, shade, parts, lengthUnits, isZero, Length, measured, bare, overflowWords, displayWords, whiteSpaceWords, Strings, last, more, Known, color, backgroundColor, background, height, maxHeight, overflow, overflowY, display, whiteSpace, content, knownNames, Declared, known, other, knownName, property, alone, shadeValues, partValues, colourValues, lengthValues, stringValues, knownValues, valuesOf, pair, meansShade, meansColour, meansLength, meansStrings, meansKnown, meansDeclared}
+use Rattle.grammar.specs.Declarations.{Keyword, colourNames, Shade, named, three, six, ColourValue, shade, parts, lengthUnits, isZero, Length, measured, bare, overflowWords, displayWords, whiteSpaceWords, Strings, last, more, Known, color, backgroundColor, background, height, maxHeight, overflow, overflowY, display, whiteSpace, content, knownNames, knownName, alone, shadeValues, partValues, colourValues, lengthValues, stringValues, knownValues, pair, meansShade, meansColour, meansLength, meansStrings, meansKnown}
 use Rattle.grammar.proofs.Places.{Unblank, blank-first}
 use Rattle.grammar.proofs.NumbersMeant.{part-integer, numeral-zero}
 
@@ -271,15 +271,13 @@ known-meant b (whiteSpace k) = unfold meansValues meansAtom in rw (white-space-m
 known-meant b (content s) = rw (strings-meant b s)
 
 -- any other is unknown, whatever its value
-other-meant : (w : List ℕ) (ks : List Token) → anyOf w knownNames ≡ false → declOf w ks ≡ syntax.unknown w
+pub other-meant : (w : List ℕ) (ks : List Token) → anyOf w knownNames ≡ false → declOf w ks ≡ syntax.unknown w
 unfolding declOf onFound
 other-meant w ks h = rw (unlisted w properties h)
 
--- a declaration of the grammar is to the engine what it means
-pub declared-meant : (d : Declared) → declOf (folded (property d)) (meansValues (valuesOf d)) ≡ meansDeclared d
-unfolding property valuesOf meansDeclared
-declared-meant (known n b k h) = ap (λ (w : List ℕ). declOf w (meansValues (knownValues b k))) h ∙ known-meant b k
-declared-meant (other n h v d) = other-meant (folded n) (meansValues v) h
+-- a declaration of a property that the engine knows is to it what it means
+pub declared-meant : (n : Ident) (b : Blanks) (k : Known) → folded n ≡ knownName k → declOf (folded n) (meansValues (knownValues b k)) ≡ meansKnown k
+declared-meant n b k h = ap (λ (w : List ℕ). declOf w (meansValues (knownValues b k))) h ∙ known-meant b k
 
 -- ---- the value is one that a declaration may have
 -- one token, that is neither a semicolon nor `!`
@@ -354,7 +352,7 @@ strings-value b (last q) = alone-value b (string q) refl refl
 strings-value b (more q c s) = string-before b q (stringValues c s) (strings-value c s)
 
 -- of each property that the engine knows
-known-value : (b : Blanks) (k : Known) → DeclarationValue (knownValues b k)
+pub known-value : (b : Blanks) (k : Known) → DeclarationValue (knownValues b k)
 unfolding knownValues
 known-value b (color v) = colour-value b v
 known-value b (backgroundColor v) = colour-value b v
@@ -366,9 +364,3 @@ known-value b (overflowY k) = word-value b (k .name)
 known-value b (display k) = word-value b (k .name)
 known-value b (whiteSpace k) = word-value b (k .name)
 known-value b (content s) = strings-value b s
-
--- and of any
-pub declared-value : (d : Declared) → DeclarationValue (valuesOf d)
-unfolding valuesOf
-declared-value (known n b k h) = known-value b k
-declared-value (other n h v d) = d

@@ -1,5 +1,5 @@
 -- A declaration of the grammar is read whole, before what may stand behind a value.
-use mathlib.Core.Path.{_≡_, refl, ap, sym, subst, _∙_}
+use mathlib.Core.Path.{_≡_, refl, ap, sym, _∙_}
 use mathlib.Core.List.{List, _∷_, _++_, append-assoc, append-nil}
 use Prim.Native.Nat.{ℕ, suc, _+_}
 use native.Mathlib.Omega.{arith}
@@ -13,18 +13,23 @@ use Rattle.lexer.specs.Token.{Token}
 use Rattle.lexer.specs.Whitespace.{isWhitespace, commentOf, whitespaceItem, skipWhitespace}
 use Rattle.lexer.proofs.SyntaxName.{identStart, identCodePoint, letter, sequence-unskipped, ident-sequence}
 use Rattle.lexer.proofs.SyntaxWhitespace.{skips-blank}
+use Rattle.syntax.specs.Declaration as syntax
+use Rattle.syntax.specs.Declaration.{Decl}
+use Rattle.values.specs.Property.{declOf}
 use Rattle.values.specs.Value.{valueOf}
 use Rattle.declarations.specs.Rules.{colonBehind, propertyOf, valueBehind, declarationOf}
 use Rattle.grammar.specs.Nth.{Blanks}
 use Rattle.grammar.specs.Tokens.{closer, Ident, folded}
-use Rattle.grammar.specs.Values.{Values, end, then, block, writtenValues, meansValues, Apart, Outermost, Unmarked, Some, DeclarationValue, Importance, normal, important, writtenImportance, isMarked}
-use Rattle.grammar.specs.Declarations.{property, valuesOf}
+use Rattle.grammar.specs.Values.{Values, end, then, block, writtenValues, meansValues, Apart, Outermost, Unmarked, Some, DeclarationValue, Importance, important, writtenImportance, isMarked}
+use Rattle.grammar.specs.Balanced.{Balanced, writtenBalanced, AnyValue}
+use Rattle.grammar.specs.Declarations.{Declared, known, other, property, knownValues, writtenValue, meansKnown, meansDeclared}
 use Rattle.grammar.specs.Sheets.{Item, writtenItem, meansItem}
 use Rattle.grammar.proofs.ComponentsRead.{Ended}
 use Rattle.grammar.proofs.SelectorsRead.{blank-ended}
 use Rattle.grammar.proofs.TokensRead.{atom-begins, opening-begins}
-use Rattle.grammar.proofs.ValuesRead.{unspaced, Halts, halts, at-bang, follows, then-onto, block-onto, ValueEnds, ends-halt, value-read}
-use Rattle.grammar.proofs.DeclarationsMeant.{declared-value, declared-meant}
+use Rattle.grammar.proofs.ValuesRead.{unspaced, Halts, follows, then-onto, block-onto, ValueEnds, mark-halts, ends-halt, marked-read, value-read}
+use Rattle.grammar.proofs.BalancedRead.{unbanged-plain, calm-pass, balanced-behind}
+use Rattle.grammar.proofs.DeclarationsMeant.{declared-meant, other-meant, known-value}
 
 -- ---- white space before a value
 -- which the reader skips with the colon
@@ -68,12 +73,54 @@ unled-item (then b a v) z h g =
     ap whitespaceItem (then-onto unspaced a v z) ∙ atom-begins a (writtenValues v ++ z) (follows a v z (h .apart .0) (h .apart .1) g) .item
 unled-item (block b o w v) z h g = ap whitespaceItem (block-onto unspaced o w v z) ∙ opening-begins o (writtenValues w ++ (closer o ∷ (writtenValues v ++ z))) .item
 
--- a mark may stand behind a value
-mark-halts : (m : Importance) (z : List ℕ) → Halts z → Halts (writtenImportance m ++ z)
-unfolding writtenImportance
-mark-halts normal z h = h
-mark-halts (important b c n i) z h =
-    subst Halts (sym (append-assoc (b .bytes) (ascii.exclamationMark ∷ (c .bytes ++ n .bytes)) z)) (halts (b .blank) (at-bang ((c .bytes ++ n .bytes) ++ z)))
+-- ---- a value in a declaration: white space, and what is read behind it
+record ValueRead (w : List ℕ) (m : Importance) (t name : List ℕ) (means : Decl) : Type 0 where
+  before : Blanks
+  left : List ℕ
+  onto : w ++ writtenImportance m ≡ before .bytes ++ left
+  item : whitespaceItem (left ++ t) ≡ 0
+  tokens : List Token
+  reads : valueOf (left ++ t) ≡ ok (length left) (record { tokens = tokens; important = isMarked m })
+  meant : declOf name tokens ≡ means
+
+-- of component values
+values-read : (v : Values) (m : Importance) (t name : List ℕ) (means : Decl) → DeclarationValue v → declOf name (meansValues v) ≡ means → ValueEnds t
+    → ValueRead (writtenValues v) m t name means
+values-read v m t name means h e z =
+    let u = writtenValues (unled v) ++ writtenImportance m in
+    record {
+      before = lead v;
+      left = u;
+      onto = ap (λ (r : List ℕ). r ++ writtenImportance m) (lead-onto v) ∙ append-assoc (lead v .bytes) (writtenValues (unled v)) (writtenImportance m);
+      item = ap whitespaceItem (append-assoc (writtenValues (unled v)) (writtenImportance m) t) ∙ unled-item v (writtenImportance m ++ t) h (mark-halts m t (ends-halt z));
+      tokens = meansValues v;
+      reads =
+          value-read (unled v) m t (unled-value v h) z ∙ ap (λ (ks : List Token). ok (length u) (record { tokens = ks; important = isMarked m })) (unled-means v);
+      meant = e;
+    }
+
+-- of a text in which brackets match, whatever its tokens are
+any-read : (v : Balanced) (m : Importance) (t name : List ℕ) (means : Decl) → AnyValue v → ((ks : List Token) → declOf name ks ≡ means) → ValueEnds t
+    → ValueRead (writtenBalanced v) m t name means
+any-read v m t name means h e z =
+    let k = balanced-behind v (writtenImportance m ++ t) (h .some) (h .clear) (h .tight) (mark-halts m t (ends-halt z)) in
+    let r = k .rest in
+    let p = calm-pass r (writtenImportance m ++ t) (k .keeps-clear (h .clear)) (k .keeps-outside (h .outside)) (k .keeps-tight (h .tight)) (k .keeps-calm (h .calm)) (mark-halts m t (ends-halt z)) in
+    record {
+      before = k .before;
+      left = writtenBalanced r ++ writtenImportance m;
+      onto = ap (λ (l : List ℕ). l ++ writtenImportance m) (k .parts) ∙ append-assoc (k .before .bytes) (writtenBalanced r) (writtenImportance m);
+      item = ap whitespaceItem (append-assoc (writtenBalanced r) (writtenImportance m) t) ∙ k .item;
+      tokens = p .ks;
+      reads = marked-read (writtenBalanced r) m t (p .passes) (unbanged-plain (p .ks) (p .unbanged refl)) z;
+      meant = e (p .ks);
+    }
+
+-- of every declaration
+declared-read : (d : Declared) (m : Importance) (t : List ℕ) → ValueEnds t → ValueRead (writtenValue d) m t (folded (property d)) (meansDeclared d)
+unfolding writtenValue property meansDeclared
+declared-read (known n b k h) m t z = values-read (knownValues b k) m t (folded n) (meansKnown k) (known-value b k) (declared-meant n b k h) z
+declared-read (other n d v h) m t z = any-read v m t (folded n) (syntax.unknown (folded n)) h (λ ks. other-meant (folded n) ks d) z
 
 -- ---- a declaration
 -- its name is read whole, in small letters, where it ends
@@ -110,31 +157,27 @@ colon-ended : (r : List ℕ) → Ended (ascii.colon ∷ r)
 unfolding identCodePoint identStart letter or and within is
 colon-ended r = record { no-character = refl; no-escape = λ q. omega arith; no-round = refl }
 
-module _ (d : Item) (t : List ℕ) where
+module _ (d : Item) (t : List ℕ) (z : ValueEnds t) where
   -- the parts of a declaration: its name, the white space before the colon and behind it, its value with its mark
+  abbrev k : ValueRead (writtenValue (d .declared)) (d .importance) t (folded (property (d .declared))) (meansDeclared (d .declared))
+  k = declared-read (d .declared) (d .importance) t z
+
   abbrev a : List ℕ
   a = property (d .declared) .bytes
 
   abbrev g : List ℕ
   g = d .before-colon .bytes
 
-  abbrev v : Values
-  v = valuesOf (d .declared)
-
   abbrev l : List ℕ
-  l = lead v .bytes
+  l = k .before .bytes
 
   abbrev u : List ℕ
-  u = writtenValues (unled v) ++ writtenImportance (d .importance)
-
-  -- the value with the white space before it
-  value-onto : writtenValues v ++ writtenImportance (d .importance) ≡ l ++ u
-  value-onto = ap (λ (r : List ℕ). r ++ writtenImportance (d .importance)) (lead-onto v) ∙ append-assoc l (writtenValues (unled v)) (writtenImportance (d .importance))
+  u = k .left
 
   -- what is written
   item-parts : writtenItem d ≡ a ++ (g ++ (ascii.colon ∷ (l ++ u)))
   unfolding writtenItem
-  item-parts = ap (λ (r : List ℕ). a ++ (g ++ (ascii.colon ∷ r))) value-onto
+  item-parts = ap (λ (r : List ℕ). a ++ (g ++ (ascii.colon ∷ r))) (k .onto)
 
   -- with t behind it
   item-onto : writtenItem d ++ t ≡ a ++ (g ++ (ascii.colon ∷ (l ++ (u ++ t))))
@@ -146,19 +189,13 @@ module _ (d : Item) (t : List ℕ) where
   item-length : length (writtenItem d) ≡ length a + length g + 1 + length l + length u
   item-length = omega (arith, ap length item-parts, length-append a (g ++ (ascii.colon ∷ (l ++ u))), length-append g (ascii.colon ∷ (l ++ u)), length-append l u)
 
-  -- the value begins with no white space
-  value-item : Halts t → whitespaceItem (u ++ t) ≡ 0
-  value-item h =
-      ap whitespaceItem (append-assoc (writtenValues (unled v)) (writtenImportance (d .importance)) t)
-      ∙ unled-item v (writtenImportance (d .importance) ++ t) (declared-value (d .declared)) (mark-halts (d .importance) t h)
-
   -- the name and the colon are read
-  property-read : Halts t → propertyOf (a ++ (g ++ (ascii.colon ∷ (l ++ (u ++ t))))) ≡ ok (length a + length g + 1 + length l) (folded (property (d .declared)))
+  property-read : propertyOf (a ++ (g ++ (ascii.colon ∷ (l ++ (u ++ t))))) ≡ ok (length a + length g + 1 + length l) (folded (property (d .declared)))
   unfolding propertyOf onParsed
-  property-read h =
+  property-read =
       let r = l ++ (u ++ t) in
       rw (ident-read (property (d .declared)) (g ++ (ascii.colon ∷ r)) (blank-ended (ascii.colon ∷ r) (d .before-colon .blank) (colon-ended r)))
-      (colon-read a g r (folded (property (d .declared))) (skips-blank g (ascii.colon ∷ r) (d .before-colon .blank) (block-items r .2)) (length l) (skips-blank l (u ++ t) (lead v .blank) (value-item h)))
+      (colon-read a g r (folded (property (d .declared))) (skips-blank g (ascii.colon ∷ r) (d .before-colon .blank) (block-items r .2)) (length l) (skips-blank l (u ++ t) (k .before .blank) (k .item)))
 
   -- the value stands behind them
   value-behind : drop (length a + length g + 1 + length l) (a ++ (g ++ (ascii.colon ∷ (l ++ (u ++ t))))) ≡ u ++ t
@@ -168,22 +205,16 @@ module _ (d : Item) (t : List ℕ) where
       (drop-append-add a (g ++ (ascii.colon ∷ (l ++ (u ++ t)))) (length g + suc (length l)) ∙ drop-append-add g (ascii.colon ∷ (l ++ (u ++ t))) (suc (length l))
       ∙ drop-append-seam l (u ++ t))
 
-  -- a value of the grammar, and what it declares
-  meant-read : ValueEnds t → valueOf (u ++ t) ≡ ok (length u) (record { tokens = meansValues v; important = isMarked (d .importance) })
-  meant-read h =
-      value-read (unled v) (d .importance) t (unled-value v (declared-value (d .declared))) h
-      ∙ ap (λ (ks : List Token). ok (length u) (record { tokens = ks; important = isMarked (d .importance) })) (unled-means v)
-
   -- it is read whole
-  pub declaration-read : ValueEnds t → declarationOf (writtenItem d ++ t) ≡ ok (length (writtenItem d)) (meansItem 0 d)
+  pub declaration-read : declarationOf (writtenItem d ++ t) ≡ ok (length (writtenItem d)) (meansItem 0 d)
   unfolding declarationOf valueBehind onParsed meansItem
-  declaration-read h =
+  declaration-read =
       rw (
         item-onto,
-        property-read (ends-halt h),
+        property-read,
         value-behind,
-        meant-read h,
-        declared-meant (d .declared),
+        k .reads,
+        k .meant,
         sequence-unskipped (property (d .declared) .sequence) (g ++ (ascii.colon ∷ (l ++ (u ++ t)))),
         item-length,
       )

@@ -16,4 +16,3 @@ pub mod SheetsRead
 pub mod DeclarationCases
 pub mod GrammarCases
 pub mod SheetCases
-pub mod ValueCases

@@ -31,9 +31,10 @@ use Rattle.selectors.specs.Selector.{signed}
 use Rattle.sheets.specs.Sheet.{sheetOf}
 use Rattle.grammar.specs.Nth.{Blanks, unsigned, Count, sum, writtenSign, signByte, writtenArgument, negative, worth, meansArgument}
 use Rattle.grammar.specs.Selectors.{Quoted, unprocessed, class, nthChild, typed, child, one, joined, writtenSimple, writtenSimples, writtenCompound, writtenCombinator, written, meansSimple, meansCompound, meansCombinator, inOrder, Agrees, writtenPseudo, Tight, last, several, writtenChosen, writtenGroup, meansChosen, meansGroup}
-use Rattle.grammar.specs.Tokens.{Numeral, Hashed, isExponent, isDelimiter, word, string, hash, dimension, colon, semicolon, delimiter, function, square, brace, meansAtom, meansOpening, meansCloser, writtenStop, writtenNumeral, writtenAtom, writtenOpening, closer, endsName, mayFollow, folded}
-use Rattle.grammar.specs.Values.{Values, end, then, block, writtenValues, meansValues, isBrace, Follows, Apart, isSemicolon, isBang, Outermost, Unmarked, Some, normal, important, writtenImportance, isMarked}
-use Rattle.grammar.specs.Declarations.{named, three, shade, isZero, bare, color, backgroundColor, height, display, content, Declared, known, other, knownName, property, shadeValues, colourValues, lengthValues, stringValues, knownValues, valuesOf, pair, meansShade, meansColour, meansLength, meansStrings, meansKnown, meansDeclared}
+use Rattle.grammar.specs.Tokens.{string, semicolon, function, square, meansAtom, meansOpening, meansCloser, writtenStop, writtenNumeral, writtenAtom, writtenOpening, closer, endsName, mayFollow, folded}
+use Rattle.grammar.specs.Values.{Values, end, then, block, writtenValues, meansValues, isBrace, Follows, Apart, Outermost, normal, important, writtenImportance, isMarked}
+use Rattle.grammar.specs.Declarations.{named, three, shade, isZero, bare, color, backgroundColor, height, display, content, Declared, known, other, knownName, property, shadeValues, colourValues, lengthValues, stringValues, knownValues, writtenValue, pair, meansShade, meansColour, meansLength, meansStrings, meansKnown, meansDeclared}
+use Rattle.grammar.specs.Balanced as balanced
 use Rattle.grammar.specs.Declarations as declarations
 use Rattle.grammar.specs.Sheets.{Item, filled, Rule, braces, AtRule, rule, atRule, Sheet, writtenItem, writtenNext, writtenNexts, writtenShut, writtenEnd, writtenBlock, writtenRule, writtenAtEnd, writtenAt, writtenStatement, writtenStatements, writtenSheet, meansItem, meansNexts, meansBlock, meansRule, meansStatements, meansSheet, unreadBehind, unread}
 use Rattle.grammar.specs.Sheets as sheets
@@ -72,20 +73,32 @@ remark =
       blank = white ascii.lineFeed _ (newline line-feed) (comment (text "/* page */") (text "\n") (closed (text " page ") (λ p q e. starless-end p q (sym (ap (allOf starless) e)))) (line .blank));
     }
 
+-- ---- texts in which brackets match
+-- plain characters before a text
+unfoldable plains : (w : List ℕ) → allOf balanced.isPlain w ≡ true → balanced.Balanced → balanced.Balanced
+unfolding allOf
+plains [] e v = v
+plains (x ∷ w) e v = let p = and-true (balanced.isPlain x) (allOf balanced.isPlain w) e in balanced.plain x (p .0) (plains w (p .1) v)
+
+-- a blank before a text
+abbrev spaced : balanced.Balanced → balanced.Balanced
+spaced v = balanced.space ascii.space blank-space v
+
 -- ---- `@charset "utf-8";`
 unfoldable encoding : Quoted
 unfolding isQuote plain ordinary unprocessed allOf text utf8 continuation pick or and is
 encoding = quoted ascii.quotationMark (text "utf-8") refl refl refl
 
 unfoldable charset : AtRule
-unfolding Follows Apart Outermost isSemicolon writtenValues writtenAtom endsName identCodePoint identStart letter isSpelt allOf spelt pick or and is within text utf8 ident folded lower knownName
+unfolding balanced.Clear balanced.Outside balanced.More balanced.Tight balanced.writtenBalanced endsName identCodePoint identStart letter isSpelt allOf spelt pick or and is within text utf8 ident folded lower
 charset =
     record {
       name = ident (text "charset") refl;
-      prelude = then blank (string encoding) (end nothing);
+      prelude = spaced (balanced.quoted encoding balanced.end);
       ends = refl;
-      apart = (tt, tt);
-      outermost = (refl, refl);
+      clear = tt;
+      outside = tt;
+      tight = (tt, tt);
       gap = nothing;
       end = sheets.semicolon;
       behind = remark;
@@ -129,42 +142,34 @@ away =
       behind = line;
     }
 
--- ---- `@media print { nav > a { color: blue; } }`
+-- ---- `@media print { nav > a { color: blue!important; } }`
 unfoldable media : AtRule
-unfolding Follows Apart Outermost isSemicolon writtenValues writtenAtom writtenOpening mayFollow endsName identCodePoint identStart letter isDelimiter member isSpelt allOf spelt pick or and is within text utf8 ident folded lower knownName
+unfolding plains balanced.isPlain balanced.isMark balanced.isOddUrl balanced.isAddress balanced.Clear balanced.Outside balanced.More balanced.Tight balanced.writtenBalanced balanced.opens balanced.closes endsName identCodePoint identStart letter member startsWith isSpelt allOf spelt pick or and is within text utf8 ident folded lower
 media =
     record {
       name = ident (text "media") refl;
-      prelude = then blank (word (ident (text "print") refl)) (end nothing);
+      prelude = spaced (plains (text "print") refl balanced.end);
       ends = refl;
-      apart = (tt, tt);
-      outermost = (refl, refl);
+      clear = (refl, (refl, (refl, (refl, (refl, tt)))));
+      outside = tt;
+      tight = (tt, tt);
       gap = blank;
       end =
           braces
-          (then blank (word (ident (text "nav") refl)) (then blank (delimiter ascii.greaterThanSign refl) (then blank (word (ident (text "a") refl))
-          (block blank brace
-          (then blank (word (ident (text "color") refl)) (then nothing colon (then blank (word (ident (text "blue") refl)) (then nothing semicolon (end blank)))))
-          (end blank)))))
-          (refl, (refl, (refl, ((refl, (refl, (refl, (tt, tt)))), tt))));
+          (spaced (plains (text "nav") refl (spaced (plains (text ">") refl (spaced (plains (text "a") refl (spaced
+          (balanced.block balanced.curly (spaced (plains (text "color:") refl (spaced (plains (text "blue") refl (balanced.bang (plains (text "important") refl (balanced.semicolon (spaced balanced.end)))))))) balanced.end))))))))
+          (refl, (refl, (refl, (refl, (refl, ((refl, (refl, (refl, (refl, (refl, (refl, (refl, (refl, (refl, (refl, (refl, (refl, (refl, (refl, (refl, (refl, (refl, (refl, (refl, tt))))))))))))))))))), tt)))))) (tt, (tt, (tt, (tt, tt)))) blank;
       behind = line;
     }
 
--- ---- `p.note {`, `border: 1px solid #ccc;`, `height: 0`, `}`
-unfoldable pixel : Numeral
-unfolding isDigit and within text utf8 pick
-pixel = record { sign = unsigned; fraction = false; digits = text "1"; are = more refl each.none; some = omega arith }
-
-unfoldable gray : Hashed
-unfolding identCodePoint identStart letter lower text utf8 pick or and is within
-gray = record { bytes = text "ccc"; are = more refl (more refl (more refl each.none)); some = omega arith }
-
-unfoldable border : Declared
-unfolding pixel gray Follows Apart Outermost Unmarked Some isSemicolon isBang writtenAtom writtenNumeral writtenSign writtenStop mayFollow endsName identCodePoint identStart letter isExponent startsWith anyOf sameText isSpelt allOf spelt pick or and is within text utf8 continuation ident folded lower knownName
-border =
-    other (ident (text "border") refl) refl
-    (then blank (dimension pixel (record { name = ident (text "px") refl; no-exponent = refl })) (then blank (word (ident (text "solid") refl)) (then blank (hash gray) (end nothing))))
-    (record { some = tt; apart = (refl, (refl, (tt, tt))); outermost = (refl, (refl, (refl, refl))); unmarked = (refl, (refl, (refl, tt))) })
+-- ---- `p.note {`, `margin: 0 Auto calc(1.5em - 2px);`, `height: 0`, `}`
+unfoldable margin : Declared
+unfolding plains balanced.isPlain balanced.isMark balanced.isOddUrl balanced.isAddress balanced.Clear balanced.Outside balanced.More balanced.Tight balanced.Calm balanced.writtenBalanced balanced.opens balanced.closes member startsWith anyOf sameText identCodePoint identStart letter isSpelt allOf spelt pick or and is within text utf8 continuation ident folded lower
+margin =
+    other (ident (text "margin") refl) refl
+    (spaced (plains (text "0") refl (spaced (plains (text "Auto") refl (spaced (plains (text "calc") refl
+    (balanced.block balanced.round (plains (text "1.5em") refl (spaced (plains (text "-") refl (spaced (plains (text "2px") refl balanced.end))))) balanced.end)))))))
+    (record { some = tt; clear = (refl, (refl, (refl, (refl, (refl, (refl, (refl, (refl, (refl, ((refl, (refl, (refl, (refl, (refl, (refl, (refl, (refl, (refl, tt))))))))), tt)))))))))); outside = tt; tight = (tt, (tt, (tt, tt))); calm = (tt, tt) })
 
 unfoldable flat : Declared
 unfolding isDigit isZero allOf text utf8 continuation pick and is within isSpelt ident folded lower identStart identCodePoint letter knownName or
@@ -175,7 +180,7 @@ unfolding Agrees isSpelt allOf spelt pick or and is within text utf8 ident folde
 note =
     record {
       selectors = last (record { selector = one (typed (spelt (text "p") refl refl) (class (spelt (text "note") refl refl) ∷ [])); agrees = tt; pseudo = syntax.none; gap = blank });
-      block = filled indent (item border) (record { lead = indent; item = item flat } ∷ []) (record { gap = line; shut = sheets.closed });
+      block = filled indent (item margin) (record { lead = indent; item = item flat } ∷ []) (record { gap = line; shut = sheets.closed });
       behind = line;
     }
 
@@ -216,15 +221,15 @@ page = record { lead = nothing; statements = atRule charset ∷ rule body ∷ ru
 -- how it is written
 unfoldable pageText : List ℕ
 pageText =
-    text "@charset \"utf-8\";\n/* page */\nbody { color: #333; background-color: white }\nnav, a::before { display: none !important; }\n@media print { nav > a { color: blue; } }\np.note {\n  border: 1px solid #ccc;\n  height: 0\n}\nul > li:nth-child(2n+1) { content: \"* \" }\n"
+    text "@charset \"utf-8\";\n/* page */\nbody { color: #333; background-color: white }\nnav, a::before { display: none !important; }\n@media print { nav > a { color: blue!important; } }\np.note {\n  margin: 0 Auto calc(1.5em - 2px);\n  height: 0\n}\nul > li:nth-child(2n+1) { content: \"* \" }\n"
 
 test-text : writtenSheet page ≡ pageText
-unfolding pageText page charset encoding remark body dark bright away hidden media note border pixel gray flat items two odd star bullet ident spelt folded lower hashed writtenSheet writtenStatements writtenStatement writtenRule writtenAt writtenAtEnd writtenBlock writtenEnd writtenShut writtenNexts writtenNext writtenItem writtenImportance writtenGroup writtenChosen writtenPseudo written writtenCompound writtenCombinator writtenSimples writtenSimple writtenArgument writtenSign signByte property knownName valuesOf knownValues colourValues shadeValues lengthValues stringValues writtenValues writtenAtom writtenNumeral writtenStop writtenOpening closer text utf8 continuation pick quoted
+unfolding pageText page charset encoding remark body dark bright away hidden media note margin plains flat items two odd star bullet ident spelt folded lower hashed writtenSheet writtenStatements writtenStatement writtenRule writtenAt writtenAtEnd writtenBlock writtenEnd writtenShut writtenNexts writtenNext writtenItem writtenImportance writtenGroup writtenChosen writtenPseudo written writtenCompound writtenCombinator writtenSimples writtenSimple writtenArgument writtenSign signByte property knownName writtenValue balanced.writtenBalanced balanced.opens balanced.closes knownValues colourValues shadeValues lengthValues stringValues writtenValues writtenAtom writtenNumeral writtenStop writtenOpening closer text utf8 continuation pick quoted
 test-text = refl
 
 -- what it is read as
 test-sheet : sheetOf pageText
-    ≡ reads 253
+    ≡ reads 273
     (record {
       selectors = record { components = syntax.element (text "body") ∷ []; pseudo = syntax.none } ∷ [];
       declarations =
@@ -241,17 +246,17 @@ test-sheet : sheetOf pageText
     ∷ record {
       selectors = record { components = syntax.class (text "note") ∷ syntax.element (text "p") ∷ []; pseudo = syntax.none } ∷ [];
       declarations =
-          record { decl = means.unknown (text "border"); important = false; start = 173 } ∷ record { decl = means.height true; important = false; start = 199 } ∷ [];
-      start = 162;
+          record { decl = means.unknown (text "margin"); important = false; start = 183 } ∷ record { decl = means.height true; important = false; start = 219 } ∷ [];
+      start = 172;
     }
     ∷ record {
       selectors =
           record { components = syntax.nth (pos 2) (pos 1) ∷ syntax.element (text "li") ∷ syntax.child ∷ syntax.element (text "ul") ∷ []; pseudo = syntax.none } ∷ [];
-      declarations = record { decl = means.content (text "* "); important = false; start = 237 } ∷ [];
-      start = 211;
+      declarations = record { decl = means.content (text "* "); important = false; start = 257 } ∷ [];
+      start = 231;
     }
     ∷ [])
-unfolding page charset encoding remark body dark bright away hidden media note border pixel gray flat items two odd star bullet ident spelt folded lower hashed writtenSheet writtenStatements writtenStatement writtenRule writtenAt writtenAtEnd writtenBlock writtenEnd writtenShut writtenNexts writtenNext writtenItem writtenImportance writtenGroup writtenChosen writtenPseudo written writtenCompound writtenCombinator writtenSimples writtenSimple writtenArgument writtenSign signByte property knownName valuesOf knownValues colourValues shadeValues lengthValues stringValues writtenValues writtenAtom writtenNumeral writtenStop writtenOpening closer text utf8 continuation pick meansSheet meansStatements meansRule meansBlock meansNexts meansItem isMarked meansDeclared meansKnown meansColour meansShade pair hexDigit meansLength meansStrings meansGroup meansChosen inOrder meansCompound meansCombinator meansSimple meansArgument negative worth numeral signed unread unreadBehind and is within quoted
+unfolding page charset encoding remark body dark bright away hidden media note margin plains flat items two odd star bullet ident spelt folded lower hashed writtenSheet writtenStatements writtenStatement writtenRule writtenAt writtenAtEnd writtenBlock writtenEnd writtenShut writtenNexts writtenNext writtenItem writtenImportance writtenGroup writtenChosen writtenPseudo written writtenCompound writtenCombinator writtenSimples writtenSimple writtenArgument writtenSign signByte property knownName writtenValue balanced.writtenBalanced balanced.opens balanced.closes knownValues colourValues shadeValues lengthValues stringValues writtenValues writtenAtom writtenNumeral writtenStop writtenOpening closer text utf8 continuation pick meansSheet meansStatements meansRule meansBlock meansNexts meansItem isMarked meansDeclared meansKnown meansColour meansShade pair hexDigit meansLength meansStrings meansGroup meansChosen inOrder meansCompound meansCombinator meansSimple meansArgument negative worth numeral signed unread unreadBehind and is within quoted
 test-sheet = ap sheetOf (sym test-text) ∙ sheet-whole page refl
 
 -- ---- `b("};"/*;}*/[;])` before ` ;c`: the marks in the string, in the comment and in the brackets do not end it

@@ -31,7 +31,7 @@ use Rattle.sheets.specs.Sheet.{spaced, blockOf, rulesetOf, statementEnd, atRule
 use Rattle.grammar.specs.Nth.{Blanks}
 use Rattle.grammar.specs.Selectors.{writtenGroup, meansGroup}
 use Rattle.grammar.specs.Tokens.{brace, writtenOpening, closer, meansOpening, meansCloser, endsName, folded}
-use Rattle.grammar.specs.Values.{Values, writtenValues, Apart, Outermost}
+use Rattle.grammar.specs.Balanced.{Balanced, writtenBalanced, Clear, Outside, Tight}
 use Rattle.grammar.specs.Sheets.{Block, empty, filled, Rule, AtEnd, semicolon, braces, AtRule, Sheet, rule, atRule, writtenItem, writtenBlock, writtenRule, writtenAtEnd, writtenAt, writtenStatement, writtenStatements, writtenSheet, meansBlock, meansRule, meansStatements, meansSheet, unreadBehind, unread, SheetRead}
 use Rattle.grammar.specs.Sheets as sheets
 use Rattle.grammar.proofs.ComponentsRead.{behind-blank}
@@ -39,7 +39,8 @@ use Rattle.grammar.proofs.Places.{rest-on, rest-one, byte-on, spaced-on
 use Rattle.grammar.proofs.GroupsRead.{group-item, group-read}
 use Rattle.grammar.proofs.StringsRead.{untrue}
 use Rattle.grammar.proofs.TokensRead.{name-item, token-read, neither, semicolon-token, opening-begins, closer-read}
-use Rattle.grammar.proofs.ValuesRead.{unspaced, conses, Passes, passes-on, passes-token, Within, opening-goes, Halts, halts, at-semicolon, at-brace, closer-halts, halts-ends, trail, values-pass, outer-pass}
+use Rattle.grammar.proofs.ValuesRead.{unspaced, conses, Passes, passes-on, passes-token, opening-goes, Halts, halts, closed, at-semicolon, at-brace, halts-ends}
+use Rattle.grammar.proofs.BalancedRead.{Level, balanced-pass}
 use Rattle.grammar.proofs.DeclarationsRead.{block-items}
 use Rattle.grammar.proofs.BlocksRead.{block-read, moved-item, moved-nexts}
 
@@ -81,7 +82,7 @@ end-steps = (refl, refl)
 
 -- what is written behind the name of an at-rule
 unfoldable writtenBody : AtRule → List ℕ
-writtenBody a = writtenValues (a .prelude) ++ (a .gap .bytes ++ writtenAtEnd (a .end))
+writtenBody a = writtenBalanced (a .prelude) ++ (a .gap .bytes ++ writtenAtEnd (a .end))
 
 -- a statement with x behind it, which is taken to its end
 record Ended (w x : List ℕ) : Type 0 where
@@ -96,45 +97,46 @@ ended-by w x {s} {t} e p n k o b z =
     let m : p .taken + n ≡ length w = omega (arith, p .all, ap length e, length-append w x) in
     record { taken = ap (λ (l : List ℕ). statementOf true l .taken) e ∙ q .0 ∙ m; balanced = ap (λ (l : List ℕ). statementOf true l .balanced) e ∙ q .1 }
 
-module _ (v : Values) (h : Apart v) (o : Outermost v) (g : Blanks) (x : List ℕ) where
-  -- component values up to a semicolon
-  semicolon-ends : Ended (writtenValues v ++ (g .bytes ++ writtenAtEnd semicolon)) x
-  unfolding writtenAtEnd
+module _ (v : Balanced) (h : Clear v) (o : Outside v) (r : Tight v) (g : Blanks) (x : List ℕ) where
+  -- text up to a semicolon
+  semicolon-ends : Ended (writtenBalanced v ++ (g .bytes ++ writtenAtEnd semicolon)) x
+  unfolding writtenAtEnd Level
   semicolon-ends =
       let y = ascii.semicolon ∷ x in
-      let e : (writtenValues v ++ (g .bytes ++ (ascii.semicolon ∷ []))) ++ x ≡ writtenValues v ++ (g .bytes ++ y) =
-      append-assoc (writtenValues v) (g .bytes ++ (ascii.semicolon ∷ [])) x ∙ ap (λ (l : List ℕ). writtenValues v ++ l) (append-assoc (g .bytes) (ascii.semicolon ∷ []) x) in
-      ended-by (writtenValues v ++ (g .bytes ++ (ascii.semicolon ∷ []))) x e (outer-pass {include = true} v (g .bytes ++ y) h o (halts (g .blank) (at-semicolon x)))
+      let e : (writtenBalanced v ++ (g .bytes ++ (ascii.semicolon ∷ []))) ++ x ≡ writtenBalanced v ++ (g .bytes ++ y) =
+      append-assoc (writtenBalanced v) (g .bytes ++ (ascii.semicolon ∷ [])) x ∙ ap (λ (l : List ℕ). writtenBalanced v ++ l) (append-assoc (g .bytes) (ascii.semicolon ∷ []) x) in
+      ended-by (writtenBalanced v ++ (g .bytes ++ (ascii.semicolon ∷ []))) x e (balanced-pass true [] v (g .bytes ++ y) 0 h o r (halts (g .blank) (at-semicolon x)) .passes)
       (length (g .bytes) + 1) tokens.semicolon (token-read g y 1 tokens.semicolon (semicolon-token x)) (end-steps .0) (omega (arith, length-append (g .bytes) y))
 
   -- or up to the end of a block
-  braces-end : (w : Values) (k : Apart w) → Ended (writtenValues v ++ (g .bytes ++ writtenAtEnd (braces w k))) x
-  unfolding writtenAtEnd writtenOpening closer Within
-  braces-end w k =
-      let z = ascii.rightCurlyBracket ∷ x in
-      let y = writtenValues w ++ z in
-      let f = writtenValues w ++ (ascii.rightCurlyBracket ∷ []) in
-      let e : (writtenValues v ++ (g .bytes ++ (ascii.leftCurlyBracket ∷ f))) ++ x ≡ writtenValues v ++ (g .bytes ++ (ascii.leftCurlyBracket ∷ y)) =
-      append-assoc (writtenValues v) (g .bytes ++ (ascii.leftCurlyBracket ∷ f)) x
-      ∙ ap (λ (l : List ℕ). writtenValues v ++ l)
-      (append-assoc (g .bytes) (ascii.leftCurlyBracket ∷ f) x ∙ ap (λ (l : List ℕ). g .bytes ++ (ascii.leftCurlyBracket ∷ l)) (append-assoc (writtenValues w) (ascii.rightCurlyBracket ∷ []) x)) in
-      let p = outer-pass {include = true} v (g .bytes ++ (ascii.leftCurlyBracket ∷ y)) h o (halts (g .blank) (at-brace y)) in
+  braces-end : (w : Balanced) (c : Clear w) (t : Tight w) (b : Blanks) → Ended (writtenBalanced v ++ (g .bytes ++ writtenAtEnd (braces w c t b))) x
+  unfolding writtenAtEnd writtenOpening closer Level
+  braces-end w c t b =
+      let z = b .bytes ++ (ascii.rightCurlyBracket ∷ x) in
+      let y = writtenBalanced w ++ z in
+      let f = writtenBalanced w ++ (b .bytes ++ (ascii.rightCurlyBracket ∷ [])) in
+      let i : f ++ x ≡ y =
+      append-assoc (writtenBalanced w) (b .bytes ++ (ascii.rightCurlyBracket ∷ [])) x ∙ ap (λ (l : List ℕ). writtenBalanced w ++ l) (append-assoc (b .bytes) (ascii.rightCurlyBracket ∷ []) x) in
+      let e : (writtenBalanced v ++ (g .bytes ++ (ascii.leftCurlyBracket ∷ f))) ++ x ≡ writtenBalanced v ++ (g .bytes ++ (ascii.leftCurlyBracket ∷ y)) =
+      append-assoc (writtenBalanced v) (g .bytes ++ (ascii.leftCurlyBracket ∷ f)) x
+      ∙ ap (λ (l : List ℕ). writtenBalanced v ++ l) (append-assoc (g .bytes) (ascii.leftCurlyBracket ∷ f) x ∙ ap (λ (l : List ℕ). g .bytes ++ (ascii.leftCurlyBracket ∷ l)) i) in
+      let p = balanced-pass true [] v (g .bytes ++ (ascii.leftCurlyBracket ∷ y)) 0 h o r (halts (g .blank) (at-brace y)) .passes in
       let q = passes-token {include = true} g (ascii.leftCurlyBracket ∷ []) y (0 + p .taken) (meansOpening brace) [] (ascii.rightCurlyBracket ∷ []) (opening-begins brace y) (opening-goes true g brace []) in
-      let m = values-pass {include = true} w z (0 + p .taken + q .taken) (ascii.rightCurlyBracket ∷ []) k (closer-halts brace x) tt in
-      ended-by (writtenValues v ++ (g .bytes ++ (ascii.leftCurlyBracket ∷ f))) x e (passes-on p (passes-on q m)) (length (trail w .bytes) + 1) (meansCloser brace)
-      (closer-read (trail w) brace x) (end-steps .1) (omega (arith, length-append (trail w .bytes) z))
+      let m = balanced-pass true (ascii.rightCurlyBracket ∷ []) w z (0 + p .taken + q .taken) c tt t (halts (b .blank) (closed brace x)) .passes in
+      ended-by (writtenBalanced v ++ (g .bytes ++ (ascii.leftCurlyBracket ∷ f))) x e (passes-on p (passes-on q m)) (length (b .bytes) + 1) (meansCloser brace) (closer-read b brace x) (end-steps .1)
+      (omega (arith, length-append (b .bytes) (ascii.rightCurlyBracket ∷ x)))
 
   -- either
-  body-ends : (e : AtEnd) → Ended (writtenValues v ++ (g .bytes ++ writtenAtEnd e)) x
+  body-ends : (e : AtEnd) → Ended (writtenBalanced v ++ (g .bytes ++ writtenAtEnd e)) x
   body-ends semicolon = semicolon-ends
-  body-ends (braces w k) = braces-end w k
+  body-ends (braces w c t b) = braces-end w c t b
 
 -- it ends a name
 at-halts : (g : Blanks) (e : AtEnd) (x : List ℕ) → Halts ((g .bytes ++ writtenAtEnd e) ++ x)
 unfolding writtenAtEnd
 at-halts g semicolon x = subst Halts (sym (append-assoc (g .bytes) (ascii.semicolon ∷ []) x)) (halts (g .blank) (at-semicolon x))
-at-halts g (braces w k) x =
-    let f = writtenValues w ++ (ascii.rightCurlyBracket ∷ []) in
+at-halts g (braces w c t b) x =
+    let f = writtenBalanced w ++ (b .bytes ++ (ascii.rightCurlyBracket ∷ [])) in
     subst Halts (sym (append-assoc (g .bytes) (ascii.leftCurlyBracket ∷ f) x)) (halts (g .blank) (at-brace (f ++ x)))
 
 -- what an ident sequence ends before
@@ -181,20 +183,20 @@ at-by t w name body x value e b s d i h = rw (e, b, s, d, i) (end-by (w + 1 + le
 -- what is written, with x behind it
 at-onto : (a : AtRule) (x : List ℕ) → writtenAt a ++ x ≡ ascii.commercialAt ∷ (a .name .bytes ++ (writtenBody a ++ x))
 unfolding writtenAt writtenBody
-at-onto a x = ap (λ (l : List ℕ). ascii.commercialAt ∷ l) (append-assoc (a .name .bytes) (writtenValues (a .prelude) ++ (a .gap .bytes ++ writtenAtEnd (a .end))) x)
+at-onto a x = ap (λ (l : List ℕ). ascii.commercialAt ∷ l) (append-assoc (a .name .bytes) (writtenBalanced (a .prelude) ++ (a .gap .bytes ++ writtenAtEnd (a .end))) x)
 
 -- and how long it is
 at-length : (a : AtRule) → length (writtenAt a) ≡ 1 + length (a .name .bytes) + length (writtenBody a)
 unfolding writtenAt writtenBody
-at-length a = omega (arith, length-append (a .name .bytes) (writtenValues (a .prelude) ++ (a .gap .bytes ++ writtenAtEnd (a .end))))
+at-length a = omega (arith, length-append (a .name .bytes) (writtenBalanced (a .prelude) ++ (a .gap .bytes ++ writtenAtEnd (a .end))))
 
 -- its name is read
 at-name : (a : AtRule) (x : List ℕ) → identOf (a .name .bytes ++ (writtenBody a ++ x)) ≡ ok (length (a .name .bytes)) (folded (a .name))
 unfolding writtenBody folded
 at-name a x =
     let z = (a .gap .bytes ++ writtenAtEnd (a .end)) ++ x in
-    let e = name-ends _ (ap (λ (l : List ℕ). endsName (getD l 0 0)) (append-assoc (writtenValues (a .prelude)) (a .gap .bytes ++ writtenAtEnd (a .end)) x)
-    ∙ body-first (writtenValues (a .prelude)) z (a .ends) (at-halts (a .gap) (a .end) x)) in
+    let e = name-ends _ (ap (λ (l : List ℕ). endsName (getD l 0 0)) (append-assoc (writtenBalanced (a .prelude)) (a .gap .bytes ++ writtenAtEnd (a .end)) x)
+    ∙ body-first (writtenBalanced (a .prelude)) z (a .ends) (at-halts (a .gap) (a .end) x)) in
     ident-sequence (a .name .bytes) (writtenBody a ++ x) (a .name .sequence) (e .0) (e .1)
 
 -- an at-rule of the grammar, behind white space or none, is read whole, and says nothing
@@ -212,7 +214,7 @@ at-read b a x =
     let p = spaced-none t (w + 1) y (name-item (a .name) (writtenBody a ++ x)) i in
     let m : w + 1 + length n + length (writtenBody a) ≡ w + length (writtenAt a) = omega (arith, at-length a) in
     at-statement t (w + length (writtenAt a)) (no-rule t w (ascii.commercialAt ∷ y) s d (f .1) (f .0) (ap (λ (j : ℕ). is j ascii.leftCurlyBracket) c ∙ (unfold is in refl)))
-    (at-by t w n (writtenBody a) x (folded (a .name)) s c p i (at-name a x) (unfold writtenBody in body-ends (a .prelude) (a .apart) (a .outermost) (a .gap) x (a .end)) ∙ ap (λ (j : ℕ). reads j []) m)
+    (at-by t w n (writtenBody a) x (folded (a .name)) s c p i (at-name a x) (unfold writtenBody in body-ends (a .prelude) (a .clear) (a .outside) (a .tight) (a .gap) x (a .end)) ∙ ap (λ (j : ℕ). reads j []) m)
 
 -- ---- rules
 -- a block begins with a brace

@@ -15,7 +15,7 @@ use Rattle.combinators.specs.Parsed.{Parsed, ok, err, onParsed, behind, orElse}
 use Rattle.combinators.specs.Repeat.{many, took}
 use Rattle.combinators.specs.Word.{startsWith}
 use Rattle.combinators.proofs.Lists.{first}
-use Rattle.combinators.proofs.Rules.{never, pick-true, pick-false, either, and-true, and-both, is-yes, is-no, is-true, or-none, or-false, within-true, within-false, within-past}
+use Rattle.combinators.proofs.Rules.{never, pick-true, pick-false, either, and-true, is-yes, is-no, is-true, or-none, or-false, within-true, within-false, within-past}
 use Rattle.combinators.proofs.Repeats.{many-stop, texts-stop}
 use Rattle.unicode.specs.Literal.{text}
 use Rattle.unicode.specs.Utf8.{utf8, scalarOf, scalarBy, leadOf, takenOf}
@@ -37,8 +37,8 @@ use Rattle.lexer.proofs.Characters.{lower-byte}
 use Rattle.lexer.proofs.CharacterRuns.{chars-step, chars-text-step}
 use Rattle.lexer.proofs.Idents.{char-plain, name-none}
 use Rattle.grammar.specs.Nth.{Blanks, Sign, unsigned, plus, minus, writtenSign}
-use Rattle.grammar.specs.Selectors.{Spaces, Quoted}
-use Rattle.grammar.specs.Tokens.{Numeral, Hashed, isDelimiter, Atom, word, string, hash, number, percentage, dimension, comma, colon, semicolon, delimiter, point, hyphen, addition, whole, spaced, commercialAt, Opening, function, link, round, square, brace, writtenStop, writtenNumeral, writtenAtom, writtenOpening, closer, meansSign, meansNumeral, meansAtom, meansOpening, meansCloser, endsName, beginsName, beginsNumber, mayFollow, MayFollow, EndsBefore, Ident, folded}
+use Rattle.grammar.specs.Selectors.{Quoted}
+use Rattle.grammar.specs.Tokens.{Numeral, Hashed, isDelimiter, Atom, word, string, hash, number, percentage, dimension, comma, colon, semicolon, delimiter, point, hyphen, addition, Opening, function, round, square, brace, writtenStop, writtenNumeral, writtenAtom, writtenOpening, closer, meansSign, meansNumeral, meansAtom, meansOpening, meansCloser, endsName, beginsName, beginsNumber, mayFollow, MayFollow, EndsBefore, Ident, folded}
 use Rattle.grammar.proofs.Places.{differs, Unblank, unblank-item}
 use Rattle.grammar.proofs.NthRead.{digits-read, starts-not}
 use Rattle.grammar.proofs.ComponentsRead.{behind-blank}
@@ -564,21 +564,14 @@ record NumberEnds (t : List ℕ) : Type 0 where
   no-percent : is (getD t 0 0) ascii.percentSign ≡ false
   no-name-behind : beginsName (getD t (skipWhitespace t) 0) (getD t (skipWhitespace t + 1) 0) ≡ false
 
--- by the grammar's test of digits before a full stop
-whole-ends : (n : Numeral) (t : List ℕ) → EndsBefore (whole n) t → NumberEnds t
-unfolding mayFollow
-whole-ends n t e =
-    let a = and-true (endsName (getD t 0 0)) _ e in
-    let c = and-true (not (is (getD t 0 0) ascii.percentSign)) _ (a .1) in
-    record { no-digit = ended-digit _ (name-ends t (a .0) .no-character); no-percent = untrue _ (c .0); no-name-behind = untrue _ (c .1) }
-
--- and by that of a number, behind which no full stop stands
+-- by the grammar's test
 number-ends : (n : Numeral) (t : List ℕ) → EndsBefore (number n) t → NumberEnds t
 unfolding mayFollow
 number-ends n t e =
     let a = and-true (endsName (getD t 0 0)) _ e in
     let b = and-true (not (is (getD t 0 0) ascii.fullStop)) _ (a .1) in
-    whole-ends n t (and-both _ _ (a .0) (b .1))
+    let c = and-true (not (is (getD t 0 0) ascii.percentSign)) _ (b .1) in
+    record { no-digit = ended-digit _ (name-ends t (a .0) .no-character); no-percent = untrue _ (c .0); no-name-behind = untrue _ (c .1) }
 
 -- "Otherwise, create a <number-token> with the same value", where nothing goes on with it
 number-alone : (n : Numeral) (t : List ℕ) → NumberEnds t → Begins (writtenNumeral n ++ t) (length (writtenNumeral n)) (tokens.number (meansNumeral n))
@@ -588,13 +581,9 @@ number-alone n t h =
     subst (λ (i : ℕ). Begins (writtenNumeral n ++ t) i k) (add-zero (length (writtenNumeral n)))
     (numeral-begins n t 0 k (r ∙ ap (λ (i : ℕ). ok i k) (sym (add-zero (length (meansNumeral n))))))
 
--- a number that the document reads too
+-- by what may follow it
 pub number-token : (n : Numeral) (t : List ℕ) → EndsBefore (number n) t → Begins (writtenNumeral n ++ t) (length (writtenNumeral n)) (tokens.number (meansNumeral n))
 number-token n t e = number-alone n t (number-ends n t e)
-
--- and the digits before a full stop
-pub whole-token : (n : Numeral) (t : List ℕ) → EndsBefore (whole n) t → Begins (writtenNumeral n ++ t) (length (writtenNumeral n)) (tokens.number (meansNumeral n))
-whole-token n t e = number-alone n t (whole-ends n t e)
 
 -- a percent sign is no digit
 percent-digit : isDigit ascii.percentSign ≡ false
@@ -632,12 +621,6 @@ name-at : (s : List ℕ) → skipWhitespace s ≡ 0 → identOf s ≡ nameOf s
 unfolding identOf
 name-at s z = rw z (behind-zero (nameOf s))
 
--- a name behind white space
-name-behind : (b : Blanks) (s : List ℕ) (n : ℕ) (w : List ℕ) → whitespaceItem s ≡ 0 → identOf s ≡ ok n w → identOf (b .bytes ++ s) ≡ ok (length (b .bytes) + n) w
-unfolding identOf behind
-name-behind b s n w z p =
-    rw (skips-blank (b .bytes) s (b .blank) z, drop-append-seam (b .bytes) s, sym (name-at s (skips-blank [] s blanks.none z)) ∙ p)
-
 -- a name begins no white space
 pub name-item : (n : Ident) (t : List ℕ) → whitespaceItem (n .bytes ++ t) ≡ 0
 name-item n t = by-start (n .bytes) (n .sequence)
@@ -645,30 +628,6 @@ name-item n t = by-start (n .bytes) (n .sequence)
     by-start : (bytes : List ℕ) → IdentSequence bytes → whitespaceItem (bytes ++ t) ≡ 0
     by-start _ (started {x} {r} e s) = code-point-item x (r ++ t) (start-code-point x e)
     by-start _ (dashed {x} {r} e s) = code-point-item ascii.hyphenMinus (x ∷ (r ++ t)) hyphen-code-point
-
--- one white space or more
-unfoldable gapOf : Spaces → Blanks
-gapOf s = record { bytes = s .space ∷ s .more .bytes; blank = blanks.white (s .space) (s .more .bytes) (s .white) (s .more .blank) }
-
--- no white space is a digit or a percent sign
-white-quiet : {x : ℕ} → blanks.White x → (isDigit x ≡ false) × (is x ascii.percentSign ≡ false)
-unfolding isDigit and within is
-white-quiet (blanks.newline blanks.line-feed) = (refl, refl)
-white-quiet (blanks.newline blanks.carriage-return) = (refl, refl)
-white-quiet (blanks.newline blanks.form-feed) = (refl, refl)
-white-quiet blanks.tab = (refl, refl)
-white-quiet blanks.blank-space = (refl, refl)
-
--- so it is one token
-pub spaced-token : (n : Numeral) (s : Spaces) (w : Ident) (t : List ℕ) → endsName (getD t 0 0) ≡ true
-    → Begins (writtenNumeral n ++ (s .space ∷ (s .more .bytes ++ (w .bytes ++ t)))) (length (writtenNumeral n) + (suc (length (s .more .bytes)) + length (w .bytes)))
-    (tokens.dimension (meansNumeral n) (folded w))
-unfolding gapOf
-spaced-token n s w t e =
-    let u = s .space ∷ (s .more .bytes ++ (w .bytes ++ t)) in
-    let q = white-quiet (s .white) in
-    numeral-begins n u (suc (length (s .more .bytes)) + length (w .bytes)) _
-    (numeric-from n u (q .0) ∙ from-unit (meansNumeral n) u _ _ (q .1) (name-behind (gapOf s) (w .bytes ++ t) _ _ (name-item w t) (name-whole w t (name-ends t e))))
 
 -- ---- code points that are tokens by themselves: 4.3.1, Consume a token
 -- what selects no other reader is a mark or a delimiter
@@ -709,7 +668,6 @@ brace-token t = mark-begins ascii.leftCurlyBracket t refl (omega arith) refl
 pub closer-token : (o : Opening) (t : List ℕ) → Begins (closer o ∷ t) 1 (meansCloser o)
 unfolding closer meansCloser whitespaceItem isWhitespace commentOf startOf isQuote isIdentStart isDigit markOf pick or and within is
 closer-token (function n d) t = mark-begins ascii.rightParenthesis t refl (omega arith) refl
-closer-token (link n d) t = mark-begins ascii.rightParenthesis t refl (omega arith) refl
 closer-token round t = mark-begins ascii.rightParenthesis t refl (omega arith) refl
 closer-token square t = mark-begins ascii.rightSquareBracket t refl (omega arith) refl
 closer-token brace t = mark-begins ascii.rightCurlyBracket t refl (omega arith) refl
@@ -823,11 +781,6 @@ pub addition-token : (t : List ℕ) → beginsNumber (getD t (skipWhitespace t) 
 unfolding whitespaceItem isWhitespace commentOf tokenBy startOf isQuote plusOf orElse behind pick or is
 addition-token t e = begins-by ascii.plusSign t 1 (tokens.delim ascii.plusSign) refl (omega arith) (rw (no-number t e))
 
--- an '@' is a token by itself to the reader
-pub at-token : (t : List ℕ) → Begins (ascii.commercialAt ∷ t) 1 (tokens.delim ascii.commercialAt)
-unfolding whitespaceItem isWhitespace commentOf startOf isQuote isIdentStart isDigit markOf pick or and within is
-at-token t = mark-begins ascii.commercialAt t refl (omega arith) refl
-
 -- ---- all of them
 -- every token of the grammar is read whole, where what follows it may follow
 pub atom-begins : (a : Atom) (t : List ℕ) → EndsBefore a t → Begins (writtenAtom a ++ t) (length (writtenAtom a)) (meansAtom a)
@@ -859,16 +812,6 @@ atom-begins (delimiter c d) t e = delim-token c d t e
 atom-begins point t e = point-token t (untrue _ e)
 atom-begins hyphen t e = let a = and-true (endsName (getD t 0 0)) _ e in hyphen-token t (name-ends t (a .0)) (untrue _ (a .1))
 atom-begins addition t e = addition-token t (untrue _ e)
-atom-begins (whole n) t e = whole-token n t e
-atom-begins (spaced n s w) t e =
-    let m = writtenNumeral n in
-    let g = s .space ∷ s .more .bytes in
-    let b = w .bytes in
-    let k = tokens.dimension (meansNumeral n) (folded w) in
-    subst (λ (i : ℕ). Begins ((m ++ (g ++ b)) ++ t) i k) (omega (arith, length-append m (g ++ b), length-append g b))
-    (subst (λ (r : List ℕ). Begins r (length m + (length g + length b)) k) (sym (append-assoc m (g ++ b) t ∙ ap (λ (l : List ℕ). m ++ l) (append-assoc g b t)))
-    (spaced-token n s w t e))
-atom-begins commercialAt t e = at-token t
 
 -- a function's name and its bracket
 function-begins : (n : Ident) (t : List ℕ)
@@ -882,7 +825,6 @@ function-begins n t =
 pub opening-begins : (o : Opening) (t : List ℕ) → Begins (writtenOpening o ++ t) (length (writtenOpening o)) (meansOpening o)
 unfolding writtenOpening meansOpening
 opening-begins (function n d) t = function-begins n t
-opening-begins (link n d) t = function-begins n t
 opening-begins round t = round-token t
 opening-begins square t = square-token t
 opening-begins brace t = brace-token t

@@ -27,8 +27,8 @@ use Rattle.lexer.proofs.TokenBounds.{token-fits}
 use Rattle.values.specs.Value.{Placed, bracketBy, bracketOf, next, before, behind, closing, ending, stepOf, Statement, stop, cons, onStep, scan, statementOf, tokensOf, isMark, isImportant, withoutMark, valueFrom, valueOf}
 use Rattle.values.specs.Words.{kindOf, firstOf, isKind, isWord, isDelim}
 use Rattle.grammar.specs.Nth.{Blanks}
-use Rattle.grammar.specs.Tokens.{isDelimiter, Atom, word, string, hash, number, percentage, dimension, comma, colon, semicolon, delimiter, point, hyphen, addition, whole, spaced, commercialAt, Opening, function, link, round, square, brace, writtenAtom, writtenOpening, closer, meansAtom, meansOpening, meansCloser, endsName, beginsName, beginsNumber, mayFollow, MayFollow, EndsBefore, Ident, folded}
-use Rattle.grammar.specs.Values.{Values, end, then, block, writtenValues, meansValues, Follows, Address, Inside, Apart, isSemicolon, isBang, isBrace, Outermost, Unmarked, DeclarationValue, Importance, normal, important, writtenImportance, isMarked}
+use Rattle.grammar.specs.Tokens.{isDelimiter, Atom, word, string, hash, number, percentage, dimension, comma, colon, semicolon, delimiter, point, hyphen, addition, Opening, function, round, square, brace, writtenAtom, writtenOpening, closer, meansAtom, meansOpening, meansCloser, endsName, beginsName, beginsNumber, mayFollow, MayFollow, EndsBefore, Ident, folded}
+use Rattle.grammar.specs.Values.{Values, end, then, block, writtenValues, meansValues, Follows, Apart, isSemicolon, isBang, isBrace, Outermost, Unmarked, DeclarationValue, Importance, normal, important, writtenImportance, isMarked}
 use Rattle.grammar.proofs.Places.{Unblank, blank-first}
 use Rattle.grammar.proofs.StringsRead.{untrue}
 use Rattle.grammar.proofs.TokensRead.{ended-digit, Begins, token-read, semicolon-token, closer-token, atom-begins, opening-begins, closer-read, ends-behind, neither}
@@ -155,15 +155,11 @@ module _ (include : Bool) (b : Blanks) where
   atom-goes point v cs h = refl
   atom-goes hyphen v cs h = refl
   atom-goes addition v cs h = refl
-  atom-goes (whole n) v cs h = refl
-  atom-goes (spaced n s w) v cs h = refl
-  atom-goes commercialAt v cs h = refl
 
   -- an opening token awaits its closing one
   pub opening-goes : (o : Opening) (cs : List ℕ) → stepOf include (bracketOf (meansOpening o)) cs ≡ next (closer o ∷ cs)
   unfolding stepOf bracketOf bracketBy coded meansOpening closer
   opening-goes (function n d) cs = refl
-  opening-goes (link n d) cs = refl
   opening-goes round cs = refl
   opening-goes square cs = refl
   opening-goes brace cs = refl
@@ -173,8 +169,6 @@ module _ (include : Bool) (b : Blanks) where
   unfolding stepOf bracketOf bracketBy coded meansCloser closer closing pick is Within Outermost isBrace
   closing-goes (function n d) w v [] h = refl
   closing-goes (function n d) w v (c ∷ cs) h = refl
-  closing-goes (link n d) w v [] h = refl
-  closing-goes (link n d) w v (c ∷ cs) h = refl
   closing-goes round w v [] h = refl
   closing-goes round w v (c ∷ cs) h = refl
   closing-goes square w v [] h = refl
@@ -239,9 +233,6 @@ atom-ends (delimiter c h) x y z e d f = ap not (and-right (is c ascii.solidus) (
 atom-ends point x y z e d f = ap not (ended-digit x (quiet x e .no-code-point))
 atom-ends hyphen x y z e d f = let q = quiet x e in rw (q .no-code-point, q .no-escape, q .no-stop)
 atom-ends addition x y z e d f = ap not f
-atom-ends (whole n) x y z e d f = let q = quiet x e in rw (q .no-code-point, q .no-escape, q .no-percent, d)
-atom-ends (spaced n s w) x y z e d f = let q = quiet x e in rw (q .no-code-point, q .no-escape)
-atom-ends commercialAt x y z e d f = refl
 
 -- white space and comments begin with none of them
 unblank : Unblank continues
@@ -253,7 +244,6 @@ closes-first : {t : List ℕ} → Closes t → (continues (getD t 0 0) ≡ false
 unfolding continues beginsName beginsNumber isDigit identCodePoint identStart letter closer whitespaceItem isWhitespace commentOf pick or and within is
 closes-first nothing = (refl, (λ z. refl), refl, refl)
 closes-first (closed (function n d) r) = (refl, (λ z. refl), refl, refl)
-closes-first (closed (link n d) r) = (refl, (λ z. refl), refl, refl)
 closes-first (closed round r) = (refl, (λ z. refl), refl, refl)
 closes-first (closed square r) = (refl, (λ z. refl), refl, refl)
 closes-first (closed brace r) = (refl, (λ z. refl), refl, refl)
@@ -319,12 +309,6 @@ any-follows (delimiter c d) x y e z = e
 any-follows point x y e z = e
 any-follows hyphen x y e z = e
 any-follows addition x y e z = e
-any-follows (whole n) x y e z =
-    let a = and-true (endsName x) _ e in
-    let c = and-true (not (is x ascii.percentSign)) _ (a .1) in
-    and-both _ _ (a .0) (and-both _ _ (c .0) (ap not (any-second y (untrue _ (c .1)) z)))
-any-follows (spaced n s w) x y e z = e
-any-follows commercialAt x y e z = e
 
 -- of a text that is not empty the first two bytes, or the first alone
 second-follows : (a : Atom) (x : ℕ) (w r : List ℕ) → 1 ≤ length w → mayFollow a x (getD w 0 0) (getD w 1 0) ≡ true → mayFollow a x (getD (w ++ r) 0 0) (getD (w ++ r) 1 0) ≡ true
@@ -406,16 +390,12 @@ atom-plain (delimiter c d) e = e
 atom-plain point e = refl
 atom-plain hyphen e = refl
 atom-plain addition e = refl
-atom-plain (whole n) e = refl
-atom-plain (spaced n s w) e = refl
-atom-plain commercialAt e = refl
 
 -- nor is a bracket, which is no word either
 brackets-plain : (o : Opening) → (isDelim ascii.exclamationMark (meansOpening o) ≡ false) × (isDelim ascii.exclamationMark (meansCloser o) ≡ false)
     × (isWord (text "important") (meansCloser o) ≡ false)
 unfolding meansOpening meansCloser isDelim isWord isKind kindOf columnsOf coded and is
 brackets-plain (function n d) = (refl, refl, refl)
-brackets-plain (link n d) = (refl, refl, refl)
 brackets-plain round = (refl, refl, refl)
 brackets-plain square = (refl, refl, refl)
 brackets-plain brace = (refl, refl, refl)
@@ -469,14 +449,6 @@ follows a (block b o w v) z f h g =
     subst (EndsBefore a) (sym (block-onto b o w v z))
     (token-ends a b (writtenOpening o) (writtenValues w ++ (closer o ∷ (writtenValues v ++ z))) (meansOpening o) (opening-begins o (writtenValues w ++ (closer o ∷ (writtenValues v ++ z)))) f)
 
--- what stands in brackets is told apart
-inside-apart : (o : Opening) (address apart : Type 0) → Inside o address apart → apart
-inside-apart (function n d) address apart h = h
-inside-apart (link n d) address apart h = h .1
-inside-apart round address apart h = h
-inside-apart square address apart h = h
-inside-apart brace address apart h = h
-
 module _ {include : Bool} where
   -- a token behind white space
   pub passes-token : (b : Blanks) (w r : List ℕ) (at : ℕ) (k : Token) (cs ds : List ℕ) → Begins (w ++ r) (length w) k → stepOf include (bracketOf k) cs ≡ next ds
@@ -503,7 +475,7 @@ module _ {include : Bool} where
       let r = writtenValues v ++ z in
       let q = closer o ∷ r in
       let p = passes-token b (writtenOpening o) (writtenValues w ++ q) at (meansOpening o) cs (closer o ∷ cs) (opening-begins o (writtenValues w ++ q)) (opening-goes include b o cs) in
-      let m = values-pass w q (at + p .taken) (closer o ∷ cs) (inside-apart o (Address w) (Apart w) (h .0)) (closer-halts o r) (unfold Within in tt) in
+      let m = values-pass w q (at + p .taken) (closer o ∷ cs) (h .0) (closer-halts o r) (unfold Within in tt) in
       let e = passes-token (trail w) (closer o ∷ []) r (at + p .taken + m .taken) (meansCloser o) (closer o ∷ cs) cs (closer-token o r) (closing-goes include b o w v cs i) in
       passes-as (block-onto b o w v z)
       (passes-on p (passes-on m (passes-on e (values-pass v z (at + p .taken + m .taken + e .taken) cs (h .1) g (within-block cs b o w v i)))))
@@ -542,7 +514,7 @@ unfolding stepOf bracketOf bracketBy coded meansAtom meansCloser closing ending 
 mark-steps = (refl, refl)
 
 -- so the tokens of a value stop where it ends
-value-stops : {z : List ℕ} → ValueEnds z → (l at : ℕ) → scan l false z at [] ≡ stop at true
+pub value-stops : {z : List ℕ} → ValueEnds z → (l at : ℕ) → scan l false z at [] ≡ stop at true
 unfolding closer meansCloser
 value-stops (at-end b) l at = none-scan l (b .bytes) at (blank-token b)
 value-stops (before-semicolon b r) l at =
@@ -598,10 +570,10 @@ outer-pass {include} v z h o g =
     subst (λ (l : List ℕ). Passes include (writtenValues v ++ z) (l ++ z) 0 [] [] (meansValues v)) (outer-trail v o) (values-pass v z 0 [] h g (unfold Within in o))
 
 -- all of them is taken
-passed-length : {include : Bool} {s z : List ℕ} {ks : List Token} (w : List ℕ) → s ≡ w ++ z → (p : Passes include s z 0 [] [] ks) → p .taken ≡ length w
+pub passed-length : {include : Bool} {s z : List ℕ} {ks : List Token} (w : List ℕ) → s ≡ w ++ z → (p : Passes include s z 0 [] [] ks) → p .taken ≡ length w
 passed-length {include} {s} {z} w e p = omega (arith, p .all, ap length e, length-append w z)
 
--- Blocks: a value ends before the first semicolon or closing brace outside strings, comments and brackets, or at the end of the text
+-- values end before the first semicolon or closing brace outside strings, comments and brackets, or at the end of the text
 pub value-ends : (v : Values) (z : List ℕ) → Apart v → Outermost v → ValueEnds z → Stated false (writtenValues v ++ z) (length (writtenValues v)) (meansValues v)
 value-ends v z h o e =
     let p = outer-pass {include = false} v z h o (ends-halt e) in
@@ -609,7 +581,7 @@ value-ends v z h o e =
 
 -- ---- the mark `!important`
 -- the '!' is a delimiter
-bang-begins : (t : List ℕ) → Begins (ascii.exclamationMark ∷ t) 1 (tokens.delim ascii.exclamationMark)
+pub bang-begins : (t : List ℕ) → Begins (ascii.exclamationMark ∷ t) 1 (tokens.delim ascii.exclamationMark)
 unfolding isDelimiter member text utf8 writtenAtom meansAtom mayFollow or and is pick
 bang-begins t = atom-begins (delimiter ascii.exclamationMark refl) t refl
 
@@ -619,22 +591,26 @@ unfolding writtenAtom meansAtom
 important-begins n e _ (halts {l} {t} h c) =
     subst (λ (w : List ℕ). Begins (n .bytes ++ (l ++ t)) (length (n .bytes)) (tokens.ident w)) e (atom-begins (word n) (l ++ t) (blank-ends (word n) t h c))
 
-module _ (v : Values) (b c : Blanks) (n : Ident) (i : folded n ≡ text "important") (z : List ℕ) where
-  -- a value and its mark, with z behind it
-  marked-onto : (writtenValues v ++ writtenImportance (important b c n i)) ++ z ≡ writtenValues v ++ (b .bytes ++ (ascii.exclamationMark ∷ (c .bytes ++ (n .bytes ++ z))))
-  unfolding writtenImportance
-  marked-onto =
-      append-assoc (writtenValues v) (b .bytes ++ (ascii.exclamationMark ∷ (c .bytes ++ n .bytes))) z
-      ∙ ap (λ (l : List ℕ). writtenValues v ++ l)
-      (append-assoc (b .bytes) (ascii.exclamationMark ∷ (c .bytes ++ n .bytes)) z
-      ∙ ap (λ (l : List ℕ). b .bytes ++ (ascii.exclamationMark ∷ l)) (append-assoc (c .bytes) (n .bytes) z))
+-- a mark may stand behind a value
+pub mark-halts : (m : Importance) (z : List ℕ) → Halts z → Halts (writtenImportance m ++ z)
+unfolding writtenImportance
+mark-halts normal z h = h
+mark-halts (important b c n i) z h =
+    subst Halts (sym (append-assoc (b .bytes) (ascii.exclamationMark ∷ (c .bytes ++ n .bytes)) z)) (halts (b .blank) (at-bang ((c .bytes ++ n .bytes) ++ z)))
 
-  -- both pass
-  marked-pass : Apart v → Outermost v → Halts z
-      → Passes false (writtenValues v ++ (b .bytes ++ (ascii.exclamationMark ∷ (c .bytes ++ (n .bytes ++ z))))) z 0 [] [] (meansValues v ++ markTokens)
-  marked-pass h o g =
+module _ (b c : Blanks) (n : Ident) (i : folded n ≡ text "important") (z : List ℕ) where
+  -- the mark, with z behind it
+  mark-onto : writtenImportance (important b c n i) ++ z ≡ b .bytes ++ (ascii.exclamationMark ∷ (c .bytes ++ (n .bytes ++ z)))
+  unfolding writtenImportance
+  mark-onto =
+      append-assoc (b .bytes) (ascii.exclamationMark ∷ (c .bytes ++ n .bytes)) z
+      ∙ ap (λ (l : List ℕ). b .bytes ++ (ascii.exclamationMark ∷ l)) (append-assoc (c .bytes) (n .bytes) z)
+
+  -- its tokens pass behind others
+  mark-pass : {s : List ℕ} {ks : List Token} → Passes false s (writtenImportance (important b c n i) ++ z) 0 [] [] ks → Halts z → Passes false s z 0 [] [] (ks ++ markTokens)
+  mark-pass {s} {ks} k g =
       let x = c .bytes ++ (n .bytes ++ z) in
-      let p = outer-pass {include = false} v (b .bytes ++ (ascii.exclamationMark ∷ x)) h o (halts (b .blank) (at-bang x)) in
+      let p = subst (λ (l : List ℕ). Passes false s l 0 [] [] ks) mark-onto k in
       let q = passes-token {include = false} b (ascii.exclamationMark ∷ []) x (0 + p .taken) (tokens.delim ascii.exclamationMark) [] [] (bang-begins x) (mark-goes .0) in
       passes-on p (passes-on q (passes-token {include = false} c (n .bytes) z (0 + p .taken + q .taken) (tokens.ident (text "important")) [] [] (important-begins n i z g) (mark-goes .1)))
 
@@ -645,20 +621,26 @@ value-by : (s : List ℕ) (n : ℕ) (ks js : List Token) (i : Bool) → Stated f
 unfolding valueOf valueFrom pick
 value-by s n ks js i t e d = rw (t .states, t .tokens, e, d)
 
+-- tokens that pass, up to where the document ends a value
+pass-value : (w : List ℕ) {s z : List ℕ} {ks : List Token} (js : List Token) (i : Bool) → s ≡ w ++ z → Passes false s z 0 [] [] ks → ValueEnds z → withoutMark ks ≡ js → isImportant ks ≡ i
+    → valueOf s ≡ ok (length w) (record { tokens = js; important = i })
+pass-value w {s} {z} {ks} js i e p h d k =
+    value-by s (length w) ks js i (subst (λ (n : ℕ). Stated false s n ks) (passed-length w e p) (stated p (value-stops h))) d k
+
+-- a text whose tokens pass and have no mark, and a mark behind it or none
+pub marked-read : (w : List ℕ) (m : Importance) (z : List ℕ) {ks : List Token} → Passes false (w ++ (writtenImportance m ++ z)) (writtenImportance m ++ z) 0 [] [] ks → isImportant ks ≡ false
+    → ValueEnds z → valueOf ((w ++ writtenImportance m) ++ z) ≡ ok (length (w ++ writtenImportance m)) (record { tokens = ks; important = isMarked m })
+unfolding isMarked writtenImportance
+marked-read w normal z {ks} p u e =
+    ap valueOf (append-assoc w (writtenImportance normal) z)
+    ∙ pass-value (w ++ writtenImportance normal) ks false (sym (append-assoc w (writtenImportance normal) z)) p e (unmarked-whole ks u) u
+marked-read w (important b c n i) z {ks} p u e =
+    ap valueOf (append-assoc w (writtenImportance (important b c n i)) z)
+    ∙ pass-value (w ++ writtenImportance (important b c n i)) ks true (sym (append-assoc w (writtenImportance (important b c n i)) z)) (mark-pass b c n i z p (ends-halt e)) e (marked-without ks)
+    (marked-is ks)
+
 -- a value of the grammar and its mark, if it has one, are read whole, up to where the document ends them
 pub value-read : (v : Values) (m : Importance) (z : List ℕ) → DeclarationValue v → ValueEnds z
     → valueOf ((writtenValues v ++ writtenImportance m) ++ z) ≡ ok (length (writtenValues v ++ writtenImportance m)) (record { tokens = meansValues v; important = isMarked m })
-unfolding isMarked
-value-read v normal z h e =
-    let w : writtenValues v ++ writtenImportance normal ≡ writtenValues v = unfold writtenImportance in append-nil (writtenValues v) in
-    let k = values-unmarked v (h .unmarked) in
-    ap (λ (l : List ℕ). valueOf (l ++ z)) w ∙ value-by (writtenValues v ++ z) _ (meansValues v) _ _ (value-ends v z (h .apart) (h .outermost) e) (unmarked-whole (meansValues v) k) k
-    ∙ ap (λ (l : List ℕ). ok (length l) (record { tokens = meansValues v; important = false })) (sym w)
-value-read v (important b c n i) z h e =
-    let s = writtenValues v ++ writtenImportance (important b c n i) in
-    let p = marked-pass v b c n i z (h .apart) (h .outermost) (ends-halt e) in
-    let d = sym (marked-onto v b c n i z) in
-    value-by (s ++ z) (length s) (meansValues v ++ markTokens) (meansValues v) true
-    (subst (λ (l : List ℕ). Stated false l (length s) (meansValues v ++ markTokens)) d
-    (subst (λ (m : ℕ). Stated false (writtenValues v ++ (b .bytes ++ (ascii.exclamationMark ∷ (c .bytes ++ (n .bytes ++ z))))) m (meansValues v ++ markTokens)) (passed-length s d p) (stated p (value-stops e))))
-    (marked-without (meansValues v)) (marked-is (meansValues v))
+value-read v m z h e =
+    marked-read (writtenValues v) m z (outer-pass v (writtenImportance m ++ z) (h .apart) (h .outermost) (mark-halts m z (ends-halt e))) (values-unmarked v (h .unmarked)) e

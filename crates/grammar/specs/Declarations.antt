@@ -23,7 +23,8 @@ use Rattle.values.specs.Property.{anyOf}
 use Rattle.grammar.specs.Nth.{Blanks, negative, worth}
 use Rattle.grammar.specs.Selectors.{Quoted}
 use Rattle.grammar.specs.Tokens.{Numeral, Ident, folded, Hashed, UnitName, Atom, word, string, hash, number, dimension, comma, function}
-use Rattle.grammar.specs.Values.{Values, end, then, block, DeclarationValue}
+use Rattle.grammar.specs.Values.{Values, end, then, block, writtenValues}
+use Rattle.grammar.specs.Balanced.{Balanced, writtenBalanced, AnyValue}
 
 -- ---- keywords
 -- a name that a table of the document has, and what it means there
@@ -174,7 +175,7 @@ knownNames =
 -- a property and its value, with white space or none before it
 pub data Declared : Type 0 where
   known : (n : Ident) (b : Blanks) (k : Known) → folded n ≡ knownName k → Declared
-  other : (n : Ident) → anyOf (folded n) knownNames ≡ false → (v : Values) → DeclarationValue v → Declared
+  other : (n : Ident) → anyOf (folded n) knownNames ≡ false → (v : Balanced) → AnyValue v → Declared
 
 -- ---- how it is written: its name, and the tokens of its value
 unfoldable pub property : Declared → Ident
@@ -228,9 +229,9 @@ knownValues b (display k) = alone b (word (k .name))
 knownValues b (whiteSpace k) = alone b (word (k .name))
 knownValues b (content s) = stringValues b s
 
-unfoldable pub valuesOf : Declared → Values
-valuesOf (known n b k h) = knownValues b k
-valuesOf (other n d v h) = v
+unfoldable pub writtenValue : Declared → List ℕ
+writtenValue (known n b k h) = writtenValues (knownValues b k)
+writtenValue (other n d v h) = writtenBalanced v
 
 -- ---- what it means
 -- two digits, of one part of a colour

@@ -15,8 +15,9 @@ use Rattle.sheets.specs.Sheet.{sheetOf}
 use Rattle.grammar.specs.Nth.{Blanks}
 use Rattle.grammar.specs.Selectors.{Group, writtenGroup, meansGroup}
 use Rattle.grammar.specs.Tokens.{Ident, endsName}
-use Rattle.grammar.specs.Values.{Values, writtenValues, Apart, Outermost, Importance, writtenImportance, isMarked}
-use Rattle.grammar.specs.Declarations.{Declared, property, valuesOf, meansDeclared}
+use Rattle.grammar.specs.Values.{Importance, writtenImportance, isMarked}
+use Rattle.grammar.specs.Balanced.{Balanced, writtenBalanced, Clear, Outside, Tight}
+use Rattle.grammar.specs.Declarations.{Declared, property, writtenValue, meansDeclared}
 
 -- ---- what is written
 -- a declaration: a property's name, white space or none, `:`, its value, and `!important` or not
@@ -51,18 +52,19 @@ pub record Rule : Type 0 where
   pub block : Block
   pub behind : Blanks
 
--- how an at-rule ends: with `;`, or with a block of any component values
+-- how an at-rule ends: with `;`, or with a block of any text, white space or none, and `}`
 pub data AtEnd : Type 0 where
   semicolon : AtEnd
-  braces : (v : Values) → Apart v → AtEnd
+  braces : (v : Balanced) → Clear v → Tight v → Blanks → AtEnd
 
--- `@` and a name, component values up to the end, and the white space behind it
+-- `@` and a name, any text up to the end, and the white space behind it
 pub record AtRule : Type 0 where
   pub name : Ident
-  pub prelude : Values
-  pub ends : endsName (getD (writtenValues prelude) 0 0) ≡ true
-  pub apart : Apart prelude
-  pub outermost : Outermost prelude
+  pub prelude : Balanced
+  pub ends : endsName (getD (writtenBalanced prelude) 0 0) ≡ true
+  pub clear : Clear prelude
+  pub outside : Outside prelude
+  pub tight : Tight prelude
   pub gap : Blanks
   pub end : AtEnd
   pub behind : Blanks
@@ -80,7 +82,7 @@ pub record Sheet : Type 0 where
 unfoldable pub writtenItem : Item → List ℕ
 writtenItem d =
     property (d .declared) .bytes
-    ++ (d .before-colon .bytes ++ (ascii.colon ∷ (writtenValues (valuesOf (d .declared)) ++ writtenImportance (d .importance))))
+    ++ (d .before-colon .bytes ++ (ascii.colon ∷ (writtenValue (d .declared) ++ writtenImportance (d .importance))))
 
 unfoldable pub writtenNext : Next → List ℕ
 writtenNext m = ascii.semicolon ∷ (m .lead .bytes ++ writtenItem (m .item))
@@ -105,11 +107,11 @@ writtenRule r = writtenGroup (r .selectors) ++ (writtenBlock (r .block) ++ r .be
 
 unfoldable pub writtenAtEnd : AtEnd → List ℕ
 writtenAtEnd semicolon = ascii.semicolon ∷ []
-writtenAtEnd (braces v h) = ascii.leftCurlyBracket ∷ (writtenValues v ++ (ascii.rightCurlyBracket ∷ []))
+writtenAtEnd (braces v c t b) = ascii.leftCurlyBracket ∷ (writtenBalanced v ++ (b .bytes ++ (ascii.rightCurlyBracket ∷ [])))
 
 -- without the white space behind it
 unfoldable pub writtenAt : AtRule → List ℕ
-writtenAt a = ascii.commercialAt ∷ (a .name .bytes ++ (writtenValues (a .prelude) ++ (a .gap .bytes ++ writtenAtEnd (a .end))))
+writtenAt a = ascii.commercialAt ∷ (a .name .bytes ++ (writtenBalanced (a .prelude) ++ (a .gap .bytes ++ writtenAtEnd (a .end))))
 
 unfoldable pub writtenStatement : Statement → List ℕ
 writtenStatement (rule r) = writtenRule r

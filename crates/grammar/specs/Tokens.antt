@@ -19,7 +19,7 @@ use Rattle.lexer.specs.Token.{Token}
 use Rattle.lexer.specs.Whitespace.{skipWhitespace}
 use Rattle.lexer.proofs.SyntaxName.{Each, none, more, IdentSequence, started, letter, identStart, identCodePoint}
 use Rattle.grammar.specs.Nth.{Sign, unsigned, plus, minus, writtenSign}
-use Rattle.grammar.specs.Selectors.{Spaces, Quoted}
+use Rattle.grammar.specs.Selectors.{Quoted}
 
 -- ---- what is written
 -- a number (4.3.12, Consume a number) without an exponent: a sign or none, and digits, or a full stop and digits. Digits on both sides of
@@ -75,18 +75,10 @@ pub data Atom : Type 0 where
   point : Atom
   hyphen : Atom
   addition : Atom
-  -- what the document parts otherwise: digits before a full stop, where it reads one number (4.3.12) and the reader two; a number, white space
-  -- and a name, where it reads two tokens (4.3.3) and the reader one; an '@', which it reads with its name (4.3.1). Both go on behind them alike. The grammar has them where nobody looks into
-  -- tokens: in values of properties that the engine does not know, and in at-rules.
-  whole : Numeral → Atom
-  spaced : Numeral → Spaces → Ident → Atom
-  commercialAt : Atom
 
--- a token that opens a block (5.4.8, Consume a simple block; 5.4.9, Consume a function)
+-- a token that opens a block (5.4.8, Consume a simple block; 5.4.9, Consume a function). Behind `url(` the document may have a <url-token> (4.3.4).
 pub data Opening : Type 0 where
   function : (n : Ident) → sameText (folded n) (text "url") ≡ false → Opening
-  -- `url(`, which the document takes for a function only where a string follows; else all up to `)` is one <url-token> (4.3.4, 4.3.6)
-  link : (n : Ident) → sameText (folded n) (text "url") ≡ true → Opening
   round : Opening
   square : Opening
   brace : Opening
@@ -113,13 +105,9 @@ writtenAtom (delimiter c d) = c ∷ []
 writtenAtom point = ascii.fullStop ∷ []
 writtenAtom hyphen = ascii.hyphenMinus ∷ []
 writtenAtom addition = ascii.plusSign ∷ []
-writtenAtom (whole n) = writtenNumeral n
-writtenAtom (spaced n s w) = writtenNumeral n ++ (s .space ∷ (s .more .bytes ++ w .bytes))
-writtenAtom commercialAt = ascii.commercialAt ∷ []
 
 unfoldable pub writtenOpening : Opening → List ℕ
 writtenOpening (function n d) = n .bytes ++ (ascii.leftParenthesis ∷ [])
-writtenOpening (link n d) = n .bytes ++ (ascii.leftParenthesis ∷ [])
 writtenOpening round = ascii.leftParenthesis ∷ []
 writtenOpening square = ascii.leftSquareBracket ∷ []
 writtenOpening brace = ascii.leftCurlyBracket ∷ []
@@ -127,7 +115,6 @@ writtenOpening brace = ascii.leftCurlyBracket ∷ []
 -- the byte that closes what it opens: the ending token is the mirror of the opening one
 unfoldable pub closer : Opening → ℕ
 closer (function n d) = ascii.rightParenthesis
-closer (link n d) = ascii.rightParenthesis
 closer round = ascii.rightParenthesis
 closer square = ascii.rightSquareBracket
 closer brace = ascii.rightCurlyBracket
@@ -156,20 +143,15 @@ meansAtom (delimiter c d) = tokens.delim c
 meansAtom point = tokens.delim ascii.fullStop
 meansAtom hyphen = tokens.delim ascii.hyphenMinus
 meansAtom addition = tokens.delim ascii.plusSign
-meansAtom (whole n) = tokens.number (meansNumeral n)
-meansAtom (spaced n s w) = tokens.dimension (meansNumeral n) (folded w)
-meansAtom commercialAt = tokens.delim ascii.commercialAt
 
 unfoldable pub meansOpening : Opening → Token
 meansOpening (function n d) = tokens.function (folded n)
-meansOpening (link n d) = tokens.function (folded n)
 meansOpening round = tokens.openRound
 meansOpening square = tokens.openSquare
 meansOpening brace = tokens.openBrace
 
 unfoldable pub meansCloser : Opening → Token
 meansCloser (function n d) = tokens.closeRound
-meansCloser (link n d) = tokens.closeRound
 meansCloser round = tokens.closeRound
 meansCloser square = tokens.closeSquare
 meansCloser brace = tokens.closeBrace
@@ -204,9 +186,6 @@ mayFollow (delimiter c d) x y z = not (and (is c ascii.solidus) (is x ascii.aste
 mayFollow point x y z = not (isDigit x)
 mayFollow hyphen x y z = and (endsName x) (not (is x ascii.fullStop))
 mayFollow addition x y z = not (beginsNumber y)
-mayFollow (whole n) x y z = and (endsName x) (and (not (is x ascii.percentSign)) (not (beginsName y z)))
-mayFollow (spaced n s w) x y z = endsName x
-mayFollow commercialAt x y z = true
 
 abbrev pub MayFollow : Atom → ℕ → ℕ → ℕ → Type 0
 MayFollow a x y z = mayFollow a x y z ≡ true

@@ -1,18 +1,16 @@
 -- Component values in the words of CSS Syntax Level 3 (section 5.4.7, Consume a component value; 5.4.8, a simple block; 5.4.9, a function) and
 -- what a declaration's value may be (8.2, <declaration-value>), as far as the reader agrees with the document.
 use mathlib.Core.Path.{_≡_}
-use mathlib.Core.Bool.{Bool, true, false, not}
-use mathlib.Core.Logic.{_⊎_}
+use mathlib.Core.Bool.{Bool, true, false}
 use mathlib.Core.List.{List, [], _∷_, _++_}
 use Prim.Native.Nat.{ℕ}
 use lib.ListN.{getD}
 use Rattle.combinators.specs.Ascii as ascii
-use Rattle.combinators.specs.Choice.{or, and, is, within}
+use Rattle.combinators.specs.Choice.{or, and, is}
 use Rattle.unicode.specs.Literal.{text}
-use Rattle.lexer.specs.Token.{Token, isQuote}
-use Rattle.lexer.proofs.SyntaxName.{Each}
+use Rattle.lexer.specs.Token.{Token}
 use Rattle.grammar.specs.Nth.{Blanks}
-use Rattle.grammar.specs.Tokens.{Atom, word, string, hash, number, percentage, dimension, comma, colon, semicolon, delimiter, point, hyphen, addition, whole, spaced, commercialAt, Opening, function, link, round, square, brace, writtenAtom, writtenOpening, closer, meansAtom, meansOpening, meansCloser, MayFollow, Ident, folded}
+use Rattle.grammar.specs.Tokens.{Atom, word, string, hash, number, percentage, dimension, comma, colon, semicolon, delimiter, point, hyphen, addition, Opening, function, round, square, brace, writtenAtom, writtenOpening, closer, meansAtom, meansOpening, meansCloser, MayFollow, Ident, folded}
 
 -- ---- what is written: tokens and blocks, with white space and comments or none before each and at the end
 pub data Values : Type 0 where
@@ -38,32 +36,10 @@ Follows a (end b) = Unit
 Follows a (then b n v) = MayFollow a (getD (b .bytes ++ writtenAtom n) 0 0) (getD (writtenAtom n) 0 0) (getD (writtenAtom n) 1 0)
 Follows a (block b o w v) = MayFollow a (getD (b .bytes ++ writtenOpening o) 0 0) (getD (writtenOpening o) 0 0) (getD (writtenOpening o) 1 0)
 
--- U+007E
-abbrev lastPrintable : ℕ
-lastPrintable = 0x7e
-
--- what stands between `url(` and `)`: a string first, or no more than a <url-token> may have (4.3.6, Consume a url token): printable code points of ASCII
--- but quotes, round brackets and the backslash
-unfoldable pub urlCodePoint : ℕ → Bool
-urlCodePoint x =
-    and (within x ascii.exclamationMark lastPrintable)
-    (not (or (isQuote x) (or (is x ascii.leftParenthesis) (or (is x ascii.rightParenthesis) (is x ascii.reverseSolidus)))))
-
-abbrev pub Address : Values → Type 0
-Address w = (isQuote (getD (writtenValues w) 0 0) ≡ true) ⊎ Each urlCodePoint (writtenValues w)
-
--- it is asked of that bracket alone
-abbrev pub Inside : Opening → Type 0 → Type 0 → Type 0
-Inside (function n d) address apart = apart
-Inside (link n d) address apart = address × apart
-Inside round address apart = apart
-Inside square address apart = apart
-Inside brace address apart = apart
-
 unfoldable pub Apart : Values → Type 0
 Apart (end b) = Unit
 Apart (then b a v) = Follows a v × Apart v
-Apart (block b o w v) = Inside o (Address w) (Apart w) × Apart v
+Apart (block b o w v) = Apart w × Apart v
 
 -- ---- what stands outside all brackets
 unfoldable pub isSemicolon : Atom → Bool
@@ -80,9 +56,6 @@ isSemicolon (delimiter c d) = false
 isSemicolon point = false
 isSemicolon hyphen = false
 isSemicolon addition = false
-isSemicolon (whole n) = false
-isSemicolon (spaced n s w) = false
-isSemicolon commercialAt = false
 
 unfoldable pub isBang : Atom → Bool
 isBang (word n) = false
@@ -98,13 +71,9 @@ isBang (delimiter c d) = is c ascii.exclamationMark
 isBang point = false
 isBang hyphen = false
 isBang addition = false
-isBang (whole n) = false
-isBang (spaced n s w) = false
-isBang commercialAt = false
 
 unfoldable pub isBrace : Opening → Bool
 isBrace (function n d) = false
-isBrace (link n d) = false
 isBrace round = false
 isBrace square = false
 isBrace brace = true
