@@ -15,7 +15,7 @@ use Rattle.styles.specs.Said.{Rules}
 use Rattle.styles.specs.Computed.{computedStyle}
 use Rattle.styles.specs.Says.{Says}
 use Rattle.styles.specs.Lent.{SheetTexts, Page}
-use Rattle.runner.specs.Run.{styleRowAt}
+use Rattle.runner.specs.PageRows.{styleRowAt}
 use Rattle.running.specs.RunAnswer.{RunLeft}
 use Rattle.agreement.specs.Calls.{textsOf}
 
