@@ -1,6 +1,6 @@
 -- Demand 3 over the calls: where sheets compile, their bytes are run down a page with all that a run needs, and the style call styles some row of that page, the run
 -- agrees with every style call.
-use Prim.Native.Nat.{ℕ, _-_, _≤_, _<_}
+use Prim.Native.Nat.{ℕ, suc, _-_, _≤_, _<_}
 use mathlib.Core.Path.{_≡_, refl, ap, ap₂, sym, subst, _∙_}
 use mathlib.Core.List.{List, _++_}
 use native.Mathlib.Omega.{arith}
@@ -11,17 +11,20 @@ use Rattle.sheets.specs.SheetAnswer.{padded}
 use Rattle.origins.specs.Reading.{Sheets, rules, sheetsOf}
 use Rattle.origins.proofs.ChecksLaws.{none-long}
 use Rattle.cascade.specs.declared.slots.Cascade.the-variants.{Crate}
-use Rattle.cascade.specs.Related.{SameStyle}
+use Rattle.cascade.specs.Record.{Formed}
+use Rattle.cascade.specs.Related.{Each, none, next, SameStyle}
 use Rattle.cascade.specs.Row.{rowOf, styleAt}
-use Rattle.cascade.proofs.RowBack.{row-back, view-formed}
+use Rattle.cascade.proofs.RowBack.{row-back, style-back, view-formed}
 use Rattle.page.specs.Accepted.{pageRefusal}
+use Rattle.page.specs.Path.{Path}
 use Rattle.page.specs.PathOf.{pathOf}
 use Rattle.page.specs.Rows.{nodeCount, nodeAt, elementKind}
 use Rattle.styles.specs.declared.settings.Settings.{Settings}
-use Rattle.styles.specs.Computed.{computedStyle}
+use Rattle.styles.specs.Computed.{sourcesAlong, computedStyle}
 use Rattle.styles.specs.Lent.{SheetTexts, Page}
 use Rattle.styles.specs.Said.{Rules}
 use Rattle.styles.specs.Says.{Says}
+use Rattle.styles.proofs.Called.{cascaded-formed}
 use Rattle.styling.specs.Claim.{rowLeft, textsLeft, RowSays}
 use Rattle.styling.proofs.Claiming as claims
 use Rattle.runner.specs.PageRows.{styleRowAt, pageContents, pageRow, pageRows}
@@ -29,7 +32,7 @@ use Rattle.runner.proofs.PageContents.{contents-short}
 use Rattle.runner.proofs.PageRowLaws.{rows-long, row-there}
 use Rattle.running.specs.RunAnswer.{RunLeft, ran}
 use Rattle.agreement.specs.Calls.{CompileBuffers, RunBuffers, StyleBuffers, compileWith, runWith, styleWith, codeOf, textsOf, StyleLent, SameLengths}
-use Rattle.agreement.specs.ComputedRows.{ComputedRows}
+use Rattle.agreement.specs.ComputedRows.{RowComputed, ComputedRows}
 use Rattle.agreement.specs.Demand.{AllRows, Agreement, Demand3}
 use Rattle.agreement.specs.SameRow.{SameRow}
 use Rattle.agreement.proofs.CompileTells.{padded-front, Compiled, compile-tells, bytes-taken}
@@ -46,6 +49,25 @@ read-once m x y e f =
     let u : x .user ≡ y .user = cc in
     let w : x .author ≡ y .author = cc in
     ap₂ (λ (p q : List RuleSet). record { agent = p; user = q; author = x .author }) a u ∙ ap (λ (q : List RuleSet). record { agent = y .agent; user = y .user; author = q }) w
+
+-- lists that go member by member are of one length
+each-long : {A B : Type 0} {P : A → B → Type 0} {l : List A} {m : List B} → Each P l m → length l ≡ length m
+each-long none = refl
+each-long (next p e) = ap suc (each-long e)
+
+-- a row that is a computed style has all its slots
+style-formed : (sheets : Rules RuleSet) (settings : Settings) (p : Path) {t row : List ℕ} (r : RowComputed t row (computedStyle Crate sheets settings p)) → Formed (r .style)
+unfolding computedStyle
+style-formed sheets settings p r =
+    let f = cascaded-formed Crate (sourcesAlong sheets settings p) in
+    record { main = each-long (r .same .main .all) ∙ f .main; before = each-long (r .same .before .all) ∙ f .before; after = each-long (r .same .after .all) ∙ f .after }
+
+-- read back from its numbers, it says that style
+pub computed-read : (sheets : Rules RuleSet) (settings : Settings) (p : Path) (t row : List ℕ) → RowComputed t row (computedStyle Crate sheets settings p)
+    → SameStyle (Says t) (styleAt row) (computedStyle Crate sheets settings p)
+computed-read sheets settings p t row r =
+    let back : styleAt row ≡ r .style = ap styleAt (r .written) ∙ style-back (r .style) (style-formed sheets settings p r) in
+    rw back (r .same)
 
 -- a store as long as what stands in it, or longer
 pub padded-long : (xs : List ℕ) (n : ℕ) → length xs ≤ length (padded xs n)
@@ -101,8 +123,8 @@ module _ (s : SheetTexts) (g : Page) (settings : Settings) (code : List ℕ) (c 
         read-texts = c .read;
         element-rows = λ i h k.
             let m = computedStyle Crate (c .sheets) settings (pathOf (g .nodes) (g .attributes) (g .text) i) in
-            subst (λ (z : List ℕ). SameStyle (Says (code ++ z)) (styleAt (styleRowAt (leaves .rows) i)) m) (sym texts-there)
-            (subst (λ (z : List ℕ). SameStyle (Says (code ++ contents)) (styleAt z) m) (sym (row-left i h)) (all-rows .element-rows i h k));
+            subst (λ (z : List ℕ). RowComputed (code ++ z) (styleRowAt (leaves .rows) i) m) (sym texts-there)
+            (subst (λ (z : List ℕ). RowComputed (code ++ contents) z m) (sym (row-left i h)) (all-rows .element-rows i h k));
       }
 
   -- a row that the style call styles
@@ -113,14 +135,14 @@ module _ (s : SheetTexts) (g : Page) (settings : Settings) (code : List ℕ) (c 
       let l = styleWith settings s g i v in
       let says : RowSays Crate settings s (pathOf (g .nodes) (g .attributes) (g .text) i) l = claims.style-says Crate settings s g i (v .row) (v .texts) (v .rules) (v .tokens) (v .brackets) e in
       let m = computedStyle Crate (c .sheets) settings (pathOf (g .nodes) (g .attributes) (g .text) i) in
-      let x = styleAt (rowAt i) in
+      let run = all-rows .element-rows i (a .there) (a .element) in
+      let x = run .style in
       let y = styleAt (rowLeft l) in
       let sheets : says .sheets ≡ c .sheets = read-once (sheetsOf (s .agent) (s .user) (s .author)) (says .sheets) (c .sheets) (says .read) (c .read) in
       let by-style : SameStyle (Says (textsLeft l)) y m = rw sheets at (says .says) in
-      let by-run : SameStyle (Says (code ++ contents)) x m = all-rows .element-rows i (a .there) (a .element) in
       let same : SameRow (code ++ contents) (textsLeft l) (rowOf x) (rowOf y) =
-      rows-same (code ++ contents) (textsLeft l) x y m (view-formed (rowAt i)) (view-formed (rowLeft l)) (computed-own (c .sheets) settings (pathOf (g .nodes) (g .attributes) (g .text) i)) by-run by-style in
-      let left : rowOf x ≡ styleRowAt (leaves .rows) i = sym (row-left i (a .there) ∙ all-rows .element-written i (a .there) (a .element)) in
+      rows-same (code ++ contents) (textsLeft l) x y m (style-formed (c .sheets) settings (pathOf (g .nodes) (g .attributes) (g .text) i) run) (view-formed (rowLeft l)) (computed-own (c .sheets) settings (pathOf (g .nodes) (g .attributes) (g .text) i)) (run .same) by-style in
+      let left : rowOf x ≡ styleRowAt (leaves .rows) i = sym (row-left i (a .there) ∙ run .written) in
       let right : rowOf y ≡ rowLeft l = row-back (rowLeft l) (says .fine) in
       subst (λ (z : List ℕ). SameRow (code ++ z) (textsLeft l) (styleRowAt (leaves .rows) i) (rowLeft l)) (sym texts-there)
       (subst (λ (z : List ℕ). SameRow (code ++ contents) (textsLeft l) z (rowLeft l)) left

@@ -1,7 +1,7 @@
 -- The style rows of a page by the bytes of three sheets whose selectors fit: each element's style says the computed style of its path, for its parent's does, and what
 -- is declared at it is what the sheets and its attributes say.
 use Prim.Native.Nat.{ℕ, zero, suc, _+_, _-_, _≤_, _<_}
-use mathlib.Core.Path.{_≡_, refl, ap, sym, subst, _∙_}
+use mathlib.Core.Path.{_≡_, refl, ap, _∙_}
 use mathlib.Core.Logic.{_⊎_, inl, inr}
 use mathlib.Core.List.{List, [], _∷_, _++_, append-nil}
 use native.Mathlib.Nat.{not-suc-le-zero}
@@ -11,8 +11,6 @@ use Rattle.syntax.specs.declared.styles.Value.{Value}
 use Rattle.cascade.specs.declared.slots.Cascade.the-variants.{Crate}
 use Rattle.cascade.specs.Record.{ComputedStyle}
 use Rattle.cascade.specs.Related.{SameStyle}
-use Rattle.cascade.specs.Row.{rowOf, styleAt}
-use Rattle.cascade.proofs.RowBack.{style-back}
 use Rattle.page.specs.Path.{Element, Path}
 use Rattle.page.specs.PathOf.{elementAt, pathOf}
 use Rattle.page.specs.Rows.{nodeCount, nodeAt, elementKind}
@@ -30,7 +28,7 @@ use Rattle.styles.specs.Says.{Says}
 use Rattle.styles.specs.StyleCall.{inlineContents}
 use Rattle.runner.specs.PageRows.{rowContents, contentsBefore, pageContents, pageRow}
 use Rattle.runner.proofs.OpenRows.{parent-most}
-use Rattle.runner.proofs.PageRowLaws.{pageStyle, style-formed, style-other, style-element, page-other}
+use Rattle.runner.proofs.PageRowLaws.{pageStyle, style-other, style-element, page-other}
 use Rattle.runner.proofs.Steps.{element-contents}
 use Rattle.agreement.specs.Demand.{sheetsSelectors, AllRows}
 use Rattle.agreement.proofs.StepStyle.{SaysComputed, document-styled, styled-further, styled-below}
@@ -126,20 +124,12 @@ module _ (rules : Rules RuleSet) (fits : SheetFits (sheetsSelectors rules)) (set
   page-right i there k =
       rw (append-nil (contentsBefore settings g count)) at (styled-until (suc i) count (styleAtRow i) (pathAt i) (omega arith) (rows-right (suc i) i (omega arith) there k) [])
 
-  -- a row is its style written, which is read back
-  row-read : (i : ℕ) → styleAt (pageRow code settings g i) ≡ styleAtRow i
-  unfolding pageRow
-  row-read i = style-back (styleAtRow i) (style-formed code settings g i)
-
-  -- so all rows of the page are right
+  -- so all rows of the page are right, for each is its style written
   pub rows-computed : AllRows rules settings g code
+  unfolding pageRow
   rows-computed =
       record {
         sheet = round-trip (sheetsSelectors rules) fits;
-        element-rows = λ i l k. rw (row-read i) (page-right i l k);
-        element-written = λ i l k. written i;
+        element-rows = λ i l k. record { style = styleAtRow i; written = refl; same = page-right i l k };
         other-rows = λ i l d. page-other code settings g i d;
       }
-    where
-      written : (i : ℕ) → pageRow code settings g i ≡ rowOf (styleAt (pageRow code settings g i))
-      written i = unfold pageRow in ap rowOf (sym (row-read i))

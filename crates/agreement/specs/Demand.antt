@@ -6,8 +6,6 @@ use mathlib.Core.List.{List, _++_}
 use lib.ListN.{length}
 use Rattle.syntax.specs.Selector.{RuleSet}
 use Rattle.cascade.specs.declared.slots.Cascade.the-variants.{Crate}
-use Rattle.cascade.specs.Related.{SameStyle}
-use Rattle.cascade.specs.Row.{rowOf, styleAt}
 use Rattle.page.specs.PathOf.{pathOf}
 use Rattle.page.specs.Rows.{nodeCount, nodeAt, elementKind}
 use Rattle.compiled.specs.Decoded.{read}
@@ -16,14 +14,13 @@ use Rattle.compiler.specs.Selectors.{selectorsOf}
 use Rattle.styles.specs.declared.settings.Settings.{Settings}
 use Rattle.styles.specs.Said.{Rules}
 use Rattle.styles.specs.Computed.{computedStyle}
-use Rattle.styles.specs.Says.{Says}
 use Rattle.styles.specs.Lent.{SheetTexts, Page}
 use Rattle.runner.specs.PageRows.{noStyle, styleRowAt, pageContents, pageRow}
 use Rattle.combinators.specs.Refusal.{noRefusal, shortStore}
 use Rattle.running.specs.RunAnswer.{RunLeft}
 use Rattle.styling.specs.Claim.{rowLeft, textsLeft}
 use Rattle.agreement.specs.Calls.{CompileBuffers, RunBuffers, StyleBuffers, compileWith, runWith, styleWith, codeOf, textsOf}
-use Rattle.agreement.specs.ComputedRows.{ComputedRows}
+use Rattle.agreement.specs.ComputedRows.{RowComputed, ComputedRows}
 use Rattle.agreement.specs.SameRow.{SameRow}
 
 -- the selectors that three sheets are compiled to
@@ -36,9 +33,7 @@ pub record AllRows (rules : Rules RuleSet) (settings : Settings) (g : Page) (cod
   -- the bytes are the sheet
   pub sheet : decode code ≡ read (length code) (sheetsSelectors rules)
   pub element-rows : (i : ℕ) → i < nodeCount (g .nodes) → nodeAt (g .nodes) i .kind ≡ elementKind
-      → SameStyle (Says (code ++ pageContents settings g)) (styleAt (pageRow code settings g i)) (computedStyle Crate rules settings (pathOf (g .nodes) (g .attributes) (g .text) i))
-  -- and it is written as rows are: "Slots unfilled .. are zeros"
-  pub element-written : (i : ℕ) → i < nodeCount (g .nodes) → nodeAt (g .nodes) i .kind ≡ elementKind → pageRow code settings g i ≡ rowOf (styleAt (pageRow code settings g i))
+      → RowComputed (code ++ pageContents settings g) (pageRow code settings g i) (computedStyle Crate rules settings (pathOf (g .nodes) (g .attributes) (g .text) i))
   pub other-rows : (i : ℕ) → i < nodeCount (g .nodes) → ¬ (nodeAt (g .nodes) i .kind ≡ elementKind) → pageRow code settings g i ≡ noStyle
 
 -- ---- a run of compiled bytes, against the sheets' texts, and against the style call at each row
