@@ -1,12 +1,12 @@
 #!/usr/bin/env python3
-"""Holds the definitions `computedStyle` and `runOf` against html2text's computed styles, by computing them.
+"""Holds the definitions `computedStyle` and `pageRow` against html2text's computed styles, by computing them.
 
     python3 tools/vectors/definitions.py FOLDER style|run [FIRST COUNT]
     cd FOLDER && rt check held
 
 FOLDER, outside this repository, becomes one: the crates of this one, what target/ holds of them, and a crate `held`, where each vector is a case that `refl`
-has to prove. A case says that the sheets are read, that the page is accepted, and what the style of each element is; rows and state of a run have the
-least lengths and are full of 255. The vectors are taken in order of size, COUNT of them from the FIRST on; a run costs some ten times a style."""
+has to prove. A case says that the sheets are read, that the page is accepted, and what the style of each element is: computed from the sheets (style), or
+read in the rows of the page by the compiled bytes (run). The vectors are taken in order of size, COUNT of them from the FIRST on."""
 import pathlib
 import re
 import shutil
@@ -16,7 +16,7 @@ from vectors import recorded_file
 
 HERE = pathlib.Path(__file__).resolve().parent
 ROOT = HERE.parent.parent
-LIBRARIES = "combinators unicode lexer decimal syntax values declarations selectors sheets origins cascade page matching compiled compiler styles runner".split()
+LIBRARIES = "combinators unicode lexer decimal syntax values declarations selectors sheets origins cascade page matching compiled segments compiler styles runner".split()
 COMPUTED = 6
 SHEETS = 3
 NODE_WIDTH = 6
@@ -32,7 +32,6 @@ ASKED = """-- How a vector is asked.
 use Prim.Native.Nat.{ℕ, suc}
 use mathlib.Core.Bool.{Bool, true, false}
 use mathlib.Core.List.{List, [], _∷_, _++_, map}
-use lib.ListN.{replicate}
 use Rattle.combinators.specs.Choice.{and}
 use Rattle.combinators.specs.Refusal.{noRefusal}
 use Rattle.combinators.specs.declared.refusals.Refusal.{Refusal}
@@ -54,8 +53,7 @@ use Rattle.styles.specs.Computed.{computedStyle}
 use Rattle.styles.specs.Said.{Rules}
 use Rattle.styles.specs.declared.settings.Settings.{Settings}
 use Rattle.styles.specs.Lent.{Page}
-use Rattle.runner.specs.LeastLengths.{stateLeast, rowsLeast}
-use Rattle.runner.specs.Run.{Running, runOf, styleRowAt}
+use Rattle.runner.specs.PageRows.{pageContents, pageRow}
 
 pub record Answer : Type 0 where
   pub read : Bool
@@ -105,19 +103,12 @@ recordSeen t p = record { present = p .present; slots = slotsSeen t 0 (p .slots)
 unfoldable pub styleSeen : List ℕ → ComputedStyle Value → ComputedStyle Style
 styleSeen t s = record { main = recordSeen t (s .main); before = recordSeen t (s .before); after = recordSeen t (s .after) }
 
-unfoldable pub seen : List ℕ → Running → List ℕ → List (ComputedStyle Style)
-seen code r elements = map (λ i. styleSeen (code ++ r .texts) (styleAt (styleRowAt (r .rows) i))) elements
-
-unfoldable pub ran : List ℕ → Page → Bool → Running
-ran code g on =
-    runOf code (settings on) g (replicate (rowsLeast g) 255) (replicate (stateLeast code) 255)
-
-unfoldable pub seenInRun : List ℕ → Page → Bool → List ℕ → List (ComputedStyle Style)
-seenInRun code g on elements = seen code (ran code g on) elements
+unfoldable pub seen : List ℕ → Page → Bool → List ℕ → List (ComputedStyle Style)
+seen code g on elements = map (λ i. styleSeen (code ++ pageContents (settings on) g) (styleAt (pageRow code (settings on) g i))) elements
 
 unfoldable pub run : List ℕ → List ℕ → List ℕ → Page → Bool → List ℕ → Answer
 run agent user author g on elements =
-    answer agent user author g (seenInRun (encode (selectorsOf (rulesOf agent) (rulesOf user) (rulesOf author))) g on elements)
+    answer agent user author g (seen (encode (selectorsOf (rulesOf agent) (rulesOf user) (rulesOf author))) g on elements)
 """
 
 

@@ -1,6 +1,6 @@
 -- Demand 3 over the calls: where sheets compile, their bytes are run down a page with all that a run needs, and the style call styles some row of that page, the run
 -- agrees with every style call.
-use Prim.Native.Nat.{ℕ, _-_, _≤_, _<_}
+use Prim.Native.Nat.{ℕ, suc, _-_, _≤_, _<_}
 use mathlib.Core.Path.{_≡_, refl, ap, ap₂, sym, subst, _∙_}
 use mathlib.Core.List.{List, _++_}
 use native.Mathlib.Omega.{arith}
@@ -11,27 +11,28 @@ use Rattle.sheets.specs.SheetAnswer.{padded}
 use Rattle.origins.specs.Reading.{Sheets, rules, sheetsOf}
 use Rattle.origins.proofs.ChecksLaws.{none-long}
 use Rattle.cascade.specs.declared.slots.Cascade.the-variants.{Crate}
-use Rattle.cascade.specs.Related.{SameStyle}
+use Rattle.cascade.specs.Record.{Formed}
+use Rattle.cascade.specs.Related.{Each, none, next, SameStyle}
 use Rattle.cascade.specs.Row.{rowOf, styleAt}
-use Rattle.cascade.proofs.RowBack.{row-back, view-formed}
+use Rattle.cascade.proofs.RowBack.{row-back, style-back, view-formed}
 use Rattle.page.specs.Accepted.{pageRefusal}
+use Rattle.page.specs.Path.{Path}
 use Rattle.page.specs.PathOf.{pathOf}
 use Rattle.page.specs.Rows.{nodeCount, nodeAt, elementKind}
 use Rattle.styles.specs.declared.settings.Settings.{Settings}
-use Rattle.styles.specs.Computed.{computedStyle}
+use Rattle.styles.specs.Computed.{sourcesAlong, computedStyle}
 use Rattle.styles.specs.Lent.{SheetTexts, Page}
 use Rattle.styles.specs.Said.{Rules}
 use Rattle.styles.specs.Says.{Says}
+use Rattle.styles.proofs.Called.{cascaded-formed}
 use Rattle.styling.specs.Claim.{rowLeft, textsLeft, RowSays}
 use Rattle.styling.proofs.Claiming as claims
-use Rattle.runner.specs.Run.{Running, styleRowAt, runOf}
-use Rattle.runner.specs.LeastLengths.{rowsLeast}
+use Rattle.runner.specs.PageRows.{styleRowAt, pageContents, pageRow, pageRows}
 use Rattle.runner.proofs.PageContents.{contents-short}
-use Rattle.runner.proofs.StyleRows.{row-uncleared}
-use Rattle.combinators.proofs.Cleared.{length-cleared}
+use Rattle.runner.proofs.PageRowLaws.{rows-long, row-there}
 use Rattle.running.specs.RunAnswer.{RunLeft, ran}
 use Rattle.agreement.specs.Calls.{CompileBuffers, RunBuffers, StyleBuffers, compileWith, runWith, styleWith, codeOf, textsOf, StyleLent, SameLengths}
-use Rattle.agreement.specs.ComputedRows.{ComputedRows}
+use Rattle.agreement.specs.ComputedRows.{RowComputed, ComputedRows}
 use Rattle.agreement.specs.Demand.{AllRows, Agreement, Demand3}
 use Rattle.agreement.specs.SameRow.{SameRow}
 use Rattle.agreement.proofs.CompileTells.{padded-front, Compiled, compile-tells, bytes-taken}
@@ -49,6 +50,25 @@ read-once m x y e f =
     let w : x .author ≡ y .author = cc in
     ap₂ (λ (p q : List RuleSet). record { agent = p; user = q; author = x .author }) a u ∙ ap (λ (q : List RuleSet). record { agent = y .agent; user = y .user; author = q }) w
 
+-- lists that go member by member are of one length
+each-long : {A B : Type 0} {P : A → B → Type 0} {l : List A} {m : List B} → Each P l m → length l ≡ length m
+each-long none = refl
+each-long (next p e) = ap suc (each-long e)
+
+-- a row that is a computed style has all its slots
+style-formed : (sheets : Rules RuleSet) (settings : Settings) (p : Path) {t row : List ℕ} (r : RowComputed t row (computedStyle Crate sheets settings p)) → Formed (r .style)
+unfolding computedStyle
+style-formed sheets settings p r =
+    let f = cascaded-formed Crate (sourcesAlong sheets settings p) in
+    record { main = each-long (r .same .main .all) ∙ f .main; before = each-long (r .same .before .all) ∙ f .before; after = each-long (r .same .after .all) ∙ f .after }
+
+-- read back from its numbers, it says that style
+pub computed-read : (sheets : Rules RuleSet) (settings : Settings) (p : Path) (t row : List ℕ) → RowComputed t row (computedStyle Crate sheets settings p)
+    → SameStyle (Says t) (styleAt row) (computedStyle Crate sheets settings p)
+computed-read sheets settings p t row r =
+    let back : styleAt row ≡ r .style = ap styleAt (r .written) ∙ style-back (r .style) (style-formed sheets settings p r) in
+    rw back (r .same)
+
 -- a store as long as what stands in it, or longer
 pub padded-long : (xs : List ℕ) (n : ℕ) → length xs ≤ length (padded xs n)
 unfolding padded
@@ -60,35 +80,40 @@ unfolding padded
 padded-fits xs n h = omega (arith, length-append xs (replicate (n - length xs) 0), length-replicate {A = ℕ} (n - length xs) 0)
 
 module _ (s : SheetTexts) (g : Page) (settings : Settings) (code : List ℕ) (c : Compiled s code) (b : RunBuffers) (t : RunTakes code g b) where
-  abbrev r : Running
-  r = runOf code settings g (b .rows) (b .state)
+  abbrev contents : List ℕ
+  contents = pageContents settings g
 
-  -- all rows of the run, over the definitions
-  all-rows : AllRows (c .sheets) settings g code (b .rows) r
+  abbrev rowAt : ℕ → List ℕ
+  rowAt i = pageRow code settings g i
+
+  -- all rows of the page, over the definitions
+  all-rows : AllRows (c .sheets) settings g code
   all-rows =
       let l = none-long (length (s .agent)) (length (s .user)) (length (s .author)) (c .short) in
-      let h = run-lent code settings g b (t .suffices) in
       let m = c .sheets in
-      rw (c .bytes) (demand-3 (s .agent) (s .user) (s .author) (m .agent) (m .user) (m .author) (c .read) (l .0) (l .1) (l .2) (rw (c .bytes) at (t .few)) g (t .page) settings (b .rows) (b .state) (rw (c .bytes) at h))
+      rw (c .bytes) (demand-3 (s .agent) (s .user) (s .author) (m .agent) (m .user) (m .author) (c .read) (l .0) (l .1) (l .2) g (t .page) settings)
 
   abbrev leaves : RunLeft
   leaves = ran (b .rows) (b .texts) (b .state) (b .rules) (b .tokens) (b .brackets) code settings g
 
-  -- the rows of the page are those of the run
-  row-there : (i : ℕ) → i < nodeCount (g .nodes) → styleRowAt (leaves .rows) i ≡ styleRowAt (r .rows) i
-  unfolding ran
-  row-there i h =
-      let l = run-lent code settings g b (t .suffices) in
-      row-uncleared (r .rows) i (nodeCount (g .nodes)) h (omega (arith, l .for-rows, all-rows .rows-long))
+  -- the run leaves them
+  row-left : (i : ℕ) → i < nodeCount (g .nodes) → styleRowAt (leaves .rows) i ≡ rowAt i
+  unfolding ran padded pageRows
+  row-left i h = row-there code settings g (nodeCount (g .nodes)) i _ h
 
-  -- and so are the texts
-  texts-there : textsOf leaves ≡ r .texts
+  -- they fit into the rows that are lent
+  rows-fit : length (pageRows code settings g) ≤ length (b .rows)
+  unfolding pageRows
+  rows-fit = omega (arith, rows-long code settings g (nodeCount (g .nodes)), run-lent code settings g b (t .suffices) .for-rows)
+
+  -- and its texts are the contents of the page
+  texts-there : textsOf leaves ≡ contents
   unfolding ran
-  texts-there = padded-front (r .texts) (length (b .texts))
+  texts-there = padded-front contents (length (b .texts))
 
   -- which fit into the store that is lent
-  texts-fit : length (r .texts) ≤ length (b .texts)
-  texts-fit = rw (all-rows .texts) (omega (arith, contents-short settings g (t .page), run-texts-lent code settings g b (t .suffices)))
+  texts-fit : length contents ≤ length (b .texts)
+  texts-fit = omega (arith, contents-short settings g (t .page), run-texts-lent code settings g b (t .suffices))
 
   -- the row of an element is the style computed from the sheets
   computed : ComputedRows settings s g code leaves
@@ -98,8 +123,8 @@ module _ (s : SheetTexts) (g : Page) (settings : Settings) (code : List ℕ) (c 
         read-texts = c .read;
         element-rows = λ i h k.
             let m = computedStyle Crate (c .sheets) settings (pathOf (g .nodes) (g .attributes) (g .text) i) in
-            subst (λ (z : List ℕ). SameStyle (Says (code ++ z)) (styleAt (styleRowAt (leaves .rows) i)) m) (sym texts-there)
-            (subst (λ (z : List ℕ). SameStyle (Says (code ++ r .texts)) (styleAt z) m) (sym (row-there i h)) (all-rows .element-rows i h k));
+            subst (λ (z : List ℕ). RowComputed (code ++ z) (styleRowAt (leaves .rows) i) m) (sym texts-there)
+            (subst (λ (z : List ℕ). RowComputed (code ++ contents) z m) (sym (row-left i h)) (all-rows .element-rows i h k));
       }
 
   -- a row that the style call styles
@@ -110,18 +135,18 @@ module _ (s : SheetTexts) (g : Page) (settings : Settings) (code : List ℕ) (c 
       let l = styleWith settings s g i v in
       let says : RowSays Crate settings s (pathOf (g .nodes) (g .attributes) (g .text) i) l = claims.style-says Crate settings s g i (v .row) (v .texts) (v .rules) (v .tokens) (v .brackets) e in
       let m = computedStyle Crate (c .sheets) settings (pathOf (g .nodes) (g .attributes) (g .text) i) in
-      let x = styleAt (styleRowAt (r .rows) i) in
+      let run = all-rows .element-rows i (a .there) (a .element) in
+      let x = run .style in
       let y = styleAt (rowLeft l) in
       let sheets : says .sheets ≡ c .sheets = read-once (sheetsOf (s .agent) (s .user) (s .author)) (says .sheets) (c .sheets) (says .read) (c .read) in
       let by-style : SameStyle (Says (textsLeft l)) y m = rw sheets at (says .says) in
-      let by-run : SameStyle (Says (code ++ r .texts)) x m = all-rows .element-rows i (a .there) (a .element) in
-      let same : SameRow (code ++ r .texts) (textsLeft l) (rowOf x) (rowOf y) =
-      rows-same (code ++ r .texts) (textsLeft l) x y m (view-formed (styleRowAt (r .rows) i)) (view-formed (rowLeft l)) (computed-own (c .sheets) settings (pathOf (g .nodes) (g .attributes) (g .text) i)) by-run by-style in
-      let left : rowOf x ≡ styleRowAt (leaves .rows) i = sym (row-there i (a .there) ∙ all-rows .element-written i (a .there) (a .element)) in
+      let same : SameRow (code ++ contents) (textsLeft l) (rowOf x) (rowOf y) =
+      rows-same (code ++ contents) (textsLeft l) x y m (style-formed (c .sheets) settings (pathOf (g .nodes) (g .attributes) (g .text) i) run) (view-formed (rowLeft l)) (computed-own (c .sheets) settings (pathOf (g .nodes) (g .attributes) (g .text) i)) (run .same) by-style in
+      let left : rowOf x ≡ styleRowAt (leaves .rows) i = sym (row-left i (a .there) ∙ run .written) in
       let right : rowOf y ≡ rowLeft l = row-back (rowLeft l) (says .fine) in
       subst (λ (z : List ℕ). SameRow (code ++ z) (textsLeft l) (styleRowAt (leaves .rows) i) (rowLeft l)) (sym texts-there)
-      (subst (λ (z : List ℕ). SameRow (code ++ r .texts) (textsLeft l) z (rowLeft l)) left
-      (subst (λ (z : List ℕ). SameRow (code ++ r .texts) (textsLeft l) (rowOf x) z) right same))
+      (subst (λ (z : List ℕ). SameRow (code ++ contents) (textsLeft l) z (rowLeft l)) left
+      (subst (λ (z : List ℕ). SameRow (code ++ contents) (textsLeft l) (rowOf x) z) right same))
 
   -- the run as it leaves
   leaves-agree : Agreement settings s g code leaves
@@ -131,15 +156,15 @@ module _ (s : SheetTexts) (g : Page) (settings : Settings) (code : List ℕ) (c 
         answered = refl;
         computed-rows = computed;
         styled-rows = row-same;
-        other-rows = λ i h n. row-there i h ∙ all-rows .other-rows i h n;
-        within = padded-long (r .texts) (length (b .texts));
-        contents = texts-there ∙ all-rows .texts;
+        other-rows = λ i h n. row-left i h ∙ all-rows .other-rows i h n;
+        within = padded-long contents (length (b .texts));
+        contents = texts-there;
       }
 
   -- the stores are as long as they were
   leaves-long : (length (leaves .rows) ≡ length (b .rows)) × (length (leaves .texts) ≡ length (b .texts))
   unfolding ran
-  leaves-long = (length-cleared (rowsLeast g) (r .rows) ∙ all-rows .rows-long, padded-fits (r .texts) (length (b .texts)) texts-fit)
+  leaves-long = (padded-fits (pageRows code settings g) (length (b .rows)) rows-fit, padded-fits contents (length (b .texts)) texts-fit)
 
 -- the claim
 pub demand3 : Demand3

@@ -22,7 +22,7 @@ use Rattle.styles.specs.Said.{ruleStyles, ruleStyle, selectorSays, selectorsSay
 use Rattle.styles.proofs.Placed.{rule-style-same}
 use Rattle.segments.specs.Down.{matchingBy}
 use Rattle.runner.specs.Walked.{WalkedSelector, meantSelector, matchingAt}
-use Rattle.runner.specs.Run.{selectorsDeclare}
+use Rattle.runner.specs.PageRows.{selectorsDeclare}
 use Rattle.runner.proofs.FoundLaws.{declared-append}
 
 -- ---- selectors one after the other: which of them match

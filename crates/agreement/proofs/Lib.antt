@@ -1,7 +1,7 @@
 pub mod Declaring
 pub mod WalkedBack
 pub mod StepStyle
-pub mod RunRight
+pub mod PageRight
 pub mod Demand
 pub mod RowNumbers
 pub mod OwnSlots

@@ -1,32 +1,26 @@
 -- When a run call refuses nothing, and what it then leaves: nothing of it depends on what its buffers held.
-use Prim.Native.Nat.{ℕ, _-_, _≤_, _<_}
-use mathlib.Core.Path.{_≡_, refl, ap, ap₂, sym, _∙_}
+use Prim.Native.Nat.{ℕ, _≤_}
+use mathlib.Core.Path.{_≡_, refl, ap, sym, _∙_}
 use mathlib.Core.Bool.{Bool, true, false}
-use mathlib.Core.List.{List, _++_}
+use mathlib.Core.List.{List}
 use native.Mathlib.Omega.{arith}
 use borrow.Author.Tests.{leb-true, ltb-false, le-ltb}
 use lib.Dec.{ltb}
-use lib.ListN.{length, replicate}
+use lib.ListN.{length}
 use Rattle.combinators.specs.Choice.{is}
 use Rattle.combinators.specs.LeastLengths.{textLeast, storesSuffice}
 use Rattle.combinators.proofs.LeastLaws.{least}
 use Rattle.combinators.specs.Refusal.{noRefusal, refused, refusedAt, tooLong, shortStore, badBytes}
-use Rattle.combinators.specs.Store.{cleared}
 use Rattle.combinators.specs.declared.refusals.Refusal.{Refusal}
-use Rattle.combinators.proofs.Cleared.{cleared-is}
 use Rattle.combinators.proofs.Rules.{pick-holds, pick-true, pick-false, and-true, is-true, is-false, is-yes}
 use Rattle.page.specs.Accepted.{rowsRefusal, pageRefusal}
-use Rattle.page.proofs.AcceptedPages.{accepted}
 use Rattle.compiled.specs.Answer.{bytesRefusal}
 use Rattle.compiled.specs.Decoded.{Decoded, read, fault, onDecoded}
 use Rattle.compiled.specs.Sheet.{CompiledSelector, compiledLimit, decode}
-use Rattle.compiled.proofs.Bounds.{Reaches, sheet-reaches}
 use Rattle.styles.specs.declared.settings.Settings.{Settings}
 use Rattle.styles.specs.Lent.{Page}
 use Rattle.styling.proofs.StyleCalls.{Quiet, quiet}
-use Rattle.runner.specs.LeastLengths.{RunLent, runTextBytes, rowsLeast}
-use Rattle.runner.specs.Run.{Running, runOf}
-use Rattle.runner.proofs.RunFree.{run-rows-long, run-free}
+use Rattle.runner.specs.LeastLengths.{RunLent, runTextBytes}
 use Rattle.running.specs.RunAnswer.{RunLeft, unchanged, ran, runSuffices, runBy, runCall}
 use Rattle.agreement.specs.Calls.{RunBuffers, runWith, SameLengths}
 
@@ -36,17 +30,6 @@ quiet-bytes : (d : Decoded (List CompiledSelector)) → onDecoded d (λ _ _. noR
 unfolding onDecoded
 quiet-bytes (read n ss) e = refl
 quiet-bytes (fault p) e = absurd (omega (arith, e))
-
--- what is read takes a byte
-some-read : (t : List ℕ) (d : Decoded (List CompiledSelector)) → Reaches 1 (length t) 0 d → onDecoded d (λ _ _. noRefusal) (λ p. refusedAt badBytes p) ≡ noRefusal → 0 < length t
-unfolding onDecoded Reaches
-some-read t (read n ss) h e = omega (arith, h .0, h .1)
-some-read t (fault p) h e = absurd (let z : badBytes ≡ 0 = ap (λ (r : Refusal). r .number) e in omega (arith, z))
-
--- there are some
-pub some-bytes : (code : List ℕ) → bytesRefusal code ≡ noRefusal → 0 < length code
-unfolding bytesRefusal
-some-bytes code e = some-read code (decode code) (sheet-reaches code) e
 
 -- ---- a page is never refused for its bytes
 pub page-number : (nodes attributes text : List ℕ) → ¬ (pageRefusal nodes attributes text .number ≡ badBytes)
@@ -160,14 +143,6 @@ module _ (code : List ℕ) (settings : Settings) (g : Page) (b b′ : RunBuffers
   unfolding ran
   runs-free e =
       let t = run-tells code settings g b e in
-      let t′ = other-takes t in
-      let r : Running = runOf code settings g (b .rows) (b .state) in
-      let r′ : Running = runOf code settings g (b′ .rows) (b′ .state) in
-      let ok = accepted (g .nodes) (g .attributes) (g .text) (t .page) in
-      let free = run-free code (t .few) (some-bytes code (t .bytes)) settings g ok (b .rows) (b .state) (b′ .rows) (b′ .state) (run-lent code settings g b (t .suffices)) (run-lent code settings g b′ (t′ .suffices)) in
-      let long : length (r .rows) ≡ length (r′ .rows) = run-rows-long code settings g (b .rows) (b .state) ∙ same .rows ∙ sym (run-rows-long code settings g (b′ .rows) (b′ .state)) in
-      let rows : cleared (rowsLeast g) (r .rows) ≡ cleared (rowsLeast g) (r′ .rows) =
-      cleared-is (rowsLeast g) (r .rows) ∙ ap₂ (λ (x : List ℕ) (n : ℕ). x ++ replicate (n - rowsLeast g) 0) (free .0) long ∙ sym (cleared-is (rowsLeast g) (r′ .rows)) in
       run-leaves code settings g b t
-      ∙ rw (rows, free .1, same .texts, same .state, same .rules, same .tokens, same .brackets) refl
-      ∙ sym (run-leaves code settings g b′ t′)
+      ∙ rw (same .rows, same .texts, same .state, same .rules, same .tokens, same .brackets) refl
+      ∙ sym (run-leaves code settings g b′ (other-takes t))

@@ -1,5 +1,5 @@
--- The style row of a step: where the parent's row says the computed style of its path, contents read in the compiled bytes and the texts so far, the step
--- writes a row that says the computed style of the element's.
+-- The style of an element by compiled bytes: where its parent's says the computed style of its path, contents read in the compiled bytes and the texts so far, it
+-- says the computed style of the element's.
 use Prim.Native.Nat.{ℕ, _+_}
 use mathlib.Core.Path.{_≡_, refl, ap, sym, subst, _∙_}
 use mathlib.Core.Bool.{false}
@@ -11,14 +11,10 @@ use Rattle.syntax.specs.Selector.{RuleSet}
 use Rattle.syntax.specs.Style.{agentOrigin, userOrigin, authorOrigin, Style}
 use Rattle.syntax.specs.declared.styles.Value.{Value}
 use Rattle.cascade.specs.declared.slots.Cascade.the-variants.{Crate}
-use Rattle.cascade.specs.Record.{ComputedStyle, Formed, emptyStyle, Declared, inheritBy, fromRule, fromAttribute, crateDeclared, declaredBy, cascadeBy}
+use Rattle.cascade.specs.Record.{ComputedStyle, emptyStyle, Declared, inheritBy, fromRule, fromAttribute, crateDeclared, declaredBy, cascadeBy}
 use Rattle.cascade.specs.Related.{Each, SameStyle}
-use Rattle.cascade.specs.Row.{rowOf}
-use Rattle.cascade.specs.Slot.{updateBy}
 use Rattle.cascade.specs.Specificity.{inlineSpecificity}
-use Rattle.cascade.proofs.Cascading.{inherit-formed, merges-formed}
 use Rattle.cascade.proofs.Relating.{each-append, each-map, SameAttribute, SameDeclared, attribute-declared, inherit-same, merges-same, empty-same}
-use Rattle.cascade.proofs.RowBack.{empty-formed}
 use Rattle.page.specs.Path.{Element, Path}
 use Rattle.compiled.specs.Sheet.{encode}
 use Rattle.compiled.proofs.Fits.{SheetFits}
@@ -30,10 +26,9 @@ use Rattle.styles.specs.Says.{Says}
 use Rattle.styles.proofs.Lying.{Lies}
 use Rattle.styles.proofs.Placed.{attributes-placed}
 use Rattle.runner.specs.Walked.{walked, meantSelector, matchingAt}
-use Rattle.runner.specs.Run.{noStyle, selectorsDeclare, rowBelow}
+use Rattle.runner.specs.PageRows.{selectorsDeclare, styleBelow}
 use Rattle.agreement.specs.Demand.{sheetsSelectors}
-use Rattle.runner.proofs.RowBelow.{declaredBelow, styleBelow, row-below}
-use Rattle.styles.proofs.Called.{empty-row}
+use Rattle.runner.proofs.RowBelow.{declaredBelow}
 use Rattle.agreement.proofs.WalkedBack.{walked-said}
 use Rattle.agreement.proofs.Declaring.{declared-alike, matching-alike, selectors-declare}
 
@@ -41,24 +36,19 @@ module _ (rules : Rules RuleSet) (settings : Settings) where
   abbrev code : List ℕ
   code = encode (sheetsSelectors rules)
 
-  -- a row says the computed style at a path: its contents are read in the compiled bytes and in what the text store has so far, whatever follows
-  abbrev pub RowStyled : List ℕ → List ℕ → Path → Type 0
-  RowStyled filled row p =
-      (s : ComputedStyle Value) × (row ≡ rowOf s) × Formed s × ((more : List ℕ) → SameStyle (Says (code ++ (filled ++ more))) s (computedStyle Crate rules settings p))
+  -- a style says the computed style at a path: its contents are read in the compiled bytes and in what the text store has so far, whatever follows
+  abbrev pub SaysComputed : List ℕ → ComputedStyle Value → Path → Type 0
+  SaysComputed filled s p = (more : List ℕ) → SameStyle (Says (code ++ (filled ++ more))) s (computedStyle Crate rules settings p)
 
   -- the document's, which has none
-  pub document-styled : (filled : List ℕ) → RowStyled filled noStyle []
+  pub document-styled : (filled : List ℕ) → SaysComputed filled emptyStyle []
   unfolding computedStyle sourcesAlong cascaded
-  document-styled filled = (emptyStyle, empty-row, empty-formed, λ more. empty-same (Says (code ++ (filled ++ more))))
+  document-styled filled more = empty-same (Says (code ++ (filled ++ more)))
 
   -- it stays so where the store is filled further
-  pub styled-further : (filled new row : List ℕ) (p : Path) → RowStyled filled row p → RowStyled (filled ++ new) row p
-  styled-further filled new row p h = (
-    h .0,
-    h .1,
-    h .2,
-    λ more. subst (λ (t : List ℕ). SameStyle (Says (code ++ t)) (h .0) (computedStyle Crate rules settings p)) (sym (append-assoc filled new more)) (h .3 (new ++ more)),
-  )
+  pub styled-further : (filled new : List ℕ) (s : ComputedStyle Value) (p : Path) → SaysComputed filled s p → SaysComputed (filled ++ new) s p
+  styled-further filled new s p h more =
+      subst (λ (t : List ℕ). SameStyle (Says (code ++ t)) s (computedStyle Crate rules settings p)) (sym (append-assoc filled new more)) (h (new ++ more))
 
   module _ (fits : SheetFits (sheetsSelectors rules)) (filled : List ℕ) (e : Element) (up : Path) where
     abbrev new : List ℕ
@@ -110,16 +100,10 @@ module _ (rules : Rules RuleSet) (settings : Settings) where
         by-contents : (t : List ℕ) → Lies t counts new → Each (SameAttribute (Says t)) (placedAttributes counts (countedAttributes settings e)) (attributesSay (countedAttributes settings e))
         by-contents t h = attributes-placed t (countedAttributes settings e) counts (unfold inlineContents in h)
 
-    -- the row of the step
-    pub styled-below : (row : List ℕ) → RowStyled filled row up
-        → RowStyled (filled ++ new) (rowBelow row (matchingAt (e ∷ up) (walked code)) settings counts e) (e ∷ up)
-    unfolding styled-further computedStyle sourcesAlong cascaded cascadeBy inheritBy
-    styled-below row h = (
-      styleBelow (matchingAt (e ∷ up) (walked code)) settings counts e (h .0),
-      ap (λ (r : List ℕ). rowBelow r (matchingAt (e ∷ up) (walked code)) settings counts e) (h .1) ∙ row-below (matchingAt (e ∷ up) (walked code)) settings counts e (h .0) (h .2),
-      merges-formed (updateBy Crate) declared (inheritBy Crate (h .0)) (inherit-formed (h .0) (h .2)),
-      λ more.
-          let t : List ℕ = code ++ ((filled ++ new) ++ more) in
-          let above : SameStyle (Says t) (h .0) (computedStyle Crate rules settings up) = styled-further filled new row up h .3 more in
-          merges-same (Says t) Crate (declared-right more) (inheritBy Crate (h .0)) (inheritBy Crate (computedStyle Crate rules settings up)) (inherit-same (Says t) Crate (h .0) (computedStyle Crate rules settings up) above),
-    )
+    -- the style of the element below one that is right
+    pub styled-below : (s : ComputedStyle Value) → SaysComputed filled s up → SaysComputed (filled ++ new) (styleBelow s (matchingAt (e ∷ up) (walked code)) settings counts e) (e ∷ up)
+    unfolding styleBelow computedStyle sourcesAlong cascaded cascadeBy inheritBy
+    styled-below s h more =
+        let t : List ℕ = code ++ ((filled ++ new) ++ more) in
+        let above : SameStyle (Says t) s (computedStyle Crate rules settings up) = styled-further filled new s up h more in
+        merges-same (Says t) Crate (declared-right more) (inheritBy Crate s) (inheritBy Crate (computedStyle Crate rules settings up)) (inherit-same (Says t) Crate s (computedStyle Crate rules settings up) above)

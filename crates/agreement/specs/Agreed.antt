@@ -4,7 +4,7 @@ use mathlib.Core.Path.{_≡_}
 use mathlib.Core.List.{_++_}
 use Rattle.combinators.specs.Refusal.{noRefusal, shortStore}
 use Rattle.compiler.specs.CompileAnswer.{CompileLeft}
-use Rattle.runner.specs.Run.{styleRowAt}
+use Rattle.runner.specs.PageRows.{styleRowAt}
 use Rattle.running.specs.RunAnswer.{RunLeft}
 use Rattle.styling.specs.Claim.{rowLeft, textsLeft}
 use Rattle.styling.specs.StyleAnswer.{StyleLeft}

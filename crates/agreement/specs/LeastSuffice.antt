@@ -20,7 +20,7 @@ use Rattle.attributes.specs.Merging.{InlineRoom}
 use Rattle.styling.specs.StyleAnswer.{callBytes, isElement}
 use Rattle.styling.specs.Styling.{CallLent, AskedLent}
 use Rattle.runner.specs.LeastLengths.{RunLent, runTextBytes}
-use Rattle.runner.specs.Run.{pageContents}
+use Rattle.runner.specs.PageRows.{pageContents}
 use Rattle.running.specs.Ready.{textsMost}
 
 -- ---- three sheets: how many bytes they have together, and none is above its limit

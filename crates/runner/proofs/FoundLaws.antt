@@ -1,5 +1,5 @@
 -- The selectors found at the places that a row's pass collects declare what all selectors of the sheet that match declare: one without styles has no place, and declares nothing.
-use Prim.Native.Nat.{ℕ, zero, suc, _≤_}
+use Prim.Native.Nat.{ℕ, zero, suc, _≤_, _<_}
 use mathlib.Core.Path.{_≡_, refl, ap, sym, _∙_}
 use mathlib.Core.Bool.{Bool, true, false}
 use mathlib.Core.List.{List, [], _∷_, _++_, map, append-assoc}
@@ -19,6 +19,7 @@ use Rattle.styles.specs.Said.{ruleStyle}
 use Rattle.compiled.specs.Decoded.{Decoded, read, fault, onDecoded, andThen}
 use Rattle.compiled.specs.Sheet.{CompiledSelector, selectorAt, selectorsAt, decode}
 use Rattle.compiled.specs.Answer.{bytesRefusal}
+use Rattle.compiled.proofs.Bounds.{reaches-end, sheet-reaches}
 use Rattle.compiled.proofs.Following.{then-read, mapped-read}
 use Rattle.compiled.proofs.Walking.{selectors-first, selectors-none, sheet-steps}
 use Rattle.segments.specs.Placed.{hasStyle, placedAt, placedFrom, matchingPlaces}
@@ -26,7 +27,8 @@ use Rattle.segments.specs.Down.{placedIn, matchingBy}
 use Rattle.segments.proofs.DocumentLaws.{placed-styled, placed-bare}
 use Rattle.segments.proofs.SheetLaws.{ReadBy, selector-lower, matching-read}
 use Rattle.runner.specs.Walked.{WalkedSelector, walkedSelectorAt, walkedSelectorsAt, walked, matchingAt}
-use Rattle.runner.specs.Run.{selectorsDeclare, foundAt}
+use Rattle.runner.specs.PageRows.{selectorsDeclare}
+use Rattle.runner.specs.Run.{foundAt}
 use Rattle.runner.proofs.WalkedReads.{SelectorWalked, selector-walked}
 
 -- ---- what selectors declare
@@ -126,6 +128,10 @@ decoded code e = go (decode code) refl e
         → (n : ℕ) × (ss : List CompiledSelector) × (decode code ≡ read n ss)
     go (read n ss) q h = (n, ss, q)
     go (fault p) q h = absurd (let z : badBytes ≡ 0 = ap (λ (r : Refusal). r .number) h in omega arith)
+
+-- so there are bytes: what is read takes one
+pub some-bytes : (code : List ℕ) → bytesRefusal code ≡ noRefusal → 0 < length code
+some-bytes code e = let d = decoded code e in omega (arith, reaches-end (length code) 0 1 (d .0) (d .1) (decode code) (sheet-reaches code) (d .2))
 
 -- at the places of those that match and have a style, what is found declares what all that match do
 pub found-declares : (code : List ℕ) → bytesRefusal code ≡ noRefusal → (path : Path)

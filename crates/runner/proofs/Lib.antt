@@ -8,5 +8,6 @@ pub mod WalkedReads
 pub mod FoundLaws
 pub mod Steps
 pub mod Independence
-pub mod RunFree
+pub mod PageRowLaws
+pub mod RunRows
 pub mod PageContents

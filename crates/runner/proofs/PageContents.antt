@@ -18,7 +18,7 @@ use Rattle.styles.proofs.Room.{inline-short, attributes-counted, values-short}
 use Rattle.styles.specs.declared.settings.Settings.{Settings}
 use Rattle.runner.specs.LeastLengths.{runTextBytes}
 use Rattle.styles.specs.Lent.{Page}
-use Rattle.runner.specs.Run.{rowContents, contentsBefore, pageContents}
+use Rattle.runner.specs.PageRows.{rowContents, contentsBefore, pageContents}
 
 module _ (settings : Settings) (g : Page) where
   -- the contents of a row

@@ -1,9 +1,8 @@
 -- What a step is at each kind of row of an accepted page, and which contents a row has.
-use Prim.Native.Nat.{ℕ, zero, suc, _+_, _-_, _≤_, _<_}
+use Prim.Native.Nat.{ℕ, suc, _+_, _<_}
 use mathlib.Core.Path.{_≡_, refl, sym, _∙_}
 use mathlib.Core.List.{List, []}
 use native.Mathlib.Omega.{arith}
-use lib.ListN.{length, length-append}
 use Rattle.combinators.proofs.Rules.{pick-true, pick-false, is-yes, is-no}
 use Rattle.page.specs.Ancestors.{depthOf, placeOf}
 use Rattle.page.specs.PathOf.{elementAt}
@@ -17,7 +16,8 @@ use Rattle.segments.specs.Sweep.{pairAt}
 use Rattle.runner.specs.State.{partPlace}
 use Rattle.styles.specs.Lent.{Page}
 use Rattle.runner.proofs.Handed.{handed-kind, handed-right}
-use Rattle.runner.specs.Run.{Stepped, noStyle, documentStep, elementStep, openStep, stepOn, handedAt, rowContents, contentsBefore, pageContents}
+use Rattle.runner.specs.PageRows.{noStyle, rowContents}
+use Rattle.runner.specs.Run.{Stepped, documentStep, elementStep, openStep, stepOn, handedAt}
 
 -- ---- contents
 module _ (settings : Settings) (g : Page) where
@@ -30,24 +30,6 @@ module _ (settings : Settings) (g : Page) where
   pub no-contents : (i : ℕ) → ¬ (nodeAt (g .nodes) i .kind ≡ elementKind) → rowContents settings g i ≡ []
   unfolding rowContents
   no-contents i d = sym (pick-false _ _ _ _ (is-no _ _ d) refl)
-
-  -- those before a row are among those before a later one
-  grown : (k i : ℕ) → length (contentsBefore settings g i) ≤ length (contentsBefore settings g (k + i))
-  grown zero i = let e : 0 + i ≡ i = omega arith in rw e (omega arith)
-  grown (suc k) i =
-      let e : suc k + i ≡ suc (k + i) = omega arith in
-      rw e (omega (arith, length-before (k + i), grown k i))
-    where
-      length-before : (j : ℕ) → length (contentsBefore settings g (suc j)) ≡ length (contentsBefore settings g j) + length (rowContents settings g j)
-      length-before j = unfold contentsBefore in length-append (contentsBefore settings g j) (rowContents settings g j)
-
-  -- so they are among those of the page
-  pub contents-most : (i : ℕ) → i ≤ nodeCount (g .nodes) → length (contentsBefore settings g i) ≤ length (pageContents settings g)
-  unfolding pageContents
-  contents-most i h =
-      let k : ℕ = nodeCount (g .nodes) - i in
-      let e : k + i ≡ nodeCount (g .nodes) = omega arith in
-      rw e at (grown k i)
 
 -- ---- steps
 module _ (code : List ℕ) (settings : Settings) (g : Page) (parent state texts : List ℕ) where

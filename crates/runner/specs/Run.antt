@@ -1,30 +1,29 @@
 -- The step and the run. "It is one step per node row, in order: a step is handed the compiled bytes, the byte text, this row with its attribute rows, its
 -- depth, the parent's style row, the state, the stores, how far the text store is filled, and the switch, but no other row of the page."
 use Prim.Native.Nat.{ℕ, zero, suc, _+_, _*_}
-use mathlib.Core.List.{List, [], _∷_, _++_, map}
-use lib.ListN.{length, take, drop, replicate}
+use mathlib.Core.List.{List, [], _∷_, _++_}
+use lib.ListN.{length}
 use lib.Seq.{sets}
 use Rattle.combinators.specs.Choice.{pick, is}
 use Rattle.combinators.specs.Part.{part}
 use Rattle.syntax.specs.Style.{agentOrigin}
 use Rattle.syntax.specs.declared.styles.Value.{Value}
 use Rattle.cascade.specs.declared.slots.Cascade.the-variants.{Crate}
-use Rattle.cascade.specs.Record.{Declared, fromRule}
 use Rattle.cascade.specs.Row.{styleRowWidth, inheritedRow}
 use Rattle.page.specs.Ancestors.{depthOf}
 use Rattle.page.specs.Path.{Attribute, Element}
-use Rattle.page.specs.PathOf.{attributesFrom, elementAt}
-use Rattle.page.specs.Rows.{nodeWidth, attributeWidth, elementKind, otherKind, nodeAt, nodeCount, attributeRows, nameOf}
-use Rattle.matching.specs.Specificity.{specificity}
+use Rattle.page.specs.PathOf.{attributesFrom}
+use Rattle.page.specs.Rows.{nodeWidth, attributeWidth, otherKind, nodeAt, nodeCount, attributeRows, nameOf}
 use Rattle.styles.specs.declared.settings.Settings.{Settings}
 use Rattle.styles.specs.Lent.{Page}
 use Rattle.styles.specs.Merged.{mergedRow, lateDeclared}
-use Rattle.styles.specs.Said.{ruleStyle, countedAttributes}
+use Rattle.styles.specs.Said.{countedAttributes}
 use Rattle.styles.specs.StyleCall.{inlineContents, placedAttributes}
 use Rattle.segments.specs.Sweep.{pairAt}
 use Rattle.segments.specs.Pass.{Passed}
 use Rattle.segments.specs.Down.{passAt, freshIn, readIn}
 use Rattle.runner.specs.Walked.{WalkedSelector, walkedSelectorAt}
+use Rattle.runner.specs.PageRows.{selectorsDeclare, styleRowAt, noStyle}
 use Rattle.runner.specs.State.{partPlace, partOf, raised, opened}
 
 -- ---- a step
@@ -46,16 +45,7 @@ pub record Stepped : Type 0 where
   pub state : List ℕ
   pub texts : List ℕ
 
--- "rows of other nodes, are zeros"
-abbrev pub noStyle : List ℕ
-noStyle = replicate styleRowWidth 0
-
--- what the selectors that match declare, in reading order
-unfoldable pub selectorsDeclare : {A : Type 0} → List (WalkedSelector A) → List (Declared A)
-selectorsDeclare [] = []
-selectorsDeclare (s ∷ ss) = map (λ x. fromRule (s .origin) (ruleStyle (s .pseudo) (specificity (s .components)) x)) (s .styles) ++ selectorsDeclare ss
-
--- the style row of an element: its parent's, into which the selectors are merged, then its attributes, whose contents count from a place on
+-- the style row that an element's step writes: its parent's, into which the selectors are merged, then its attributes, whose contents count from a place on
 unfoldable pub rowBelow : List ℕ → List (WalkedSelector Value) → Settings → ℕ → Element → List ℕ
 rowBelow parent ss settings place e =
     mergedRow Crate (mergedRow Crate (inheritedRow Crate parent) (selectorsDeclare ss)) (lateDeclared Crate (placedAttributes place (countedAttributes settings e)))
@@ -110,9 +100,6 @@ pub record Running : Type 0 where
   pub state : List ℕ
   pub texts : List ℕ
 
-unfoldable pub styleRowAt : List ℕ → ℕ → List ℕ
-styleRowAt rows i = take styleRowWidth (drop (i * styleRowWidth) rows)
-
 -- the step of row i, with "its parent's style row as that parent's step wrote it"
 unfoldable pub runStep : List ℕ → Settings → Page → ℕ → Running → Running
 runStep code settings g i r =
@@ -127,18 +114,3 @@ runFrom code settings g (suc k) i r = runFrom code settings g k (suc i) (runStep
 -- "A run begins with fill 0 and whatever its state and stores hold"
 unfoldable pub runOf : List ℕ → Settings → Page → List ℕ → List ℕ → Running
 runOf code settings g rows state = runFrom code settings g (nodeCount (g .nodes)) 0 (record { rows = rows; state = state; texts = [] })
-
--- ---- what the text store holds: the content texts of `style` attributes "down the .. page", in page order
-
--- those of a row
-unfoldable pub rowContents : Settings → Page → ℕ → List ℕ
-rowContents settings g i =
-    pick (is (nodeAt (g .nodes) i .kind) elementKind) (inlineContents settings (elementAt (g .nodes) (g .attributes) (g .text) i)) []
-
--- those of the rows before a row
-unfoldable pub contentsBefore : Settings → Page → ℕ → List ℕ
-contentsBefore settings g zero = []
-contentsBefore settings g (suc i) = contentsBefore settings g i ++ rowContents settings g i
-
-unfoldable pub pageContents : Settings → Page → List ℕ
-pageContents settings g = contentsBefore settings g (nodeCount (g .nodes))

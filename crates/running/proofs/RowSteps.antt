@@ -25,7 +25,8 @@ use Rattle.styles.specs.Lent.{Page}
 use Rattle.styles.specs.Room.{valuesOf}
 use Rattle.styles.specs.StyleCall.{inlineContents}
 use Rattle.styles.proofs.Room.{inline-short}
-use Rattle.runner.specs.Run.{Handed, Stepped, Running, handedFrom, documentStep, elementStep, openStep, stepOn, handedAt, styleRowAt, runStep, runFrom, runOf}
+use Rattle.runner.specs.PageRows.{styleRowAt}
+use Rattle.runner.specs.Run.{Handed, Stepped, Running, handedFrom, documentStep, elementStep, openStep, stepOn, handedAt, runStep, runFrom, runOf}
 use Rattle.stepping.specs.Lent.{StepLent}
 use Rattle.running.specs.Ready.{RunReady, RowReady, PlaceRoom, textsMost, withParent}
 use Rattle.running.proofs.Handed as handed

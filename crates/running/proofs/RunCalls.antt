@@ -1,5 +1,5 @@
 -- Returns of the functions of a run: what is left of a page that was styled, and the refusals in their order.
-use mathlib.Core.Path.{_≡_, refl, ap, sym, _∙_}
+use mathlib.Core.Path.{_≡_, refl, ap, ap₂, sym, _∙_}
 use mathlib.Core.Bool.{Bool, true, false}
 use mathlib.Core.List.{List, _++_}
 use Prim.Native.Nat.{ℕ, suc, _+_, _-_, _*_, _/_, _^_, _≤_, _<_}
@@ -26,8 +26,12 @@ use Rattle.compiled.specs.Decoded.{Decoded, read, fault, onDecoded}
 use Rattle.compiled.specs.Sheet.{compiledLimit, CompiledSelector, decode}
 use Rattle.styles.specs.declared.settings.Settings.{Settings}
 use Rattle.styles.specs.Lent.{Page}
+use Rattle.runner.specs.LeastLengths.{rowsLeast}
+use Rattle.runner.specs.PageRows.{pageContents, rowsBefore, pageRows}
 use Rattle.runner.specs.Run.{Running, runOf}
 use Rattle.runner.specs.State.{depths}
+use Rattle.runner.proofs.PageRowLaws.{rows-long}
+use Rattle.runner.proofs.RunRows.{run-rows}
 use Rattle.running.specs.declared.run.RunAnswer.{RunAnswer}
 use Rattle.running.specs.Ready.{Lengths, RunReady}
 use Rattle.running.specs.RunAnswer.{RunLeft, unchanged, ran, runSuffices, runBy, runCall}
@@ -50,6 +54,20 @@ module _ (settings : Settings) {code : List ℕ} {g : Page} {rows₀ state₀ ru
   abbrev run : Running
   run = runOf code settings g rows₀ state₀
 
+  -- its steps leave the style rows and the contents of the page
+  left-rows : (take (rowsLeast g) (run .rows) ≡ pageRows code settings g) × (length (run .rows) ≡ length rows₀) × (run .texts ≡ pageContents settings g)
+  left-rows =
+      run-rows code (r .lengths .few) (r .sheet) settings g (accepted (g .nodes) (g .attributes) (g .text) (r .page)) rows₀ state₀
+      (record { for-rows = r .lengths .for-rows; for-state = r .lengths .for-state })
+
+  -- cleared behind the page, the rows are its style rows and zeros
+  rows-cleared : cleared (rowsLeast g) (run .rows) ≡ padded (pageRows code settings g) (length rows₀)
+  unfolding padded pageRows
+  rows-cleared =
+      let long : length (rowsBefore code settings g (nodeCount (g .nodes))) ≡ rowsLeast g = rows-long code settings g (nodeCount (g .nodes)) in
+      let zeros : length (run .rows) - rowsLeast g ≡ length rows₀ - length (rowsBefore code settings g (nodeCount (g .nodes))) = omega (arith, long, left-rows .1) in
+      cleared-is (rowsLeast g) (run .rows) ∙ ap₂ (λ (l : List ℕ) (i : ℕ). l ++ replicate i 0) (left-rows .0) zeros
+
   -- what is left of it
   pub page-left : (rows₁ state₁ rules₁ tokens₁ brackets₁ texts₁ : List ℕ) (n count : ℕ) → record { rows = rows₁; state = state₁; texts = take n texts₁ } ≡ run → n ≤ length texts₁
       → length state₁ ≡ length state₀ → length rules₁ ≡ length rules₀ → length tokens₁ ≡ length tokens₀ → length brackets₁ ≡ length brackets₀ → length texts₁ ≡ length texts₀
@@ -60,12 +78,13 @@ module _ (settings : Settings) {code : List ℕ} {g : Page} {rows₀ state₀ ru
       → record { answer = a; rows = rows₂; texts = texts₂; state = state₂; rules = rules₂; tokens = tokens₂; brackets = brackets₂ } ≡ ran rows₀ texts₀ state₀ rules₀ tokens₀ brackets₀ code settings g
   unfolding ran padded
   page-left rows₁ state₁ rules₁ tokens₁ brackets₁ texts₁ n count e w ls lu lk lb lt ec rows₂ texts₂ state₂ rules₂ tokens₂ brackets₂ er et eu ek eb es a ea =
-      let long : n ≡ length (run .texts) = sym (length-take-le n texts₁ w) ∙ ap (λ (x : Running). length (x .texts)) e in
-      let zeros : length texts₁ - n ≡ length texts₀ - length (run .texts) = omega (arith, lt, long) in
+      let texts : take n texts₁ ≡ pageContents settings g = ap (λ (x : Running). x .texts) e ∙ left-rows .2 in
+      let long : n ≡ length (pageContents settings g) = sym (length-take-le n texts₁ w) ∙ ap length texts in
+      let zeros : length texts₁ - n ≡ length texts₀ - length (pageContents settings g) = omega (arith, lt, long) in
       left-by
       (ea ∙ ap (λ (i : ℕ). record { refusal = noRefusal; texts = i }) long)
-      (er ∙ ap (λ (i : ℕ). cleared (i * styleRowWidth) rows₁) ec ∙ ap (λ (x : Running). cleared (nodeCount (g .nodes) * styleRowWidth) (x .rows)) e)
-      (et ∙ cleared-is n texts₁ ∙ ap (λ (x : Running). x .texts ++ replicate (length texts₁ - n) 0) e ∙ ap (λ (i : ℕ). run .texts ++ replicate i 0) zeros)
+      (er ∙ ap (λ (i : ℕ). cleared (i * styleRowWidth) rows₁) ec ∙ ap (λ (x : Running). cleared (nodeCount (g .nodes) * styleRowWidth) (x .rows)) e ∙ rows-cleared)
+      (et ∙ cleared-is n texts₁ ∙ ap₂ (λ (l : List ℕ) (i : ℕ). l ++ replicate i 0) texts zeros)
       (cleared-throughout state₁ state₀ state₂ ls es)
       (cleared-throughout rules₁ rules₀ rules₂ lu eu)
       (cleared-throughout tokens₁ tokens₀ tokens₂ lk ek)

@@ -15,7 +15,7 @@ use Rattle.compiled.specs.Answer.{bytesRefusal}
 use Rattle.compiled.specs.Sheet.{compiledLimit}
 use Rattle.styles.specs.Lent.{Page}
 use Rattle.runner.specs.LeastLengths.{runTextBytes, stateLeast, rowsLeast}
-use Rattle.runner.specs.Run.{styleRowAt}
+use Rattle.runner.specs.PageRows.{styleRowAt}
 
 -- buffers for which nothing is refused for want of length
 pub record Lengths (code : List ℕ) (g : Page) (rows state rules tokens brackets texts : List ℕ) : Type 0 where

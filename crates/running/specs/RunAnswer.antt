@@ -7,7 +7,6 @@ use lib.ListN.{length, replicate}
 use Rattle.combinators.specs.Choice.{pick, and, is}
 use Rattle.combinators.specs.LeastLengths.{storesSuffice}
 use Rattle.combinators.specs.Refusal.{noRefusal, refused, tooLong, shortStore}
-use Rattle.combinators.specs.Store.{cleared}
 use Rattle.combinators.specs.declared.refusals.Refusal.{Refusal}
 use Rattle.sheets.specs.SheetAnswer.{padded}
 use Rattle.page.specs.Accepted.{pageRefusal}
@@ -16,7 +15,7 @@ use Rattle.compiled.specs.Sheet.{compiledLimit}
 use Rattle.styles.specs.declared.settings.Settings.{Settings}
 use Rattle.styles.specs.Lent.{Page}
 use Rattle.runner.specs.LeastLengths.{runTextBytes, stateLeast, rowsLeast}
-use Rattle.runner.specs.Run.{runOf}
+use Rattle.runner.specs.PageRows.{pageContents, pageRows}
 use Rattle.running.specs.declared.run.RunAnswer.{RunAnswer}
 
 -- ---- what is left of the call: its answer and the six buffers
@@ -38,11 +37,10 @@ module _ (rows texts state rules tokens brackets : List ℕ) where
   -- the style rows of the page and the contents of its `style` attributes; "After an answer all beyond it, and all work stores, are zero"
   unfoldable pub ran : List ℕ → Settings → Page → RunLeft
   ran code settings g =
-      let r = runOf code settings g rows state in
       record {
-        answer = record { refusal = noRefusal; texts = length (r .texts) };
-        rows = cleared (rowsLeast g) (r .rows);
-        texts = padded (r .texts) (length texts);
+        answer = record { refusal = noRefusal; texts = length (pageContents settings g) };
+        rows = padded (pageRows code settings g) (length rows);
+        texts = padded (pageContents settings g) (length texts);
         state = replicate (length state) 0;
         rules = replicate (length rules) 0;
         tokens = replicate (length tokens) 0;

@@ -20,7 +20,8 @@ use Rattle.compiled.specs.declared.sheets.HeadAnswer.the-variants as head
 use Rattle.compiled.proofs.Answers.{head-read, head-fault}
 use Rattle.compiled.proofs.Following.{then-read, then-fault, mapped-read, mapped-fault}
 use Rattle.segments.specs.Down.{readIn}
-use Rattle.runner.specs.Run.{selectorsDeclare, foundAt}
+use Rattle.runner.specs.PageRows.{selectorsDeclare}
+use Rattle.runner.specs.Run.{foundAt}
 use Rattle.runner.specs.Walked.{WalkedSelector, walkedStylesAt, walkedPartsAt, walkedSelectorAt}
 use Rattle.stepping.specs.Reading.{listed, weightsAt}
 use Rattle.stepping.specs.Merging.{stylesDeclare}

@@ -45,7 +45,8 @@ use Rattle.segments.proofs.CodePassLaws.{Passing, pass-whole}
 use Rattle.segments.proofs.CodeStyledLaws.{sheet-selectors}
 use Rattle.segments.proofs.CodeTellLaws.{fresh-own, fresh-outside, fresh-whole}
 use Rattle.segments.proofs.PassLaws.{pass-none, pass-more}
-use Rattle.runner.specs.Run.{selectorsDeclare, foundAt}
+use Rattle.runner.specs.PageRows.{selectorsDeclare}
+use Rattle.runner.specs.Run.{foundAt}
 use Rattle.runner.specs.State.{partPlace, partOf}
 use Rattle.runner.specs.Walked.{WalkedSelector, walkedSelectorAt}
 use Rattle.runner.proofs.FoundLaws.{declared-append, decoded}

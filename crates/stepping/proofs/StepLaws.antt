@@ -30,7 +30,8 @@ use Rattle.segments.specs.Parts.{partSets, flagsLimit, pairLimit}
 use Rattle.segments.specs.Pass.{Passed}
 use Rattle.segments.specs.Sweep.{pairAt, pairBytes}
 use Rattle.segments.proofs.CodeBlockLaws.{length-sets-own}
-use Rattle.runner.specs.Run.{Handed, Stepped, noStyle, handedFrom, selectorsDeclare, rowBelow, foundAt, documentStep, elementStep, openStep, stepOn}
+use Rattle.runner.specs.PageRows.{noStyle, selectorsDeclare}
+use Rattle.runner.specs.Run.{Handed, Stepped, handedFrom, rowBelow, foundAt, documentStep, elementStep, openStep, stepOn}
 use Rattle.runner.specs.State.{depths, partPlace, partOf, raised, opened}
 use Rattle.runner.proofs.StateParts.{sets-own}
 use Rattle.stepping.specs.Lent.{StepLent}

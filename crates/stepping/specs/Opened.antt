@@ -17,7 +17,8 @@ use Rattle.segments.specs.Met.{handedElement}
 use Rattle.segments.specs.Pass.{Passed}
 use Rattle.segments.specs.Sweep.{pairAt}
 use Rattle.runner.specs.LeastLengths.{stateLeast}
-use Rattle.runner.specs.Run.{selectorsDeclare, foundAt}
+use Rattle.runner.specs.PageRows.{selectorsDeclare}
+use Rattle.runner.specs.Run.{foundAt}
 use Rattle.runner.specs.State.{partPlace, partOf, raised, opened}
 
 -- bytes that read as a sheet, a style row, and a part of the state for each depth

@@ -24,7 +24,8 @@ ghost use Rattle.segments.specs.Pass.{matchedHere, passFrom};
 ghost use Rattle.segments.specs.Parts.{pairLimit};
 ghost use Rattle.segments.specs.Passing.{nextFrom, visitStored, passStored};
 ghost use Rattle.segments.specs.Down.{passAt};
-ghost use Rattle.runner.specs.Run.{selectorsDeclare, foundAt};
+ghost use Rattle.runner.specs.PageRows.{selectorsDeclare};
+ghost use Rattle.runner.specs.Run.{foundAt};
 ghost use Rattle.stepping.specs.Passing.{SheetLent, DocumentLent, documentPassed};
 
 // The selector at `p`, at an element: its block goes to the own part, and where it matches its styles are merged. Returns the place of the next selector.
