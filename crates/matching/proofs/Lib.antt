@@ -18,4 +18,5 @@ pub mod WordList
 pub mod Documents
 pub mod TopmostLaws
 pub mod BelowLaws
+pub mod NumberLaws
 pub mod Pieces

@@ -14,9 +14,10 @@ use Rattle.syntax.specs.Stream.{readMany}
 use Rattle.origins.proofs.WalkLaws.{many-length}
 use Rattle.page.specs.Rows.{nodeAt}
 use Rattle.matching.specs.Rows.{componentsAt, Rooted}
-use Rattle.matching.specs.Topmost.{selectorTop, RightTop}
+use Rattle.matching.specs.Topmost.{selectorNumber, RightTop}
 use Rattle.matching.specs.Topmost.Line.{same}
-use Rattle.matching.proofs.TopmostLaws.{line-up, right-top, right-above}
+use Rattle.matching.proofs.NumberLaws.{right-number}
+use Rattle.matching.proofs.TopmostLaws.{line-up, right-above}
 use Rattle.rule_styles.specs.Placing.{rulesSelectors}
 use Rattle.rule_styles.specs.declared.styled.StyledSheets.{StyledSheets}
 use Rattle.styling.specs.Tops.{topWidth, selectorsTops, RightTops, sheetSelectors, sheetsSelectors, readyPlaces, readyCounts, readySheets, TopsRoom, SheetsTopsRoom}
@@ -95,7 +96,7 @@ module _ (nodes attributes text : List ℕ) (row : ℕ) where
   pub right-stored : Rooted nodes row → (ss : List Selector) (others : List ℕ) → Right ss (Tops ss ++ others)
   unfolding RightTops selectorsTops
   right-stored r [] others = tt
-  right-stored r (s ∷ ss) others = (right-top nodes attributes text row r (s .components), right-stored r ss others)
+  right-stored r (s ∷ ss) others = (right-number nodes attributes text (s .components) row r, right-stored r ss others)
 
   -- what decides on a row decides on its parent
   pub right-parent : ¬ (row ≡ 0) → (p : ℕ) → p ≡ nodeAt nodes row .parent → (ss : List Selector) (t : List ℕ) → Right ss t → RightTops nodes attributes text p ss t
@@ -155,7 +156,7 @@ module _ (nodes attributes text : List ℕ) (row : ℕ) where
   pub tops-append : (xs ys : List Selector) → Tops (xs ++ ys) ≡ Tops xs ++ Tops ys
   unfolding selectorsTops
   tops-append [] ys = refl
-  tops-append (s ∷ xs) ys = ap (λ (l : List ℕ). selectorTop nodes attributes text row (s .components) ∷ l) (tops-append xs ys)
+  tops-append (s ∷ xs) ys = ap (λ (l : List ℕ). selectorNumber nodes attributes text row (s .components) ∷ l) (tops-append xs ys)
 
   -- those of two lists, one behind the other
   pub stored-both : (l : List ℕ) (place : ℕ) (xs ys : List Selector) (k : ℕ) → k ≡ place + length xs → sets (sets l place (Tops xs)) k (Tops ys) ≡ sets l place (Tops (xs ++ ys))
@@ -179,7 +180,7 @@ module _ (nodes attributes text : List ℕ) (row : ℕ) where
 
     module _ (n from to : ℕ) (l : List ℕ) (s : SelectorsStored n from to l) where
       -- one number more
-      pub store-more : 0 < n → (top : ℕ) → top ≡ selectorTop nodes attributes text row (readSelector texts (drop from rows) .value .components)
+      pub store-more : 0 < n → (top : ℕ) → top ≡ selectorNumber nodes attributes text row (readSelector texts (drop from rows) .value .components)
           → (next : ℕ) → ((texts : List ℕ) → drop next rows ≡ readSelector texts (drop from rows) .rest) → SelectorsStored (n - 1) next (to + topWidth) (set l to top)
       unfolding selectorsTops
       store-more h top e next f =
