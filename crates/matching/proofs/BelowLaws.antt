@@ -1,14 +1,14 @@
 -- Returns and turns of the functions that match on all rows of a path.
 use Prim.Native.Nat.{ℕ, zero, suc, _+_, _≤_, _<_}
 use mathlib.Core.Bool.{Bool, true, false}
-use mathlib.Core.List.{List, [], _∷_}
+use mathlib.Core.List.{List, _∷_}
 use mathlib.Core.Logic.{⊎-elim}
 use mathlib.Core.Path.{_≡_, refl, sym, ap, _∙_}
 use native.Mathlib.Numerals.{add-one}
 use native.Mathlib.Omega.{arith}
-use Rattle.combinators.specs.Choice.{pick, is}
-use Rattle.combinators.proofs.Rules.{pick-true, pick-false, is-true, is-false, lt-or-ge}
-use Rattle.syntax.specs.RuleLayout.{childKind, descendantKind, componentKindAt}
+use Rattle.combinators.specs.Choice.{pick}
+use Rattle.combinators.proofs.Rules.{pick-true, pick-false, lt-or-ge}
+use Rattle.syntax.specs.RuleLayout.{descendantKind, componentKindAt}
 use Rattle.syntax.specs.Selector.{Component, descendant}
 use Rattle.page.specs.Ancestors.{ancestorsOf}
 use Rattle.page.specs.PathOf.{pathOf}
@@ -24,7 +24,7 @@ use Rattle.matching.specs.declared.matcher.Climbed.{Climbed}
 use Rattle.matching.specs.declared.matcher.Climbed.the-variants.{Ended}
 use Rattle.matching.proofs.CallLaws.{by-combinator}
 use Rattle.matching.proofs.ComponentLaws.{components-none, components-more}
-use Rattle.matching.proofs.PassLaws.{from-child, from-descendant, third-chosen}
+use Rattle.matching.proofs.PassLaws.{from-descendant, second-passed}
 use Rattle.matching.proofs.PathLaws.{parent-rooted, parent-before}
 use Rattle.matching.proofs.TopmostLaws.{line-up, last-document, last-above, Needs, step-needs, none-found, right-top, top-within, right-above}
 
@@ -115,13 +115,9 @@ module _ (store components nodes attributes text : List ℕ) where
         top-descendant e t et = record { within = omega arith; is-top = et ∙ sym (one-more ∙ rw (from-descendant store _ _ _ _ (sym ek ∙ e)) refl) }
 
         -- any other component
-        stays : ¬ (k ≡ descendantKind) → (b : Bool) → is k childKind ≡ b → selectorTop nodes attributes text row (componentsAt store components (i + 1)) ≡ selectorTop nodes attributes text row (componentsAt store components i)
-        unfolding componentAt byCombinator
-        stays d true c = one-more ∙ rw (from-child store _ _ _ _ (sym ek ∙ is-true k childKind c)) refl
-        stays d false c = one-more ∙ third-chosen store _ _ _ _ (λ y. is-false k childKind c (ek ∙ y)) (λ y. d (ek ∙ y)) _ _ _
-
         pub top-other : ¬ (k ≡ descendantKind) → Topping top (i + 1)
-        top-other d = record { within = omega arith; is-top = g .is-top ∙ sym (stays d (is k childKind) refl) }
+        unfolding componentAt
+        top-other d = record { within = omega arith; is-top = g .is-top ∙ sym (one-more ∙ second-passed store _ _ _ _ (λ y. d (ek ∙ y)) _ _) }
 
   -- where nothing is found for a descendant combinator, nothing is for those behind it
   module _ (row : ℕ) (r : Rooted nodes row) (i : ℕ) (e : componentNumber components i componentKindAt ≡ descendantKind)

@@ -8,13 +8,14 @@ use Rattle.combinators.specs.Choice.{pick, is}
 use Rattle.combinators.specs.Word.{sameText}
 use Rattle.combinators.proofs.Rules.{is-no}
 use Rattle.syntax.specs.RuleLayout.{starKind, elementKind, childKind, descendantKind, componentKindAt}
+use Rattle.page.specs.Ancestors.{lineOf}
 use Rattle.page.specs.PathOf.{pathOf}
 use Rattle.page.specs.Rows.{nodeAt, nameOf}
 use Rattle.matching.specs.Matches.{matches}
 use Rattle.matching.specs.Rows.{componentNumber, componentAt, componentsAt, firstText, SimpleAt, Rooted}
 use Rattle.matching.specs.Rows.Rooted.{document, below}
 use Rattle.matching.specs.Recursion.{orElse, resultOnParent, resultOnAncestors, resultStep, matchRecursively}
-use Rattle.matching.specs.Climb.{Inner, NameAt, AtDescendant, NextAncestor, climbOf}
+use Rattle.matching.specs.Climb.{Inner, NameAt, AtDescendant, NextAncestor, reaches, climbOf, firstReaching}
 use Rattle.matching.specs.declared.matcher.SelectorMatch.{SelectorMatch}
 use Rattle.matching.specs.declared.matcher.SelectorMatch.the-variants.{Matches, FailsLocally, FailsCompletely}
 use Rattle.matching.specs.declared.matcher.Climbed.{Climbed}
@@ -24,6 +25,7 @@ use Rattle.matching.proofs.ComponentLaws.{components-none, components-m
 use Rattle.matching.proofs.MatchLaws as one
 use Rattle.matching.proofs.PassLaws.{name-passes}
 use Rattle.matching.proofs.PathLaws.{top-path, other-path, parent-rooted, parent-before}
+use Rattle.matching.proofs.ReachLaws.{first-above}
 
 module _ (store components nodes attributes text : List ℕ) where
   -- the result of the first l components on the path of a row
@@ -116,6 +118,7 @@ module _ (store components nodes attributes text : List ℕ) where
     test-tells row r true = tells-below n row row (omega arith) (Climb n row) (Result n row) (tells row r)
     test-tells row r false = refl
 
+  -- what a climb leads to is the result of all components
   climb-tells : (left row : ℕ) → Rooted nodes row → Tells left row (Climb left row) (Result left row)
   unfolding Tells climbOf matchRecursively resultStep
   climb-tells zero row r = rw (components-none store components) refl
@@ -149,24 +152,26 @@ module _ (store components nodes attributes text : List ℕ) where
           same =
               ap (resultOnAncestors (matchRecursively (componentsAt store components n))) (other-path nodes attributes text row (i .rooted) (i .no-document))
               ∙ ap (λ (q : ℕ). orElse (Result n q) (Above n q)) (sym ep);
+          passed = ap (λ (q : ℕ). firstReaching nodes attributes text (componentsAt store components n) (lineOf nodes q)) (sym ep);
         }
 
   module _ (n row above : ℕ) (next : NextAncestor store components nodes attributes text n row above) where
     -- one that fails locally is passed over, and its parent is the next
-    pub next-on : ¬ (above ≡ 0) → Result n above ≡ FailsLocally → (p : ℕ) → p ≡ nodeAt nodes above .parent
+    pub next-on : ¬ (above ≡ 0) → Climb n above ≡ Ended FailsLocally → (p : ℕ) → p ≡ nodeAt nodes above .parent
         → NextAncestor store components nodes attributes text n row p
-    unfolding orElse
+    unfolding orElse reaches
     next-on z f p ep =
         let up = next-parent n above (record { rooted = next .rooted; no-document = z }) p ep in
         record {
           rooted = up .rooted;
           higher = omega (arith, up .higher, next .higher);
-          same = next .same ∙ ap (λ (x : SelectorMatch). orElse x (Above n above)) f ∙ up .same;
+          same = next .same ∙ ap (λ (x : SelectorMatch). orElse x (Above n above)) (sym (climb-ends n above (next .rooted) _ refl f)) ∙ up .same;
+          passed = next .passed ∙ first-above nodes attributes text (componentsAt store components n) above (next .rooted) z (ap reaches f) ∙ up .passed;
         }
 
     -- an element of another name fails locally where the last component asks for a name
     pub other-name : NameAt components n → ¬ (above ≡ 0) → (b : Bool) → b ≡ sameText (nameOf nodes text above) (firstText store components (n - 1)) → b ≡ false
-        → Result n above ≡ FailsLocally
+        → Climb n above ≡ Ended FailsLocally
     other-name a z b eb h =
         let k = componentNumber components (n - 1) componentKindAt in
         let e : k ≡ elementKind = a .element in
@@ -175,10 +180,9 @@ module _ (store components nodes attributes text : List ℕ) where
         let no-star : ¬ (k ≡ starKind) = λ y. absurd (omega arith) in
         let no-zero : ¬ (n ≡ 0) = λ y. absurd (omega (arith, a .some)) in
         let simple : SimpleAt components (n - 1) = record { no-child = no-child; no-descendant = no-descendant } in
-        sym (climb-ends n above (next .rooted) _ refl
-        (one.match-fails store components nodes attributes text n above no-zero k refl no-child no-descendant b
+        one.match-fails store components nodes attributes text n above no-zero k refl no-child no-descendant b
         (one.element-passes store components nodes attributes text (n - 1) above k refl simple (next .rooted) no-star z b
-        (name-passes store components nodes attributes text (n - 1) above k refl e (firstText store components (n - 1)) refl b eb)) h))
+        (name-passes store components nodes attributes text (n - 1) above k refl e (firstText store components (n - 1)) refl b eb)) h
 
   -- ---- `match_recursively`: the ancestors of a row above have the result of all on the row
   module _ (left row : ℕ) where

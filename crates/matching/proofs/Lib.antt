@@ -11,6 +11,7 @@ pub mod PlaceLaws
 pub mod PassLaws
 pub mod MatchLaws
 pub mod Roots
+pub mod ReachLaws
 pub mod ClimbLaws
 pub mod RecursionLaws
 pub mod CallLaws

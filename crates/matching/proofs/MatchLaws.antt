@@ -4,7 +4,6 @@ use mathlib.Core.Bool.{Bool, true, false}
 use mathlib.Core.List.{List, [], _∷_}
 use mathlib.Core.Path.{_≡_, refl, sym, ap, _∙_}
 use native.Mathlib.Omega.{arith}
-use lib.ListN.{length}
 use Rattle.combinators.specs.Choice.{pick, is}
 use Rattle.combinators.proofs.Rules.{pick-true, pick-false, is-yes, is-no}
 use Rattle.syntax.specs.RuleLayout.{starKind, childKind, descendantKind, componentKindAt}
@@ -69,6 +68,7 @@ module _ (store components nodes attributes text : List ℕ) where
       abbrev On : Climbed
       On = pick (matches (componentAt store components (left - 1) ∷ []) (pathOf nodes attributes text row)) (Climb (left - 1) row) (Ended FailsLocally)
 
+      -- where there is one, so too by its number
       opened : Climb left row ≡ byCombinator (componentAt store components (left - 1)) Up (Descendant (left - 1) row) On
       opened = let e : left ≡ suc (left - 1) = omega arith in ap (λ (l : ℕ). Climb l row) e ∙ climb-opened (left - 1) row
 

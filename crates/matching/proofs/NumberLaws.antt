@@ -6,21 +6,19 @@ use mathlib.Core.Logic.{_⊎_, inl, inr, ⊎-elim}
 use mathlib.Core.Path.{_≡_, refl, sym, ap, subst, _∙_}
 use native.Mathlib.Omega.{arith}
 use borrow.Author.Tests.{lt-ltb, le-ltb, ltb-true}
-use lib.Dec.{ltb}
 use Rattle.combinators.specs.Choice.{pick, is}
 use Rattle.combinators.proofs.Rules.{never, pick-true, pick-false, pick-holds, is-yes, is-no, is-true, is-false}
-use Rattle.syntax.specs.RuleLayout.{childKind, descendantKind, componentKindAt}
+use Rattle.syntax.specs.RuleLayout.{descendantKind, componentKindAt}
 use Rattle.syntax.specs.Selector.{Component}
-use Rattle.page.specs.Ancestors.{ancestorsFrom, ancestorsOf, lineOf}
+use Rattle.page.specs.Ancestors.{lineOf}
 use Rattle.page.specs.PathOf.{pathOf}
 use Rattle.page.specs.Rows.{nodeAt}
-use Rattle.page.proofs.Ancestry.{below-ancestors}
 use Rattle.matching.specs.Matches.{matches}
 use Rattle.matching.specs.Rows.{componentNumber, componentAt, componentsAt, Rooted}
 use Rattle.matching.specs.Rows.Rooted.{document, below}
 use Rattle.matching.specs.Recursion.{byCombinator}
-use Rattle.matching.specs.Climb.{climbOf}
-use Rattle.matching.specs.Topmost.{Line, belowTop, reaches, hasDescendant, selectorTop, firstReaching, selectorNumber, RightTop}
+use Rattle.matching.specs.Climb.{reaches, climbOf, firstReaching}
+use Rattle.matching.specs.Topmost.{Line, belowTop, parentReached, hasDescendant, selectorTop, reachedNumber, selectorNumber, RightTop, RightNumber}
 use Rattle.matching.specs.Topmost.Line.{same, above}
 use Rattle.matching.specs.declared.matcher.SelectorMatch.{SelectorMatch}
 use Rattle.matching.specs.declared.matcher.SelectorMatch.the-variants.{Matches, FailsLocally, FailsCompletely}
@@ -28,16 +26,17 @@ use Rattle.matching.specs.declared.matcher.Climbed.{Climbed}
 use Rattle.matching.specs.declared.matcher.Climbed.the-variants.{Ended, Descendant}
 use Rattle.matching.proofs.CallLaws.{by-combinator}
 use Rattle.matching.proofs.ComponentLaws.{components-none, components-more}
-use Rattle.matching.proofs.PassLaws.{from-child, from-descendant, third-chosen}
+use Rattle.matching.proofs.PassLaws.{from-descendant, second-passed}
 use Rattle.matching.proofs.PathLaws.{parent-rooted, parent-before}
-use Rattle.matching.proofs.TopmostLaws.{line-before, line-rooted, right-top, top-within}
+use Rattle.matching.proofs.ReachLaws.{first-document, first-opened, first-here, first-above}
+use Rattle.matching.proofs.TopmostLaws.{line-before, line-rooted, line-on, right-top, top-within, right-above}
 
 -- ---- where a climb leads, and what numbers say of it
 
--- a descendant combinator is reached on no row behind one
-unfoldable NotBehind : ℕ → Climbed → Type 0
-NotBehind row (Ended r) = Unit
-NotBehind row (Descendant n at) = at ≤ row
+-- a descendant combinator is reached on no row behind one, and on one from which parents lead to the document
+unfoldable NotBehind : List ℕ → ℕ → Climbed → Type 0
+NotBehind nodes row (Ended r) = Unit
+NotBehind nodes row (Descendant n at) = (at ≤ row) × Rooted nodes at
 
 -- two numbers say the same of a climb that ended
 ended-alike : (s t : ℕ) (r : SelectorMatch) → belowTop s (Ended r) ≡ belowTop t (Ended r)
@@ -53,43 +52,84 @@ unreached-alike s t (Ended r) e = ended-alike s t r
 unreached-alike s t (Descendant n at) e = never (sym e)
 
 -- and of one that reaches it on the document, before which no number stands
-document-alike : (s t : ℕ) (x : Climbed) → NotBehind 0 x → belowTop s x ≡ belowTop t x
+document-alike : (nodes : List ℕ) (s t : ℕ) (x : Climbed) → NotBehind nodes 0 x → belowTop s x ≡ belowTop t x
 unfolding NotBehind belowTop
-document-alike s t (Ended r) h = ended-alike s t r
-document-alike s t (Descendant n at) h = le-ltb s at (omega arith) ∙ sym (le-ltb t at (omega arith))
+document-alike nodes s t (Ended r) h = ended-alike s t r
+document-alike nodes s t (Descendant n at) h = le-ltb s at (omega (arith, h .0)) ∙ sym (le-ltb t at (omega (arith, h .0)))
 
--- what some number says of one climb, 0 and the path's row say too, the one where it is yes and the other where it is no
-alone : (top row : ℕ) (x : Climbed) → NotBehind row x → (b : Bool) → belowTop top x ≡ b → belowTop (pick b 0 row) x ≡ b
-unfolding NotBehind belowTop pick
-alone top row (Ended r) h b e = ended-alike (pick b 0 row) top r ∙ e
-alone top row (Descendant n at) h true e = let l = ltb-true top at e in lt-ltb 0 at (omega (arith, l))
-alone top row (Descendant n at) h false e = le-ltb row at h
+-- what some number says of one climb, the parent of the row that is reached and the path's row say too, the one where it is yes and the other where it is no
+alone : (nodes : List ℕ) (top row : ℕ) (x : Climbed) → NotBehind nodes row x → (b : Bool) → belowTop top x ≡ b → belowTop (pick b (parentReached nodes x) row) x ≡ b
+unfolding NotBehind belowTop pick parentReached
+alone nodes top row (Ended r) h b e = ended-alike (pick b 0 row) top r ∙ e
+alone nodes top row (Descendant n at) h true e =
+    let l = ltb-true top at e in
+    let z : ¬ (at ≡ 0) = λ q. absurd (omega (arith, l)) in
+    lt-ltb (nodeAt nodes at .parent) at (parent-before nodes at (h .1) z _ refl)
+alone nodes top row (Descendant n at) h false e = le-ltb row at (h .0)
+
+-- a climb that ended in a match is none that failed, nor one that reached a combinator
+ends-in-match : Climbed → Bool
+ends-in-match (Ended Matches) = true
+ends-in-match (Ended FailsLocally) = false
+ends-in-match (Ended FailsCompletely) = false
+ends-in-match (Descendant n at) = false
+
+no-match-local : Ended FailsLocally ≡ Ended Matches → false ≡ true
+unfolding ends-in-match
+no-match-local f = ap ends-in-match f
+
+no-match-complete : Ended FailsCompletely ≡ Ended Matches → false ≡ true
+unfolding ends-in-match
+no-match-complete f = ap ends-in-match f
+
+no-match-reached : {n at : ℕ} → Descendant n at ≡ Ended Matches → false ≡ true
+unfolding ends-in-match
+no-match-reached f = ap ends-in-match f
+
+-- the parent of the row that is reached stands at the row or before it
+parent-within : (nodes : List ℕ) (top row : ℕ) (x : Climbed) → NotBehind nodes row x → belowTop top x ≡ true → parentReached nodes x ≤ row
+unfolding NotBehind belowTop parentReached
+parent-within nodes top row (Ended r) h e = omega arith
+parent-within nodes top row (Descendant n at) h e =
+    let l = ltb-true top at e in
+    let z : ¬ (at ≡ 0) = λ q. absurd (omega (arith, l)) in
+    omega (arith, h .0, parent-before nodes at (h .1) z _ refl)
+
+-- a number says no of a climb from a row before it that does not end in a match
+before-number : (nodes : List ℕ) (top row : ℕ) (x : Climbed) → NotBehind nodes row x → (x ≡ Ended Matches → false ≡ true) → row < top → belowTop top x ≡ false
+unfolding NotBehind belowTop
+before-number nodes top row (Ended Matches) h u l = never (u refl)
+before-number nodes top row (Ended FailsLocally) h u l = refl
+before-number nodes top row (Ended FailsCompletely) h u l = refl
+before-number nodes top row (Descendant n at) h u l = le-ltb top at (omega (arith, h .0))
 
 module _ (nodes attributes text : List ℕ) where
   abbrev Climb : List Component → ℕ → Climbed
   Climb cs row = climbOf nodes attributes text cs row
 
-  not-behind-on : (row row′ : ℕ) → row ≤ row′ → (x : Climbed) → NotBehind row x → NotBehind row′ x
+  -- nor behind one that stands behind that
+  not-behind-on : (row row′ : ℕ) → row ≤ row′ → (x : Climbed) → NotBehind nodes row x → NotBehind nodes row′ x
   unfolding NotBehind
   not-behind-on row row′ h (Ended r) w = tt
-  not-behind-on row row′ h (Descendant n at) w = omega arith
+  not-behind-on row row′ h (Descendant n at) w = (omega (arith, w .0), w .1)
 
-  -- a climb goes up
-  parent-not-behind : (cs : List Component) (row : ℕ) → Rooted nodes row → (¬ (row ≡ 0) → NotBehind (nodeAt nodes row .parent) (Climb cs (nodeAt nodes row .parent)))
-      → NotBehind row (pick (is row 0) (Ended FailsCompletely) (Climb cs (nodeAt nodes row .parent)))
+  -- a child combinator leads to the parent
+  parent-not-behind : (cs : List Component) (row : ℕ) → Rooted nodes row → (¬ (row ≡ 0) → NotBehind nodes (nodeAt nodes row .parent) (Climb cs (nodeAt nodes row .parent)))
+      → NotBehind nodes row (pick (is row 0) (Ended FailsCompletely) (Climb cs (nodeAt nodes row .parent)))
   unfolding NotBehind
   parent-not-behind cs row r up =
-      pick-holds (NotBehind row) (is row 0) _ _ (λ _. tt)
+      pick-holds (NotBehind nodes row) (is row 0) _ _ (λ _. tt)
       (λ e. let z = is-false row 0 e in not-behind-on (nodeAt nodes row .parent) row (omega (arith, parent-before nodes row r z _ refl)) (Climb cs (nodeAt nodes row .parent)) (up z))
 
-  climbs-up : (cs : List Component) (row : ℕ) → Rooted nodes row → NotBehind row (Climb cs row)
+  -- a climb goes up
+  climbs-up : (cs : List Component) (row : ℕ) → Rooted nodes row → NotBehind nodes row (Climb cs row)
   unfolding climbOf NotBehind
   climbs-up [] row r = tt
   climbs-up (c ∷ cs) row r =
-      by-combinator (λ (b : Bool) (x : Climbed). NotBehind row x) c {x = true} {y = true} {z = true}
+      by-combinator (λ (b : Bool) (x : Climbed). NotBehind nodes row x) c {x = true} {y = true} {z = true}
       (parent-not-behind cs row r (λ z. climbs-up cs _ (parent-rooted nodes row r z _ refl)))
-      (omega arith)
-      (pick-holds (NotBehind row) (matches (c ∷ []) (pathOf nodes attributes text row)) _ _ (λ _. climbs-up cs row r) (λ _. tt))
+      (omega arith, r)
+      (pick-holds (NotBehind nodes row) (matches (c ∷ []) (pathOf nodes attributes text row)) _ _ (λ _. climbs-up cs row r) (λ _. tt))
 
   -- without a descendant combinator none is reached
   unreached : (cs : List Component) → hasDescendant cs ≡ false → (row : ℕ) → reaches (Climb cs row) ≡ false
@@ -101,41 +141,28 @@ module _ (nodes attributes text : List ℕ) where
       (λ h. never (sym h))
       (λ h. pick-holds (λ (x : Climbed). reaches x ≡ false) (matches (c ∷ []) (pathOf nodes attributes text row)) _ _ (λ _. unreached cs h row) (λ _. refl)) e
 
+  -- with one, no climb ends in a match
+  unended : (cs : List Component) → hasDescendant cs ≡ true → (row : ℕ) → Climb cs row ≡ Ended Matches → false ≡ true
+  unfolding hasDescendant climbOf
+  unended [] e row = λ f. e
+  unended (c ∷ cs) e row =
+      by-combinator (λ (h : Bool) (x : Climbed). h ≡ true → x ≡ Ended Matches → false ≡ true) c {x = hasDescendant cs} {y = true} {z = hasDescendant cs}
+      (λ h. pick-holds (λ (x : Climbed). x ≡ Ended Matches → false ≡ true) (is row 0) _ _ (λ _ f. no-match-complete f) (λ _. unended cs h (nodeAt nodes row .parent)))
+      (λ h f. no-match-reached f)
+      (λ h. pick-holds (λ (x : Climbed). x ≡ Ended Matches → false ≡ true) (matches (c ∷ []) (pathOf nodes attributes text row)) _ _ (λ _. unended cs h row) (λ _ f. no-match-local f)) e
+
   module _ (cs : List Component) where
     abbrev First : ℕ → ℕ
     First row = firstReaching nodes attributes text cs (lineOf nodes row)
 
-    -- ---- the first row from which it is reached
-    -- the document comes to nothing
-    pub first-document : First 0 ≡ 0
-    unfolding firstReaching ancestorsOf ancestorsFrom
-    first-document = pick-holds (λ (n : ℕ). n ≡ 0) (reaches (Climb cs 0)) 0 0 (λ _. refl) (λ _. refl)
-
-    -- any other row is the first, or that of its parent is
-    first-opened : (row : ℕ) → nodeAt nodes row .parent < row → First row ≡ pick (reaches (Climb cs row)) row (First (nodeAt nodes row .parent))
-    unfolding firstReaching
-    first-opened row l = ap (λ (rows : List ℕ). pick (reaches (Climb cs row)) row (firstReaching nodes attributes text cs rows)) (below-ancestors nodes row l)
-
-    module _ (row : ℕ) (r : Rooted nodes row) (z : ¬ (row ≡ 0)) where
-      pub first-here : reaches (Climb cs row) ≡ true → First row ≡ row
-      first-here e = first-opened row (parent-before nodes row r z _ refl) ∙ sym (pick-true _ _ _ _ e refl)
-
-      pub first-above : reaches (Climb cs row) ≡ false → First row ≡ First (nodeAt nodes row .parent)
-      first-above e = first-opened row (parent-before nodes row r z _ refl) ∙ sym (pick-false _ _ _ _ e refl)
-
-    -- it is a row of the path
-    pub first-rooted : (row : ℕ) → Rooted nodes row → Rooted nodes (First row)
-    first-rooted row (document d) = rw first-document (document d)
-    first-rooted row (below k l n r) =
-        rw (first-opened row l) (pick-holds (Rooted nodes) (reaches (Climb cs row)) row _ (λ _. below k l n r) (λ _. first-rooted (nodeAt nodes row .parent) r))
-
     module _ (row : ℕ) (r : Rooted nodes row) (y : ¬ (row ≡ 0)) where
+      -- what holds of the rows above a row holds of it: where none is first, it is reached from none
       none-turn : (b : Bool) → reaches (Climb cs row) ≡ b → First row ≡ 0
           → (First (nodeAt nodes row .parent) ≡ 0 → (at : ℕ) → Line nodes (nodeAt nodes row .parent) at → ¬ (at ≡ 0) → reaches (Climb cs at) ≡ false)
           → (at : ℕ) → Line nodes row at → ¬ (at ≡ 0) → reaches (Climb cs at) ≡ false
-      none-turn true e f up at w z = absurd (y (sym (first-here row r y e) ∙ f))
+      none-turn true e f up at w z = absurd (y (sym (first-here nodes attributes text cs row r y e) ∙ f))
       none-turn false e f up at same z = e
-      none-turn false e f up at (above q w) z = up (sym (first-above row r y e) ∙ f) at w z
+      none-turn false e f up at (above q w) z = up (sym (first-above nodes attributes text cs row r y e) ∙ f) at w z
 
     -- where none is first, it is reached from no element of the path
     none-reaches : (row : ℕ) → Rooted nodes row → First row ≡ 0 → (at : ℕ) → Line nodes row at → ¬ (at ≡ 0) → reaches (Climb cs at) ≡ false
@@ -144,23 +171,31 @@ module _ (nodes attributes text : List ℕ) where
     none-reaches row (below k l n r) e at w z =
         none-turn row (below k l n r) (λ q. absurd (omega arith)) (reaches (Climb cs row)) refl e (none-reaches (nodeAt nodes row .parent) r) at w z
 
-    -- from that row alone
+    -- the first is a row of the path
+    first-on-line : (row : ℕ) → Rooted nodes row → Line nodes row (First row)
+    first-on-line row (document d) = rw (first-document nodes attributes text cs) same
+    first-on-line row (below k l n r) =
+        rw (first-opened nodes attributes text cs row l)
+        (pick-holds (Line nodes row) (reaches (Climb cs row)) row _ (λ _. same) (λ _. above (λ q. absurd (omega arith)) (first-on-line (nodeAt nodes row .parent) r)))
+
+    -- of a row: it is the first, or it is not reached from there
     abbrev Alone : ℕ → ℕ → Type 0
     Alone first at = (at ≡ first) ⊎ (reaches (Climb cs at) ≡ false)
 
     module _ (first : ℕ) (none : First (nodeAt nodes first .parent) ≡ 0) where
       module _ (row : ℕ) (r : Rooted nodes row) (y : ¬ (row ≡ 0)) where
+        -- what holds of the rows above a row holds of it: where none is first above the first, it is reached from the first alone
         one-turn : (b : Bool) → reaches (Climb cs row) ≡ b → First row ≡ first
             → (First (nodeAt nodes row .parent) ≡ first → (at : ℕ) → Line nodes (nodeAt nodes row .parent) at → ¬ (at ≡ 0) → Alone first at)
             → (at : ℕ) → Line nodes row at → ¬ (at ≡ 0) → Alone first at
-        one-turn true e f up at same z = inl (sym (first-here row r y e) ∙ f)
+        one-turn true e f up at same z = inl (sym (first-here nodes attributes text cs row r y e) ∙ f)
         one-turn true e f up at (above q w) z =
-            let here : first ≡ row = sym f ∙ first-here row r y e in
+            let here : first ≡ row = sym f ∙ first-here nodes attributes text cs row r y e in
             inr (none-reaches (nodeAt nodes row .parent) (parent-rooted nodes row r y _ refl) (ap (λ (i : ℕ). First (nodeAt nodes i .parent)) (sym here) ∙ none) at w z)
         one-turn false e f up at same z = inr e
-        one-turn false e f up at (above q w) z = up (sym (first-above row r y e) ∙ f) at w z
+        one-turn false e f up at (above q w) z = up (sym (first-above nodes attributes text cs row r y e) ∙ f) at w z
 
-      -- where none is first above the first row, it is reached from that element alone
+      -- so of all rows of a path
       one-reaches : (row : ℕ) → Rooted nodes row → First row ≡ first → (at : ℕ) → Line nodes row at → ¬ (at ≡ 0) → Alone first at
       one-reaches row (document d) e at same z = absurd (z refl)
       one-reaches row (document d) e at (above y w) z = absurd (y refl)
@@ -184,7 +219,7 @@ module _ (nodes attributes text : List ℕ) where
       -- every number is right where none is asked for
       unasked : (top at : ℕ) → Line nodes row at → (b : Bool) → is at 0 ≡ b → (¬ (at ≡ 0) → reaches (Climb cs at) ≡ false) → Says top at
       unasked top at w true e h =
-          document-alike top Top (Climb cs at) (subst (λ (i : ℕ). NotBehind i (Climb cs at)) (is-true at 0 e) (climbs-up cs at (line-rooted nodes row at r w)))
+          document-alike nodes top Top (Climb cs at) (subst (λ (i : ℕ). NotBehind nodes i (Climb cs at)) (is-true at 0 e) (climbs-up cs at (line-rooted nodes row at r w)))
           ∙ right-top nodes attributes text row r cs .decides at w
       unasked top at w false e h = unreached-alike top Top (Climb cs at) (h (is-false at 0 e)) ∙ right-top nodes attributes text row r cs .decides at w
 
@@ -192,94 +227,147 @@ module _ (nodes attributes text : List ℕ) where
       right-none : First row ≡ 0 → Right row
       right-none e = record { decides = λ at w. unasked row at w (is at 0) refl (none-reaches row r e at w) }
 
-      -- what is asked for on one row
-      on-first : (at : ℕ) → Line nodes row at → at ≡ First row → Says (pick (matches cs (pathOf nodes attributes text (First row))) 0 row) at
+      -- what is said where one does: by whether the selector matches that row
+      abbrev Sole : ℕ
+      Sole = pick (matches cs (pathOf nodes attributes text (First row))) (parentReached nodes (Climb cs (First row))) row
+
+      -- it decides there
+      on-first : (at : ℕ) → Line nodes row at → at ≡ First row → Says Sole at
       on-first at w e =
-          ap (λ (i : ℕ). belowTop (pick (matches cs (pathOf nodes attributes text i)) 0 row) (Climb cs at)) (sym e)
-          ∙ alone Top row (Climb cs at) (not-behind-on at row (line-before nodes row at r w) (Climb cs at) (climbs-up cs at (line-rooted nodes row at r w))) (matches cs (pathOf nodes attributes text at))
+          ap (λ (i : ℕ). belowTop (pick (matches cs (pathOf nodes attributes text i)) (parentReached nodes (Climb cs i)) row) (Climb cs at)) (sym e)
+          ∙ alone nodes Top row (Climb cs at) (not-behind-on at row (line-before nodes row at r w) (Climb cs at) (climbs-up cs at (line-rooted nodes row at r w))) (matches cs (pathOf nodes attributes text at))
           (right-top nodes attributes text row r cs .decides at w)
 
-      -- by whether the selector matches it, where one does
-      one-says : Second ≡ 0 → (at : ℕ) → Line nodes row at → (b : Bool) → is at 0 ≡ b → Says (pick (matches cs (pathOf nodes attributes text (First row))) 0 row) at
+      -- and on all rows
+      one-says : Second ≡ 0 → (at : ℕ) → Line nodes row at → (b : Bool) → is at 0 ≡ b → Says Sole at
       one-says f at w true e = unasked _ at w true e (λ z. absurd (z (is-true at 0 e)))
       one-says f at w false e =
           ⊎-elim (λ (q : at ≡ First row). on-first at w q) (λ (q : reaches (Climb cs at) ≡ false). unasked _ at w false e (λ z. q))
           (one-reaches (First row) f row r refl at w (is-false at 0 e))
 
-      right-one : Second ≡ 0 → Right (pick (matches cs (pathOf nodes attributes text (First row))) 0 row)
+      -- so it is right
+      right-one : Second ≡ 0 → Right Sole
       right-one f = record { decides = λ at w. one-says f at w (is at 0) refl }
 
-      -- decides wherever it is asked for
-      pub right-number : Right (selectorNumber nodes attributes text row cs)
-      unfolding selectorNumber
-      right-number =
+      -- with a descendant combinator the number decides wherever it is asked for
+      right-reached : Right (reachedNumber nodes attributes text row cs)
+      unfolding reachedNumber
+      right-reached =
           pick-holds Right (is (First row) 0) _ _ (λ e. right-none (is-true _ _ e))
           (λ e. pick-holds Right (is Second 0) _ _ (λ f. right-one (is-true _ _ f)) (λ f. right-top nodes attributes text row r cs))
 
-      -- and is no number behind the row
-      pub number-within : selectorNumber nodes attributes text row cs ≤ row
+      -- and any does without
+      right-other : hasDescendant cs ≡ false → (top : ℕ) → Right top
+      right-other e top = record { decides = λ at w. unasked top at w (is at 0) refl (λ z. unreached cs e at) }
+
+      -- before a number that decides no row is matched, if there is a descendant combinator
+      none-before : hasDescendant cs ≡ true → (top : ℕ) → Right top → (at : ℕ) → Line nodes row at → at < top → matches cs (pathOf nodes attributes text at) ≡ false
+      none-before h top g at w l =
+          sym (g .decides at w) ∙ before-number nodes top at (Climb cs at) (climbs-up cs at (line-rooted nodes row at r w)) (unended cs h at) l
+
+      -- the number of a selector decides, and before it no row is matched
+      pub right-number : RightNumber nodes attributes text cs row (selectorNumber nodes attributes text row cs)
       unfolding selectorNumber
+      right-number =
+          pick-holds (RightNumber nodes attributes text cs row) (hasDescendant cs) _ _
+          (λ h. record { right = right-reached; none = none-before h (reachedNumber nodes attributes text row cs) right-reached })
+          (λ h. record { right = right-other h 0; none = λ at w l. absurd (omega arith) })
+
+      -- the parent of the row that is reached is none behind it
+      parent-first : matches cs (pathOf nodes attributes text (First row)) ≡ true → parentReached nodes (Climb cs (First row)) ≤ row
+      parent-first e =
+          let w = first-on-line row r in
+          parent-within nodes Top row (Climb cs (First row)) (not-behind-on (First row) row (line-before nodes row (First row) r w) (Climb cs (First row)) (climbs-up cs (First row) (line-rooted nodes row (First row) r w)))
+          (right-top nodes attributes text row r cs .decides (First row) w ∙ e)
+
+      -- it is no number behind the row
+      pub number-within : selectorNumber nodes attributes text row cs ≤ row
+      unfolding selectorNumber reachedNumber
       number-within =
-          pick-holds (λ (n : ℕ). n ≤ row) (is (First row) 0) _ _ (λ e. omega arith)
+          pick-holds (λ (n : ℕ). n ≤ row) (hasDescendant cs) _ _
+          (λ h. pick-holds (λ (n : ℕ). n ≤ row) (is (First row) 0) _ _ (λ e. omega arith)
           (λ e. pick-holds (λ (n : ℕ). n ≤ row) (is Second 0) _ _
-          (λ f. pick-holds (λ (n : ℕ). n ≤ row) (matches cs (pathOf nodes attributes text (First row))) _ _ (λ g. omega arith) (λ g. omega arith))
-          (λ f. top-within nodes attributes text row r cs))
+          (λ f. pick-holds (λ (n : ℕ). n ≤ row) (matches cs (pathOf nodes attributes text (First row))) _ _ (λ g. parent-first g) (λ g. omega arith))
+          (λ f. top-within nodes attributes text row r cs)))
+          (λ h. omega arith)
 
       -- ---- the returns of `reached_number`
       module _ (first : ℕ) (ef : first ≡ First row) where
+        -- the first row is one of the path
         pub first-is-rooted : Rooted nodes first
-        first-is-rooted = rw ef (first-rooted row r)
+        first-is-rooted = rw ef (line-rooted nodes row (First row) r (first-on-line row r))
 
         -- no row reaches a descendant combinator
-        pub number-none : first ≡ 0 → row ≡ selectorNumber nodes attributes text row cs
-        unfolding selectorNumber
+        pub number-none : first ≡ 0 → row ≡ reachedNumber nodes attributes text row cs
+        unfolding reachedNumber
         number-none z = pick-true _ _ _ _ (is-yes _ _ (sym ef ∙ z)) refl
 
         module _ (z : ¬ (first ≡ 0)) (p : ℕ) (ep : p ≡ nodeAt nodes first .parent) where
+          -- so is its parent
           pub above-rooted : Rooted nodes p
           above-rooted = parent-rooted nodes first first-is-rooted z p ep
 
           module _ (second : ℕ) (es : second ≡ First p) where
+            -- the second row is that of the definition
             second-is : second ≡ Second
             second-is = es ∙ ap First ep ∙ ap (λ (i : ℕ). First (nodeAt nodes i .parent)) ef
 
+            -- and the first is none that the definition passes over
             no-first : ¬ (First row ≡ 0)
             no-first e = z (ef ∙ e)
 
             -- more than one does
-            pub number-more : ¬ (second ≡ 0) → (t : ℕ) → t ≡ Top → t ≡ selectorNumber nodes attributes text row cs
-            unfolding selectorNumber
+            pub number-more : ¬ (second ≡ 0) → (t : ℕ) → t ≡ Top → t ≡ reachedNumber nodes attributes text row cs
+            unfolding reachedNumber
             number-more y t et = pick-false _ _ _ _ (is-no _ _ no-first) (pick-false _ _ _ _ (is-no _ _ (λ e. y (second-is ∙ e))) et)
 
             -- one does
             module _ (none : second ≡ 0) (b : Bool) (eb : b ≡ matches cs (pathOf nodes attributes text first)) where
-              number-one : (n : ℕ) → n ≡ pick (matches cs (pathOf nodes attributes text (First row))) 0 row → n ≡ selectorNumber nodes attributes text row cs
-              unfolding selectorNumber
+              -- the number by what the matcher answers
+              number-one : (n : ℕ) → n ≡ Sole → n ≡ reachedNumber nodes attributes text row cs
+              unfolding reachedNumber
               number-one n e = pick-false _ _ _ _ (is-no _ _ no-first) (pick-true _ _ _ _ (is-yes _ _ (sym second-is ∙ none)) e)
 
+              -- which it answers of the first row
               first-matched : b ≡ matches cs (pathOf nodes attributes text (First row))
               first-matched = eb ∙ ap (λ (i : ℕ). matches cs (pathOf nodes attributes text i)) ef
 
               -- and the selector matches it
-              pub number-yes : b ≡ true → 0 ≡ selectorNumber nodes attributes text row cs
-              number-yes h = number-one 0 (pick-true _ _ _ _ (sym first-matched ∙ h) refl)
+              pub number-yes : b ≡ true → (t : ℕ) → t ≡ parentReached nodes (Climb cs first) → t ≡ reachedNumber nodes attributes text row cs
+              number-yes h t et = number-one t (pick-true _ _ _ _ (sym first-matched ∙ h) (et ∙ ap (λ (i : ℕ). parentReached nodes (Climb cs i)) ef))
 
               -- or not
-              pub number-no : b ≡ false → row ≡ selectorNumber nodes attributes text row cs
+              pub number-no : b ≡ false → row ≡ reachedNumber nodes attributes text row cs
               number-no h = number-one row (pick-false _ _ _ _ (sym first-matched ∙ h) refl)
 
+    -- ---- the returns of `parent_reached`
+    module _ (row : ℕ) (t : Climbed) (et : t ≡ Climb cs row) where
+      -- a descendant combinator is reached
+      pub parent-found : {n at : ℕ} → t ≡ Descendant n at → (p : ℕ) → p ≡ nodeAt nodes at .parent → p ≡ parentReached nodes (Climb cs row)
+      unfolding parentReached
+      parent-found e p ep = ep ∙ ap (parentReached nodes) (sym e ∙ et)
+
+      -- or not
+      pub parent-none : {s : SelectorMatch} → t ≡ Ended s → 0 ≡ parentReached nodes (Climb cs row)
+      unfolding parentReached
+      parent-none e = ap (parentReached nodes) (sym e ∙ et)
+
     -- ---- the returns of `selector_number`: with a descendant combinator and without
-    pub number-found : (row : ℕ) → Rooted nodes row → (t : ℕ) → t ≡ selectorNumber nodes attributes text row cs → (t ≡ selectorNumber nodes attributes text row cs) × (t ≤ row)
-    number-found row r t e = (e, rw e (number-within row r))
+    module _ (row : ℕ) (r : Rooted nodes row) (b : Bool) (eb : b ≡ hasDescendant cs) where
+      -- what is found stands at the row or before it
+      pub number-found : b ≡ true → (t : ℕ) → t ≡ reachedNumber nodes attributes text row cs → (t ≡ selectorNumber nodes attributes text row cs) × (t ≤ row)
+      unfolding selectorNumber
+      number-found h t e = let q : t ≡ selectorNumber nodes attributes text row cs = pick-true _ _ _ _ (sym eb ∙ h) e in (q, rw q (number-within row r))
 
-    first-none : hasDescendant cs ≡ false → (rows : List ℕ) → firstReaching nodes attributes text cs rows ≡ 0
-    unfolding firstReaching
-    first-none e [] = refl
-    first-none e (row ∷ rows) = sym (pick-false _ _ _ _ (unreached cs e row) (sym (first-none e rows)))
+      -- and the number is 0
+      pub number-unasked : b ≡ false → (0 ≡ selectorNumber nodes attributes text row cs) × (0 ≤ row)
+      unfolding selectorNumber
+      number-unasked h = (pick-false _ _ _ _ (sym eb ∙ h) refl, omega arith)
 
-    pub number-unasked : (row : ℕ) (b : Bool) → b ≡ hasDescendant cs → b ≡ false → (row ≡ selectorNumber nodes attributes text row cs) × (row ≤ row)
-    unfolding selectorNumber
-    number-unasked row b eb e = (pick-true _ _ _ _ (is-yes _ _ (first-none (sym eb ∙ e) (lineOf nodes row))) refl, omega arith)
+    -- ---- the returns of `matches_by_number`
+    -- before its number a selector matches nothing
+    pub numbered-none : (row top : ℕ) → RightNumber nodes attributes text cs row top → row < top → false ≡ matches cs (pathOf nodes attributes text row)
+    numbered-none row top g l = sym (g .none row same l)
 
     -- ---- turns of `first_reaching`: the first from a row above is the first of all
     pub record Reaching (row at : ℕ) : Type 0 where
@@ -293,22 +381,18 @@ module _ (nodes attributes text : List ℕ) where
     module _ (row at : ℕ) (g : Reaching row at) where
       -- no element is left
       pub reach-end : at ≡ 0 → 0 ≡ First row
-      reach-end e = sym (g .same-first ∙ ap First e ∙ first-document)
+      reach-end e = sym (g .same-first ∙ ap First e ∙ first-document nodes attributes text cs)
 
       module _ (z : ¬ (at ≡ 0)) (t : Climbed) (et : t ≡ Climb cs at) where
         -- a descendant combinator is reached
         pub reach-found : {n q : ℕ} → t ≡ Descendant n q → at ≡ First row
         unfolding reaches
-        reach-found e = sym (g .same-first ∙ first-here at (g .rooted) z (ap reaches (sym et ∙ e)))
+        reach-found e = sym (g .same-first ∙ first-here nodes attributes text cs at (g .rooted) z (ap reaches (sym et ∙ e)))
 
         -- or not
-        pub reach-on : {s : SelectorMatch} → t ≡ Ended s → (p : ℕ) → p ≡ nodeAt nodes at .parent → Reaching row p
+        pub reach-on : {s : SelectorMatch} → t ≡ Ended s → (p : ℕ) → Rooted nodes p → First (nodeAt nodes at .parent) ≡ First p → Reaching row p
         unfolding reaches
-        reach-on e p ep =
-            record {
-              rooted = parent-rooted nodes at (g .rooted) z p ep;
-              same-first = g .same-first ∙ first-above at (g .rooted) z (ap reaches (sym et ∙ e)) ∙ ap First (sym ep);
-            }
+        reach-on e p rp ep = record { rooted = rp; same-first = g .same-first ∙ first-above nodes attributes text cs at (g .rooted) z (ap reaches (sym et ∙ e)) ∙ ep }
 
 -- ---- turns of `has_descendant`: what is left has one where all have
 module _ (components : List ℕ) where
@@ -329,6 +413,7 @@ module _ (components : List ℕ) where
     look-end e store = sym (g .same-has store ∙ ap (Has store) e ∙ ap hasDescendant (components-none store components))
 
     module _ (some : 0 < n) (k : ℕ) (ek : k ≡ componentNumber components (n - 1) componentKindAt) where
+      -- the last component is one, or those before it have one
       last-asked : (store : List ℕ) → Has store n ≡ byCombinator (componentAt store components (n - 1)) (Has store (n - 1)) true (Has store (n - 1))
       unfolding hasDescendant
       last-asked store =
@@ -342,10 +427,11 @@ module _ (components : List ℕ) where
           sym (g .same-has store ∙ last-asked store ∙ ap (λ (c : Component). byCombinator c (Has store (n - 1)) true (Has store (n - 1))) (from-descendant store _ _ _ _ (sym ek ∙ e)))
 
       -- or another component
-      stays : ¬ (k ≡ descendantKind) → (b : Bool) → is k childKind ≡ b → (store : List ℕ) → Has store n ≡ Has store (n - 1)
-      unfolding componentAt byCombinator
-      stays d true c store = last-asked store ∙ ap (λ (x : Component). byCombinator x (Has store (n - 1)) true (Has store (n - 1))) (from-child store _ _ _ _ (sym ek ∙ is-true k childKind c))
-      stays d false c store = last-asked store ∙ third-chosen store _ _ _ _ (λ y. is-false k childKind c (ek ∙ y)) (λ y. d (ek ∙ y)) _ _ _
-
       pub look-on : ¬ (k ≡ descendantKind) → Looking left (n - 1)
-      look-on d = record { same-has = λ store. g .same-has store ∙ stays d (is k childKind) refl store }
+      unfolding componentAt
+      look-on d = record { same-has = λ store. g .same-has store ∙ last-asked store ∙ second-passed store _ _ _ _ (λ y. d (ek ∙ y)) _ _ }
+
+-- what is right for a row is right for its ancestors
+pub number-above : (nodes attributes text : List ℕ) (cs : List Component) (row top at : ℕ) → RightNumber nodes attributes text cs row top → Line nodes row at → RightNumber nodes attributes text cs at top
+number-above nodes attributes text cs row top at g w =
+    record { right = right-above nodes attributes text cs row top at (g .right) w; none = λ q v l. g .none q (line-on nodes w v) l }

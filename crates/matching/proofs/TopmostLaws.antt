@@ -177,7 +177,7 @@ module _ (nodes attributes text : List ℕ) (row : ℕ) (r : Rooted nodes row) w
       let z : ¬ (at ≡ 0) = λ e. absurd (omega arith) in
       rw (is-no at 0 z, other-path nodes attributes text at (below k l n q) z) (up z)
 
-  -- decides its last descendant combinator on the row and on its ancestors
+  -- decides its last descendant combinator wherever it is reached from the row or an ancestor of it
   top-decides : (cs : List Component) (at : ℕ) → Line nodes row at
       → belowTop (selectorTop nodes attributes text row cs) (climbOf nodes attributes text cs at) ≡ matches cs (pathOf nodes attributes text at)
   unfolding belowTop climbOf selectorTop topmost byCombinator matches step pick
@@ -192,6 +192,7 @@ module _ (nodes attributes text : List ℕ) (row : ℕ) (r : Rooted nodes row) w
   top-decides (attribute c ∷ cs) at w = test-decides _ _ _ _ (top-decides cs at w)
   top-decides (attributeEqual c v ∷ cs) at w = test-decides _ _ _ _ (top-decides cs at w)
 
+  -- so it is right
   pub right-top : (cs : List Component) → RightTop nodes attributes text cs row (selectorTop nodes attributes text row cs)
   right-top cs = record { decides = top-decides cs }
 

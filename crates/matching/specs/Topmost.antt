@@ -1,12 +1,12 @@
 -- One number that decides the last descendant combinator of a selector on all rows of a path, so that what stands before it is not matched on each. It decides by its order alone: the
--- combinator holds on a row exactly if the number stands before that row. Only rows on which tests and child combinators lead to the combinator need be decided. Where that is one row, any
--- number before it says yes, and none before it no; where they are more, the topmost row that what stands before the combinator matches decides on all, since rows stand behind their ancestors.
-use Prim.Native.Nat.{ℕ}
+-- combinator holds on a row exactly if the number stands before that row. It is asked only where tests and child combinators lead to the combinator. Where they do from one row of the path, the
+-- parent of the row that they lead to says yes, and the path's own row says no; where they do from more, the topmost row that what stands before the combinator matches decides for all, since
+-- rows stand behind their ancestors. On rows before its number a selector does not match at all.
+use Prim.Native.Nat.{ℕ, _<_}
 use mathlib.Core.Bool.{Bool, true, false}
 use mathlib.Core.List.{List, [], _∷_}
 use mathlib.Core.Path.{_≡_, refl}
 use lib.Dec.{ltb}
-use lib.ListN.{length}
 use Rattle.combinators.specs.Choice.{pick, or, and, is}
 use Rattle.combinators.specs.Part.{part}
 use Rattle.combinators.specs.Word.{sameText}
@@ -16,7 +16,7 @@ use Rattle.page.specs.PathOf.{attributesFrom, elementAt, elementsOf, pathOf}
 use Rattle.page.specs.Rows.{nodeNumber, nodeAt, elementKind, nameOf}
 use Rattle.matching.specs.Matches.{nameIs, here, onAncestors, step, matches}
 use Rattle.matching.specs.Recursion.{byCombinator}
-use Rattle.matching.specs.Climb.{climbOf}
+use Rattle.matching.specs.Climb.{reaches, climbOf, firstReaching}
 use Rattle.matching.specs.declared.matcher.Climbed.{Climbed}
 use Rattle.matching.specs.declared.matcher.Climbed.the-variants.{Ended, Descendant}
 use Rattle.matching.specs.declared.matcher.SelectorMatch.the-variants.{Matches, FailsLocally, FailsCompletely}
@@ -33,12 +33,12 @@ belowTop top (Ended FailsLocally) = false
 belowTop top (Ended FailsCompletely) = false
 belowTop top (Descendant n at) = ltb top at
 
--- whether they lead to a descendant combinator
-unfoldable pub reaches : Climbed → Bool
-reaches (Ended r) = false
-reaches (Descendant n at) = true
+-- the parent of the row that a descendant combinator is reached on
+unfoldable pub parentReached : List ℕ → Climbed → ℕ
+parentReached nodes (Ended r) = 0
+parentReached nodes (Descendant n at) = nodeAt nodes at .parent
 
--- whether there is one
+-- whether there is a descendant combinator
 unfoldable pub hasDescendant : List Component → Bool
 hasDescendant [] = false
 hasDescendant (c ∷ cs) = byCombinator c (hasDescendant cs) true (hasDescendant cs)
@@ -66,17 +66,23 @@ module _ (nodes attributes text : List ℕ) where
 
   -- ---- the number of a selector
 
-  -- the first of some rows from which a descendant combinator is reached; 0 where there is none, as on the document, where it fails whatever stands before it
-  unfoldable pub firstReaching : List Component → List ℕ → ℕ
-  firstReaching cs [] = 0
-  firstReaching cs (row ∷ rows) = pick (reaches (climbOf nodes attributes text cs row)) row (firstReaching cs rows)
+  -- with a descendant combinator: the row itself where it is reached from no row of the path; where it is from one, the parent of the row that it is reached on if the selector matches, and
+  -- the row if not; where it is from more, the topmost row
+  unfoldable pub reachedNumber : ℕ → List Component → ℕ
+  reachedNumber row cs =
+      let first = firstReaching nodes attributes text cs (lineOf nodes row) in
+      let second = firstReaching nodes attributes text cs (lineOf nodes (nodeAt nodes first .parent)) in
+      pick (is first 0) row
+      (pick (is second 0) (pick (matches cs (pathOf nodes attributes text first)) (parentReached nodes (climbOf nodes attributes text cs first)) row) (selectorTop row cs))
 
-  -- the row itself where none of the path reaches one; where one row does, 0 if the selector matches that row and the path's row if not; where more do, the topmost row
+  -- without one, 0
   unfoldable pub selectorNumber : ℕ → List Component → ℕ
-  selectorNumber row cs =
-      let first = firstReaching cs (lineOf nodes row) in
-      let second = firstReaching cs (lineOf nodes (nodeAt nodes first .parent)) in
-      pick (is first 0) row (pick (is second 0) (pick (matches cs (pathOf nodes attributes text first)) 0 row) (selectorTop row cs))
+  selectorNumber row cs = pick (hasDescendant cs) (reachedNumber row cs) 0
+
+  -- a number that decides, and before which no row of the path is matched
+  pub record RightNumber (cs : List Component) (row top : ℕ) : Type 0 where
+    pub right : RightTop cs row top
+    pub none : (at : ℕ) → Line nodes row at → at < top → matches cs (pathOf nodes attributes text at) ≡ false
 
 -- ---- cases
 
@@ -95,8 +101,10 @@ names = 0x61 ∷ 0x62 ∷ []
 unfoldable within : ℕ → ℕ → List Component
 within x y = element (y ∷ []) ∷ descendant ∷ element (x ∷ []) ∷ []
 
--- `c c` is reached from no row, `b a` from row 1 alone, which it does not match; `a b` from two rows, of whose ancestors 1 is the topmost `a`; of the rows up to 2 it is reached from 2 alone
-test-number : (selectorNumber nested [] names 3 (within 0x63 0x63) ≡ 3) × (selectorNumber nested [] names 3 (within 0x62 0x61) ≡ 3)
-    × (selectorNumber nested [] names 3 (within 0x61 0x62) ≡ 1) × (selectorNumber nested [] names 2 (within 0x61 0x62) ≡ 0)
-unfolding selectorNumber firstReaching selectorTop topmost lastMatched reaches climbOf byCombinator matches step here onAncestors nameIs sameText pathOf elementsOf elementAt attributesFrom ancestorsOf ancestorsFrom nodeNumber nameOf part nested names within pick or and is
-test-number = (refl, refl, refl, refl)
+-- `b` has no combinator; that of `c c` is reached from no row, that of `b a` from row 1 alone, which it does not match; that of `a b` from two rows, of whose ancestors 1 is the topmost `a`; that of
+-- `b b` up to row 2 from row 2 alone, which it does not match, and that of `a b` there too, which it matches
+test-number : (selectorNumber nested [] names 3 (element (0x62 ∷ []) ∷ []) ≡ 0)
+    × (selectorNumber nested [] names 3 (within 0x63 0x63) ≡ 3) × (selectorNumber nested [] names 3 (within 0x62 0x61) ≡ 3)
+    × (selectorNumber nested [] names 3 (within 0x61 0x62) ≡ 1) × (selectorNumber nested [] names 2 (within 0x62 0x62) ≡ 2) × (selectorNumber nested [] names 2 (within 0x61 0x62) ≡ 1)
+unfolding selectorNumber hasDescendant reachedNumber parentReached firstReaching selectorTop topmost lastMatched reaches climbOf byCombinator matches step here onAncestors nameIs sameText pathOf elementsOf elementAt attributesFrom ancestorsOf ancestorsFrom nodeNumber nameOf part nested names within pick or and is
+test-number = (refl, refl, refl, refl, refl, refl)

@@ -227,7 +227,7 @@ fn named_ancestor(
 }
 
 // The next ancestor of a row on which the first `n` components can do more than fail locally, or an ancestor before it.
-fn next_ancestor(
+pub fn next_ancestor(
     components: &[u32],
     store: &[u8],
     n: usize,

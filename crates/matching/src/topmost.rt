@@ -4,6 +4,7 @@ use crate::matcher::Climbed;
 use crate::matcher::SelectorMatch;
 use crate::matcher::do_matches;
 use crate::matcher::match_locally;
+use crate::matcher::next_ancestor;
 use page::rows::parent_of;
 use syntax::rows::DESCENDANT;
 ghost use mathlib.Core.List.{List};
@@ -13,10 +14,11 @@ ghost use Rattle.page.specs.Ancestors.{lineOf};
 ghost use Rattle.page.specs.PathOf.{pathOf};
 ghost use Rattle.matching.specs.Matches.{matches};
 ghost use Rattle.matching.specs.Rows.{componentsAt, Rooted};
-ghost use Rattle.matching.specs.Topmost.{hasDescendant, topmost, selectorTop, firstReaching, selectorNumber, RightTop};
+ghost use Rattle.matching.specs.Climb.{climbOf, firstReaching};
+ghost use Rattle.matching.specs.Topmost.{parentReached, hasDescendant, topmost, selectorTop, reachedNumber, selectorNumber, RightTop, RightNumber};
 
 // Whether the first `left` components match a row, where `top` decides the last descendant combinator among them: what stands before it is not matched.
-pub fn matches_below(
+fn matches_below(
     components: &[u32],
     store: &[u8],
     left: usize,
@@ -130,10 +132,30 @@ fn first_reaching(
         let climbed = match_locally(components, store, left, nodes, attributes, text, at);
         match climbed {
             Climbed::Descendant(_, _) => return at,
-            Climbed::Ended(_) => at = parent_of(nodes, at),
+            Climbed::Ended(_) => at = next_ancestor(components, store, left, nodes, text, at),
         }
     }
     0
+}
+
+// The parent of the row that a descendant combinator is reached on from a row, or 0.
+fn parent_reached(
+    components: &[u32],
+    store: &[u8],
+    left: usize,
+    nodes: &[u32],
+    attributes: &[u32],
+    text: &[u8],
+    row: usize,
+) -> usize
+    requires { ⌜ Rooted (now nodes) row ⌝ }
+    ensures { λ r. ⌜ r ≡ parentReached (now (nodes .entry)) (climbOf (now (nodes .entry)) (now (attributes .entry)) (now (text .entry)) (componentsAt (now (store .entry)) (now (components .entry)) left) row) ⌝ }
+{
+    let climbed = match_locally(components, store, left, nodes, attributes, text, row);
+    match climbed {
+        Climbed::Descendant(_, at) => return parent_of(nodes, at),
+        Climbed::Ended(_) => return 0,
+    }
 }
 
 // The number of the first `left` components on the path of a row, where a descendant combinator is among them. Most last compounds are on one row of a path or on none: the matcher then
@@ -148,7 +170,7 @@ fn reached_number(
     row: usize,
 ) -> usize
     requires { ⌜ Rooted (now nodes) row ⌝ }
-    ensures { λ r. ⌜ r ≡ selectorNumber (now (nodes .entry)) (now (attributes .entry)) (now (text .entry)) row (componentsAt (now (store .entry)) (now (components .entry)) left) ⌝ }
+    ensures { λ r. ⌜ r ≡ reachedNumber (now (nodes .entry)) (now (attributes .entry)) (now (text .entry)) row (componentsAt (now (store .entry)) (now (components .entry)) left) ⌝ }
 {
     let first = first_reaching(components, store, left, nodes, attributes, text, row);
     if first == 0 {
@@ -160,7 +182,7 @@ fn reached_number(
         return selector_top(components, store, left, nodes, attributes, text, row);
     }
     if do_matches(components, store, left, nodes, attributes, text, first) {
-        return 0;
+        return parent_reached(components, store, left, nodes, attributes, text, first);
     }
     row
 }
@@ -182,5 +204,26 @@ pub fn selector_number(
     if has_descendant(components, left) {
         return reached_number(components, store, left, nodes, attributes, text, row);
     }
-    row
+    0
+}
+
+// Whether the first `left` components, whose number is `top`, match a row. Before its number a selector is not even asked for its tests.
+pub fn matches_by_number(
+    components: &[u32],
+    store: &[u8],
+    left: usize,
+    top: usize,
+    nodes: &[u32],
+    attributes: &[u32],
+    text: &[u8],
+    row: usize,
+) -> bool
+    requires { ⌜ Rooted (now nodes) row ⌝ }
+    requires { ⌜ RightNumber (now nodes) (now attributes) (now text) (componentsAt (now store) (now components) left) row top ⌝ }
+    ensures { λ r. ⌜ r ≡ matches (componentsAt (now (store .entry)) (now (components .entry)) left) (pathOf (now (nodes .entry)) (now (attributes .entry)) (now (text .entry)) row) ⌝ }
+{
+    if row < top {
+        return false;
+    }
+    matches_below(components, store, left, top, nodes, attributes, text, row)
 }

@@ -1,7 +1,7 @@
 -- The first row from which a descendant combinator is reached is the first from the row that is asked on.
 use Rattle.matching.proofs.NumberLaws as laws
-use Rattle.matching.proofs.PathLaws.{parent-before}
 use Rattle.matching.specs.Rows.{componentsAt}
+use mathlib.Core.List.{[]}
 use borrow.Author.Needs.{needs}
 use Rattle.matching.proofs.topmost.first_reaching.Statement.{statement}
 use Rattle.matching.proofs.topmost.first_reaching.Tie as tie
@@ -27,14 +27,16 @@ returns c = laws.reach-found _ _ _ _ _ _ (c .before .before .before .before .loo
 enum-told-2 : tie.Need-enum-told-2 Inv-loop μ-loop
 enum-told-2 c = search needs
 
-parent-of-requires : tie.Need-parent-of-requires Inv-loop μ-loop
-parent-of-requires c κs = search needs
+next-ancestor-requires : tie.Need-next-ancestor-requires Inv-loop μ-loop
+next-ancestor-requires c κs = record { rooted = c .before .before .before .before .loop .inv .rooted; no-document = c .before .before .before .loop-test .taken }
 
 loop-less : tie.Need-loop-less Inv-loop μ-loop
-loop-less c = parent-before _ _ (c .before .before .before .before .before .loop .inv .rooted) (c .before .before .before .before .loop-test .taken) _ (c .parent-of .ensures .0)
+loop-less c = c .next-ancestor .ensures [] .higher
 
 loop-again : tie.Need-loop-again Inv-loop μ-loop
-loop-again c = laws.reach-on _ _ _ _ _ _ (c .before .before .before .before .before .loop .inv) (c .before .before .before .before .loop-test .taken) _ (c .before .before .before .match-locally .ensures) (c .before .enum-told2 .given .1) _ (c .parent-of .ensures .0)
+loop-again c =
+    laws.reach-on _ _ _ _ _ _ (c .before .before .before .before .before .loop .inv) (c .before .before .before .before .loop-test .taken) _ (c .before .before .before .match-locally .ensures) (c .before .enum-told2 .given .1) _
+    (c .next-ancestor .ensures [] .rooted) (c .next-ancestor .ensures _ .passed)
 
 returns-2 : tie.Need-returns-2 Inv-loop μ-loop
 returns-2 c = laws.reach-end _ _ _ _ _ _ (c .before .loop .inv) (c .loop-test .left)
@@ -50,7 +52,7 @@ first-reaching-spec =
     enum-told
     returns
     enum-told-2
-    parent-of-requires
+    next-ancestor-requires
     loop-less
     loop-again
     returns-2)

@@ -27,10 +27,13 @@ returns-2 c =
 do-matches-requires : tie.Need-do-matches-requires
 do-matches-requires c κs = laws.first-is-rooted _ _ _ _ _ (c .before .before .before .before .before .before .before .before .before .before .pre) _ (c .before .before .before .before .first-reaching .ensures)
 
+parent-reached-requires : tie.Need-parent-reached-requires
+parent-reached-requires c κs = laws.first-is-rooted _ _ _ _ _ (c .before .before .before .before .before .before .before .before .before .before .before .before .pre) _ (c .before .before .before .before .before .before .first-reaching .ensures)
+
 returns-3 : tie.Need-returns-3
 returns-3 c =
-    laws.number-yes _ _ _ _ _ (c .before .before .before .before .before .before .before .before .before .before .before .before .pre) _ (c .before .before .before .before .before .before .first-reaching .ensures) (c .before .before .before .before .before .if1 .left) _ (c .before .before .before .before .parent-of .ensures .0) _ (c .before .before .before .first-reaching2 .ensures)
-    (c .before .before .if2 .left) _ (c .before .do-matches .ensures) (c .if3 .taken)
+    laws.number-yes _ _ _ _ _ (c .before .before .before .before .before .before .before .before .before .before .before .before .before .pre) _ (c .before .before .before .before .before .before .before .first-reaching .ensures) (c .before .before .before .before .before .before .if1 .left) _ (c .before .before .before .before .before .parent-of .ensures .0) _ (c .before .before .before .before .first-reaching2 .ensures)
+    (c .before .before .before .if2 .left) _ (c .before .before .do-matches .ensures) (c .before .if3 .taken) _ (c .parent-reached .ensures)
 
 returns-4 : tie.Need-returns-4
 returns-4 c =
@@ -48,5 +51,6 @@ reached-number-spec =
     selector-top-requires
     returns-2
     do-matches-requires
+    parent-reached-requires
     returns-3
     returns-4)
