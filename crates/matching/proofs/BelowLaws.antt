@@ -1,56 +1,44 @@
 -- Returns and turns of the functions that match on all rows of a path.
 use Prim.Native.Nat.{ℕ, zero, suc, _+_, _≤_, _<_}
 use mathlib.Core.Bool.{Bool, true, false}
-use mathlib.Core.List.{List, [], _∷_}
+use mathlib.Core.List.{List, _∷_}
 use mathlib.Core.Logic.{⊎-elim}
 use mathlib.Core.Path.{_≡_, refl, sym, ap, _∙_}
 use native.Mathlib.Numerals.{add-one}
 use native.Mathlib.Omega.{arith}
-use lib.Dec.{ltb}
-use Rattle.combinators.specs.Choice.{pick, is}
-use Rattle.combinators.proofs.Rules.{pick-true, pick-false, is-true, is-false, lt-or-ge}
-use Rattle.syntax.specs.RuleLayout.{childKind, descendantKind, componentKindAt}
+use Rattle.combinators.specs.Choice.{pick}
+use Rattle.combinators.proofs.Rules.{pick-true, pick-false, lt-or-ge}
+use Rattle.syntax.specs.RuleLayout.{descendantKind, componentKindAt}
 use Rattle.syntax.specs.Selector.{Component, descendant}
 use Rattle.page.specs.Ancestors.{ancestorsOf}
-use Rattle.page.specs.Path.{Path}
 use Rattle.page.specs.PathOf.{pathOf}
 use Rattle.page.specs.Rows.{nodeAt}
-use Rattle.matching.specs.Matches.{onAncestors, step, matches}
+use Rattle.matching.specs.Matches.{step, matches}
 use Rattle.matching.specs.Rows.{componentNumber, componentAt, componentsAt, Rooted}
-use Rattle.matching.specs.Recursion.{byCombinator, resultStep, matchRecursively}
-use Rattle.matching.specs.Climb.{LastDescendant}
-use Rattle.matching.specs.Topmost.{lastMatched, topmost, selectorTop, RightTop}
+use Rattle.matching.specs.Recursion.{byCombinator}
+use Rattle.matching.specs.Climb.{climbOf}
+use Rattle.matching.specs.Topmost.{belowTop, lastMatched, topmost, selectorTop, RightTop}
 use Rattle.matching.specs.Topmost.Line.{same}
 use Rattle.matching.specs.declared.matcher.SelectorMatch.{SelectorMatch}
-use Rattle.matching.specs.declared.matcher.SelectorMatch.the-variants.{Matches, FailsLocally, FailsCompletely}
+use Rattle.matching.specs.declared.matcher.Climbed.{Climbed}
+use Rattle.matching.specs.declared.matcher.Climbed.the-variants.{Ended}
 use Rattle.matching.proofs.CallLaws.{by-combinator}
 use Rattle.matching.proofs.ComponentLaws.{components-none, components-more}
-use Rattle.matching.proofs.PassLaws.{from-child, from-descendant, third-chosen}
+use Rattle.matching.proofs.PassLaws.{from-descendant, second-passed}
 use Rattle.matching.proofs.PathLaws.{parent-rooted, parent-before}
-use Rattle.matching.proofs.RecursionLaws.{selector-matches, fails-locally, fails-here}
 use Rattle.matching.proofs.TopmostLaws.{line-up, last-document, last-above, Needs, step-needs, none-found, right-top, top-within, right-above}
 
--- ---- the return of `matches_below` at a descendant combinator
-module _ (cs ds : List Component) (p q : Path) where
-  by-result : (r : SelectorMatch) → r ≡ matchRecursively cs p → r ≡ matchRecursively ds q → matches cs p ≡ matches ds q
-  by-result Matches e f = sym (selector-matches cs p Matches e refl) ∙ selector-matches ds q Matches f refl
-  by-result FailsLocally e f = sym (fails-locally cs p FailsLocally e refl) ∙ fails-locally ds q FailsLocally f refl
-  by-result FailsCompletely e f = sym (fails-here cs p FailsCompletely e refl) ∙ fails-here ds q FailsCompletely f refl
+-- ---- the returns of `matches_below`: where the climb leads, the number decides
+pub below-top : (nodes attributes text : List ℕ) (cs : List Component) (row top : ℕ) → RightTop nodes attributes text cs row top
+    → (t : Climbed) → t ≡ climbOf nodes attributes text cs row → (x : Climbed) → t ≡ x → belowTop top x ≡ matches cs (pathOf nodes attributes text row)
+below-top nodes attributes text cs row top g t e x f = ap (belowTop top) (sym f ∙ e) ∙ g .decides row same
 
-  -- selectors that have one result both match, or neither does
-  same-result : matchRecursively cs p ≡ matchRecursively ds q → matches cs p ≡ matches ds q
-  same-result e = by-result (matchRecursively cs p) refl e
+-- it ended, with a result that is known
+pub below-ended : (nodes attributes text : List ℕ) (cs : List Component) (row top : ℕ) → RightTop nodes attributes text cs row top
+    → (t : Climbed) → t ≡ climbOf nodes attributes text cs row → (r s : SelectorMatch) → t ≡ Ended r → r ≡ s → belowTop top (Ended s) ≡ matches cs (pathOf nodes attributes text row)
+below-ended nodes attributes text cs row top g t e r s f h = below-top nodes attributes text cs row top g t e (Ended s) (f ∙ ap Ended h)
 
 module _ (store components nodes attributes text : List ℕ) where
-  -- the number stands before the row that was reached, or not
-  pub below-top : (left row top n at : ℕ) → RightTop nodes attributes text (componentsAt store components left) row top
-      → LastDescendant store components nodes attributes text left row n at
-      → ltb top at ≡ matches (componentsAt store components left) (pathOf nodes attributes text row)
-  unfolding matches step matchRecursively resultStep byCombinator
-  below-top left row top n at g d =
-      sym (g .decides at (d .line)) ∙ d .last (pathOf nodes attributes text at)
-      ∙ sym (same-result (componentsAt store components left) (descendant ∷ componentsAt store components n) (pathOf nodes attributes text row) (pathOf nodes attributes text at) (d .decided .same))
-
   -- ---- turns of `topmost_ancestor`: what is found from a row on is what is found from the first on
   module _ (n top row : ℕ) where
     abbrev before : List Component
@@ -127,13 +115,9 @@ module _ (store components nodes attributes text : List ℕ) where
         top-descendant e t et = record { within = omega arith; is-top = et ∙ sym (one-more ∙ rw (from-descendant store _ _ _ _ (sym ek ∙ e)) refl) }
 
         -- any other component leaves the number as it is
-        stays : ¬ (k ≡ descendantKind) → (b : Bool) → is k childKind ≡ b → selectorTop nodes attributes text row (componentsAt store components (i + 1)) ≡ selectorTop nodes attributes text row (componentsAt store components i)
-        unfolding componentAt byCombinator
-        stays d true c = one-more ∙ rw (from-child store _ _ _ _ (sym ek ∙ is-true k childKind c)) refl
-        stays d false c = one-more ∙ third-chosen store _ _ _ _ (λ y. is-false k childKind c (ek ∙ y)) (λ y. d (ek ∙ y)) _ _ _
-
         pub top-other : ¬ (k ≡ descendantKind) → Topping top (i + 1)
-        top-other d = record { within = omega arith; is-top = g .is-top ∙ sym (stays d (is k childKind) refl) }
+        unfolding componentAt
+        top-other d = record { within = omega arith; is-top = g .is-top ∙ sym (one-more ∙ second-passed store _ _ _ _ (λ y. d (ek ∙ y)) _ _) }
 
   -- where nothing is found for a descendant combinator, nothing is for those behind it
   module _ (row : ℕ) (r : Rooted nodes row) (i : ℕ) (e : componentNumber components i componentKindAt ≡ descendantKind)

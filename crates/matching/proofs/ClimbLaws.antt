@@ -1,28 +1,31 @@
 -- The loop of `match_locally`, the ancestors that a descendant combinator tries, and the returns of `match_recursively`.
-use Prim.Native.Nat.{ℕ, _+_, _-_, _≤_, _<_}
+use Prim.Native.Nat.{ℕ, zero, suc, _+_, _-_, _≤_, _<_}
 use mathlib.Core.Bool.{Bool, true, false}
 use mathlib.Core.List.{List, [], _∷_}
 use mathlib.Core.Path.{_≡_, refl, sym, ap, subst, _∙_}
 use native.Mathlib.Omega.{arith}
+use Rattle.combinators.specs.Choice.{pick, is}
 use Rattle.combinators.specs.Word.{sameText}
+use Rattle.combinators.proofs.Rules.{is-no}
 use Rattle.syntax.specs.RuleLayout.{starKind, elementKind, childKind, descendantKind, componentKindAt}
-use Rattle.page.specs.Path.{Path}
+use Rattle.page.specs.Ancestors.{lineOf}
 use Rattle.page.specs.PathOf.{pathOf}
 use Rattle.page.specs.Rows.{nodeAt, nameOf}
 use Rattle.matching.specs.Matches.{matches}
 use Rattle.matching.specs.Rows.{componentNumber, componentAt, componentsAt, firstText, SimpleAt, Rooted}
-use Rattle.matching.specs.Recursion.{orElse, resultOnAncestors, matchRecursively}
-use Rattle.matching.specs.Climb.{Inner, NameAt, AtDescendant, LastDescendant, ClimbedTo, NextAncestor}
-use Rattle.matching.specs.Topmost.{Line, aboveDescendant}
-use Rattle.matching.specs.Topmost.Line.{same}
+use Rattle.matching.specs.Rows.Rooted.{document, below}
+use Rattle.matching.specs.Recursion.{orElse, resultOnParent, resultOnAncestors, resultStep, matchRecursively}
+use Rattle.matching.specs.Climb.{Inner, NameAt, AtDescendant, NextAncestor, reaches, climbOf, firstReaching}
 use Rattle.matching.specs.declared.matcher.SelectorMatch.{SelectorMatch}
 use Rattle.matching.specs.declared.matcher.SelectorMatch.the-variants.{Matches, FailsLocally, FailsCompletely}
 use Rattle.matching.specs.declared.matcher.Climbed.{Climbed}
 use Rattle.matching.specs.declared.matcher.Climbed.the-variants.{Ended, Descendant}
+use Rattle.matching.proofs.CallLaws.{by-combinator}
+use Rattle.matching.proofs.ComponentLaws.{components-none, components-more}
 use Rattle.matching.proofs.MatchLaws as one
 use Rattle.matching.proofs.PassLaws.{name-passes}
 use Rattle.matching.proofs.PathLaws.{top-path, other-path, parent-rooted, parent-before}
-use Rattle.matching.proofs.TopmostLaws.{line-up}
+use Rattle.matching.proofs.ReachLaws.{first-above}
 
 module _ (store components nodes attributes text : List ℕ) where
   -- the result of the first l components on the path of a row
@@ -33,24 +36,23 @@ module _ (store components nodes attributes text : List ℕ) where
   abbrev Above : ℕ → ℕ → SelectorMatch
   Above l r = resultOnAncestors (matchRecursively (componentsAt store components l)) (pathOf nodes attributes text r)
 
-  -- ---- `match_locally`: n components on a row above have the result of all on the row
+  -- where the first l components lead from a row
+  abbrev Climb : ℕ → ℕ → Climbed
+  Climb l r = climbOf nodes attributes text (componentsAt store components l) r
+
+  -- ---- `match_locally`: n components on a row above lead where all lead from the row
   module _ (left row : ℕ) where
     pub record Handed (n at : ℕ) : Type 0 where
-      pub fewer : n ≤ left
-      pub not-below : at ≤ row
       pub rooted : Rooted nodes at
-      pub same : Result left row ≡ Result n at
-      pub line : Line nodes row at
-      pub last : (p : Path) → aboveDescendant (componentsAt store components left) p ≡ aboveDescendant (componentsAt store components n) p
+      pub same : Climb left row ≡ Climb n at
 
     -- all of them, on the row itself
     pub hand-begin : Rooted nodes row → Handed left row
-    hand-begin r = record { fewer = omega arith; not-below = omega arith; rooted = r; same = refl; line = same; last = λ p. refl }
+    hand-begin r = record { rooted = r; same = refl }
 
     module _ (n at : ℕ) (g : Handed n at) where
       -- no component is left
-      pub none-left : n ≡ 0 → ClimbedTo store components nodes attributes text left row (Ended Matches)
-      unfolding ClimbedTo
+      pub none-left : n ≡ 0 → Ended Matches ≡ Climb left row
       none-left e = one.match-end store components nodes attributes text n at e ∙ sym (g .same)
 
       module _ (some : 0 < n) (k : ℕ) (ek : k ≡ componentNumber components (n - 1) componentKindAt) where
@@ -58,62 +60,85 @@ module _ (store components nodes attributes text : List ℕ) where
         no-zero z = absurd (omega arith)
 
         -- at a descendant combinator the climb stops, with what is left of the components
-        pub at-descendant : k ≡ descendantKind → ClimbedTo store components nodes attributes text left row (Descendant (n - 1) at)
-        unfolding ClimbedTo
-        at-descendant e =
-            record {
-              decided =
-                  record {
-                    fewer = omega (arith, g .fewer);
-                    not-below = g .not-below;
-                    rooted = g .rooted;
-                    same = g .same ∙ one.descendant-opened store components nodes attributes text n at no-zero (g .rooted) k ek e at;
-                  };
-              line = g .line;
-              last = λ p. g .last p ∙ one.above-descendant store components nodes attributes text n at no-zero (g .rooted) k ek e p;
-            }
+        pub at-descendant : k ≡ descendantKind → Descendant (n - 1) at ≡ Climb left row
+        at-descendant e = one.descendant-opened store components nodes attributes text n at no-zero k ek e ∙ sym (g .same)
 
         module _ (e : k ≡ childKind) where
           -- a child combinator on the document
-          pub child-ends : at ≡ 0 → ClimbedTo store components nodes attributes text left row (Ended FailsCompletely)
-          unfolding ClimbedTo
-          child-ends z = one.child-of-document store components nodes attributes text n at no-zero (g .rooted) k ek e z ∙ sym (g .same)
+          pub child-ends : at ≡ 0 → Ended FailsCompletely ≡ Climb left row
+          child-ends z = one.child-of-document store components nodes attributes text n at no-zero k ek e z ∙ sym (g .same)
 
           -- or on an element
           pub hand-up : ¬ (at ≡ 0) → (p : ℕ) → p ≡ nodeAt nodes at .parent → Handed (n - 1) p
           hand-up z p ep =
-              let l = parent-before nodes at (g .rooted) z p ep in
               record {
-                fewer = omega (arith, g .fewer);
-                not-below = omega (arith, g .not-below);
                 rooted = parent-rooted nodes at (g .rooted) z p ep;
-                same = g .same ∙ sym (one.child-of-parent store components nodes attributes text n at no-zero (g .rooted) k ek e z p ep _ refl);
-                line = line-up nodes (g .line) z p ep;
-                last = λ q. g .last q ∙ one.above-child store components nodes attributes text n at no-zero (g .rooted) k ek e q;
+                same = g .same ∙ one.child-of-parent store components nodes attributes text n at no-zero k ek e z p ep;
               }
 
         module _ (no-child : ¬ (k ≡ childKind)) (no-descendant : ¬ (k ≡ descendantKind)) where
           -- a component that is neither combinator is a test
           pub is-test : SimpleAt components (n - 1)
-          is-test = one.match-simple store components nodes attributes text n at no-zero (g .rooted) k ek no-child no-descendant
+          is-test = one.match-simple store components nodes attributes text n at no-zero k ek no-child no-descendant
 
           module _ (b : Bool) (eb : b ≡ matches (componentAt store components (n - 1) ∷ []) (pathOf nodes attributes text at)) where
             -- that the row passes
             pub hand-on : b ≡ true → Handed (n - 1) at
-            hand-on h =
-                record {
-                  fewer = omega (arith, g .fewer);
-                  not-below = g .not-below;
-                  rooted = g .rooted;
-                  same = g .same ∙ one.match-passes store components nodes attributes text n at no-zero (g .rooted) k ek no-child no-descendant b eb h;
-                  line = g .line;
-                  last = λ q. g .last q ∙ one.above-simple store components nodes attributes text n at no-zero (g .rooted) k ek no-child no-descendant q;
-                }
+            hand-on h = record { rooted = g .rooted; same = g .same ∙ one.match-passes store components nodes attributes text n at no-zero k ek no-child no-descendant b eb h }
 
             -- a test that fails ends the climb: the selector fails here
-            pub test-ends : b ≡ false → ClimbedTo store components nodes attributes text left row (Ended FailsLocally)
-            unfolding ClimbedTo
-            test-ends h = sym (g .same ∙ one.match-fails store components nodes attributes text n at no-zero (g .rooted) k ek no-child no-descendant b eb h)
+            pub test-ends : b ≡ false → Ended FailsLocally ≡ Climb left row
+            test-ends h = sym (g .same ∙ one.match-fails store components nodes attributes text n at no-zero k ek no-child no-descendant b eb h)
+
+  -- ---- what a climb says: its end is the result s; a descendant combinator has it of the ancestors of the row that it is reached on
+  unfoldable Tells : ℕ → ℕ → Climbed → SelectorMatch → Type 0
+  Tells left row (Ended r) s = r ≡ s
+  Tells left row (Descendant n at) s = (n < left) × (at ≤ row) × Rooted nodes at × (s ≡ Above n at)
+
+  -- the same with one component more, on a row below
+  tells-below : (left row row′ : ℕ) → row ≤ row′ → (x : Climbed) (s : SelectorMatch) → Tells left row x s → Tells (suc left) row′ x s
+  unfolding Tells
+  tells-below left row row′ h (Ended r) s t = t
+  tells-below left row row′ h (Descendant n at) s t = (omega (arith, t .0), omega (arith, t .1), t .2, t .3)
+
+  module _ (n : ℕ) (tells : (row : ℕ) → Rooted nodes row → Tells n row (Climb n row) (Result n row)) where
+    -- a child combinator
+    child-tells : (row : ℕ) → Rooted nodes row
+        → Tells (suc n) row (pick (is row 0) (Ended FailsCompletely) (Climb n (nodeAt nodes row .parent))) (resultOnParent (matchRecursively (componentsAt store components n)) (pathOf nodes attributes text row))
+    unfolding Tells resultOnParent pick is
+    child-tells row (document d) = rw (top-path nodes attributes text 0 (document d) refl) refl
+    child-tells row (below k l m r) =
+        let z : ¬ (row ≡ 0) = λ e. absurd (omega arith) in
+        let p = nodeAt nodes row .parent in
+        rw (is-no row 0 z, other-path nodes attributes text row (below k l m r) z) (tells-below n p row (omega arith) (Climb n p) (Result n p) (tells p r))
+
+    -- a test, which is passed or not
+    test-tells : (row : ℕ) → Rooted nodes row → (b : Bool) → Tells (suc n) row (pick b (Climb n row) (Ended FailsLocally)) (pick b (Result n row) FailsLocally)
+    unfolding Tells pick
+    test-tells row r true = tells-below n row row (omega arith) (Climb n row) (Result n row) (tells row r)
+    test-tells row r false = refl
+
+  -- what a climb leads to is the result of all components
+  climb-tells : (left row : ℕ) → Rooted nodes row → Tells left row (Climb left row) (Result left row)
+  unfolding Tells climbOf matchRecursively resultStep
+  climb-tells zero row r = rw (components-none store components) refl
+  climb-tells (suc n) row r =
+      let c = componentAt store components n in
+      rw (one.climb-opened store components nodes attributes text n row, components-more store components n)
+      (by-combinator (Tells (suc n) row) c (child-tells n (climb-tells n) row r) (omega arith, omega arith, r, refl) (test-tells n (climb-tells n) row r (matches (c ∷ []) (pathOf nodes attributes text row))))
+
+  module _ (left row : ℕ) (r : Rooted nodes row) (t : Climbed) (h : t ≡ Climb left row) where
+    -- tests and child combinators end
+    pub climb-ends : {s : SelectorMatch} → t ≡ Ended s → s ≡ Result left row
+    unfolding Tells
+    climb-ends {s} e = subst (λ (x : Climbed). Tells left row x (Result left row)) (sym h ∙ e) (climb-tells left row r)
+
+    -- or lead to a descendant combinator
+    pub climb-descends : {n at : ℕ} → t ≡ Descendant n at → AtDescendant store components nodes attributes text left row n at
+    unfolding Tells
+    climb-descends {n} {at} e =
+        let w : Tells left row (Descendant n at) (Result left row) = subst (λ (x : Climbed). Tells left row x (Result left row)) (sym h ∙ e) (climb-tells left row r) in
+        record { fewer = w .0; not-below = w .1; rooted = w .2; same = w .3 }
 
   -- ---- the next ancestor that is tried
   module _ (n row : ℕ) where
@@ -127,24 +152,26 @@ module _ (store components nodes attributes text : List ℕ) where
           same =
               ap (resultOnAncestors (matchRecursively (componentsAt store components n))) (other-path nodes attributes text row (i .rooted) (i .no-document))
               ∙ ap (λ (q : ℕ). orElse (Result n q) (Above n q)) (sym ep);
+          passed = ap (λ (q : ℕ). firstReaching nodes attributes text (componentsAt store components n) (lineOf nodes q)) (sym ep);
         }
 
   module _ (n row above : ℕ) (next : NextAncestor store components nodes attributes text n row above) where
     -- one that fails locally is passed over, and its parent is the next
-    pub next-on : ¬ (above ≡ 0) → Result n above ≡ FailsLocally → (p : ℕ) → p ≡ nodeAt nodes above .parent
+    pub next-on : ¬ (above ≡ 0) → Climb n above ≡ Ended FailsLocally → (p : ℕ) → p ≡ nodeAt nodes above .parent
         → NextAncestor store components nodes attributes text n row p
-    unfolding orElse
+    unfolding orElse reaches
     next-on z f p ep =
         let up = next-parent n above (record { rooted = next .rooted; no-document = z }) p ep in
         record {
           rooted = up .rooted;
           higher = omega (arith, up .higher, next .higher);
-          same = next .same ∙ ap (λ (x : SelectorMatch). orElse x (Above n above)) f ∙ up .same;
+          same = next .same ∙ ap (λ (x : SelectorMatch). orElse x (Above n above)) (sym (climb-ends n above (next .rooted) _ refl f)) ∙ up .same;
+          passed = next .passed ∙ first-above nodes attributes text (componentsAt store components n) above (next .rooted) z (ap reaches f) ∙ up .passed;
         }
 
     -- an element of another name fails locally where the last component asks for a name
     pub other-name : NameAt components n → ¬ (above ≡ 0) → (b : Bool) → b ≡ sameText (nameOf nodes text above) (firstText store components (n - 1)) → b ≡ false
-        → Result n above ≡ FailsLocally
+        → Climb n above ≡ Ended FailsLocally
     other-name a z b eb h =
         let k = componentNumber components (n - 1) componentKindAt in
         let e : k ≡ elementKind = a .element in
@@ -153,23 +180,12 @@ module _ (store components nodes attributes text : List ℕ) where
         let no-star : ¬ (k ≡ starKind) = λ y. absurd (omega arith) in
         let no-zero : ¬ (n ≡ 0) = λ y. absurd (omega (arith, a .some)) in
         let simple : SimpleAt components (n - 1) = record { no-child = no-child; no-descendant = no-descendant } in
-        one.match-fails store components nodes attributes text n above no-zero (next .rooted) k refl no-child no-descendant b
+        one.match-fails store components nodes attributes text n above no-zero k refl no-child no-descendant b
         (one.element-passes store components nodes attributes text (n - 1) above k refl simple (next .rooted) no-star z b
         (name-passes store components nodes attributes text (n - 1) above k refl e (firstText store components (n - 1)) refl b eb)) h
 
   -- ---- `match_recursively`: the ancestors of a row above have the result of all on the row
   module _ (left row : ℕ) where
-    module _ (t : Climbed) (h : ClimbedTo store components nodes attributes text left row t) where
-      -- the tests and child combinators end
-      pub climb-ends : {r : SelectorMatch} → t ≡ Ended r → r ≡ Result left row
-      unfolding ClimbedTo
-      climb-ends e = subst (ClimbedTo store components nodes attributes text left row) e h
-
-      -- or lead to a descendant combinator
-      pub climb-descends : {n at : ℕ} → t ≡ Descendant n at → LastDescendant store components nodes attributes text left row n at
-      unfolding ClimbedTo
-      climb-descends e = subst (ClimbedTo store components nodes attributes text left row) e h
-
     module _ (n above : ℕ) (d : AtDescendant store components nodes attributes text left row n above) where
       -- the document has no ancestor
       pub none-above : above ≡ 0 → FailsCompletely ≡ Result left row

@@ -80,6 +80,11 @@ pub components-none : (store components : List ℕ) → componentsAt store compo
 unfolding componentsAt readMany
 components-none store components = refl
 
+-- as many as are read
+pub components-length : (store components : List ℕ) (k : ℕ) → length (componentsAt store components k) ≡ k
+components-length store components zero = ap length (components-none store components)
+components-length store components (suc k) = ap length (components-more store components k) ∙ ap suc (components-length store components k)
+
 -- ---- specificity
 
 -- as the code's constant has it

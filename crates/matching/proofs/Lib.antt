@@ -11,6 +11,7 @@ pub mod PlaceLaws
 pub mod PassLaws
 pub mod MatchLaws
 pub mod Roots
+pub mod ReachLaws
 pub mod ClimbLaws
 pub mod RecursionLaws
 pub mod CallLaws
@@ -18,4 +19,5 @@ pub mod WordList
 pub mod Documents
 pub mod TopmostLaws
 pub mod BelowLaws
+pub mod NumberLaws
 pub mod Pieces

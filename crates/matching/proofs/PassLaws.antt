@@ -1,4 +1,4 @@
--- What a simple component asks: of an element, by its kind and texts; of the document; and that what is left is asked beside it.
+-- What a simple component asks: of an element, by its kind and texts; of the document; and which of three a component chooses.
 use Prim.Native.Nat.{ℕ, _+_}
 use mathlib.Core.Bool.{Bool, true, false}
 use mathlib.Core.List.{List, [], _∷_}
@@ -7,7 +7,7 @@ use native.Mathlib.Omega.{arith}
 use Rattle.combinators.specs.Choice.{pick, and, is}
 use Rattle.combinators.specs.Part.{part}
 use Rattle.combinators.specs.Word.{sameText}
-use Rattle.combinators.proofs.Rules.{never, pick-holds, pick-true, pick-false, is-true, is-yes, is-no}
+use Rattle.combinators.proofs.Rules.{never, pick-holds, pick-true, pick-false, is-true, is-false, is-yes, is-no}
 use Rattle.syntax.specs.RuleLayout.{starKind, classKind, elementKind, hashKind, childKind, descendantKind, nthKind, attributeKind, componentKindAt, componentFirstAt, componentSecondAt, componentFrom}
 use Rattle.syntax.specs.Selector.{Component, star, class, element, hash, child, descendant, nth, attribute, attributeEqual}
 use Rattle.syntax.specs.Signed.{signedOf}
@@ -18,9 +18,7 @@ use Rattle.page.specs.Rows.{nodeAt, nameOf}
 use Rattle.matching.specs.Matches.{anyAttribute, isClass, isId, isNamed, firstIs, hasClass, hasId, hasAttribute, attributeIs, nameIs, here, onParent, onAncestors, step, matches}
 use Rattle.matching.specs.Nth.{nthMatches}
 use Rattle.matching.specs.Rows.{componentNumber, firstText, secondText, attributesPass, elementPasses}
-use Rattle.matching.specs.Recursion.{byCombinator, resultStep}
-use Rattle.matching.specs.declared.matcher.SelectorMatch.{SelectorMatch}
-use Rattle.matching.specs.declared.matcher.SelectorMatch.the-variants.{FailsLocally}
+use Rattle.matching.specs.Recursion.{byCombinator}
 
 pub and-yes : (x : Bool) → and x true ≡ x
 unfolding and
@@ -164,12 +162,6 @@ module _ (store : List ℕ) (k f a b : ℕ) where
     pub third-chosen : {A : Type 0} (x y z : A) → byCombinator (componentFrom store k f a b) x y z ≡ z
     third-chosen x y z = by-simple (componentFrom store k f a b) is-simple x y z
 
-    -- and is asked before what is left
-    pub simple-beside : (rest : Path → SelectorMatch) (p : Path)
-        → resultStep (componentFrom store k f a b) rest p ≡ pick (matches (componentFrom store k f a b ∷ []) p) (rest p) FailsLocally
-    unfolding resultStep
-    simple-beside rest p = third-chosen _ _ _
-
     -- of an element its own tests are asked
     module _ (no-star : ¬ (k ≡ starKind)) (x : Element) (up : Path) where
       abbrev Asked : Bool
@@ -218,3 +210,12 @@ module _ (store : List ℕ) (k f a b : ℕ) where
           (λ e5. pick-holds Agrees (is k nthKind) _ _ (λ e. at-nth (is-true k nthKind e))
           (λ e6. pick-holds Agrees (is k attributeKind) _ _ (λ e. at-attribute (is-true k attributeKind e))
           (λ e7. at-equal e1 e2 e3 e6 e7))))))))
+
+  -- any component but a descendant combinator chooses the first or the third
+  chosen : (t : Bool) → is k childKind ≡ t → ¬ (k ≡ descendantKind) → {A : Type 0} (x y : A) → byCombinator (componentFrom store k f a b) x y x ≡ x
+  unfolding byCombinator
+  chosen true e d x y = rw (from-child (is-true k childKind e)) refl
+  chosen false e d x y = third-chosen (is-false k childKind e) d x y x
+
+  pub second-passed : ¬ (k ≡ descendantKind) → {A : Type 0} (x y : A) → byCombinator (componentFrom store k f a b) x y x ≡ x
+  second-passed d x y = chosen (is k childKind) refl d x y

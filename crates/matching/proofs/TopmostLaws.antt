@@ -7,8 +7,8 @@ use mathlib.Core.Path.{_≡_, refl, sym, ap, _∙_}
 use native.Mathlib.Omega.{arith}
 use borrow.Author.Tests.{lt-ltb, le-ltb}
 use lib.Dec.{ltb}
-use Rattle.combinators.specs.Choice.{pick, or}
-use Rattle.combinators.proofs.Rules.{never, or-none, and-right}
+use Rattle.combinators.specs.Choice.{pick, or, and, is}
+use Rattle.combinators.proofs.Rules.{never, or-none, and-right, is-no}
 use Rattle.syntax.specs.Selector.{Component, star, class, element, hash, child, descendant, nth, attribute, attributeEqual}
 use Rattle.page.specs.Ancestors.{ancestorsFrom, ancestorsOf}
 use Rattle.page.specs.Path.{Path}
@@ -19,8 +19,12 @@ use Rattle.matching.specs.Matches.{onParent, onAncestors, step, matches}
 use Rattle.matching.specs.Recursion.{byCombinator}
 use Rattle.matching.specs.Rows.{Rooted}
 use Rattle.matching.specs.Rows.Rooted.{document, below}
-use Rattle.matching.specs.Topmost.{Line, aboveDescendant, lastMatched, topmost, selectorTop, RightTop}
+use Rattle.matching.specs.Climb.{climbOf}
+use Rattle.matching.specs.Topmost.{Line, belowTop, lastMatched, topmost, selectorTop, RightTop}
 use Rattle.matching.specs.Topmost.Line.{same, above}
+use Rattle.matching.specs.declared.matcher.SelectorMatch.the-variants.{FailsLocally, FailsCompletely}
+use Rattle.matching.specs.declared.matcher.Climbed.{Climbed}
+use Rattle.matching.specs.declared.matcher.Climbed.the-variants.{Ended}
 use Rattle.matching.proofs.CallLaws.{by-combinator}
 use Rattle.matching.proofs.PathLaws.{top-path, other-path}
 use Rattle.matching.proofs.RecursionLaws.{neither}
@@ -37,10 +41,16 @@ module _ (nodes : List ℕ) where
   line-up w z p e = rw e (line-on w (above z same))
 
   -- none stands behind the row
-  line-before : (row at : ℕ) → Rooted nodes row → Line nodes row at → at ≤ row
+  pub line-before : (row at : ℕ) → Rooted nodes row → Line nodes row at → at ≤ row
   line-before row at r same = omega arith
   line-before row at (document d) (above z w) = absurd (z refl)
   line-before row at (below k l n r) (above z w) = omega (arith, line-before _ at r w)
+
+  -- each is the document or leads to it
+  pub line-rooted : (row at : ℕ) → Rooted nodes row → Line nodes row at → Rooted nodes at
+  line-rooted row at r same = r
+  line-rooted row at (document d) (above z w) = absurd (z refl)
+  line-rooted row at (below k l n r) (above z w) = line-rooted _ at r w
 
 -- ---- the topmost
 -- a row found last is the one to begin with or stands before p
@@ -149,15 +159,40 @@ none-found nodes attributes text cs ds row r n e =
     (λ h. never (sym (ancestor-needs (matches cs) (matches ds) n (pathOf nodes attributes text row) none) ∙ last-decides nodes attributes text ds row r row (omega arith) row same ∙ lt-ltb _ row h))
     (last-before nodes attributes text ds row r row)
 
--- ---- the number of a selector
-module _ (nodes attributes text : List ℕ) (row : ℕ) (r : Rooted nodes row) where
-  -- decides its last descendant combinator on the row and on its ancestors
-  top-decides : (cs : List Component) (at : ℕ) → Line nodes row at → aboveDescendant cs (pathOf nodes attributes text at) ≡ ltb (selectorTop nodes attributes text row cs) at
-  unfolding aboveDescendant selectorTop topmost
-  top-decides [] at w = sym (le-ltb row at (line-before nodes row at r w))
-  top-decides (c ∷ cs) at w =
-      by-combinator (λ (b : Bool) (t : ℕ). b ≡ ltb t at) c (top-decides cs at w) (last-decides nodes attributes text cs row r row (omega arith) at w) (top-decides cs at w)
+-- ---- the topmost row of a selector
+-- a test beside what is left
+test-decides : (top : ℕ) (a : Bool) (x : Climbed) (m : Bool) → belowTop top x ≡ m → belowTop top (pick (and a true) x (Ended FailsLocally)) ≡ and a m
+unfolding belowTop pick and
+test-decides top true x m e = e
+test-decides top false x m e = refl
 
+module _ (nodes attributes text : List ℕ) (row : ℕ) (r : Rooted nodes row) where
+  -- a child combinator has the parent's answer
+  child-decides : (cs : List Component) (top at : ℕ) → Rooted nodes at
+      → (¬ (at ≡ 0) → belowTop top (climbOf nodes attributes text cs (nodeAt nodes at .parent)) ≡ matches cs (pathOf nodes attributes text (nodeAt nodes at .parent)))
+      → belowTop top (pick (is at 0) (Ended FailsCompletely) (climbOf nodes attributes text cs (nodeAt nodes at .parent))) ≡ onParent (matches cs) (pathOf nodes attributes text at)
+  unfolding belowTop onParent pick is
+  child-decides cs top at (document d) up = rw (top-path nodes attributes text 0 (document d) refl) refl
+  child-decides cs top at (below k l n q) up =
+      let z : ¬ (at ≡ 0) = λ e. absurd (omega arith) in
+      rw (is-no at 0 z, other-path nodes attributes text at (below k l n q) z) (up z)
+
+  -- decides its last descendant combinator wherever it is reached from the row or an ancestor of it
+  top-decides : (cs : List Component) (at : ℕ) → Line nodes row at
+      → belowTop (selectorTop nodes attributes text row cs) (climbOf nodes attributes text cs at) ≡ matches cs (pathOf nodes attributes text at)
+  unfolding belowTop climbOf selectorTop topmost byCombinator matches step pick
+  top-decides [] at w = refl
+  top-decides (star ∷ cs) at w = top-decides cs at w
+  top-decides (class c ∷ cs) at w = test-decides _ _ _ _ (top-decides cs at w)
+  top-decides (element c ∷ cs) at w = test-decides _ _ _ _ (top-decides cs at w)
+  top-decides (hash h ∷ cs) at w = test-decides _ _ _ _ (top-decides cs at w)
+  top-decides (child ∷ cs) at w = child-decides cs _ at (line-rooted nodes row at r w) (λ z. top-decides cs _ (line-up nodes w z _ refl))
+  top-decides (descendant ∷ cs) at w = sym (last-decides nodes attributes text cs row r row (omega arith) at w)
+  top-decides (nth a b ∷ cs) at w = test-decides _ _ _ _ (top-decides cs at w)
+  top-decides (attribute c ∷ cs) at w = test-decides _ _ _ _ (top-decides cs at w)
+  top-decides (attributeEqual c v ∷ cs) at w = test-decides _ _ _ _ (top-decides cs at w)
+
+  -- so it is right
   pub right-top : (cs : List Component) → RightTop nodes attributes text cs row (selectorTop nodes attributes text row cs)
   right-top cs = record { decides = top-decides cs }
 

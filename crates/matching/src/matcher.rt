@@ -40,7 +40,7 @@ ghost use Rattle.matching.specs.Matches.{matches};
 ghost use Rattle.matching.specs.Nth.{nthMatches};
 ghost use Rattle.matching.specs.Rows.{componentNumber, componentAt, componentsAt, firstText, secondText, SimpleAt, Rooted, attributesPass, elementPasses};
 ghost use Rattle.matching.specs.Recursion.{matchRecursively};
-ghost use Rattle.matching.specs.Climb.{ClimbedTo, Inner, NameAt, NextAncestor};
+ghost use Rattle.matching.specs.Climb.{Inner, NameAt, NextAncestor, climbOf};
 
 // The place of a row among the element children of its parent, counted from the parent on, behind which they stand.
 fn place_of(nodes: &[u32], row: usize) -> usize
@@ -178,7 +178,7 @@ pub fn match_locally(
     row: usize,
 ) -> Climbed
     requires { ⌜ Rooted (now nodes) row ⌝ }
-    ensures { λ r. ⌜ ClimbedTo (now (store .entry)) (now (components .entry)) (now (nodes .entry)) (now (attributes .entry)) (now (text .entry)) left row r ⌝ }
+    ensures { λ r. ⌜ r ≡ climbOf (now (nodes .entry)) (now (attributes .entry)) (now (text .entry)) (componentsAt (now (store .entry)) (now (components .entry)) left) row ⌝ }
 {
     let mut n = left;
     let mut at = row;
@@ -227,7 +227,7 @@ fn named_ancestor(
 }
 
 // The next ancestor of a row on which the first `n` components can do more than fail locally, or an ancestor before it.
-fn next_ancestor(
+pub fn next_ancestor(
     components: &[u32],
     store: &[u8],
     n: usize,

@@ -14,9 +14,10 @@ use Rattle.syntax.specs.Stream.{readMany}
 use Rattle.origins.proofs.WalkLaws.{many-length}
 use Rattle.page.specs.Rows.{nodeAt}
 use Rattle.matching.specs.Rows.{componentsAt, Rooted}
-use Rattle.matching.specs.Topmost.{selectorTop, RightTop}
+use Rattle.matching.specs.Topmost.{selectorNumber, RightNumber}
 use Rattle.matching.specs.Topmost.Line.{same}
-use Rattle.matching.proofs.TopmostLaws.{line-up, right-top, right-above}
+use Rattle.matching.proofs.NumberLaws.{right-number, number-above}
+use Rattle.matching.proofs.TopmostLaws.{line-up}
 use Rattle.rule_styles.specs.Placing.{rulesSelectors}
 use Rattle.rule_styles.specs.declared.styled.StyledSheets.{StyledSheets}
 use Rattle.styling.specs.Tops.{topWidth, selectorsTops, RightTops, sheetSelectors, sheetsSelectors, readyPlaces, readyCounts, readySheets, TopsRoom, SheetsTopsRoom}
@@ -34,8 +35,8 @@ module _ (texts rows : List ℕ) (at n behind : ℕ) (en : n ≡ getD rows (at +
   lent-components = rw (rest rows behind, eb, en, getD-drop at rows selectorComponents 0, drop-drop selectorHead at rows)
 
   -- so its number decides for them
-  pub lent-top : (nodes attributes text : List ℕ) (row top : ℕ) → RightTop nodes attributes text (readSelector texts (drop at rows) .value .components) row top
-      → RightTop nodes attributes text (componentsAt texts lent n) row top
+  pub lent-top : (nodes attributes text : List ℕ) (row top : ℕ) → RightNumber nodes attributes text (readSelector texts (drop at rows) .value .components) row top
+      → RightNumber nodes attributes text (componentsAt texts lent n) row top
   lent-top nodes attributes text row top r = rw lent-components r
 
 -- ---- the selectors of a rule, from the place and the count that its head says
@@ -95,13 +96,13 @@ module _ (nodes attributes text : List ℕ) (row : ℕ) where
   pub right-stored : Rooted nodes row → (ss : List Selector) (others : List ℕ) → Right ss (Tops ss ++ others)
   unfolding RightTops selectorsTops
   right-stored r [] others = tt
-  right-stored r (s ∷ ss) others = (right-top nodes attributes text row r (s .components), right-stored r ss others)
+  right-stored r (s ∷ ss) others = (right-number nodes attributes text (s .components) row r, right-stored r ss others)
 
   -- what decides on a row decides on its parent
   pub right-parent : ¬ (row ≡ 0) → (p : ℕ) → p ≡ nodeAt nodes row .parent → (ss : List Selector) (t : List ℕ) → Right ss t → RightTops nodes attributes text p ss t
   unfolding RightTops
   right-parent z p e [] t r = tt
-  right-parent z p e (s ∷ ss) t r = (right-above nodes attributes text (s .components) row (getD t 0 0) p (r .0) (line-up nodes same z p e), right-parent z p e ss (drop topWidth t) (r .1))
+  right-parent z p e (s ∷ ss) t r = (number-above nodes attributes text (s .components) row (getD t 0 0) p (r .0) (line-up nodes same z p e), right-parent z p e ss (drop topWidth t) (r .1))
 
   -- ---- turns of `merge_selectors` and `merge_rules`
   module _ (texts rows styles : List ℕ) where
@@ -117,7 +118,7 @@ module _ (nodes attributes text : List ℕ) (row : ℕ) where
       selector-parts : Right (readSelector texts (drop place rows) .value ∷ readMany (readSelector texts) (n - 1) (readSelector texts (drop place rows) .rest) .value) (drop tops styles)
       selector-parts = rw (selectors-opened texts (drop place rows) n h) at (r .right)
 
-      pub first-top : (top : ℕ) → top ≡ getD (drop tops styles) 0 0 → RightTop nodes attributes text (readSelector texts (drop place rows) .value .components) row top
+      pub first-top : (top : ℕ) → top ≡ getD (drop tops styles) 0 0 → RightNumber nodes attributes text (readSelector texts (drop place rows) .value .components) row top
       unfolding RightTops
       first-top top e = rw e (selector-parts .0)
 
@@ -155,7 +156,7 @@ module _ (nodes attributes text : List ℕ) (row : ℕ) where
   pub tops-append : (xs ys : List Selector) → Tops (xs ++ ys) ≡ Tops xs ++ Tops ys
   unfolding selectorsTops
   tops-append [] ys = refl
-  tops-append (s ∷ xs) ys = ap (λ (l : List ℕ). selectorTop nodes attributes text row (s .components) ∷ l) (tops-append xs ys)
+  tops-append (s ∷ xs) ys = ap (λ (l : List ℕ). selectorNumber nodes attributes text row (s .components) ∷ l) (tops-append xs ys)
 
   -- those of two lists, one behind the other
   pub stored-both : (l : List ℕ) (place : ℕ) (xs ys : List Selector) (k : ℕ) → k ≡ place + length xs → sets (sets l place (Tops xs)) k (Tops ys) ≡ sets l place (Tops (xs ++ ys))
@@ -179,7 +180,7 @@ module _ (nodes attributes text : List ℕ) (row : ℕ) where
 
     module _ (n from to : ℕ) (l : List ℕ) (s : SelectorsStored n from to l) where
       -- one number more
-      pub store-more : 0 < n → (top : ℕ) → top ≡ selectorTop nodes attributes text row (readSelector texts (drop from rows) .value .components)
+      pub store-more : 0 < n → (top : ℕ) → top ≡ selectorNumber nodes attributes text row (readSelector texts (drop from rows) .value .components)
           → (next : ℕ) → ((texts : List ℕ) → drop next rows ≡ readSelector texts (drop from rows) .rest) → SelectorsStored (n - 1) next (to + topWidth) (set l to top)
       unfolding selectorsTops
       store-more h top e next f =

@@ -7,7 +7,7 @@ use Rattle.syntax.specs.RuleLayout.{readRule}
 use Rattle.syntax.specs.Selector.{Selector}
 use Rattle.syntax.specs.Stream.{readMany}
 use Rattle.origins.specs.declared.reading.SheetRules.{SheetRules}
-use Rattle.matching.specs.Topmost.{selectorTop, RightTop}
+use Rattle.matching.specs.Topmost.{selectorNumber, RightNumber}
 use Rattle.rule_styles.specs.Placing.{sheetText, rulesSelectors}
 use Rattle.rule_styles.specs.declared.styled.StyledSheets.{StyledSheets}
 use Rattle.styling.specs.declared.tops.ReadySheets.{ReadySheets}
@@ -19,12 +19,12 @@ module _ (nodes attributes text : List ℕ) (row : ℕ) where
   -- the numbers of selectors
   unfoldable pub selectorsTops : List Selector → List ℕ
   selectorsTops [] = []
-  selectorsTops (s ∷ ss) = selectorTop nodes attributes text row (s .components) ∷ selectorsTops ss
+  selectorsTops (s ∷ ss) = selectorNumber nodes attributes text row (s .components) ∷ selectorsTops ss
 
   -- the numbers at the start of a stream decide for selectors, on the row and on its ancestors
   unfoldable pub RightTops : List Selector → List ℕ → Type 0
   RightTops [] t = Unit
-  RightTops (s ∷ ss) t = RightTop nodes attributes text (s .components) row (getD t 0 0) × RightTops ss (drop topWidth t)
+  RightTops (s ∷ ss) t = RightNumber nodes attributes text (s .components) row (getD t 0 0) × RightTops ss (drop topWidth t)
 
 -- ---- the selectors of a sheet, and of three
 unfoldable pub sheetSelectors : List ℕ → List ℕ → ℕ → SheetRules → List Selector

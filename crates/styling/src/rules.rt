@@ -9,7 +9,7 @@ use cascade::slots::Cascade;
 use cascade::specificity::Specificity;
 use combinators::stores::number_at;
 use matching::components::specificity;
-use matching::topmost::matches_below;
+use matching::topmost::matches_by_number;
 use origins::walk::skip_rule;
 use origins::walk::skip_selector;
 use rule_styles::rows::KEPT_COUNT;
@@ -35,7 +35,7 @@ ghost use Rattle.cascade.specs.Record.{fromRule};
 ghost use Rattle.cascade.specs.Row.{RowRoom};
 ghost use Rattle.page.specs.PathOf.{pathOf};
 ghost use Rattle.matching.specs.Rows.{Rooted};
-ghost use Rattle.matching.specs.Topmost.{RightTop};
+ghost use Rattle.matching.specs.Topmost.{RightNumber};
 ghost use Rattle.styles.specs.Merged.{mergedRow};
 ghost use Rattle.styles.specs.Said.{ruleStyle, selectorSays, selectorsSay, rulesSay};
 ghost use Rattle.rule_styles.specs.Placing.{readStyled, readKept, rulesSelectors, rulesKept};
@@ -99,7 +99,7 @@ fn merge_selector(
 )
     requires { ⌜ RowRoom (now out) ⌝ }
     requires { ⌜ Rooted (now nodes) row ⌝ }
-    requires { ⌜ RightTop (now nodes) (now attributes) (now text) (readSelector (now texts) (drop at (now rows)) .value .components) row top ⌝ }
+    requires { ⌜ RightNumber (now nodes) (now attributes) (now text) (readSelector (now texts) (drop at (now rows)) .value .components) row top ⌝ }
     ensures { λ _. ⌜ now (out .exit)
         ≡ mergedRow cascade (now (out .entry))
         (map (fromRule origin)
@@ -110,7 +110,7 @@ fn merge_selector(
     let length = number_at(rows, at, SELECTOR_COMPONENTS);
     let behind_head = forward(rows, at, SELECTOR_HEAD);
     let components = &rows[behind_head..];
-    let matched = matches_below(
+    let matched = matches_by_number(
         components,
         texts,
         length as usize,

@@ -1,7 +1,7 @@
-// One number for each selector of the sheets of a call: the topmost row of the path that decides its last descendant combinator. They are found once, so that no row of the path asks for the
+// One number for each selector of the sheets of a call, which decides its last descendant combinator on all rows of the path. They are found once, so that no row of the path asks for the
 // rows above it again.
 use combinators::stores::number_at;
-use matching::topmost::selector_top;
+use matching::topmost::selector_number;
 use origins::reading::SheetRules;
 use origins::walk::skip_rule;
 use origins::walk::skip_selector;
@@ -19,7 +19,7 @@ ghost use Rattle.syntax.specs.RuleLayout.{readSelector, readRule};
 ghost use Rattle.syntax.specs.Stream.{readMany};
 ghost use Rattle.page.specs.Rows.{numberBound};
 ghost use Rattle.matching.specs.Rows.{Rooted};
-ghost use Rattle.matching.specs.Topmost.{selectorTop};
+ghost use Rattle.matching.specs.Topmost.{selectorNumber};
 ghost use Rattle.rule_styles.specs.Placing.{rulesSelectors};
 ghost use Rattle.styling.specs.Tops.{selectorsTops, sheetSelectors, sheetsSelectors, TextsIn, TopsRoom, SheetsTopsRoom, readyPlaces, readySheets};
 
@@ -62,13 +62,13 @@ fn find_top(
     row: usize,
 ) -> usize
     requires { ⌜ Rooted (now nodes) row ⌝ }
-    ensures { λ r. ⌜ r ≡ selectorTop (now (nodes .entry)) (now (attributes .entry)) (now (text .entry)) row (readSelector (now (texts .entry)) (drop at (now (rows .entry))) .value .components) ⌝ }
+    ensures { λ r. ⌜ r ≡ selectorNumber (now (nodes .entry)) (now (attributes .entry)) (now (text .entry)) row (readSelector (now (texts .entry)) (drop at (now (rows .entry))) .value .components) ⌝ }
     ensures { λ r. ⌜ r ≤ row ⌝ }
 {
     let length = number_at(rows, at, SELECTOR_COMPONENTS);
     let behind_head = forward(rows, at, SELECTOR_HEAD);
     let components = &rows[behind_head..];
-    selector_top(
+    selector_number(
         components,
         texts,
         length as usize,

@@ -49,11 +49,11 @@ pub +match-recursively-spec : {M : Type 1} → statement M
     -- enum-known-climbed
     (λ c. search needs)
     -- returns
-    (λ c. laws.climb-ends _ _ _ _ _ _ _ _ (c .before .before .before .match-locally .ensures) (c .before .climbed .given .1))
+    (λ c. laws.climb-ends _ _ _ _ _ _ _ (c .before .before .before .before .before .before .before .before .before .pre .1) _ (c .before .before .before .match-locally .ensures) (c .before .climbed .given .1))
     -- enum-known-climbed-2
     (λ c. search needs)
     -- loop-holds
-    (λ c. laws.climb-descends _ _ _ _ _ _ _ _ (c .before .before .before .match-locally .ensures) (c .before .climbed2 .given .1) .decided)
+    (λ c. laws.climb-descends _ _ _ _ _ _ _ (c .before .before .before .before .before .before .before .before .before .pre .1) _ (c .before .before .before .match-locally .ensures) (c .before .climbed2 .given .1))
     -- next-ancestor-requires
     (λ c κs. record { rooted = c .before .loop .inv .rooted; no-document = c .loop-test .taken })
     -- match-recursively-requires

@@ -24,11 +24,11 @@ part-components-start c = search needs
 part-components-end : tie.Need-part-components-end
 part-components-end c = search needs
 
-cast-matches-below : tie.Need-cast-matches-below
-cast-matches-below c = search needs
+cast-matches-by-number : tie.Need-cast-matches-by-number
+cast-matches-by-number c = search needs
 
-matches-below-requires : tie.Need-matches-below-requires
-matches-below-requires c κs = let f = c .before in
+matches-by-number-requires : tie.Need-matches-by-number-requires
+matches-by-number-requires c κs = let f = c .before in
     let n = f .before in
     let s = n .before .before .before .before .before .before .before .before in
     let a = s .args in
@@ -60,7 +60,7 @@ returns c = let m = c .before .before in
     let n = f .before in
     let a = n .before .before .before .before .before .before .before .before .args in
     laws.selector-holds _ (a .origin) (pathOf (a .nodes .now) (a .attributes .now) (a .text .now) (a .row)) _ (a .texts .now) (a .rows .now) (a .at) _ (f .forward .result) (n .number-at .ensures) (f .forward .ensures .1 .0) _
-    (d .matches-below .ensures) (t .if1 .taken) _ _ (q .number-at2 .ensures) (k .pseudo-of .ensures) _ (s .specificity .ensures) _ _ (m .merge-styles .ensures)
+    (d .matches-by-number .ensures) (t .if1 .taken) _ _ (q .number-at2 .ensures) (k .pseudo-of .ensures) _ (s .specificity .ensures) _ _ (m .merge-styles .ensures)
 
 returns-2 : tie.Need-returns-2
 returns-2 c = let d = c .before in
@@ -68,7 +68,7 @@ returns-2 c = let d = c .before in
     let n = f .before in
     let a = n .before .before .before .before .before .before .before .before .args in
     laws.selector-fails _ (a .origin) (pathOf (a .nodes .now) (a .attributes .now) (a .text .now) (a .row)) _ (a .texts .now) (a .rows .now) (a .at) _ (f .forward .result) (n .number-at .ensures) (f .forward .ensures .1 .0) _
-    (d .matches-below .ensures) (c .if1 .left) _
+    (d .matches-by-number .ensures) (c .if1 .left) _
 
 pub merge-selector-spec : {M : Type 1} → statement M
 merge-selector-spec =
@@ -80,8 +80,8 @@ merge-selector-spec =
     sub-components
     part-components-start
     part-components-end
-    cast-matches-below
-    matches-below-requires
+    cast-matches-by-number
+    matches-by-number-requires
     number-at-requires-2
     pseudo-of-requires
     specificity-requires

@@ -1,6 +1,6 @@
 -- The components that are lent are those of the selector.
 use mathlib.Core.Path.{_∙_, ap}
-use Rattle.matching.specs.Topmost.{selectorTop}
+use Rattle.matching.specs.Topmost.{selectorNumber}
 use Rattle.styling.proofs.TopsLaws.{lent-components}
 use borrow.Author.Needs.{needs}
 use Rattle.styling.proofs.tops.find_top.Statement.{statement}
@@ -24,18 +24,18 @@ part-components-start c = search needs
 part-components-end : tie.Need-part-components-end
 part-components-end c = search needs
 
-cast-selector-top : tie.Need-cast-selector-top
-cast-selector-top c = search needs
+cast-selector-number : tie.Need-cast-selector-number
+cast-selector-number c = search needs
 
-selector-top-requires : tie.Need-selector-top-requires
-selector-top-requires c κs = search needs
+selector-number-requires : tie.Need-selector-number-requires
+selector-number-requires c κs = search needs
 
 returns : tie.Need-returns
 returns c = let f = c .before .before in
     let n = f .before in
     let a = n .before .before .before .before .before .before .args in
-    let e = c .selector-top .ensures in
-    (e .0 ∙ ap (selectorTop (a .nodes .now) (a .attributes .now) (a .text .now) (a .row)) (lent-components (a .texts .now) (a .rows .now) (a .at) _ (f .forward .result) (n .number-at .ensures) (f .forward .ensures .1 .0)), e .1)
+    let e = c .selector-number .ensures in
+    (e .0 ∙ ap (selectorNumber (a .nodes .now) (a .attributes .now) (a .text .now) (a .row)) (lent-components (a .texts .now) (a .rows .now) (a .at) _ (f .forward .result) (n .number-at .ensures) (f .forward .ensures .1 .0)), e .1)
 
 pub find-top-spec : {M : Type 1} → statement M
 find-top-spec =
@@ -47,6 +47,6 @@ find-top-spec =
     sub-components
     part-components-start
     part-components-end
-    cast-selector-top
-    selector-top-requires
+    cast-selector-number
+    selector-number-requires
     returns)
