@@ -3,6 +3,7 @@ use Prim.Native.Nat.{ℕ, _+_, _-_, _<_}
 use mathlib.Core.Path.{_≡_, refl, sym, ap, _∙_}
 use mathlib.Core.Bool.{Bool, true, false}
 use mathlib.Core.List.{List, [], _∷_}
+use native.Mathlib.Omega.{arith}
 use lib.ListN.{getD}
 use Rattle.combinators.specs.Choice.{pick, and, is}
 use Rattle.combinators.specs.Part.{part}
@@ -25,7 +26,7 @@ use Rattle.compiled.specs.declared.components.ComponentAnswer.the-variants as c
 use Rattle.compiled.proofs.Walking.{at-mark, at-name, at-numbers, at-names, at-fault}
 use Rattle.segments.specs.Segments.{test, piece, tested}
 use Rattle.segments.specs.Sweep.{onPiece, pieceAt}
-use Rattle.segments.specs.Met.{rowAlone, handedElement, metOf, metAt, markMet}
+use Rattle.segments.specs.Met.{rowAlone, handedElement, metOf, metAt, markMet, Nameless, NamedAt}
 use Rattle.segments.specs.declared.pieces.Met.{Met}
 use Rattle.segments.specs.declared.pieces.Met.the-variants as met
 
@@ -118,7 +119,7 @@ mark-is row ok n true b = ap (met.Test n) (sym (and-yes ok))
 mark-is row ok n false true = refl
 mark-is row ok n false false = refl
 
--- ---- the returns of `pass_long` and `test_long`
+-- ---- the returns of `pass_long` and `test_other`
 module _ (code : List ℕ) (row : Path) (ok : Bool) (at : ℕ) (r : ComponentAnswer) (er : r ≡ componentAnswer (writtenAt code at)) where
   -- what is to be returned
   abbrev Is : Met → Type 0
@@ -170,7 +171,7 @@ module _ (code : List ℕ) (ok : Bool) (at : ℕ) (r : ComponentAnswer) (er : r 
   pub names-passed : (n a b f g : ℕ) → r ≡ component.Names n a b f g → met.Test n false ≡ metAt code [] ok at
   names-passed n a b f g p = equal-is code [] ok at r er n a b f g p false (failed ok _ (equal-fails _ _))
 
--- ---- those of `test_long`
+-- ---- those of `test_met` and `test_other`
 module _ (code : List ℕ) (x : Element) (at : ℕ) (r : ComponentAnswer) (er : r ≡ componentAnswer (writtenAt code at)) where
   -- a text
   pub name-tested : (n kind start size : ℕ) → r ≡ component.Name n kind start size → (w : List ℕ) → w ≡ part code start size
@@ -192,7 +193,7 @@ module _ (code : List ℕ) (x : Element) (at : ℕ) (r : ComponentAnswer) (er : 
   names-tested n a b f g p w ew y ey t et =
       equal-is code (x ∷ []) true at r er n a b f g p t (rw (← ew, ← ey) (et ∙ equal-tested w y x))
 
--- ---- those of `pass_met` and `test_met`, of a short component
+-- ---- those of `pass_met`, of a short component
 module _ (code : List ℕ) (at size : ℕ) (short : ShortSize code at size) where
   -- a text is passed over
   pub short-passed : (ok : Bool) → 1 < size → met.Test (at + size) false ≡ metAt code [] ok at
@@ -204,11 +205,53 @@ module _ (code : List ℕ) (at size : ℕ) (short : ShortSize code at size) wher
       mark-read code [] ok at _ refl (at + 1) _ (short .alone h) q
       (p ∙ ap (λ (n : ℕ). markMet (at + n) kind ok) h ∙ ap (λ (k : ℕ). markMet (at + 1) k ok) e)
 
-  -- a text is tested
-  pub short-tested : (x : Element) → 1 < size → (kind : ℕ) → kind ≡ getD code at 0 → (w : List ℕ) → w ≡ part code (at + 2) (size - 2)
-      → (b : Bool) → b ≡ tested (x ∷ []) (namedOf kind w) → met.Test (at + size) b ≡ metAt code (x ∷ []) true at
-  short-tested x h kind e w ew b eb =
-      name-tested code x at _ refl (at + size) _ _ _ (short .named h) w ew b (eb ∙ ap (λ (k : ℕ). tested (x ∷ []) (namedOf k w)) e)
+-- ---- those of `name_at`
+module _ (code : List ℕ) (at : ℕ) where
+  -- what was read
+  abbrev Told : Bool → ℕ → ℕ → ℕ → ℕ → Type 0
+  Told = NamedAt code at
+
+  -- by its size
+  pub short-name : (size : ℕ) → ShortSize code at size → 1 < size → (kind : ℕ) → kind ≡ getD code at 0 → Told true (at + size) kind (at + 2) (size - 2)
+  short-name size short h kind e =
+      record { named = λ _. short .named h ∙ ap (λ (k : ℕ). component.Name (at + size) k (at + 2) (size - 2)) (sym e); other = λ z. never (sym z) }
+
+  module _ (r : ComponentAnswer) (er : r ≡ componentAnswer (writtenAt code at)) where
+    -- by its answer
+    pub long-name : (n kind start size : ℕ) → r ≡ component.Name n kind start size → Told true n kind start size
+    long-name n kind start size p = record { named = λ _. sym er ∙ p; other = λ z. never (sym z) }
+
+    -- it is another
+    unnamed : ((n kind start size : ℕ) → r ≡ component.Name n kind start size → ⊥) → (there : Bool) → there ≡ false → (n kind start size : ℕ) → Told there n kind start size
+    unfolding Nameless
+    unnamed f there e n kind start size = record { named = λ y. never (sym e ∙ y); other = λ _ a b c d p. f a b c d (er ∙ p) }
+
+    -- its kind alone
+    pub mark-unnamed : (n kind : ℕ) → r ≡ component.Mark n kind → (there : Bool) → there ≡ false → (a b c d : ℕ) → Told there a b c d
+    mark-unnamed n kind p = unnamed (λ a b c d q. let z : _≡_ {A = ℕ} 0 1 = cc in omega arith)
+
+    -- two numbers
+    pub numbers-unnamed : (n a b : ℕ) → r ≡ component.Numbers n a b → (there : Bool) → there ≡ false → (e f g h : ℕ) → Told there e f g h
+    numbers-unnamed n a b p = unnamed (λ e f g h q. let z : _≡_ {A = ℕ} 0 1 = cc in omega arith)
+
+    -- two texts
+    pub names-unnamed : (n a b c d : ℕ) → r ≡ component.Names n a b c d → (there : Bool) → there ≡ false → (e f g h : ℕ) → Told there e f g h
+    names-unnamed n a b c d p = unnamed (λ e f g h q. let z : _≡_ {A = ℕ} 0 1 = cc in omega arith)
+
+    -- a fault
+    pub fault-unnamed : (q : ℕ) → r ≡ component.Fault q → (there : Bool) → there ≡ false → (e f g h : ℕ) → Told there e f g h
+    fault-unnamed n p = unnamed (λ e f g h q. let z : _≡_ {A = ℕ} 0 1 = cc in omega arith)
+
+    -- in `test_other` it is no name
+    pub name-absent : Nameless code at → (n kind start size : ℕ) → r ≡ component.Name n kind start size → ⊥
+    unfolding Nameless
+    name-absent f n kind start size p = f n kind start size (sym er ∙ p)
+
+-- ---- that of `test_met`
+-- a text is tested
+pub named-tested : (code : List ℕ) (x : Element) (at : ℕ) (there : Bool) (n kind start size : ℕ) → NamedAt code at there n kind start size → there ≡ true
+    → (w : List ℕ) → w ≡ part code start size → (b : Bool) → b ≡ tested (x ∷ []) (namedOf kind w) → met.Test n b ≡ metAt code (x ∷ []) true at
+named-tested code x at there n kind start size h t w ew b eb = name-tested code x at _ refl n kind start size (h .named t) w ew b eb
 
 -- ---- the returns of `read_met`
 module _ (code : List ℕ) (x : Element) (at : ℕ) where

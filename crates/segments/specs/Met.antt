@@ -1,5 +1,6 @@
 -- What a component in compiled bytes is for a row, as the code meets it.
 use Prim.Native.Nat.{ℕ}
+use mathlib.Core.Path.{_≡_}
 use mathlib.Core.Bool.{Bool, true, false}
 use mathlib.Core.List.{List, [], _∷_}
 use Rattle.combinators.specs.Choice.{pick, and, is}
@@ -8,6 +9,9 @@ use Rattle.page.specs.Path.{Element, Path}
 use Rattle.page.specs.PathOf.{attributesFrom}
 use Rattle.page.specs.Rows.{attributeRows}
 use Rattle.compiled.specs.Decoded.{onDecoded}
+use Rattle.compiled.specs.Component.{writtenAt}
+use Rattle.compiled.specs.Answer.{componentAnswer}
+use Rattle.compiled.specs.declared.components.ComponentAnswer.the-variants as component
 use Rattle.segments.specs.Segments.{Piece, tested}
 use Rattle.segments.specs.Sweep.{onPiece, pieceAt}
 use Rattle.segments.specs.declared.pieces.Met.{Met}
@@ -39,3 +43,13 @@ metAt code row ok i = onDecoded (pieceAt code i) (metOf row ok) (λ _. met.Fault
 -- one that is its kind alone
 unfoldable pub markMet : ℕ → ℕ → Bool → Met
 markMet n kind ok = pick (is kind starKind) (met.Test n ok) (pick (is kind childKind) (met.Child n) (met.Descendant n))
+
+-- ---- a component of one text
+-- there is none
+unfoldable pub Nameless : List ℕ → ℕ → Type 0
+Nameless code i = (n kind start size : ℕ) → componentAnswer (writtenAt code i) ≡ component.Name n kind start size → ⊥
+
+-- what is told of it: that it is there, and what is read of it; or that there is none
+pub record NamedAt (code : List ℕ) (i : ℕ) (there : Bool) (n kind start size : ℕ) : Type 0 where
+  pub named : there ≡ true → componentAnswer (writtenAt code i) ≡ component.Name n kind start size
+  pub other : there ≡ false → Nameless code i

@@ -28,7 +28,7 @@ ghost use Rattle.syntax.specs.Signed.{signedOf};
 ghost use Rattle.matching.specs.Nth.{nthMatches};
 ghost use Rattle.compiled.specs.Component.{namedOf};
 ghost use Rattle.segments.specs.Segments.{tested};
-ghost use Rattle.segments.specs.Met.{rowAlone, handedElement, placeLimit, markMet, metAt};
+ghost use Rattle.segments.specs.Met.{rowAlone, handedElement, placeLimit, markMet, metAt, NamedAt, Nameless};
 
 // What a component is for a row, each with the place behind it: a test, with whether the tests up to it pass; a child step; a descendant step. Or a fault.
 pub enum Met {
@@ -36,6 +36,15 @@ pub enum Met {
     Child(usize),
     Descendant(usize),
     Fault,
+}
+
+// A component of one text: the place behind it, its kind, where its text starts and how long it is. Or that it is none.
+pub struct NameAt {
+    pub there: bool,
+    pub next: usize,
+    pub kind: u32,
+    pub start: usize,
+    pub size: usize,
 }
 
 // Whether both hold.
@@ -125,8 +134,65 @@ pub fn pass_met(compiled: &[u8], at: usize, ok: bool) -> Met
     pass_long(compiled, at, ok)
 }
 
-// The component at `at`, of whatever length, for an element that has passed so far.
-fn test_long(
+// No component of one text.
+fn no_name() -> NameAt
+    ensures { λ r. ⌜ r .there ≡ false ⌝ }
+{
+    NameAt {
+        there: false,
+        next: 0,
+        kind: 0,
+        start: 0,
+        size: 0,
+    }
+}
+
+// The component at `at`, if it has one text. Of a short one, as most are, the size tells where it lies.
+fn name_at(compiled: &[u8], at: usize) -> NameAt
+    ensures { λ r. ⌜ NamedAt (now (compiled .entry)) at (r .there) (r .next) (r .kind) (r .start) (r .size) ⌝ }
+{
+    let short = short_size(compiled, at);
+    if short > MARK_SIZE {
+        return NameAt {
+            there: true,
+            next: at + short,
+            kind: wide(compiled[at]),
+            start: at + TO_TEXT,
+            size: short - TO_TEXT,
+        };
+    }
+    match read_component(compiled, at) {
+        ComponentAnswer::Name {
+            next,
+            kind,
+            start,
+            size,
+        } => {
+            return NameAt {
+                there: true,
+                next,
+                kind,
+                start,
+                size,
+            };
+        }
+        ComponentAnswer::Mark(_, _) => {
+            return no_name();
+        }
+        ComponentAnswer::Numbers { .. } => {
+            return no_name();
+        }
+        ComponentAnswer::Names { .. } => {
+            return no_name();
+        }
+        ComponentAnswer::Fault(_) => {
+            return no_name();
+        }
+    }
+}
+
+// The component at `at`, which has not one text, for an element that has passed so far.
+fn test_other(
     compiled: &[u8],
     at: usize,
     name: &[u8],
@@ -135,20 +201,15 @@ fn test_long(
     place: usize,
 ) -> Met
     requires { ⌜ place ≤ placeLimit ⌝ }
+    requires { ⌜ Nameless (now compiled) at ⌝ }
     ensures { λ r. ⌜ r ≡ metAt (now (compiled .entry)) (handedElement (now (name .entry)) (now (attributes .entry)) (now (text .entry)) place ∷ []) true at ⌝ }
 {
     match read_component(compiled, at) {
         ComponentAnswer::Mark(next, kind) => {
             return mark_met(next, kind, true);
         }
-        ComponentAnswer::Name {
-            next,
-            kind,
-            start,
-            size,
-        } => {
-            let word = part_of(compiled, start, size);
-            return Met::Test(next, name_passes(kind, word, name, attributes, text));
+        ComponentAnswer::Name { .. } => {
+            return Met::Fault;
         }
         ComponentAnswer::Numbers {
             next,
@@ -175,7 +236,7 @@ fn test_long(
     }
 }
 
-// The same. Of a short component with a text, as most tests are, the size tells where the text lies.
+// The component at `at` for an element that has passed so far. Most have one text.
 fn test_met(
     compiled: &[u8],
     at: usize,
@@ -187,13 +248,15 @@ fn test_met(
     requires { ⌜ place ≤ placeLimit ⌝ }
     ensures { λ r. ⌜ r ≡ metAt (now (compiled .entry)) (handedElement (now (name .entry)) (now (attributes .entry)) (now (text .entry)) place ∷ []) true at ⌝ }
 {
-    let size = short_size(compiled, at);
-    if size > MARK_SIZE {
-        let word = part_of(compiled, at + TO_TEXT, size - TO_TEXT);
-        let kind = wide(compiled[at]);
-        return Met::Test(at + size, name_passes(kind, word, name, attributes, text));
+    let found = name_at(compiled, at);
+    if found.there {
+        let word = part_of(compiled, found.start, found.size);
+        return Met::Test(
+            found.next,
+            name_passes(found.kind, word, name, attributes, text),
+        );
     }
-    test_long(compiled, at, name, attributes, text, place)
+    test_other(compiled, at, name, attributes, text, place)
 }
 
 // The component at `at` for a row. Where the tests so far have failed, a test need not be carried out.
