@@ -1,6 +1,7 @@
 -- Texts in which brackets match, byte by byte, in the words of CSS Syntax Level 3 (section 8.2, <any-value> and <declaration-value>): the value of a
 -- property that the engine does not know, and what an at-rule has. What its tokens are does not matter there, only where it ends; so numbers
--- such as `1.5`, names with capital letters and `0 auto` are in it, which the reader takes apart in another way than the document.
+-- such as `1.5`, names with capital letters and `0 auto` are in it, which the reader takes apart in another way than the
+-- document. Sections were not held against the document's text.
 use mathlib.Core.Path.{_≡_, refl}
 use mathlib.Core.Bool.{Bool, true, false, not}
 use mathlib.Core.List.{List, [], _∷_, _++_, map}
