@@ -16,7 +16,7 @@ use Rattle.combinators.specs.Word.{startsWith}
 use Rattle.combinators.proofs.Lists.{first}
 use Rattle.combinators.proofs.Repeats.{many-took, many-stop, many-from}
 use Rattle.combinators.proofs.Rules as rules
-use Rattle.combinators.proofs.Rules.{never, and-true, and-left, is-true, is-no, within-true, pick-holds, or-none}
+use Rattle.combinators.proofs.Rules.{never, and-true, is-true, is-no, within-true, pick-holds, or-none}
 use Rattle.unicode.specs.Literal.{text}
 use Rattle.unicode.specs.Utf8.{utf8, takenOf}
 use Rattle.unicode.specs.WhiteSpace.{member}
