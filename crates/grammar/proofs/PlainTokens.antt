@@ -12,7 +12,7 @@ use Rattle.combinators.specs.Choice.{pick, or, and, is, within}
 use Rattle.combinators.specs.Parsed.{Parsed, ok, err, onParsed, orElse}
 use Rattle.combinators.specs.Parsed as parser
 use Rattle.combinators.specs.Repeat.{many, took}
-use Rattle.combinators.specs.Word.{startsWith}
+use Rattle.combinators.specs.Word.{startsWith, sameText}
 use Rattle.combinators.proofs.Lists.{first}
 use Rattle.combinators.proofs.Repeats.{many-took, many-stop, many-from}
 use Rattle.combinators.proofs.Rules as rules
@@ -62,7 +62,6 @@ pub record PlainByte (x : ℕ) : Type 0 where
   no-close-curly : is x ascii.rightCurlyBracket ≡ false
   no-semicolon : is x ascii.semicolon ≡ false
   no-bang : is x ascii.exclamationMark ≡ false
-  no-less : is x ascii.lessThanSign ≡ false
   no-escape : is x ascii.reverseSolidus ≡ false
 
 -- by the test
@@ -82,7 +81,6 @@ plain-byte x e =
     let j = neither _ _ (i .1) in
     let k = neither _ _ (j .1) in
     let l = neither _ _ (k .1) in
-    let m = neither _ _ (l .1) in
     record {
       low = omega (arith, w .0);
       high = w .1;
@@ -96,8 +94,7 @@ plain-byte x e =
       no-close-curly = i .0;
       no-semicolon = j .0;
       no-bang = k .0;
-      no-less = l .0;
-      no-escape = m .0;
+      no-escape = l .0;
     }
 
 -- a test that holds of plain characters alone
@@ -888,6 +885,17 @@ no-cdc x (y ∷ []) t e h =
     rules.and-right _ _ (rules.and-right _ _ (starts-not ascii.greaterThanSign [] t (halts-first (λ x. is x ascii.greaterThanSign) greater-plainly h)))
 no-cdc x (y ∷ z ∷ l) t e h = e
 
+-- nor `<!--`
+no-cdo : (x : ℕ) (l t : List ℕ) → startsWith tokens.cdoMark (x ∷ l) ≡ false → sameText (x ∷ l) (text "<") ≡ false → is x ascii.lessThanSign ≡ true → Halts t
+    → startsWith tokens.cdoMark (x ∷ (l ++ t)) ≡ false
+unfolding startsWith sameText text utf8 pick
+no-cdo x [] t e d q h = never (sym d ∙ rules.and-both (is x ascii.lessThanSign) true q refl)
+no-cdo x (y ∷ []) t e d q h =
+    rules.and-right _ _ (rules.and-right _ _ (starts-not ascii.hyphenMinus (ascii.hyphenMinus ∷ []) t (halts-first (λ x. is x ascii.hyphenMinus) dash-plainly h)))
+no-cdo x (y ∷ z ∷ []) t e d q h =
+    rules.and-right _ _ (rules.and-right _ _ (rules.and-right _ _ (starts-not ascii.hyphenMinus [] t (halts-first (λ x. is x ascii.hyphenMinus) dash-plainly h))))
+no-cdo x (y ∷ z ∷ w ∷ l) t e d q h = e
+
 module _ (t : List ℕ) (h : Halts t) (x : ℕ) (e : isPlain x ≡ true) (v : Balanced) (c : Clear (plain x e v)) where
   abbrev text-here : List ℕ
   text-here = writtenBalanced (plain x e v) ++ t
@@ -908,6 +916,17 @@ module _ (t : List ℕ) (h : Halts t) (x : ℕ) (e : isPlain x ≡ true) (v : Ba
       no-mark : startsWith tokens.cdcMark text-here ≡ false
       no-mark = unfold writtenBalanced in no-cdc x (writtenBalanced v) t (unfold isMark in neither _ _ (neither _ _ (clear-behind .0) .1) .0) h
 
+  -- `<`
+  less-in : is x ascii.lessThanSign ≡ true → TokenIn (plain x e v) t (tokens.lessOf x text-here)
+  unfolding tokens.lessOf
+  less-in q = subst (λ (b : Bool). TokenIn (plain x e v) t (pick b (ok 4 tokens.cdo) (ok 1 (tokens.delim x)))) (sym no-mark) (unfold pick in delim-in t h x e v)
+    where
+      marks : (isMark (x ∷ writtenBalanced v) ≡ false) → (startsWith tokens.cdoMark (x ∷ writtenBalanced v) ≡ false) × (sameText (x ∷ writtenBalanced v) (text "<") ≡ false)
+      marks m = unfold isMark in (let a = neither _ _ (neither _ _ (neither _ _ m .1) .1) in (a .0, neither _ _ (a .1) .0))
+
+      no-mark : startsWith tokens.cdoMark text-here ≡ false
+      no-mark = let m = marks (clear-behind .0) in unfold writtenBalanced in no-cdo x (writtenBalanced v) t (m .0) (m .1) q h
+
   -- by a reader
   abbrev By : Start → Type 0
   By s = TokenIn (plain x e v) t (tokens.tokenBy s 1 x text-here)
@@ -922,7 +941,7 @@ module _ (t : List ℕ) (h : Halts t) (x : ℕ) (e : isPlain x ≡ true) (v : Ba
       (λ _. pick-holds By (is x ascii.plusSign) Plus _ (λ q. plus-in)
       (λ _. pick-holds By (is x ascii.hyphenMinus) Minus _ (λ q. unfold tokens.tokenBy in minus-in)
       (λ _. pick-holds By (is x ascii.fullStop) Dot _ (λ q. unfold tokens.tokenBy in else-in t h (plain x e v) _ _ (numeric-in t h (plain x e v) c) (delim-in t h x e v))
-      (λ _. pick-holds By (is x ascii.lessThanSign) Less _ (λ q. never (sym (p .no-less) ∙ q))
+      (λ _. pick-holds By (is x ascii.lessThanSign) Less _ (λ q. unfold tokens.tokenBy in less-in q)
       (λ _. pick-holds By (is x ascii.reverseSolidus) Backslash _ (λ q. never (sym (p .no-escape) ∙ q))
       (λ _. pick-holds By (isIdentStart x) Letter _ (λ q. unfold tokens.tokenBy in like-in t h (plain x e v) c)
       (λ _. pick-holds By (isDigit x) Digit Other (λ q. unfold tokens.tokenBy in numeric-in t h (plain x e v) c) (λ q. unfold tokens.tokenBy in mark-in t h x e v)))))))))
@@ -1047,7 +1066,7 @@ module _ (t : List ℕ) (h : Halts t) (x : ℕ) (e : isPlain x ≡ true) (v : Ba
       (λ _. pick-holds Some (is x ascii.plusSign) Plus _ (λ q. unfold tokens.tokenBy tokens.plusOf in else-some _ 1 (tokens.delim x))
       (λ d. pick-holds Some (is x ascii.hyphenMinus) Minus _ (λ q. minus-some)
       (λ m. pick-holds Some (is x ascii.fullStop) Dot _ (λ q. unfold tokens.tokenBy in else-some _ 1 (tokens.delim x))
-      (λ _. pick-holds Some (is x ascii.lessThanSign) Less _ (λ q. never (sym (p .no-less) ∙ q))
+      (λ _. pick-holds Some (is x ascii.lessThanSign) Less _ (λ q. less-some)
       (λ _. pick-holds Some (is x ascii.reverseSolidus) Backslash _ (λ q. never (sym (p .no-escape) ∙ q))
       (λ _. pick-holds Some (isIdentStart x) Letter _ (λ q. unfold tokens.tokenBy in letter-there q m)
       (λ _. pick-holds Some (isDigit x) Digit Other (λ q. unfold tokens.tokenBy in digit-there q) (λ q. unfold tokens.tokenBy in some-read 1 (tokens.markOf x))))))))))
@@ -1055,6 +1074,9 @@ module _ (t : List ℕ) (h : Halts t) (x : ℕ) (e : isPlain x ≡ true) (v : Ba
       else-second : (p q : Parsed Token) → ¬ (q ≡ err) → ¬ (orElse p q ≡ err)
       else-second (ok n k) q d = unfold orElse in some-read n k
       else-second err q d = unfold orElse in d
+
+      less-some : Some Less
+      less-some = unfold tokens.tokenBy tokens.lessOf in pick-some (startsWith tokens.cdoMark text-there) _ _ (some-read 4 tokens.cdo) (some-read 1 (tokens.delim x))
 
       minus-some : Some Minus
       minus-some = unfold tokens.tokenBy tokens.minusOf in else-second _ _ (pick-some (startsWith tokens.cdcMark text-there) _ _ (some-read 3 tokens.cdc) (else-some _ 1 (tokens.delim x)))
