@@ -7,6 +7,7 @@ pub mod SelectorsRead
 pub mod GroupsRead
 pub mod Spelling
 pub mod ValuesRead
+pub mod PlainTokens
 pub mod BalancedRead
 pub mod NumbersMeant
 pub mod DeclarationsMeant

@@ -144,7 +144,7 @@ away =
 
 -- ---- `@media print { nav > a { color: blue!important; } }`
 unfoldable media : AtRule
-unfolding plains balanced.isPlain balanced.isMark balanced.isOddUrl balanced.isAddress balanced.Clear balanced.Outside balanced.More balanced.Tight balanced.writtenBalanced balanced.opens balanced.closes endsName identCodePoint identStart letter member startsWith isSpelt allOf spelt pick or and is within text utf8 ident folded lower
+unfolding plains balanced.isPlain balanced.isMark sameText balanced.isOddUrl balanced.isAddress balanced.Clear balanced.Outside balanced.More balanced.Tight balanced.writtenBalanced balanced.opens balanced.closes endsName identCodePoint identStart letter member startsWith isSpelt allOf spelt pick or and is within text utf8 ident folded lower
 media =
     record {
       name = ident (text "media") refl;
@@ -164,7 +164,7 @@ media =
 
 -- ---- `p.note {`, `margin: 0 Auto calc(1.5em - 2px);`, `height: 0`, `}`
 unfoldable margin : Declared
-unfolding plains balanced.isPlain balanced.isMark balanced.isOddUrl balanced.isAddress balanced.Clear balanced.Outside balanced.More balanced.Tight balanced.Calm balanced.writtenBalanced balanced.opens balanced.closes member startsWith anyOf sameText identCodePoint identStart letter isSpelt allOf spelt pick or and is within text utf8 continuation ident folded lower
+unfolding plains balanced.isPlain balanced.isMark sameText balanced.isOddUrl balanced.isAddress balanced.Clear balanced.Outside balanced.More balanced.Tight balanced.Calm balanced.writtenBalanced balanced.opens balanced.closes member startsWith anyOf identCodePoint identStart letter isSpelt allOf spelt pick or and is within text utf8 continuation ident folded lower
 margin =
     other (ident (text "margin") refl) refl
     (spaced (plains (text "0") refl (spaced (plains (text "Auto") refl (spaced (plains (text "calc") refl

@@ -1,6 +1,7 @@
 -- Texts in which brackets match, byte by byte, in the words of CSS Syntax Level 3 (section 8.2, <any-value> and <declaration-value>): the value of a
 -- property that the engine does not know, and what an at-rule has. What its tokens are does not matter there, only where it ends; so numbers
--- such as `1.5`, names with capital letters and `0 auto` are in it, which the reader takes apart in another way than the document.
+-- such as `1.5`, names with capital letters and `0 auto` are in it, which the reader takes apart in another way than the
+-- document. Sections were not held against the document's text.
 use mathlib.Core.Path.{_≡_, refl}
 use mathlib.Core.Bool.{Bool, true, false, not}
 use mathlib.Core.List.{List, [], _∷_, _++_, map}
@@ -8,12 +9,12 @@ use Prim.Native.Nat.{ℕ}
 use lib.ListN.{getD, drop}
 use Rattle.combinators.specs.Ascii as ascii
 use Rattle.combinators.specs.Choice.{pick, or, and, is, within}
-use Rattle.combinators.specs.Word.{startsWith}
+use Rattle.combinators.specs.Word.{startsWith, sameText}
 use Rattle.unicode.specs.Literal.{text}
 use Rattle.unicode.specs.Utf8.{utf8}
 use Rattle.unicode.specs.WhiteSpace.{member}
 use Rattle.lexer.specs.Name.{lower}
-use Rattle.lexer.specs.Token.{cdcMark, isQuote}
+use Rattle.lexer.specs.Token.{cdcMark, cdoMark, isQuote}
 use Rattle.lexer.proofs.SyntaxWhitespace.{White, Comment}
 use Rattle.grammar.specs.Selectors.{Quoted}
 
@@ -21,10 +22,10 @@ use Rattle.grammar.specs.Selectors.{Quoted}
 abbrev pub tilde : ℕ
 tilde = 0x7e
 
--- a printed character of ASCII that opens and closes nothing, quotes nothing and ends nothing. A '<' is left out, since `<!--` opens a bracket for the
--- reader, and so is a '\', whose escapes it reads in another way.
+-- a printed character of ASCII that opens and closes nothing, quotes nothing and ends nothing. A '\' is left out, whose escapes the reader reads in
+-- another way.
 unfoldable pub isPlain : ℕ → Bool
-isPlain x = and (within x ascii.exclamationMark tilde) (not (member x (text "\"'()[]{};!<\\")))
+isPlain x = and (within x ascii.exclamationMark tilde) (not (member x (text "\"'()[]{};!\\")))
 
 pub data Bracket : Type 0 where
   round : Bracket
@@ -73,14 +74,14 @@ isAddress (x ∷ t) = or (is x ascii.rightParenthesis) (and (isPlain x) (isAddre
 unfoldable pub isOddUrl : List ℕ → Bool
 isOddUrl s = and (startsWith (text "url(") (map lower s)) (not (or (isQuote (getD s 4 0)) (isAddress (drop 4 s))))
 
--- among plain characters no `/*` begins, no `-->`, and no such `url(`
+-- among plain characters no `/*` begins; no `<!--` and no `-->`, which are brackets to the reader, and a '<' is not the last; and no such `url(`
 unfoldable pub isMark : List ℕ → Bool
-isMark s = or (startsWith (text "/*") s) (or (startsWith cdcMark s) (isOddUrl s))
+isMark s = or (startsWith (text "/*") s) (or (startsWith cdcMark s) (or (startsWith cdoMark s) (or (sameText s (text "<")) (isOddUrl s))))
 
 test-marks : (isMark (text "url(a.png)") ≡ false) × (isMark (text "URL('a b')") ≡ false) × (isMark (text "url(a b)") ≡ true) × (isMark (text "-->") ≡ true) × (isMark (text "/*") ≡ true)
-    × (isMark (text "/2") ≡ false)
-unfolding isMark isOddUrl isAddress isPlain isQuote startsWith member lower or and is within text utf8 pick
-test-marks = (refl, refl, refl, refl, refl, refl)
+    × (isMark (text "/2") ≡ false) × (isMark (text "<!--") ≡ true) × (isMark (text "<=2") ≡ false)
+unfolding isMark isOddUrl isAddress isPlain isQuote startsWith sameText member lower or and is within text utf8 pick
+test-marks = (refl, refl, refl, refl, refl, refl, refl, refl)
 
 unfoldable pub Clear : Balanced → Type 0
 Clear end = Unit

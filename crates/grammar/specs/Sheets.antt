@@ -1,6 +1,6 @@
 -- Sheets in the words of CSS Syntax Level 3 (section 5.4.1, Consume a list of rules; 5.4.2, an at-rule; 5.4.3, a qualified rule; 5.4.4, a style
 -- block's contents; 5.4.6, a declaration) and Selectors Level 3 (section 5, groups of selectors), as far as the reader agrees with the documents: how
--- a sheet is written, what it means, and what it is to be read.
+-- a sheet is written, what it means, and what it is to be read. Sections and what is quoted were not held against the documents' texts.
 use mathlib.Core.Path.{_≡_}
 use mathlib.Core.Bool.{true}
 use mathlib.Core.List.{List, [], _∷_, _++_}

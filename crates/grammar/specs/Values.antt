@@ -1,5 +1,6 @@
 -- Component values in the words of CSS Syntax Level 3 (section 5.4.7, Consume a component value; 5.4.8, a simple block; 5.4.9, a function) and
--- what a declaration's value may be (8.2, <declaration-value>), as far as the reader agrees with the document.
+-- what a declaration's value may be (8.2, <declaration-value>), as far as the reader agrees with the document. Sections and what is quoted were not held
+-- against the document's text.
 use mathlib.Core.Path.{_≡_}
 use mathlib.Core.Bool.{Bool, true, false}
 use mathlib.Core.List.{List, [], _∷_, _++_}
