@@ -67,25 +67,6 @@ alone nodes top row (Descendant n at) h true e =
     lt-ltb (nodeAt nodes at .parent) at (parent-before nodes at (h .1) z _ refl)
 alone nodes top row (Descendant n at) h false e = le-ltb row at (h .0)
 
--- a climb that ended in a match is none that failed, nor one that reached a combinator
-ends-in-match : Climbed → Bool
-ends-in-match (Ended Matches) = true
-ends-in-match (Ended FailsLocally) = false
-ends-in-match (Ended FailsCompletely) = false
-ends-in-match (Descendant n at) = false
-
-no-match-local : Ended FailsLocally ≡ Ended Matches → false ≡ true
-unfolding ends-in-match
-no-match-local f = ap ends-in-match f
-
-no-match-complete : Ended FailsCompletely ≡ Ended Matches → false ≡ true
-unfolding ends-in-match
-no-match-complete f = ap ends-in-match f
-
-no-match-reached : {n at : ℕ} → Descendant n at ≡ Ended Matches → false ≡ true
-unfolding ends-in-match
-no-match-reached f = ap ends-in-match f
-
 -- the parent of the row that is reached stands at the row or before it
 parent-within : (nodes : List ℕ) (top row : ℕ) (x : Climbed) → NotBehind nodes row x → belowTop top x ≡ true → parentReached nodes x ≤ row
 unfolding NotBehind belowTop parentReached
@@ -95,10 +76,17 @@ parent-within nodes top row (Descendant n at) h e =
     let z : ¬ (at ≡ 0) = λ q. absurd (omega (arith, l)) in
     omega (arith, h .0, parent-before nodes at (h .1) z _ refl)
 
--- a number says no of a climb from a row before it that does not end in a match
-before-number : (nodes : List ℕ) (top row : ℕ) (x : Climbed) → NotBehind nodes row x → (x ≡ Ended Matches → false ≡ true) → row < top → belowTop top x ≡ false
-unfolding NotBehind belowTop
-before-number nodes top row (Ended Matches) h u l = never (u refl)
+-- a climb that ends in a match
+unfoldable endsInMatch : Climbed → Bool
+endsInMatch (Ended Matches) = true
+endsInMatch (Ended FailsLocally) = false
+endsInMatch (Ended FailsCompletely) = false
+endsInMatch (Descendant n at) = false
+
+-- of any other climb, from a row before it, a number says no
+before-number : (nodes : List ℕ) (top row : ℕ) (x : Climbed) → NotBehind nodes row x → endsInMatch x ≡ false → row < top → belowTop top x ≡ false
+unfolding NotBehind belowTop endsInMatch
+before-number nodes top row (Ended Matches) h u l = never (sym u)
 before-number nodes top row (Ended FailsLocally) h u l = refl
 before-number nodes top row (Ended FailsCompletely) h u l = refl
 before-number nodes top row (Descendant n at) h u l = le-ltb top at (omega (arith, h .0))
@@ -142,14 +130,14 @@ module _ (nodes attributes text : List ℕ) where
       (λ h. pick-holds (λ (x : Climbed). reaches x ≡ false) (matches (c ∷ []) (pathOf nodes attributes text row)) _ _ (λ _. unreached cs h row) (λ _. refl)) e
 
   -- with one, no climb ends in a match
-  unended : (cs : List Component) → hasDescendant cs ≡ true → (row : ℕ) → Climb cs row ≡ Ended Matches → false ≡ true
-  unfolding hasDescendant climbOf
-  unended [] e row = λ f. e
+  unended : (cs : List Component) → hasDescendant cs ≡ true → (row : ℕ) → endsInMatch (Climb cs row) ≡ false
+  unfolding hasDescendant climbOf endsInMatch
+  unended [] e row = never e
   unended (c ∷ cs) e row =
-      by-combinator (λ (h : Bool) (x : Climbed). h ≡ true → x ≡ Ended Matches → false ≡ true) c {x = hasDescendant cs} {y = true} {z = hasDescendant cs}
-      (λ h. pick-holds (λ (x : Climbed). x ≡ Ended Matches → false ≡ true) (is row 0) _ _ (λ _ f. no-match-complete f) (λ _. unended cs h (nodeAt nodes row .parent)))
-      (λ h f. no-match-reached f)
-      (λ h. pick-holds (λ (x : Climbed). x ≡ Ended Matches → false ≡ true) (matches (c ∷ []) (pathOf nodes attributes text row)) _ _ (λ _. unended cs h row) (λ _ f. no-match-local f)) e
+      by-combinator (λ (h : Bool) (x : Climbed). h ≡ true → endsInMatch x ≡ false) c {x = hasDescendant cs} {y = true} {z = hasDescendant cs}
+      (λ h. pick-holds (λ (x : Climbed). endsInMatch x ≡ false) (is row 0) _ _ (λ _. refl) (λ _. unended cs h (nodeAt nodes row .parent)))
+      (λ h. refl)
+      (λ h. pick-holds (λ (x : Climbed). endsInMatch x ≡ false) (matches (c ∷ []) (pathOf nodes attributes text row)) _ _ (λ _. unended cs h row) (λ _. refl)) e
 
   module _ (cs : List Component) where
     abbrev First : ℕ → ℕ
