@@ -1,6 +1,6 @@
 -- Each test says one field of the record, and the last call that the test fails.
 use Rattle.combinators.proofs.Rules.{never}
-use Rattle.segments.proofs.CodeSkipLaws as laws
+use Rattle.segments.proofs.CodeStayLaws as laws
 use borrow.Author.Needs.{needs}
 use Rattle.segments.proofs.skipping.block_stays.Statement.{statement}
 use Rattle.segments.proofs.skipping.block_stays.Tie as tie
