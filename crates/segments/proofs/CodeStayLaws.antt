@@ -13,7 +13,7 @@ use Rattle.segments.specs.Before.{noPlace}
 use Rattle.segments.specs.Visits.{toNext, toAwaited, toFlags, blockBytes, Visited, visitAt}
 use Rattle.segments.specs.Parts.{pairLimit}
 use Rattle.segments.specs.Visiting.{toTests, toEnd, blockStored}
-use Rattle.segments.specs.Hints.{Fits, TestFails}
+use Rattle.segments.specs.Hints.{Fits, TestsFail}
 use Rattle.segments.specs.Skipping.{BlockStays}
 use Rattle.segments.specs.declared.hints.Hint.{Hint}
 use Rattle.segments.proofs.CodeVisitLaws.{marked-stays, visit-mark}
@@ -40,10 +40,9 @@ module _ (state : List ℕ) (above width : ℕ) where
 
 -- ---- the return of `block_stays`
 pub stays : (code state : List ℕ) (above width p : ℕ) (h : Hint) → ¬ (p ≡ noPlace) → p + toEnd ≤ width → getD state (above + p + toFlags) 0 ≡ withTests
-    → (awaited : ℕ) → awaited ≡ pairAt state (above + p + toAwaited) → (tests : ℕ) → tests ≡ pairAt state (above + p + toTests) → 0 < tests → TestFails code awaited h
+    → (awaited : ℕ) → awaited ≡ pairAt state (above + p + toAwaited) → (tests : ℕ) → tests ≡ pairAt state (above + p + toTests) → TestsFail code awaited tests h
     → BlockStays code state above width p h
-stays code state above width p h z w m awaited ea tests et some f =
-    record { some = omega arith; inside = w; mark = m; tests = omega (arith, et, some); fails = subst (λ (a : ℕ). TestFails code a h) ea f }
+stays code state above width p h z w m awaited ea tests et f = record { some = omega arith; inside = w; mark = m; fails = rw (ea, et) at f }
 
 -- ---- the return of `copy_block`
 pub block-copied : (s₀ s₁ : List ℕ) (at next awaited tests n a t : ℕ) → next ≡ n → awaited ≡ a → tests ≡ t → s₁ ≡ sets s₀ at (blockBytes next awaited (withTests ∷ pairBytes tests))
@@ -76,9 +75,7 @@ module _ (code : List ℕ) (h : Hint) (state : List ℕ) (above own width p : �
 
     -- the tests do not pass
     no-pass : false ≡ testsPass code (e ∷ []) tests awaited
-    no-pass =
-        let d : suc (tests - 1) ≡ tests = (let t = b .tests in omega arith) in
-        sym (b .fails .fails e fit (tests - 1)) ∙ ap (λ (n : ℕ). testsPass code (e ∷ []) n awaited) d
+    no-pass = sym (b .fails .fails e fit)
 
     -- so it does not match, and the block is what a visit stores
     pub visit-copied : next < pairLimit → (s₁ : List ℕ) → s₁ ≡ copied → (false ≡ visited .matched) × (s₁ ≡ blockStored state own width visited (pairAt (part state above width) (p + toNext)) p)

@@ -9,24 +9,25 @@ use lib.ListN.{length, getD}
 use lib.Seq.{sets}
 use Rattle.combinators.specs.Choice.{pick, or, and, is}
 use Rattle.combinators.specs.Part.{part}
-use Rattle.combinators.proofs.Rules.{at-most, within-yes}
+use Rattle.combinators.proofs.Rules.{at-most, and-right, within-yes}
 use Rattle.syntax.specs.Layout.{flag, flagOf}
-use Rattle.syntax.specs.RuleLayout.{starKind, childKind, attributeEqualKind}
-use Rattle.syntax.specs.Selector.{Component}
+use Rattle.syntax.specs.RuleLayout.{starKind, childKind, nthKind, attributeEqualKind}
+use Rattle.syntax.specs.Selector.{Component, nth}
+use Rattle.syntax.specs.Signed.{signedOf}
 use Rattle.page.specs.Path.{Element, Path}
 use Rattle.compiled.specs.Decoded.{read, fault, onDecoded, andThen, mapped}
 use Rattle.compiled.specs.Number.{groupValues, numberAt, rangedAt}
 use Rattle.compiled.specs.Text.{Span, spanAt, textIn}
-use Rattle.compiled.specs.Component.{name, isMark, isName, nameAt, bodyAt, writtenAt, markOf, namedOf, componentIn, componentAt}
+use Rattle.compiled.specs.Component.{name, isMark, isName, nameAt, secondNumberAt, numbersAt, bodyAt, writtenAt, markOf, namedOf, componentIn, componentAt}
 use Rattle.compiled.specs.Sheet.{compiledLimit}
 use Rattle.compiled.proofs.Following.{then-read}
-use Rattle.segments.specs.Segments.{test, direct, piece}
+use Rattle.segments.specs.Segments.{test, direct, piece, tested}
 use Rattle.segments.specs.Sweep.{pairAt, pairBytes, onPiece, pieceAt, testsPass, compoundAt, withTests, markBytes, markedTests, sweepAt}
 use Rattle.segments.specs.Before.{noPlace}
 use Rattle.segments.specs.Visits.{toNext, toAwaited, toFlags, blockBytes, Visited, decided, visitAt}
 use Rattle.segments.specs.Swept.{sweptOne, sweptBehind}
 use Rattle.segments.specs.Visiting.{blockStored}
-use Rattle.segments.specs.Hints.{Fits, TestFails}
+use Rattle.segments.specs.Hints.{Fits, TestFails, TestsFail}
 use Rattle.segments.specs.Skipping.{TestThere, StepFails, toStepMark, toStepTests, toStepEnd, StepStays}
 use Rattle.segments.specs.declared.hints.Hint.{Hint}
 use Rattle.segments.specs.declared.sweeping.Swept.{Swept}
@@ -63,6 +64,47 @@ module _ (code : List ℕ) where
         told = rw (c, s) t ∙ ap (λ (i : ℕ). read i (test (namedOf kind (textIn code v)))) m;
         inside = omega (arith, b);
       }
+
+  -- ---- a return of `test_size`
+  -- an nth-child whose numbers are bytes without their top bits is one too
+  pub nth-there : (at a b : ℕ) → at + 2 < length code → getD code at 0 ≡ nthKind → a ≡ getD code (at + 1) 0 → a < groupValues → b ≡ getD code (at + 2) 0 → b < groupValues → TestThere code at 3
+  unfolding pieceAt componentAt writtenAt rangedAt andThen bodyAt isMark numbersAt secondNumberAt componentIn piece mapped pick or is
+  nth-there at a b l k ea fa eb fb =
+      let x : at + 2 ≡ at + 1 + 1 = omega arith in
+      let y : at + 1 + 1 + 1 ≡ at + 3 = omega arith in
+      let c : getD code (at + 1 + 1) 0 ≡ b = ap (λ (i : ℕ). getD code i 0) (sym x) ∙ sym eb in
+      record {
+        asks = nth (signedOf a) (signedOf b);
+        told = rw (
+          number-one code at nthKind (omega (arith, l)) k (omega arith),
+          within-yes nthKind starKind attributeEqualKind (omega arith) (omega arith),
+          number-one code (at + 1) a (omega (arith, l)) (sym ea) fa,
+          number-one code (at + 1 + 1) b (omega (arith, l)) c fb,
+          y,
+        );
+        inside = omega (arith, l);
+      }
+
+  -- ---- the returns of `tests_fail`
+  module _ (h : Hint) (at tests : ℕ) where
+    -- the first fails
+    pub by-first : 0 < tests → TestFails code at h → TestsFail code at tests h
+    by-first s f =
+        let d : tests ≡ suc (tests - 1) = omega arith in
+        record { there = f .there; fails = λ e fit. ap (λ (n : ℕ). testsPass code (e ∷ []) n at) d ∙ f .fails e fit (tests - 1) }
+
+    -- behind a test, the second
+    second-fails : (row : Path) (n t : ℕ) (c : Component) → pieceAt code at ≡ read n (test c) → testsPass code row t n ≡ false → testsPass code row (suc t) at ≡ false
+    unfolding testsPass onDecoded onPiece
+    second-fails row n t c e f = rw (e, f) (and-right (tested row c) false refl)
+
+    pub by-second : 1 < tests → (size : ℕ) → TestThere code at size → TestFails code (at + size) h → TestsFail code at tests h
+    by-second s size t f =
+        let d : tests ≡ suc (suc (tests - 2)) = omega arith in
+        record {
+          there = (let x = f .there in omega arith);
+          fails = λ e fit. ap (λ (n : ℕ). testsPass code (e ∷ []) n at) d ∙ second-fails (e ∷ []) (at + size) (suc (tests - 2)) (t .asks) (t .told) (f .fails e fit (tests - 2));
+        }
 
   -- ---- the return of `behind_child`
   pub child-there : (at : ℕ) → at < length code → getD code at 0 ≡ childKind → pieceAt code at ≡ read (at + 1) direct
@@ -102,9 +144,9 @@ module _ (code : List ℕ) where
         sym (v .whole row) ∙ ap (λ (k : ℕ). compoundAt code row k false i) d ∙ compound-child row (left - 1) i r e
 
 -- ---- the return of `step_fails`
-pub step-fails : (code : List ℕ) (at tests : ℕ) (h : Hint) (place : ℕ) → 0 < tests → 0 < place
-    → ((row : Path) → compoundAt code row (length code) false at ≡ record { ends = false; place = place }) → TestFails code place h → StepFails code at tests h
-step-fails code at tests h place s f b t = record { some = s; place = place; far = f; behind = b; fails = t }
+pub step-fails : (code : List ℕ) (at tests : ℕ) (h : Hint) (place : ℕ) → 0 < place
+    → ((row : Path) → compoundAt code row (length code) false at ≡ record { ends = false; place = place }) → TestsFail code place tests h → StepFails code at tests h
+step-fails code at tests h place f b t = record { place = place; far = f; behind = b; fails = t }
 
 -- ---- the return of `step_stays`
 pub step-stays : (code state : List ℕ) (above width p : ℕ) (h : Hint) → ¬ (p ≡ noPlace) → p + toStepEnd ≤ width → getD state (above + p + toFlags) 0 ≡ 0
@@ -185,9 +227,7 @@ module _ (code : List ℕ) (h : Hint) (state : List ℕ) (above own width p : �
 
     -- the tests of the left compound do not pass
     no-pass : testsPass code (e ∷ []) tests (b .fails .place) ≡ false
-    no-pass =
-        let d : tests ≡ suc (tests - 1) = (let t = b .fails .some in omega arith) in
-        ap (λ (n : ℕ). testsPass code (e ∷ []) n (b .fails .place)) d ∙ b .fails .fails .fails e fit (tests - 1)
+    no-pass = b .fails .fails .fails e fit
 
     -- so a visit leaves it as it is
     visit-is : visited ≡ record { matched = false; awaited = pairAt (part state above width) (p + toAwaited); flags = staying }

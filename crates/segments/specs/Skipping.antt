@@ -16,16 +16,15 @@ use Rattle.segments.specs.Visiting.{toTests, toEnd}
 use Rattle.segments.specs.Parts.{Apart}
 use Rattle.segments.specs.Pass.{passFrom}
 use Rattle.segments.specs.Passing.{passStored}
-use Rattle.segments.specs.Hints.{TestFails}
+use Rattle.segments.specs.Hints.{TestsFail}
 use Rattle.segments.specs.declared.hints.Hint.{Hint}
 
--- the block of the selector at p, in the part that begins at `above`: the part holds it whole, it awaits a compound with a mark, and the first test of that compound surely fails
+-- the block of the selector at p, in the part that begins at `above`: the part holds it whole, it awaits a compound with a mark, and the tests of that compound surely fail
 pub record BlockStays (code state : List ℕ) (above width p : ℕ) (h : Hint) : Type 0 where
   pub some : 0 < p
   pub inside : p + toEnd ≤ width
   pub mark : getD state (above + p + toFlags) 0 ≡ withTests
-  pub tests : 0 < pairAt state (above + p + toTests)
-  pub fails : TestFails code (pairAt state (above + p + toAwaited)) h
+  pub fails : TestsFail code (pairAt state (above + p + toAwaited)) (pairAt state (above + p + toTests)) h
 
 -- a component at a place is a test, whatever it asks for, and takes so many bytes
 pub record TestThere (code : List ℕ) (at size : ℕ) : Type 0 where
@@ -33,13 +32,12 @@ pub record TestThere (code : List ℕ) (at size : ℕ) : Type 0 where
   pub told : pieceAt code at ≡ read (at + size) (test asks)
   pub inside : at + size ≤ length code
 
--- a compound at a place may not end here, and what stands behind its child step is the place of another, whose first test surely fails
+-- a compound at a place may not end here, and what stands behind its child step is the place of another, whose tests surely fail
 pub record StepFails (code : List ℕ) (at tests : ℕ) (h : Hint) : Type 0 where
-  pub some : 0 < tests
   pub place : ℕ
   pub far : 0 < place
   pub behind : (row : Path) → compoundAt code row (length code) false at ≡ record { ends = false; place = place }
-  pub fails : TestFails code place h
+  pub fails : TestsFail code place tests h
 
 -- from the place of a selector that awaits two compounds, of which the right one may not end here: to the mark, to the count of its tests, and to the end of the block
 abbrev pub toStepMark : ℕ

@@ -15,6 +15,7 @@ use crate::visiting::TO_NEXT;
 use crate::visiting::TO_TESTS;
 use crate::visiting::put_marked;
 use syntax::rows::CHILD;
+use syntax::rows::NTH;
 ghost use mathlib.Core.Path.{_≡_};
 ghost use mathlib.Core.Bool.{true, false};
 ghost use mathlib.Core.List.{[], _∷_};
@@ -29,7 +30,7 @@ ghost use Rattle.segments.specs.Sweep.{byteValues, pairAt, pairBytes, pi
 ghost use Rattle.segments.specs.Visits.{toNext, toAwaited, blockBytes};
 ghost use Rattle.segments.specs.Parts.{pairLimit};
 ghost use Rattle.segments.specs.Visiting.{toTests, toEnd};
-ghost use Rattle.segments.specs.Hints.{Fits, TestFails};
+ghost use Rattle.segments.specs.Hints.{Fits, TestFails, TestsFail};
 ghost use Rattle.segments.specs.Skipping.{TestThere, StepFails, toStepTests, toStepEnd, BlockStays, StepStays, SkipLent, Skips};
 
 // From the place of a component of one text, to the length of the text and to the text, where kind and length are numbers of one group.
@@ -43,6 +44,13 @@ const TO_STEP_MARK: usize = 6;
 const TO_STEP_TESTS: usize = 7;
 
 const TO_STEP_END: usize = 9;
+
+// From the place of an nth-child to its two numbers, and how many bytes it takes, where they are of one group.
+const TO_FIRST: usize = 1;
+
+const TO_SECOND: usize = 2;
+
+const NTH_SIZE: usize = 3;
 
 // A byte below it is a number of one group.
 const ONE_GROUP: usize = 128;
@@ -71,6 +79,65 @@ fn test_fails(compiled: &[u8], at: usize, hint: Hint) -> bool
     false
 }
 
+// How many bytes the component of one text at `at` takes, where its kind and its length are numbers of one group; of any other 0.
+fn name_size(compiled: &[u8], at: usize) -> usize
+    requires { ⌜ at ≤ compiledLimit ⌝ }
+    ensures { λ r. ⌜ (0 < r → TestThere (now (compiled .entry)) at r) ⌝ }
+    ensures { λ r. ⌜ r < byteValues ⌝ }
+{
+    if at + TO_SIZE < compiled.len() {
+        let kind = wide(compiled[at]);
+        let size = wide(compiled[at + TO_SIZE]);
+        if size < ONE_GROUP {
+            if at + TO_WORD + size <= compiled.len() {
+                if has_name(kind) {
+                    return TO_WORD + size;
+                }
+            }
+        }
+    }
+    0
+}
+
+// The same of any test that is a component of one text or an nth-child.
+fn test_size(compiled: &[u8], at: usize) -> usize
+    requires { ⌜ at ≤ compiledLimit ⌝ }
+    ensures { λ r. ⌜ (0 < r → TestThere (now (compiled .entry)) at r) ⌝ }
+    ensures { λ r. ⌜ r < byteValues ⌝ }
+{
+    if at + TO_SECOND < compiled.len() {
+        if wide(compiled[at]) == NTH as usize {
+            if wide(compiled[at + TO_FIRST]) < ONE_GROUP {
+                if wide(compiled[at + TO_SECOND]) < ONE_GROUP {
+                    return NTH_SIZE;
+                }
+            }
+            return 0;
+        }
+    }
+    name_size(compiled, at)
+}
+
+// Whether `tests` tests from `at` on surely fail at an element, by the first or the second of them.
+fn tests_fail(compiled: &[u8], at: usize, tests: usize, hint: Hint) -> bool
+    requires { ⌜ length (now compiled) ≤ compiledLimit ⌝ }
+    requires { ⌜ at ≤ compiledLimit ⌝ }
+    ensures { λ r. ⌜ (r ≡ true → TestsFail (now (compiled .entry)) at tests hint) ⌝ }
+{
+    if tests > 0 {
+        if test_fails(compiled, at, hint) {
+            return true;
+        }
+        if tests > 1 {
+            let size = test_size(compiled, at);
+            if size > 0 {
+                return test_fails(compiled, at + size, hint);
+            }
+        }
+    }
+    false
+}
+
 // Whether the block of the selector at `p` stays as it is at an element, by the parent's part, which begins at `above`.
 fn block_stays(
     compiled: &[u8],
@@ -80,6 +147,7 @@ fn block_stays(
     p: usize,
     hint: Hint,
 ) -> bool
+    requires { ⌜ length (now compiled) ≤ compiledLimit ⌝ }
     requires { ⌜ above + width ≤ length (now state) ⌝ }
     requires { ⌜ p ≤ compiledLimit ⌝ }
     ensures { λ r. ⌜ (r ≡ true → BlockStays (now (compiled .entry)) (now (state .entry)) above width p hint) ⌝ }
@@ -89,9 +157,8 @@ fn block_stays(
             let at = above + p;
             if state[at + TO_FLAGS] == WITH_TESTS {
                 let awaited = pair_there(state, at + TO_AWAITED);
-                if pair_there(state, at + TO_TESTS) > 0 {
-                    return test_fails(compiled, awaited, hint);
-                }
+                let tests = pair_there(state, at + TO_TESTS);
+                return tests_fail(compiled, awaited, tests, hint);
             }
         }
     }
@@ -115,26 +182,6 @@ fn copy_block(state: &mut [u8], above: usize, own: usize, p: usize) -> usize
     next
 }
 
-// How many bytes the component of one text at `at` takes, where its kind and its length are numbers of one group; of any other 0.
-fn name_size(compiled: &[u8], at: usize) -> usize
-    requires { ⌜ at ≤ compiledLimit ⌝ }
-    ensures { λ r. ⌜ (0 < r → TestThere (now (compiled .entry)) at r) ⌝ }
-    ensures { λ r. ⌜ r < byteValues ⌝ }
-{
-    if at + TO_SIZE < compiled.len() {
-        let kind = wide(compiled[at]);
-        let size = wide(compiled[at + TO_SIZE]);
-        if size < ONE_GROUP {
-            if at + TO_WORD + size <= compiled.len() {
-                if has_name(kind) {
-                    return TO_WORD + size;
-                }
-            }
-        }
-    }
-    0
-}
-
 // The place behind the child step at `at`, or 0 where there is none.
 fn behind_child(compiled: &[u8], at: usize) -> usize
     ensures { λ r. ⌜ (0 < r → pieceAt (now (compiled .entry)) at ≡ read r direct) ⌝ }
@@ -148,7 +195,7 @@ fn behind_child(compiled: &[u8], at: usize) -> usize
     0
 }
 
-// The place behind the child step that the compound at `at` stands at, where only components of one text are before it; otherwise 0.
+// The place behind the child step that the compound at `at` stands at, where the tests before it are short ones; otherwise 0.
 fn behind_step(compiled: &[u8], first: usize) -> usize
     requires { ⌜ length (now compiled) ≤ compiledLimit ⌝ }
     requires { ⌜ first ≤ compiledLimit ⌝ }
@@ -158,7 +205,7 @@ fn behind_step(compiled: &[u8], first: usize) -> usize
     let mut i = first;
     let mut left = compiled.len();
     while left > 0 {
-        let size = name_size(compiled, i);
+        let size = test_size(compiled, i);
         if size > 0 {
             i += size;
             left -= 1;
@@ -175,11 +222,9 @@ fn step_fails(compiled: &[u8], at: usize, tests: usize, hint: Hint) -> bool
     requires { ⌜ at ≤ compiledLimit ⌝ }
     ensures { λ r. ⌜ (r ≡ true → StepFails (now (compiled .entry)) at tests hint) ⌝ }
 {
-    if tests > 0 {
-        let place = behind_step(compiled, at);
-        if place > 0 {
-            return test_fails(compiled, place, hint);
-        }
+    let place = behind_step(compiled, at);
+    if place > 0 {
+        return tests_fail(compiled, place, tests, hint);
     }
     false
 }

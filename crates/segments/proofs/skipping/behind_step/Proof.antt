@@ -15,8 +15,8 @@ abbrev μ-loop : tie.MeasureT-loop
 loop-holds : tie.Need-loop-holds Inv-loop μ-loop
 loop-holds c = record { whole = λ row. refl; near = search needs }
 
-name-size-requires : tie.Need-name-size-requires Inv-loop μ-loop
-name-size-requires c κs = c .before .loop .inv .near
+test-size-requires : tie.Need-test-size-requires Inv-loop μ-loop
+test-size-requires c κs = c .before .loop .inv .near
 
 add-i : tie.Need-add-i Inv-loop μ-loop
 add-i c = search needs
@@ -29,9 +29,9 @@ loop-less c = search needs
 
 loop-again : tie.Need-loop-again Inv-loop μ-loop
 loop-again c =
-    let at-name-size = c .before in
-    let at-loop-test = at-name-size .before in
-    laws.step-test _ _ _ _ (at-loop-test .before .loop .inv) (at-loop-test .loop-test .taken) (search needs) _ (at-name-size .name-size .ensures .0 (c .if1 .taken))
+    let at-test-size = c .before in
+    let at-loop-test = at-test-size .before in
+    laws.step-test _ _ _ _ (at-loop-test .before .loop .inv) (at-loop-test .loop-test .taken) (search needs) _ (at-test-size .test-size .ensures .0 (c .if1 .taken))
 
 behind-child-requires : tie.Need-behind-child-requires Inv-loop μ-loop
 behind-child-requires c κs = search needs
@@ -51,7 +51,7 @@ behind-step-spec =
     Inv-loop
     μ-loop
     loop-holds
-    name-size-requires
+    test-size-requires
     add-i
     sub-left
     loop-less

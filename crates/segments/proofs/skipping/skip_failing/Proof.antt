@@ -24,7 +24,7 @@ loop-holds : tie.Need-loop-holds Inv-loop μ-loop
 loop-holds c = laws.skip-begin _ _ _ _ _ _ _ _ (c .before .before .before .before .pre) (search needs)
 
 block-stays-requires : tie.Need-block-stays-requires Inv-loop μ-loop
-block-stays-requires c κs = (c .before .before .loop .inv .held, c .before .before .loop .inv .lent .near)
+block-stays-requires c κs = let v = c .before .before .loop .inv in (v .lent .few-bytes, (v .held, v .lent .near))
 
 copy-block-requires : tie.Need-copy-block-requires Inv-loop μ-loop
 copy-block-requires c κs =
