@@ -42,7 +42,7 @@ module _ (store : List ℕ) (a n : ℕ) where
 
 -- ---- kinds of one text
 -- behind such a kind a text is read
-abbrev Named : ℕ → Type 0
+abbrev pub Named : ℕ → Type 0
 Named kind = (code : List ℕ) (n : ℕ) → bodyAt code kind n ≡ nameAt code kind n
 
 -- a type selector, a class, an id and an attribute have one
@@ -68,7 +68,7 @@ module _ (kind : ℕ) where
   kind-is : (k : ℕ) → Named k → k ≤ attributeKind → is kind k ≡ true → Named kind × (kind ≤ attributeKind)
   kind-is k n l e = subst (λ (m : ℕ). Named m × (m ≤ attributeKind)) (sym (is-true kind k e)) (n, l)
 
-  name-kind : isName kind ≡ true → Named kind × (kind ≤ attributeKind)
+  pub name-kind : isName kind ≡ true → Named kind × (kind ≤ attributeKind)
   unfolding isName
   name-kind e =
       either _ _ _ e (kind-is classKind class-named (omega arith))
@@ -78,7 +78,7 @@ module _ (kind : ℕ) where
 module _ (code : List ℕ) where
   -- ---- what is read
   -- a byte without its top bit is the number
-  number-one : (i v : ℕ) → i < length code → getD code i 0 ≡ v → v < groupValues → numberAt code i ≡ read (i + 1) v
+  pub number-one : (i v : ℕ) → i < length code → getD code i 0 ≡ v → v < groupValues → numberAt code i ≡ read (i + 1) v
   number-one i v l e h = number-read (numberAt code i) (number.Number (i + 1) v) (reading-one code i v (sym e) l h _ refl .0) (i + 1) v refl
 
   -- a text whose length is such a byte lies behind it
@@ -101,7 +101,7 @@ module _ (code : List ℕ) where
     kind-read h = rw (number-one at kind l k (omega arith), within-yes kind starKind attributeEqualKind (omega arith) (omega arith))
 
     -- behind it stands the text
-    name-read : kind ≤ attributeKind → componentAt code at ≡ mapped (componentIn code) (nameAt code kind (at + 1))
+    pub name-read : kind ≤ attributeKind → componentAt code at ≡ mapped (componentIn code) (nameAt code kind (at + 1))
     unfolding componentAt writtenAt andThen
     name-read h = rw (kind-read h, named code (at + 1))
 

@@ -195,7 +195,7 @@ module _ (code : List ℕ) (row : Path) (s₀ : List ℕ) (above own width p nex
 
 -- ---- the returns of `visit_marked`
 -- tests that do not pass are some
-some-tests : (code : List ℕ) (row : Path) (tests i : ℕ) → testsPass code row tests i ≡ false → withTests ∷ pairBytes tests ≡ markBytes tests
+pub some-tests : (code : List ℕ) (row : Path) (tests i : ℕ) → testsPass code row tests i ≡ false → withTests ∷ pairBytes tests ≡ markBytes tests
 unfolding testsPass markBytes
 some-tests code row zero i e = never (sym e)
 some-tests code row (suc t) i e = refl

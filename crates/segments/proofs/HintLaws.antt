@@ -74,19 +74,19 @@ unfolding text utf8 pick
 id-start = refl
 
 -- these kinds have one text
-element-is-name : isName elementKind ≡ true
+pub element-is-name : isName elementKind ≡ true
 unfolding isName or is
 element-is-name = refl
 
-class-is-name : isName classKind ≡ true
+pub class-is-name : isName classKind ≡ true
 unfolding isName or is
 class-is-name = refl
 
-hash-is-name : isName hashKind ≡ true
+pub hash-is-name : isName hashKind ≡ true
 unfolding isName or is
 hash-is-name = refl
 
-attribute-is-name : isName attributeKind ≡ true
+pub attribute-is-name : isName attributeKind ≡ true
 unfolding isName or is
 attribute-is-name = refl
 

@@ -20,6 +20,8 @@ pub mod CodeFailLaws
 pub mod CodeVisitLaws
 pub mod CodeBlockLaws
 pub mod CodePassLaws
+pub mod CodeStayLaws
+pub mod CodeStepLaws
 pub mod CodeSkipLaws
 pub mod CodeDocumentLaws
 pub mod CodeStyledLaws

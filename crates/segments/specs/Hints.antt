@@ -51,3 +51,8 @@ pub record NameFails (h : Hint) (kind size byte : ℕ) : Type 0 where
 pub record TestFails (code : List ℕ) (at : ℕ) (h : Hint) : Type 0 where
   pub there : at < length code
   pub fails : (e : Element) → Fits h e → (t : ℕ) → testsPass code (e ∷ []) (suc t) at ≡ false
+
+-- so many tests from a place on fail there
+pub record TestsFail (code : List ℕ) (at tests : ℕ) (h : Hint) : Type 0 where
+  pub there : at < length code
+  pub fails : (e : Element) → Fits h e → testsPass code (e ∷ []) tests at ≡ false

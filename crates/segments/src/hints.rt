@@ -20,6 +20,7 @@ ghost use Prim.Native.Nat.{ℕ, _<_};
 ghost use lib.ListN.{getD};
 ghost use Rattle.page.specs.PathOf.{attributesFrom};
 ghost use Rattle.page.specs.Rows.{attributeRows};
+ghost use Rattle.compiled.specs.Component.{isName};
 ghost use Rattle.matching.specs.Matches.{isClass};
 ghost use Rattle.matching.specs.Rows.{attributeOf};
 ghost use Rattle.matching.specs.Texts.{hasWord};
@@ -231,6 +232,25 @@ pub fn name_fails(kind: usize, size: usize, byte: usize, hint: Hint) -> bool
     }
     if kind == ATTRIBUTE as usize {
         return begins_none(names, byte);
+    }
+    false
+}
+
+// Whether a component of a kind has one text.
+pub fn has_name(kind: usize) -> bool
+    ensures { λ r. ⌜ (r ≡ true → isName kind ≡ true) ⌝ }
+{
+    if kind == CLASS as usize {
+        return true;
+    }
+    if kind == ELEMENT as usize {
+        return true;
+    }
+    if kind == HASH as usize {
+        return true;
+    }
+    if kind == ATTRIBUTE as usize {
+        return true;
     }
     false
 }

@@ -1,6 +1,6 @@
 -- Each test says one field of the record, and the last call that the test fails.
 use Rattle.combinators.proofs.Rules.{never}
-use Rattle.segments.proofs.CodeSkipLaws as laws
+use Rattle.segments.proofs.CodeStayLaws as laws
 use borrow.Author.Needs.{needs}
 use Rattle.segments.proofs.skipping.block_stays.Statement.{statement}
 use Rattle.segments.proofs.skipping.block_stays.Tie as tie
@@ -29,17 +29,16 @@ add-pair-there-2 c = search needs
 pair-there-requires-2 : tie.Need-pair-there-requires-2
 pair-there-requires-2 c κs = search needs
 
-test-fails-requires : tie.Need-test-fails-requires
-test-fails-requires c κs = search needs
+tests-fail-requires : tie.Need-tests-fail-requires
+tests-fail-requires c κs = search needs
 
 returns : tie.Need-returns
 returns c =
-    let at-if4 = c .before in
-    let at-tests = at-if4 .before in
+    let at-tests = c .before in
     let at-awaited = at-tests .before in
     let at-if3 = at-awaited .before in
     let at-if2 = at-if3 .before .before in
-    λ e. laws.stays _ _ _ _ _ _ (at-if2 .before .if1 .taken) (at-if2 .if2 .taken) (at-if3 .if3 .taken) _ (at-awaited .pair-there .ensures .0) _ (at-tests .pair-there2 .ensures .0) (at-if4 .if4 .taken) (c .test-fails .ensures e)
+    λ e. laws.stays _ _ _ _ _ _ (at-if2 .before .if1 .taken) (at-if2 .if2 .taken) (at-if3 .if3 .taken) _ (at-awaited .pair-there .ensures .0) _ (at-tests .pair-there2 .ensures .0) (c .tests-fail .ensures e)
 
 returns-2 : tie.Need-returns-2
 returns-2 c = λ e. never e
@@ -49,9 +48,6 @@ returns-3 c = λ e. never e
 
 returns-4 : tie.Need-returns-4
 returns-4 c = λ e. never e
-
-returns-5 : tie.Need-returns-5
-returns-5 c = λ e. never e
 
 pub block-stays-spec : {M : Type 1} → statement M
 block-stays-spec =
@@ -65,9 +61,8 @@ block-stays-spec =
     pair-there-requires
     add-pair-there-2
     pair-there-requires-2
-    test-fails-requires
+    tests-fail-requires
     returns
     returns-2
     returns-3
-    returns-4
-    returns-5)
+    returns-4)

@@ -1,5 +1,5 @@
 -- The numbers that are read are those that are stored.
-use Rattle.segments.proofs.CodeSkipLaws as laws
+use Rattle.segments.proofs.CodeStayLaws as laws
 use borrow.Author.Needs.{needs}
 use Rattle.segments.proofs.skipping.copy_block.Statement.{statement}
 use Rattle.segments.proofs.skipping.copy_block.Tie as tie

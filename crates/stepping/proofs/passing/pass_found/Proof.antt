@@ -21,7 +21,7 @@ loop-holds c =
     laws.find-begin _ _ _ _ _ _ _ _ _ _ (start .pre .0) (start .pre .1)
 
 skip-failing-requires : tie.Need-skip-failing-requires Inv-loop μ-loop
-skip-failing-requires c κs = let l = c .before .before .loop .inv .passing .lent in record { room = l .room; apart = l .apart; near = l .near }
+skip-failing-requires c κs = let l = c .before .before .loop .inv .passing .lent in record { room = l .room; apart = l .apart; few-bytes = l .few-bytes; near = l .near }
 
 same-length : tie.Need-same-length Inv-loop μ-loop
 same-length c = search needs
