@@ -11,6 +11,7 @@ use Rattle.combinators.proofs.Words.{same-is}
 use Rattle.unicode.specs.Literal.{text}
 use Rattle.unicode.specs.Utf8.{utf8}
 use Rattle.syntax.specs.RuleLayout.{classKind, elementKind, hashKind, attributeKind}
+use Rattle.cascade.proofs.Cascading.{or-second}
 use Rattle.page.specs.Path.{Attribute, Element}
 use Rattle.page.specs.PathOf.{attributesFrom}
 use Rattle.page.specs.Rows.{attributeWidth, attributeRows}
@@ -23,7 +24,6 @@ use Rattle.segments.specs.Met.{handedElement}
 use Rattle.segments.specs.Hints.{anyByte, mayBegin, ClassesBegin, NamesBegin, Fits, NameFails}
 use Rattle.segments.specs.declared.hints.Starts.{Starts}
 use Rattle.segments.specs.declared.hints.Hint.{Hint}
-use Rattle.segments.proofs.StartLaws.{or-second}
 
 -- ---- the return of `begins_none`
 -- where neither byte is the one, and not any may be

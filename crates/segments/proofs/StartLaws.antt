@@ -15,6 +15,7 @@ use Rattle.combinators.proofs.Lists.{first}
 use Rattle.combinators.proofs.Rules.{never, either, or-left, is-yes, is-true}
 use Rattle.combinators.proofs.Words.{same-is}
 use Rattle.unicode.specs.Trim.{whiteTaken, wordTaken}
+use Rattle.cascade.proofs.Cascading.{or-second}
 use Rattle.page.specs.Path.{Attribute}
 use Rattle.page.specs.PathOf.{attributesFrom}
 use Rattle.page.specs.Rows.{attributeAt, attributeName, attributeValue}
@@ -25,12 +26,6 @@ use Rattle.matching.proofs.AttributeLaws.{named, class-named, class-other, Look
 use Rattle.matching.proofs.Words.{Splitting, split-begin, split-end, split-none, split-more}
 use Rattle.segments.specs.Hints.{noByte, anyByte, mayBegin, Keeps}
 use Rattle.segments.specs.declared.hints.Starts.{Starts}
-
--- whatever the first is, the second holds
-pub or-second : (a b : Bool) → b ≡ true → or a b ≡ true
-unfolding or
-or-second true b e = refl
-or-second false b e = e
 
 -- ---- bytes that may be the first
 module _ (s : Starts) (b : ℕ) where

@@ -2,7 +2,7 @@
 use Prim.Native.Nat.{ℕ, suc, _<_}
 use mathlib.Core.Bool.{Bool, true, false}
 use mathlib.Core.List.{List, [], _∷_}
-use mathlib.Core.Path.{_≡_}
+use mathlib.Core.Path.{_≡_, refl}
 use lib.ListN.{length, getD}
 use Rattle.combinators.specs.Choice.{or, is}
 use Rattle.page.specs.Path.{Attribute, Element}
@@ -23,6 +23,12 @@ anyByte = 257
 -- a text among those that are told of may begin with b; of what is no byte nothing is told
 unfoldable pub mayBegin : Starts → ℕ → Bool
 mayBegin s b = or (is b noByte) (or (is (s .one) anyByte) (or (is (s .one) b) (is (s .two) b)))
+
+-- the classes `item odd` begin with `i` and `o`; of three words that begin otherwise nothing is told
+test-begin : (mayBegin (record { one = 0x69; two = 0x6f }) 0x6f ≡ true) × (mayBegin (record { one = 0x69; two = 0x6f }) 0x6e ≡ false)
+    × (mayBegin (record { one = anyByte; two = noByte }) 0x6e ≡ true)
+unfolding mayBegin or is
+test-begin = (refl, refl, refl)
 
 -- what may begin a text by the one may by the other
 abbrev pub Keeps : Starts → Starts → Type 0
