@@ -5,7 +5,7 @@ use mathlib.Core.Logic.{_⊎_, inl, inr}
 use mathlib.Core.List.{List, [], _∷_, _++_, append-assoc}
 use native.Mathlib.Nat.{not-suc-le-zero}
 use native.Mathlib.Omega.{arith}
-use lib.ListN.{length, take, drop, length-append}
+use lib.ListN.{length, take, length-append}
 use lib.Seq.{take-at, drop-at}
 use Rattle.combinators.specs.Choice.{is}
 use Rattle.combinators.proofs.Rules.{pick-holds, pick-true, pick-false, is-yes, is-no, lt-or-ge}

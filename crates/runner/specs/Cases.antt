@@ -184,7 +184,7 @@ abbrev plain : List ℕ → View
 plain x = record { colour = unset; whiteSpace = byAgent; content = x; before-present = false; before-content = [] }
 
 -- the page is accepted; the second b counts as second child though other content lies between; its own content and what d has before it go down to e, which
--- alone is coloured; the last a has none of that. Without document styles b has no content, and there are no texts. What is said of matching gives the same rows.
+-- alone is coloured; the last a has none of that. Without document styles b has no content, and there are no texts. By the selectors that match, the rows of the page are those of the run.
 test-run : (accepted.pageRefusal (somePage .nodes) (somePage .attributes) (somePage .text) ≡ noRefusal)
     × (map (viewAt sheetBytes someRun) (0 ∷ 1 ∷ 2 ∷ 3 ∷ 4 ∷ 5 ∷ 6 ∷ 7 ∷ 8 ∷ 9 ∷ [])
     ≡ zeros ∷ plain [] ∷ zeros ∷ plain [] ∷ zeros ∷ plain (literal.text "xy") ∷ plain (literal.text "xy")
