@@ -14,12 +14,13 @@ use Rattle.combinators.specs.Ascii as ascii
 use Rattle.combinators.specs.Choice.{pick, or, and, is, within}
 use Rattle.combinators.specs.Parsed as parser
 use Rattle.combinators.specs.Parsed.{Parsed, ok, err, onParsed}
-use Rattle.combinators.specs.Repeat.{took, many}
+use Rattle.combinators.specs.Repeat.{took, many, texts}
 use Rattle.combinators.specs.Word.{startsWith}
 use Rattle.combinators.proofs.Lists.{byte-there, first}
 use Rattle.combinators.proofs.Rules.{pick-true, pick-false, pick-holds, never, is-true}
 use Rattle.unicode.specs.Literal.{text}
-use Rattle.unicode.specs.Utf8.{utf8}
+use Rattle.unicode.specs.Utf8.{utf8, takenOf}
+use Rattle.lexer.specs.Name as name
 use Rattle.lexer.specs.Name.{identOf, nameOf, nameFrom, dash, nmstartOf, either, nmstartCharOf, foldedChar, identEscapeOf, isNmstart}
 use Rattle.lexer.specs.Number.{isDigit}
 use Rattle.lexer.specs.Token.{isQuote, stringOf}
@@ -39,6 +40,7 @@ use Rattle.sheets.proofs.DigitPlaces.{AtDigit, digit-behind, digit-clos
 unfoldable pub valueBefore : List ℕ → ℕ → List ℕ → Outcome Component
 valueBefore t j name = pick (leb (length t) j) (panics (j - 1)) (valueOf t j name)
 
+-- `parse_attr`
 unfoldable pub attrBefore : List ℕ → Outcome Component
 attrBefore t =
     pick (is (getD t 0 0) ascii.leftSquareBracket)
@@ -53,25 +55,30 @@ componentWith a t =
     (orElse (marked t ascii.asterisk star)
     (orElse (blankOf t) (orElse (classOf t) (orElse a (orElse (hashOf t) (orElse (parsed 0 (identOf t) element) (pseudoClassOf t)))))))
 
+-- `parse_simple_selector_component`
 unfoldable pub componentBefore : List ℕ → Outcome Component
 componentBefore t = componentWith (attrBefore t) t
 
+-- components as long as they read
 unfoldable pub componentsBefore : ℕ → List ℕ → Outcome (List Component)
 componentsBefore zero t = reads 0 []
 componentsBefore (suc l) t =
     onOutcome (componentBefore t) (λ n c. behind n (componentsBefore l (drop n t)) (λ cs. c ∷ cs)) (reads 0 []) (λ p. panics p)
 
+-- `parse_selector_with_element`, or else `parse_selector_without_element`
 unfoldable pub bodyBefore : List ℕ → Outcome (List Component)
 bodyBefore t =
     orElse (onParsed (identOf t) (λ n name. behind n (componentsBefore (length (drop n t)) (drop n t)) (λ cs. element name ∷ cs)) fails)
     (someOf (componentsBefore (length t) t))
 
+-- `parse_selector`
 unfoldable pub selectorBefore : List ℕ → Outcome Selector
 selectorBefore t =
     onOutcome (bodyBefore t)
     (λ n cs. let p = pseudoOf (drop n t) in
     reads (n + pseudoTaken p) (record { components = withoutBlank (reverse (withoutBlank cs)); pseudo = p })) fails (λ p. panics p)
 
+-- selectors, parted by ','
 unfoldable pub moreBefore : ℕ → List ℕ → Outcome (List Selector)
 moreBefore zero t = reads 0 []
 moreBefore (suc l) t =
@@ -80,19 +87,23 @@ moreBefore (suc l) t =
     (onOutcome (selectorBefore (drop w t)) (λ n s. behind (w + n) (moreBefore l (drop (w + n) t)) (λ ss. s ∷ ss)) (reads 0 []) (λ p. panics (w + p)))
     (reads 0 [])
 
+-- one and more
 unfoldable pub selectorsBefore : List ℕ → Outcome (List Selector)
 selectorsBefore t =
     onOutcome (selectorBefore t) (λ n s. behind n (moreBefore (length (drop n t)) (drop n t)) (λ ss. s ∷ ss)) (reads 0 []) (λ p. panics p)
 
+-- `parse_ruleset`
 unfoldable pub rulesetBefore : List ℕ → Outcome RuleSet
 rulesetBefore t =
     let w = skipWhitespace t in
     onOutcome (selectorsBefore (drop w t)) (λ n ss. behind 0 (blockOf t (w + n)) (λ ds. record { selectors = ss; declarations = ds; start = w })) fails
     (λ p. panics (w + p))
 
+-- `parse_statement`
 unfoldable pub statementsBefore : List ℕ → Outcome (List RuleSet)
 statementsBefore t = orElse (behind 0 (rulesetBefore t) (λ r. r ∷ [])) (atRuleOf t)
 
+-- `parse_stylesheet`
 unfoldable pub sheetFromBefore : ℕ → List ℕ → ℕ → Outcome (List RuleSet)
 sheetFromBefore zero t at = reads at []
 sheetFromBefore (suc l) t at =
@@ -100,8 +111,14 @@ sheetFromBefore (suc l) t at =
     (λ n rs. behind 0 (sheetFromBefore l (drop n t) (at + n)) (λ more. map (movedBy at) rs ++ more))
     (reads at []) (λ p. panics (at + p))
 
+-- of a whole text
 unfoldable pub sheetBefore : List ℕ → Outcome (List RuleSet)
 sheetBefore s = sheetFromBefore (length s) s 0
+
+-- it panicked at the `=`
+test-before : sheetBefore (text "[a=") ≡ panics 2
+unfolding sheetBefore sheetFromBefore statementsBefore rulesetBefore selectorsBefore selectorBefore bodyBefore componentsBefore componentBefore componentWith attrBefore valueBefore closed someOf marked blankOf classOf onOutcome orElse behind parsed onParsed text utf8 takenOf name.isNmstart name.isNmchar name.lower name.foldedChar name.nmstartCharOf name.nmcharCharOf name.identEscapeOf name.either name.nmstartOf name.nmcharOf name.bytesOf name.charTaken name.charText name.charsEnd name.charsText name.nameFrom name.dash name.nameOf name.identOf parser.behind skipWhitespace many took texts whitespaceItem isWhitespace commentOf pick or and within is
+test-before = refl
 
 -- ---- one outcome before, and one now
 
@@ -136,6 +153,7 @@ cut-from S S′ t w p q o o′ e h c =
 module _ {A B : Type 0} (S : Outcome A → Type 0) (S′ : Outcome B → Type 0) (t : List ℕ) (w : ℕ) (f f′ : ℕ → A → Outcome B) (b : Outcome B) (g : ℕ → ℕ)
     (eg : (p : ℕ) → g p ≡ w + p) (kf : (n : ℕ) (a : A) → Compared S′ t (f n a) (f′ n a)) (kb : Compared S′ t b b)
     (ks : (o : Outcome A) → S o → S′ (onOutcome o f′ b (λ p. panics (g p)))) where
+  -- both ways
   then-compared : (o o′ : Outcome A) → Compared S (drop w t) o o′ → Compared S′ t (onOutcome o f b (λ p. panics (g p))) (onOutcome o′ f′ b (λ p. panics (g p)))
   unfolding onOutcome
   then-compared (reads n a) o′ h = rw h (kf n a)
@@ -209,6 +227,7 @@ bracket-alone l (reads n c) = refl
 bracket-alone l fails = refl
 bracket-alone l (panics p) = refl
 
+-- so where a text begins with `[`
 bracket-first : (t : List ℕ) (a : Outcome Component) → is (getD t 0 0) ascii.leftSquareBracket ≡ true → componentWith a t ≡ a
 bracket-first [] a e = let z : 0 ≡ ascii.leftSquareBracket = is-true 0 _ e in absurd (omega arith)
 bracket-first (x ∷ l) a e = let q : x ≡ ascii.leftSquareBracket = is-true x _ e in rw q (bracket-alone l a)
@@ -223,6 +242,7 @@ component-with : (t : List ℕ) → componentWith (attrOf t) t ≡ componentOf t
 unfolding componentWith componentOf
 component-with t = refl
 
+-- a component
 component-compared : (t : List ℕ) → Compared (NoneRead t) t (componentBefore t) (componentOf t)
 unfolding componentBefore
 component-compared t = go (is (getD t 0 0) ascii.leftSquareBracket) refl
@@ -233,6 +253,7 @@ component-compared t = go (is (getD t 0 0) ascii.leftSquareBracket) refl
 
 -- ---- selectors: where one was cut, reading now ends before its `[`
 
+-- the byte before which it ends
 abbrev Opening : ℕ → Type 0
 Opening x = x ≡ ascii.leftSquareBracket
 
@@ -267,6 +288,7 @@ next-components t n c (reads m cs) h = (sym (getD-drop n t m 0) ∙ h .0, λ (e 
 next-components t n c fails h = h
 next-components t n c (panics p) h = h
 
+-- as many as read
 components-compared : (l : ℕ) (t : List ℕ) → Compared (ComponentsTo t) t (componentsBefore l t) (componentsOf l t)
 unfolding componentsBefore componentsOf
 components-compared zero t = refl
@@ -283,6 +305,7 @@ some-stops t (reads n cs) h =
 some-stops t fails h = absurd h
 some-stops t (panics p) h = h
 
+-- one or more, compared
 some-compared : (t : List ℕ) (o o′ : Outcome (List Component)) → Compared (ComponentsTo t) t o o′ → Compared (StopsAt Opening t) t (someOf o) (someOf o′)
 unfolding someOf
 some-compared t o o′ c =
@@ -296,6 +319,7 @@ element-reads t n name (reads m cs) h = sym (getD-drop n t m 0) ∙ h .0
 element-reads t n name fails h = h
 element-reads t n name (panics p) h = h
 
+-- a type selector and components, compared
 element-compared : (t : List ℕ)
     → Compared (ReadsTo Opening t) t (onParsed (identOf t) (λ n name. behind n (componentsBefore (length (drop n t)) (drop n t)) (λ cs. element name ∷ cs)) fails) (withElementOf t)
 unfolding withElementOf componentsFrom
@@ -310,6 +334,7 @@ read-stays t q (reads n a) h = h
 read-stays t q fails h = absurd h
 read-stays t q (panics p) h = h
 
+-- with a type selector or without
 body-compared : (t : List ℕ) → Compared (StopsAt Opening t) t (bodyBefore t) (bodyOf t)
 unfolding bodyBefore bodyOf withoutElementOf componentsFrom
 body-compared t =
@@ -325,6 +350,7 @@ no-pseudo (x ∷ u) e = let q : x ≡ ascii.leftSquareBracket = e in rw q
 abbrev selectorEnd : List ℕ → ℕ → List Component → Outcome Selector
 selectorEnd t n cs = reads (n + pseudoTaken (pseudoOf (drop n t))) (record { components = withoutBlank (reverse (withoutBlank cs)); pseudo = pseudoOf (drop n t) })
 
+-- it ends where its components do
 selector-stops : (t : List ℕ) (o : Outcome (List Component)) → StopsAt Opening t o → StopsAt {A = Selector} Opening t (onOutcome o (selectorEnd t) fails (λ p. panics p))
 unfolding onOutcome
 selector-stops t (reads n cs) h =
@@ -333,6 +359,7 @@ selector-stops t (reads n cs) h =
 selector-stops t fails h = h
 selector-stops t (panics p) h = h
 
+-- a selector
 selector-compared : (t : List ℕ) → Compared (StopsAt Opening t) t (selectorBefore t) (selectorOf t)
 unfolding selectorBefore selectorOf
 selector-compared t =
@@ -360,6 +387,7 @@ last-reads : (l : ℕ) (t : List ℕ) (k : ℕ) (x : Selector) → Opening (getD
 unfolding behind onOutcome
 last-reads l t k x b = rw (more-none l (drop k t) (first t k ∙ b)) (let e : k + 0 ≡ k = omega arith in subst (λ (i : ℕ). Barring (getD t i 0)) (sym e) (inl b))
 
+-- what follows a ',' ends before a `[`, or before that ','
 more-reads : (l : ℕ) (t : List ℕ) (w : ℕ) → getD t 0 0 ≡ ascii.comma → (o : Outcome Selector) → StopsAt Opening (drop w t) o
     → ReadsTo Barring t (onOutcome o (λ n s. behind (w + n) (moreSelectors l (drop (w + n) t)) (λ ss. s ∷ ss)) (reads 0 []) (λ p. panics (w + p)))
 unfolding onOutcome
@@ -367,6 +395,7 @@ more-reads l t w e (reads n x) h = last-reads l t (w + n) x (sym (getD-drop w t 
 more-reads l t w e fails h = inr e
 more-reads l t w e (panics p) h = absurd h
 
+-- further selectors
 more-compared : (l : ℕ) (t : List ℕ) → Compared (ReadsTo Barring t) t (moreBefore l t) (moreSelectors l t)
 unfolding moreBefore moreSelectors
 more-compared zero t = refl
@@ -378,6 +407,7 @@ more-compared (suc l) t =
     refl (more-reads l t w (is-true _ _ e)) _ _ (selector-compared (drop w t)))
     (λ _. refl)
 
+-- the first selector ends before a `[`, or is none
 first-reads : (t : List ℕ) (o : Outcome Selector) → StopsAt Opening t o
     → ReadsTo Barring t (onOutcome o (λ n s. behind n (moreSelectors (length (drop n t)) (drop n t)) (λ ss. s ∷ ss)) (reads 0 []) (λ p. panics p))
 unfolding onOutcome
@@ -385,6 +415,7 @@ first-reads t (reads n x) h = last-reads (length (drop n t)) t n x h
 first-reads t fails h = inl h
 first-reads t (panics p) h = absurd h
 
+-- a list of selectors
 selectors-compared : (t : List ℕ) → Compared (ReadsTo Barring t) t (selectorsBefore t) (selectorsOf t)
 unfolding selectorsBefore selectorsOf moreFrom
 selectors-compared t =
@@ -403,16 +434,18 @@ no-white [] h = refl
 no-white (x ∷ u) (inl e) = let q : x ≡ ascii.leftSquareBracket = e in rw q
 no-white (x ∷ u) (inr e) = let q : x ≡ ascii.comma = e in rw q
 
--- and no block
+-- and is no '{'
 no-brace : (x : ℕ) → Barring x → is x ascii.leftCurlyBracket ≡ false
 unfolding is
 no-brace x (inl e) = rw e
 no-brace x (inr e) = rw e
 
+-- so none is passed over
 no-space : (t : List ℕ) (n : ℕ) → Barring (getD t n 0) → spaced t n ≡ n
 unfolding spaced
 no-space t n h = omega (arith, no-white (drop n t) (subst Barring (sym (first t n)) h))
 
+-- and there is no block
 no-block : (t : List ℕ) (n : ℕ) → Barring (getD t n 0) → blockOf t n ≡ fails
 unfolding blockOf
 no-block t n h = sym (pick-false _ _ _ _ (ap (λ (k : ℕ). is (getD t k 0) ascii.leftCurlyBracket) (no-space t n h) ∙ no-brace _ h) refl)
@@ -450,6 +483,7 @@ at-first : (l : List ℕ) → (selectorsBefore (ascii.commercialAt ∷ l) ≡ re
 unfolding selectorsBefore selectorBefore bodyBefore componentsBefore componentBefore componentWith attrBefore selectorsOf selectorOf bodyOf withElementOf withoutElementOf someOf componentsFrom componentsOf componentOf marked blankOf classOf attrOf hashOf pseudoClassOf onOutcome orElse parsed onParsed identOf nameOf nameFrom dash nmstartOf either nmstartCharOf foldedChar identEscapeOf isNmstart parser.behind skipWhitespace many took whitespaceItem isWhitespace commentOf pick or and within is
 at-first l = (refl, refl)
 
+-- so where a text begins with it
 at-none : (u : List ℕ) → is (getD u 0 0) ascii.commercialAt ≡ true → (selectorsBefore u ≡ reads 0 []) × (selectorsOf u ≡ reads 0 [])
 at-none [] e = let z : 0 ≡ ascii.commercialAt = is-true 0 _ e in absurd (omega arith)
 at-none (x ∷ l) e = let q : x ≡ ascii.commercialAt = is-true x _ e in rw q (at-first l)
@@ -465,15 +499,17 @@ no-at-rule : (t : List ℕ) → is (getD t (skipWhitespace t) 0) ascii.commercia
 unfolding atRuleOf
 no-at-rule t e = sym (pick-false _ _ _ _ e refl)
 
--- what fails leaves the choice to the other, and fails behind 0 bytes
+-- what fails leaves the choice to the other
 failing-else : {A : Type 0} (q x : Outcome A) → q ≡ fails → Failing x → Failing (orElse x q)
 unfolding orElse
 failing-else q x e h = rw (h, e)
 
+-- and fails behind 0 bytes
 failing-behind : {A B : Type 0} (f : A → B) (o : Outcome A) → Failing o → Failing (behind 0 o f)
 unfolding behind onOutcome
 failing-behind f o h = rw h
 
+-- a statement
 statements-compared : (t : List ℕ) → Compared Failing t (statementsBefore t) (statementsOf t)
 unfolding statementsBefore statementsOf
 statements-compared t = go (is (getD t (skipWhitespace t) 0) ascii.commercialAt) refl
@@ -497,16 +533,19 @@ Calm (reads n a) = Unit
 Calm fails = Unit
 Calm (panics p) = ⊥
 
+-- behind 0 bytes
 calm-behind : {A B : Type 0} (f : A → B) (o : Outcome A) → Calm o → Calm (behind 0 o f)
 unfolding behind onOutcome
 calm-behind f (reads n a) h = tt
 calm-behind f fails h = tt
 calm-behind f (panics p) h = h
 
+-- where a statement fails the sheet ends
 calm-end : {A B : Type 0} (at : ℕ) (b : B) (f : ℕ → A → Outcome B) (g : ℕ → Outcome B) (o : Outcome A) → Failing o → Calm (onOutcome o f (reads at b) g)
 unfolding onOutcome
 calm-end at b f g o h = rw h tt
 
+-- statements from a byte on
 from-compared : (l : ℕ) (s : List ℕ) (at : ℕ) → Compared Calm s (sheetFromBefore l (drop at s) at) (sheetFrom l (drop at s) at)
 unfolding sheetFromBefore sheetFrom
 from-compared zero s at = refl
@@ -515,6 +554,7 @@ from-compared (suc l) s at =
     (λ n rs. behind-compared Calm Calm s 0 _ (calm-behind _) _ _ (rw (drop-drop n at s) (from-compared l s (at + n))))
     refl (calm-end at [] _ _) _ _ (statements-compared (drop at s))
 
+-- a sheet
 sheet-compared : (s : List ℕ) → Compared Calm s (sheetBefore s) (sheetOf s)
 unfolding sheetBefore sheetOf
 sheet-compared s = from-compared (length s) s 0
