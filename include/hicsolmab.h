@@ -45,7 +45,7 @@ enum hicsolmab_refusal {
     HICSOLMAB_BAD_TEXT = 7,    /* a name or value of the page that ends beyond its text, or is not UTF-8; place: the first such node row */
     HICSOLMAB_NO_ELEMENT = 8,  /* the row asked for is no element, or beyond the page */
     HICSOLMAB_BAD_BYTES = 9,   /* bytes that are no compiled sheet; place: the byte where the number or text starts that cannot be read, or the first left over */
-    HICSOLMAB_PANIC = 4,       /* html2text panics on a sheet: `[name=` ends it, or an nth-child number is above 2147483647; text: the sheet; place: the byte */
+    HICSOLMAB_PANIC = 4,       /* an nth-child number of a sheet, on which html2text panics, is above 2147483647; text: the sheet; place: its first digit */
     HICSOLMAB_BAD_LENGTH = 12, /* a height with one of the eight units that has five or more decimals, is above 10,000 or is below 0; place: its first byte */
     HICSOLMAB_NO_ROOM = 10     /* the compiled sheet would have more bytes than are lent, or than HICSOLMAB_COMPILED_LIMIT */
 };

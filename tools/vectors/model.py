@@ -402,7 +402,7 @@ def attribute(t, i):
         return ("attribute", name), i + 1
     start = tag(t, i, "=")
     if start == len(t):
-        raise Panic(i)
+        raise Fail  # html2text panics there
     for reader in (string, identifier):
         got = attempt(reader, t, start)
         if got and reader is string:
@@ -485,6 +485,15 @@ def sheet(t):
         if got[0]:
             rules.append(got[0])
         i = got[1]
+
+
+def panics(t):
+    """Whether html2text panics at a number, and this refuses the sheet."""
+    try:
+        sheet(t)
+    except Panic:
+        return True
+    return False
 
 
 def byte_place(t, i):

@@ -358,6 +358,16 @@ def recorded(path):
     return vectors
 
 
+def is_cut(data):
+    """Whether html2text panics since a sheet ends behind `=`, where this reads on (docs/DIFFERENCES.md): such an answer is not replayed."""
+    _, call, v = Reader(data).vector()
+    question = v["questions"][0]
+    if call not in (CALLS["read_sheet"], CALLS["compile"]) or question["results"][0] != PANIC:
+        return False
+    read, bounds = joined(v["read"], b""), itertools.accumulate([0] + question["arguments"][OWN_ARGUMENTS:])
+    return not any(model.panics(read[a:b].decode()) for a, b in itertools.pairwise(bounds))
+
+
 # ---- html2text's answers back from vectors
 
 def low_number(n):
@@ -716,7 +726,8 @@ def join(folder):
     lists = {name: cases(name) for name in LISTS}
     kept = stdin_lists() if folder is None else None
     for file, words in RECORDED.items():
-        lists[words] = recorded(os.path.join(folder, file)) if folder else kept[words]
+        answers = recorded(os.path.join(folder, file)) if folder else kept[words]
+        lists[words] = [data for data in answers if not is_cut(data)]
     lists[BY_RUNS] = [by_run(data) for data in lists[RECORDED["style_vectors"]]]
     lists[IN_BOOK_ORDER] = [made for data in lists[RECORDED["style_vectors"]] for made in in_book_order(data)]
     with open(os.path.join(REPLAY, "stdin"), "wb") as file:

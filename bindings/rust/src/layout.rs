@@ -13,7 +13,7 @@ pub const TOO_LONG: u32 = 1;
 pub const SHORT_STORE: u32 = 2;
 /// A sheet that is not UTF-8.
 pub const NOT_UTF8: u32 = 3;
-/// html2text panics on a sheet.
+/// A sheet has an nth-child number on which html2text panics.
 pub const PANIC: u32 = 4;
 /// A page over a limit, or a list that is no whole count of rows.
 pub const TOO_LARGE: u32 = 5;

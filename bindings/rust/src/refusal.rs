@@ -18,7 +18,7 @@ pub enum Reason {
     ShortStore,
     /// A sheet is not UTF-8.
     NotUtf8,
-    /// html2text panics on a sheet: it ends in `[name=`, or has an nth-child number above 2147483647.
+    /// A sheet has an nth-child number above 2147483647, on which html2text panics.
     Panic,
     /// A page is over a limit, or has a list that is no whole count of rows.
     TooLarge,
@@ -53,15 +53,12 @@ enum Call {
 /// ```
 /// use hicsolmab::{Origin, Reason, Sheets};
 ///
-/// let sheets = Sheets { author: b"a[name=", ..Sheets::default() };
+/// let sheets = Sheets { author: b"a:nth-child(2147483648){}", ..Sheets::default() };
 /// let refusal = sheets.compile().unwrap_err();
 /// assert_eq!(refusal.reason(), Reason::Panic);
 /// assert_eq!(refusal.sheet(), Some(Origin::Author));
-/// assert_eq!(refusal.place(), 6);
-/// assert_eq!(
-///     refusal.to_string(),
-///     "the author sheet ends behind the `=` at byte 6, or has an nth-child number above 2147483647 there"
-/// );
+/// assert_eq!(refusal.place(), 12);
+/// assert_eq!(refusal.to_string(), "the author sheet has an nth-child number above 2147483647 at byte 12");
 /// ```
 #[derive(Debug, Clone, Copy, PartialEq, Eq, Hash)]
 pub struct Refusal {
@@ -151,7 +148,7 @@ impl fmt::Display for Refusal {
             Reason::TooLong => write!(f, "{sheet} has more than {SHEET_LIMIT} bytes"),
             Reason::ShortStore => write!(f, "a buffer lent to the call is shorter than its least length"),
             Reason::NotUtf8 => write!(f, "{sheet} is not UTF-8"),
-            Reason::Panic => write!(f, "{sheet} ends behind the `=` at byte {place}, or has an nth-child number above {} there", i32::MAX),
+            Reason::Panic => write!(f, "{sheet} has an nth-child number above {} at byte {place}", i32::MAX),
             Reason::TooLarge => write!(
                 f,
                 "the page has more than {NODE_LIMIT} nodes, {ATTRIBUTE_LIMIT} attributes or {TEXT_LIMIT} bytes of names and values, or a list that is no whole count of rows"

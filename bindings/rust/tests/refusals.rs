@@ -77,19 +77,28 @@ fn a_sheet_that_is_not_utf8() {
 
 #[test]
 fn a_sheet_that_html2text_panics_on() {
-    let sheet = b"p{} a[name=";
+    let sheet = b"p{} a:nth-child(2147483648";
     let names = ["the agent sheet", "the user sheet", "the author sheet"];
     for (text, (origin, sheets)) in in_turn(sheet).into_iter().enumerate() {
-        let sentence = format!("{} ends behind the `=` at byte 10, or has an nth-child number above 2147483647 there", names[text]);
+        let sentence = format!("{} has an nth-child number above 2147483647 at byte 16", names[text]);
         for refusal in refused(&sheets) {
-            assert_refusal(refusal, PANIC, Reason::Panic, text, 10, &sentence);
+            assert_refusal(refusal, PANIC, Reason::Panic, text, 16, &sentence);
             assert_eq!(refusal.sheet(), Some(origin));
         }
     }
     let refusal = read_sheet(sheet).unwrap_err();
-    let sentence = "the sheet ends behind the `=` at byte 10, or has an nth-child number above 2147483647 there";
-    assert_refusal(refusal, PANIC, Reason::Panic, 0, 10, sentence);
+    let sentence = "the sheet has an nth-child number above 2147483647 at byte 16";
+    assert_refusal(refusal, PANIC, Reason::Panic, 0, 16, sentence);
     assert_eq!(refusal.sheet(), None);
+}
+
+#[test]
+fn a_sheet_that_is_cut_off_behind_an_equals_sign() {
+    let read = read_sheet(b"p{} a[name=").unwrap();
+    assert_eq!((read.rules, read.stop), (1, 4));
+    for (_, sheets) in in_turn(b"p{} a[name=") {
+        assert!(sheets.compile().is_ok());
+    }
 }
 
 #[test]
@@ -180,7 +189,7 @@ fn a_compiled_sheet_over_its_limit() {
 
 #[test]
 fn what_was_compiled_before_is_gone_after_any_refusal() {
-    for (_, sheets) in [NOT_TEXT, b"a[name="].into_iter().flat_map(in_turn) {
+    for (_, sheets) in [NOT_TEXT, b"a:nth-child(2147483648"].into_iter().flat_map(in_turn) {
         let mut compiled = Sheets { author: b"p{color:red}", ..Sheets::default() }.compile().unwrap();
         sheets.compile_into(&mut compiled, &mut Workspace::new()).unwrap_err();
         assert_eq!(compiled, Compiled::default());

@@ -52,8 +52,8 @@ noElement = 8
 abbrev pub badBytes : ℕ
 badBytes = 9
 
--- "the crate panics while reading"; "the text (0 agent, 1 user, 2 author; 0 in a call with one text ..) and the byte of `=` or of the first digit of
--- the number"
+-- "the crate panics while reading"; "the text (0 agent, 1 user, 2 author; 0 in a call with one text ..) and the byte .. of the first digit of the
+-- number". S-6: "Refusal 4 remains for nth-child digits alone."
 abbrev pub panic : ℕ
 panic = 4
 

@@ -29,7 +29,7 @@ pub const NO_ELEMENT: u32 = 8;
 // Compiled bytes that are no sheet: where the failing number or text starts, or the first byte left over.
 pub const BAD_BYTES: u32 = 9;
 
-// The crate panics while reading: the text, and the byte in it.
+// The crate panics while reading, at a number of `nth-child`: the text, and the byte of its first digit.
 pub const PANIC: u32 = 4;
 
 // A number with a unit that is no exact length, or out of range: its first byte, the sign included.

@@ -2,19 +2,16 @@
 use mathlib.Core.Path.{_≡_, refl, ap, sym, _∙_}
 use mathlib.Core.Bool.{true, false}
 use mathlib.Core.List.{List, [], _∷_, _++_, append-assoc}
-use mathlib.Core.Logic.{⊎-elim}
 use Prim.Native.Nat.{ℕ, suc, _+_, _≤_}
 use native.Mathlib.Nat.{zero-add, add-zero}
 use native.Mathlib.Omega.{arith}
-use borrow.Author.Tests.{le-leb, lt-leb}
-use lib.Dec.{leb}
-use lib.ListN.{length, getD, drop, length-append, drop-of-length-le}
+use borrow.Author.Tests.{le-leb}
+use lib.ListN.{length, getD, drop, length-append}
 use lib.Seq.{getD-drop, getD-append-seam, getD-append-add, drop-append-add}
 use Rattle.combinators.specs.Ascii as ascii
 use Rattle.combinators.specs.Choice.{pick, or, and, is, within}
 use Rattle.combinators.specs.Parsed.{ok, err, onParsed, behind}
 use Rattle.combinators.specs.Repeat.{many, took}
-use Rattle.combinators.proofs.Rules.{lt-or-ge}
 use Rattle.unicode.specs.Literal.{text}
 use Rattle.lexer.specs.Name.{isNmstart, foldedChar, nmstartCharOf, identEscapeOf, either, nmstartOf, nameFrom, dash, nameOf, identOf, identstringOf}
 use Rattle.lexer.specs.Token.{coded, textOf, isQuote, stringOf}
@@ -181,14 +178,6 @@ module _ (n : Name) (t : List ℕ) where
 
 -- a value at j, where the text behind j is v and then `]`
 module _ (s : List ℕ) (j : ℕ) (v t : List ℕ) (name w : List ℕ) (e : drop j s ≡ v ++ (ascii.rightSquareBracket ∷ t)) where
-  -- the text reaches there
-  long : (length s ≤ j) → ⊥
-  long h = let d = ap length (sym e ∙ drop-of-length-le s h) in omega (arith, length-append v (ascii.rightSquareBracket ∷ t))
-
-  -- so the reader does not panic
-  there : leb (length s) j ≡ false
-  there = lt-leb (length s) j (⊎-elim (λ h. h) (λ h. absurd (long h)) (lt-or-ge j (length s)))
-
   -- the bracket behind the value
   at-close : getD s (j + length v) 0 ≡ ascii.rightSquareBracket
   at-close = sym (getD-drop j s (length v) 0) ∙ ap (λ (l : List ℕ). getD l (length v) 0) e ∙ getD-append-seam v ascii.rightSquareBracket t 0
@@ -196,13 +185,13 @@ module _ (s : List ℕ) (j : ℕ) (v t : List ℕ) (name w : List ℕ) (e : drop
   -- a name behind the equals sign is the attribute's value
   value-name : quotedOf (v ++ (ascii.rightSquareBracket ∷ t)) ≡ err → identOf (v ++ (ascii.rightSquareBracket ∷ t)) ≡ ok (length v) w
       → valueOf s j name ≡ reads (j + length v + 1) (attributeEqual name w)
-  unfolding valueOf pick orElse onParsed
-  value-name q p = rw (there, e, q, p, closed-read s (j + length v) (attributeEqual name w) at-close)
+  unfolding valueOf orElse onParsed
+  value-name q p = rw (e, q, p, closed-read s (j + length v) (attributeEqual name w) at-close)
 
   -- a string behind the equals sign is the attribute's value
   value-string : quotedOf (v ++ (ascii.rightSquareBracket ∷ t)) ≡ ok (length v) w → valueOf s j name ≡ reads (j + length v + 1) (attributeEqual name w)
-  unfolding valueOf pick orElse onParsed
-  value-string q = rw (there, e, q, closed-read s (j + length v) (attributeEqual name w) at-close)
+  unfolding valueOf orElse onParsed
+  value-string q = rw (e, q, closed-read s (j + length v) (attributeEqual name w) at-close)
 
 -- the first byte of a name may be in a name
 first-of : (n : Name) (t : List ℕ) → identCodePoint (getD (n .bytes ++ t) 0 0) ≡ true

@@ -5,10 +5,8 @@ use mathlib.Core.List.{List, [], _∷_}
 use mathlib.Core.Logic.{_⊎_, inl, inr, ⊎-elim}
 use Prim.Native.Nat.{ℕ, _+_, _-_, _≤_, _<_}
 use native.Mathlib.Omega.{arith}
-use borrow.Author.Tests.{le-leb, lt-leb}
 use types.Run.{OneOf, miss}
 use denote.Enum.Declared.{tagOf}
-use lib.Dec.{leb}
 use lib.ListN.{length, getD, take, drop, length-drop}
 use lib.Seq.{sets, getD-drop, length-sets}
 use Rattle.combinators.specs.Ascii as ascii
@@ -17,7 +15,7 @@ use Rattle.combinators.specs.Parsed as parsing
 use Rattle.combinators.specs.Parsed.{Parsed, ok, err, onParsed}
 use Rattle.combinators.specs.Store.{wiped, Zeros}
 use Rattle.combinators.proofs.Lists.{rest, byte-there}
-use Rattle.combinators.proofs.Rules.{pick-true, pick-false, pick-holds, told, lt-or-ge}
+use Rattle.combinators.proofs.Rules.{pick-true, pick-false, pick-holds, told}
 use Rattle.combinators.proofs.Wiped.{sets-append}
 use Rattle.lexer.specs.Name.{identOf, nameAnswer, nameText}
 use Rattle.lexer.specs.Quoted.{stringEnd, stringText}
@@ -40,13 +38,13 @@ use Rattle.syntax.specs.Selector.{attribute, attributeEqual}
 use Rattle.syntax.specs.RuleLayout.{attributeKind, attributeEqualKind, componentKind, componentFirst, componentSecond, componentText}
 use Rattle.values.specs.Words.{isKind, kindOf}
 use Rattle.lexer.proofs.NameAnswers.{NameRead, named-from, unnamed-from}
-use Rattle.selectors.specs.Outcome.{Outcome, reads, fails, panics, onOutcome, parsed, orElse}
+use Rattle.selectors.specs.Outcome.{Outcome, reads, fails, onOutcome, parsed, orElse}
 use Rattle.selectors.specs.Selector.{closed, quotedOf, valueOf, attrOf}
 use Rattle.selectors.specs.Reading.{written}
-use Rattle.selectors.specs.ComponentAnswer.{componentAnswer, closedBy, closedAnswer, closedStore, attrValueOf, equalOf, equalAnswer, equalStore}
+use Rattle.selectors.specs.ComponentAnswer.{componentAnswer, closedBy, closedAnswer, closedStore, attrValueOf, equalAnswer, equalStore}
 use Rattle.selectors.specs.Stores.{Clean}
 use Rattle.selectors.specs.declared.components.ComponentAnswer.{ComponentAnswer}
-use Rattle.selectors.specs.declared.components.ComponentAnswer.the-variants.{Component, NoComponent, Panic}
+use Rattle.selectors.specs.declared.components.ComponentAnswer.the-variants.{Component, NoComponent}
 use Rattle.combinators.proofs.ZeroLaws.{zeros-back, zeros-after}
 use Rattle.selectors.proofs.ComponentLaws.{Left, left-none, or-fails, or-reads}
 
@@ -304,57 +302,35 @@ unfolding attrValueOf
 attr-value-keeps s = or-keeps s _ _ (closed-keeps s _ (quoted-keeps s)) (closed-keeps s _ (ident-keeps s))
 
 -- ---- the returns of `parse_attr_equal`
-module _ (s st : List ℕ) (at name fill : ℕ) where
+-- a value that was read is left behind the name
+equal-read : (p : Parsed (List ℕ)) (n : ℕ) (v : List ℕ) → p ≡ ok n v → (m : ℕ) → m ≡ length v → (st y : List ℕ) (at name fill : ℕ) → y ≡ sets st (fill + name) v
+    → (Component (at + 1 + n) attributeEqualKind name m ≡ equalAnswer p at name) × (y ≡ equalStore p name fill st)
+unfolding equalAnswer equalStore onParsed
+equal-read p n v e m em st y at name fill ey = rw (e, em) (refl, ey)
+
+module _ (s st : List ℕ) (at name fill : ℕ) (z : List ℕ) (x : Name)
+    (w : idents.Named (attrValueOf (take (length s - (at + 1)) (drop (at + 1) s))) st (fill + name) x z) where
   -- the answer and the store that it leaves
   abbrev EqualLeft : ComponentAnswer → List ℕ → Type 0
-  EqualLeft r z = (r ≡ equalAnswer (equalOf s at) name) × (z ≡ equalStore (equalOf s at) name fill st)
+  EqualLeft r y = (r ≡ equalAnswer (attrValueOf (drop (at + 1) s)) at name) × (y ≡ equalStore (attrValueOf (drop (at + 1) s)) name fill st)
 
-  -- a value that was read is left behind the name
-  equal-reads : (n : ℕ) (v : List ℕ) → equalOf s at ≡ reads n v → (m : ℕ) → m ≡ length v → (z : List ℕ) → z ≡ sets st (fill + name) v → EqualLeft (Component n attributeEqualKind name m) z
-  unfolding equalAnswer equalStore onOutcome
-  equal-reads n v e m em z ez = rw (e, em) (refl, ez)
+  -- the value is that of the rest of the text
+  value-lent : idents.Named (attrValueOf (drop (at + 1) s)) st (fill + name) x z
+  value-lent = rw (rest s (at + 1)) at w
 
-  -- without a value the name is wiped
-  equal-fails : equalOf s at ≡ fails → (z : List ℕ) → z ≡ wiped fill name st → EqualLeft NoComponent z
-  unfolding equalAnswer equalStore onOutcome
-  equal-fails e z ez = rw e (refl, ez)
+  -- the return where a value was read: it is left behind the name
+  pub equal-value : (n m : ℕ) → x ≡ Text n m → EqualLeft (Component (at + 1 + n) attributeEqualKind name m) z
+  unfolding nameText
+  equal-value n m h =
+      let q = named-from _ n m (sym h ∙ value-lent .0) in
+      equal-read _ n (q .name) (q .reads) m (q .long) st z at name fill (value-lent .1 ∙ ap (λ (p : Parsed (List ℕ)). sets st (fill + name) (nameText p)) (q .reads))
 
-  -- where the crate panics the name is wiped
-  equal-panics : equalOf s at ≡ panics at → (z : List ℕ) → z ≡ wiped fill name st → EqualLeft (Panic at) z
-  unfolding equalAnswer equalStore onOutcome
-  equal-panics e z ez = rw e (refl, ez)
-
-  -- a text that ends behind `=` is where the crate panics
-  pub equal-ends : length s ≡ at + 1 → (z : List ℕ) → z ≡ wiped fill name st → EqualLeft (Panic at) z
-  unfolding equalOf
-  equal-ends e z ez = equal-panics (sym (pick-true _ _ _ _ (le-leb (length s) (at + 1) (omega arith)) refl)) z ez
-
-  -- it goes on
-  module _ (lt : at < length s) (d : ¬ (length s ≡ at + 1)) (z : List ℕ) (x : Name)
-      (w : idents.Named (attrValueOf (take (length s - (at + 1)) (drop (at + 1) s))) st (fill + name) x z) where
-    -- the value is that of the rest of the text
-    behind : equalOf s at ≡ parsed (at + 1) (attrValueOf (take (length s - (at + 1)) (drop (at + 1) s))) (λ v. v)
-    unfolding equalOf
-    behind = sym (pick-false _ _ _ _ (lt-leb _ _ (differ (length s) (at + 1) (omega arith) d)) (rw (rest s (at + 1))))
-      where
-        differ : (a b : ℕ) → b ≤ a → ¬ (a ≡ b) → b < a
-        differ a b h f = ⊎-elim (λ l. l) (λ l. absurd (f (omega arith))) (lt-or-ge b a)
-
-    -- the return where a value was read
-    pub equal-value : (n m : ℕ) → x ≡ Text n m → EqualLeft (Component (at + 1 + n) attributeEqualKind name m) z
-    unfolding parsed nameText
-    equal-value n m h =
-        let q = named-from _ n m (sym h ∙ w .0) in
-        equal-reads (at + 1 + n) (q .name) (behind ∙ ap (λ (p : Parsed (List ℕ)). parsed (at + 1) p (λ v. v)) (q .reads)) m (q .long) z
-        (w .1 ∙ ap (λ (p : Parsed (List ℕ)). sets st (fill + name) (nameText p)) (q .reads))
-
-    -- the return where none was
-    pub equal-none : x ≡ NoName → (y : List ℕ) → y ≡ wiped fill name z → EqualLeft NoComponent y
-    unfolding parsed nameText
-    equal-none h y ey =
-        let q = unnamed-from _ (sym h ∙ w .0) in
-        equal-fails (behind ∙ ap (λ (p : Parsed (List ℕ)). parsed (at + 1) p (λ v. v)) q) y
-        (ey ∙ ap (wiped fill name) (w .1 ∙ ap (λ (p : Parsed (List ℕ)). sets st (fill + name) (nameText p)) q))
+  -- the return where none was: the name is wiped
+  pub equal-none : x ≡ NoName → (y : List ℕ) → y ≡ wiped fill name z → EqualLeft NoComponent y
+  unfolding equalAnswer equalStore onParsed nameText
+  equal-none h y ey =
+      let q = unnamed-from _ (sym h ∙ value-lent .0) in
+      rw q (refl, ey ∙ ap (wiped fill name) (value-lent .1 ∙ ap (λ (p : Parsed (List ℕ)). sets st (fill + name) (nameText p)) q))
 
 -- a value lies within the text
 pub equal-le : (s : List ℕ) (at : ℕ) → at < length s → (x : Name) → x ≡ nameAnswer (attrValueOf (take (length s - (at + 1)) (drop (at + 1) s))) → (n m : ℕ) → x ≡ Text n m
@@ -363,47 +339,33 @@ equal-le s at lt x e n m h =
     omega (arith, answer-le _ _ (attr-value-keeps (take (length s - (at + 1)) (drop (at + 1) s))) x e n m h, ap length (rest s (at + 1)), length-drop (at + 1) s)
 
 -- ---- the definition of a value, by its parts
-abbrev valued : Outcome (List ℕ) → List ℕ → Outcome syntax.Component
-valued o name = onOutcome o (λ n v. reads n (attributeEqual name v)) fails panics
+abbrev valued : ℕ → Parsed (List ℕ) → List ℕ → Outcome syntax.Component
+valued j p name = parsed j p (attributeEqual name)
 
 module _ (t : List ℕ) (j : ℕ) (name : List ℕ) where
   -- by the byte behind it
   by-bracket : (n : ℕ) (v : List ℕ) (b : Bool)
-      → pick b (reads (j + n + 1) (attributeEqual name v)) fails ≡ valued (parsed j (pick b (ok (n + 1) v) err) (λ v. v)) name
-  unfolding pick parsed onOutcome
+      → pick b (reads (j + n + 1) (attributeEqual name v)) fails ≡ valued j (pick b (ok (n + 1) v) err) name
+  unfolding pick parsed
   by-bracket n v true = let e : j + n + 1 ≡ j + (n + 1) = omega arith in ap (λ (k : ℕ). reads k (attributeEqual name v)) e
   by-bracket n v false = refl
 
   -- one alternative of a value, with its closing bracket
-  one-value : (p : Parsed (List ℕ)) → onParsed p (λ n v. closed t (j + n) (attributeEqual name v)) fails ≡ valued (parsed j (closedBy (drop j t) p) (λ v. v)) name
-  unfolding onParsed closed closedBy parsed onOutcome
+  one-value : (p : Parsed (List ℕ)) → onParsed p (λ n v. closed t (j + n) (attributeEqual name v)) fails ≡ valued j (closedBy (drop j t) p) name
+  unfolding onParsed closed closedBy parsed
   one-value (ok n v) = rw (getD-drop j t n 0) (by-bracket n v (is (getD t (j + n) 0) ascii.rightSquareBracket))
   one-value err = refl
 
   -- two alternatives of a value are one choice of texts
-  or-values : (p q : Parsed (List ℕ))
-      → orElse (valued (parsed j p (λ v. v)) name) (valued (parsed j q (λ v. v)) name) ≡ valued (parsed j (parsing.orElse p q) (λ v. v)) name
-  unfolding orElse parsing.orElse parsed onOutcome
+  or-values : (p q : Parsed (List ℕ)) → orElse (valued j p name) (valued j q name) ≡ valued j (parsing.orElse p q) name
+  unfolding orElse parsing.orElse parsed
   or-values (ok n v) q = refl
   or-values err q = refl
 
   -- a quoted string or else a name is the choice of the two
-  value-both : orElse (onParsed (quotedOf (drop j t)) (λ n v. closed t (j + n) (attributeEqual name v)) fails)
-      (onParsed (identOf (drop j t)) (λ n v. closed t (j + n) (attributeEqual name v)) fails)
-      ≡ valued (parsed j (attrValueOf (drop j t)) (λ v. v)) name
-  unfolding attrValueOf
+  value-both : valueOf t j name ≡ valued j (attrValueOf (drop j t)) name
+  unfolding valueOf attrValueOf
   value-both = rw (one-value (quotedOf (drop j t)), one-value (identOf (drop j t))) (or-values _ _)
-
--- by whether the text ends
-by-end : (b : Bool) (at : ℕ) (o : Outcome (List ℕ)) (name : List ℕ) → pick b (panics (at + 1 - 1)) (valued o name) ≡ valued (pick b (panics at) o) name
-unfolding pick onOutcome
-by-end true at o name = let e : at + 1 - 1 ≡ at = omega arith in ap panics e
-by-end false at o name = refl
-
--- the value of an attribute is what stands behind its `=`
-value-by-equal : (t : List ℕ) (at : ℕ) (name : List ℕ) → valueOf t (at + 1) name ≡ valued (equalOf t at) name
-unfolding valueOf equalOf
-value-by-equal t at name = rw (value-both t (at + 1) name) (by-end (leb (length t) (at + 1)) at _ name)
 
 -- ---- the returns of `parse_attr`
 -- the opening bracket is there
@@ -417,12 +379,11 @@ unfolding componentAnswer written onOutcome componentKind componentFirst compone
 attribute-left o n b e m em st z fill ez = rw (← e, em) (refl, ez)
 
 -- one with a value, or none, by what stands behind the `=`
-equal-left : (o : Outcome (List ℕ)) (b : List ℕ) (m : ℕ) → m ≡ length b → (st z : List ℕ) (fill : ℕ) → Zeros st fill → z ≡ sets st fill b → (r : ComponentAnswer) (y : List ℕ)
-    → (r ≡ equalAnswer o m) × (y ≡ equalStore o m fill z) → Left (valued o b) st fill r y
-unfolding componentAnswer written onOutcome componentKind componentFirst componentSecond componentText equalAnswer equalStore
-equal-left (reads n v) b m em st z fill c ez r y w = (w .0 ∙ rw em, w .1 ∙ rw (em, ez) (sym (sets-append st fill b v)))
-equal-left fails b m em st z fill c ez r y w = (w .0, w .1 ∙ rw ez (zeros-back st fill c b m (omega arith)))
-equal-left (panics p) b m em st z fill c ez r y w = (w .0, w .1 ∙ rw ez (zeros-back st fill c b m (omega arith)))
+equal-left : (p : Parsed (List ℕ)) (at : ℕ) (b : List ℕ) (m : ℕ) → m ≡ length b → (st z : List ℕ) (fill : ℕ) → Zeros st fill → z ≡ sets st fill b → (r : ComponentAnswer) (y : List ℕ)
+    → (r ≡ equalAnswer p at m) × (y ≡ equalStore p m fill z) → Left (valued (at + 1) p b) st fill r y
+unfolding componentAnswer written onOutcome onParsed parsed componentKind componentFirst componentSecond componentText equalAnswer equalStore
+equal-left (ok n v) at b m em st z fill c ez r y w = (w .0 ∙ rw em, w .1 ∙ rw (em, ez) (sym (sets-append st fill b v)))
+equal-left err at b m em st z fill c ez r y w = (w .0, w .1 ∙ rw ez (zeros-back st fill c b m (omega arith)))
 
 module _ (s st : List ℕ) (fill : ℕ) (t : Bool) (et : t ≡ is (getD s 0 0) ascii.leftSquareBracket) where
   -- without an opening bracket there is no attribute
@@ -514,7 +475,7 @@ module _ (s st : List ℕ) (fill : ℕ) (t : Bool) (et : t ≡ is (getD s 0 0) a
                 }
 
             pub attr-equal : Zeros st fill → (r : ComponentAnswer) (y : List ℕ)
-                → (r ≡ equalAnswer (equalOf s (1 + n)) m) × (y ≡ equalStore (equalOf s (1 + n)) m fill z) → Left (attrOf s) st fill r y
+                → (r ≡ equalAnswer (attrValueOf (drop (1 + n + 1) s)) (1 + n) m) × (y ≡ equalStore (attrValueOf (drop (1 + n + 1) s)) m fill z) → Left (attrOf s) st fill r y
             attr-equal c r y q =
-                rw (← (sym (value-by-equal s (1 + n) (name .name)) ∙ pick-true _ _ _ _ (told _ _ _ ev g) refl ∙ sym (or-fails _ _ closed-fails) ∙ attr-by))
-                (equal-left (equalOf s (1 + n)) (name .name) m (name .long) st z fill c stored-name r y q)
+                rw (← (sym (value-both s (1 + n + 1) (name .name)) ∙ pick-true _ _ _ _ (told _ _ _ ev g) refl ∙ sym (or-fails _ _ closed-fails) ∙ attr-by))
+                (equal-left _ (1 + n) (name .name) m (name .long) st z fill c stored-name r y q)

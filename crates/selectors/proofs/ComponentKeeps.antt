@@ -125,8 +125,7 @@ form-keeps s j name h l err f = tt
 value-keeps : (s : List ℕ) (j : ℕ) (name : List ℕ) → j ≤ length s → length name ≤ j → ComponentKeeps s (valueOf s j name)
 unfolding valueOf
 value-keeps s j name h l =
-    pick-holds (ComponentKeeps s) _ _ _ (λ _. omega arith)
-    (λ _. or-keeps s _ _ (form-keeps s j name h l _ (quoted-keeps (drop j s))) (form-keeps s j name h l _ (ident-keeps (drop j s))))
+    or-keeps s _ _ (form-keeps s j name h l _ (quoted-keeps (drop j s))) (form-keeps s j name h l _ (ident-keeps (drop j s)))
 
 -- what follows a name of n bytes
 named-keeps : (s : List ℕ) (n : ℕ) (name : List ℕ) → Fits (drop 1 s) n name

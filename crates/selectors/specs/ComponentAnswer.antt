@@ -2,7 +2,6 @@
 use Prim.Native.Nat.{ℕ, _+_}
 use mathlib.Core.List.{List}
 use mathlib.Core.Path.{_≡_, refl}
-use lib.Dec.{leb}
 use lib.ListN.{length, getD, drop}
 use lib.Seq.{sets}
 use Rattle.combinators.specs.Ascii as ascii
@@ -21,7 +20,7 @@ use Rattle.syntax.specs.Selector as syntax
 use Rattle.syntax.specs.Selector.{child, star}
 use Rattle.syntax.specs.RuleLayout.{classKind, attributeEqualKind, componentKind, componentFirst, componentSecond, componentText}
 use Rattle.selectors.specs.Outcome as outcome
-use Rattle.selectors.specs.Outcome.{Outcome, reads, panics, onOutcome, orElse}
+use Rattle.selectors.specs.Outcome.{Outcome, reads, onOutcome, orElse}
 use Rattle.selectors.specs.Selector.{quotedOf, marked, blankOf, classOf, attrOf, hashOf, pseudoClassOf}
 use Rattle.selectors.specs.Reading.{written}
 use Rattle.selectors.specs.declared.components.ComponentAnswer.{ComponentAnswer}
@@ -78,19 +77,10 @@ closedStore t n size fill store = pick (is (getD t n 0) ascii.rightSquareBracket
 unfoldable pub attrValueOf : List ℕ → Parsed (List ℕ)
 attrValueOf t = parsed.orElse (closedBy t (quotedOf t)) (closedBy t (identOf t))
 
--- behind the `=` at a place: its value, or that the crate panics there
-unfoldable pub equalOf : List ℕ → ℕ → Outcome (List ℕ)
-equalOf t at = pick (leb (length t) (at + 1)) (panics at) (outcome.parsed (at + 1) (attrValueOf (drop (at + 1) t)) (λ v. v))
-
--- `[a=`
-case-equal : equalOf (text "[a=") 2 ≡ panics 2
-unfolding equalOf pick text utf8
-case-equal = refl
-
--- the answer, where the name has so many bytes
-unfoldable pub equalAnswer : Outcome (List ℕ) → ℕ → ComponentAnswer
-equalAnswer o name = onOutcome o (λ n v. Component n attributeEqualKind name (length v)) NoComponent Panic
+-- the answer where a name of so many bytes has a value or none behind its `=`, which stands at a place
+unfoldable pub equalAnswer : Parsed (List ℕ) → ℕ → ℕ → ComponentAnswer
+equalAnswer p at name = onParsed p (λ n v. Component (at + 1 + n) attributeEqualKind name (length v)) NoComponent
 
 -- the store: the value stands behind the name, or the name is wiped
-unfoldable pub equalStore : Outcome (List ℕ) → ℕ → ℕ → List ℕ → List ℕ
-equalStore o name fill store = onOutcome o (λ n v. sets store (fill + name) v) (wiped fill name store) (λ p. wiped fill name store)
+unfoldable pub equalStore : Parsed (List ℕ) → ℕ → ℕ → List ℕ → List ℕ
+equalStore p name fill store = onParsed p (λ n v. sets store (fill + name) v) (wiped fill name store)

@@ -1,5 +1,5 @@
 -- Selectors: `parse_class` to `parse_selector` of src/css/parser.rs, in the crate's order.
-use Prim.Native.Nat.{ℕ, zero, suc, _+_, _-_}
+use Prim.Native.Nat.{ℕ, zero, suc, _+_}
 use mathlib.Core.Bool.{Bool, true, false}
 use mathlib.Core.List.{List, [], _∷_, reverse}
 use lib.Dec.{leb}
@@ -29,7 +29,8 @@ classOf t = pick (is (getD t 0 0) ascii.fullStop) (parsed 1 (identOf (drop 1 t))
 unfoldable pub hashOf : List ℕ → Outcome Component
 hashOf t = pick (is (getD t 0 0) ascii.numberSign) (parsed 1 (identstringOf (drop 1 t)) hash) fails
 
--- `parse_attr`. Behind `=`, at j: a quoted string and `]`, or else a name and `]`. Where the text ends there, the reader of strings panics.
+-- `parse_attr`. Behind `=`, at j: a quoted string and `]`, or else a name and `]`. "`[name=` at the end of the text now reads .. as any unreadable
+-- attribute selector does" (S-6), where the crate's reader of strings panics.
 unfoldable pub closed : List ℕ → ℕ → Component → Outcome Component
 closed t j c = pick (is (getD t j 0) ascii.rightSquareBracket) (reads (j + 1) c) fails
 
@@ -39,9 +40,8 @@ quotedOf t = onParsed (stringOf t) (λ n k. pick (isKind stringKind k) (ok n (te
 
 unfoldable pub valueOf : List ℕ → ℕ → List ℕ → Outcome Component
 valueOf t j name =
-    pick (leb (length t) j) (panics (j - 1))
-    (orElse (onParsed (quotedOf (drop j t)) (λ n v. closed t (j + n) (attributeEqual name v)) fails)
-    (onParsed (identOf (drop j t)) (λ n v. closed t (j + n) (attributeEqual name v)) fails))
+    orElse (onParsed (quotedOf (drop j t)) (λ n v. closed t (j + n) (attributeEqual name v)) fails)
+    (onParsed (identOf (drop j t)) (λ n v. closed t (j + n) (attributeEqual name v)) fails)
 
 unfoldable pub attrOf : List ℕ → Outcome Component
 attrOf t =

@@ -11,13 +11,13 @@ use syntax::rows::ATTRIBUTE;
 use syntax::rows::ATTRIBUTE_EQUAL;
 ghost use mathlib.Core.Path.{_≡_};
 ghost use Prim.Native.Nat.{_≤_, _<_, _+_, _-_};
-ghost use lib.ListN.{length};
+ghost use lib.ListN.{length, drop};
 ghost use lib.Seq.{sets};
 ghost use Rattle.lexer.specs.Name.{identOf, nameAnswer, nameText};
 ghost use Rattle.selectors.specs.Selector.{quotedOf, attrOf};
 ghost use Rattle.selectors.specs.Reading.{written};
 ghost use Rattle.syntax.specs.RuleLayout.{componentText};
-ghost use Rattle.selectors.specs.ComponentAnswer.{componentAnswer, closedAnswer, closedStore, closedBy, attrValueOf, equalOf, equalAnswer, equalStore};
+ghost use Rattle.selectors.specs.ComponentAnswer.{componentAnswer, closedAnswer, closedStore, closedBy, attrValueOf, equalAnswer, equalStore};
 ghost use Rattle.selectors.specs.Stores.{Clean};
 
 // A quoted string that is no bad one.
@@ -111,13 +111,9 @@ fn parse_attr_equal(
 ) -> ComponentAnswer
     requires { ⌜ at < length (now s) ⌝ }
     requires { ⌜ Clean (length (now s) - (at + 1)) (fill + name) (now store) ⌝ }
-    ensures { λ r. ⌜ r ≡ equalAnswer (equalOf (now (s .entry)) at) name ⌝ }
-    ensures { λ _. ⌜ now (store .exit) ≡ equalStore (equalOf (now (s .entry)) at) name fill (now (store .entry)) ⌝ }
+    ensures { λ r. ⌜ r ≡ equalAnswer (attrValueOf (drop (at + 1) (now (s .entry)))) at name ⌝ }
+    ensures { λ _. ⌜ now (store .exit) ≡ equalStore (attrValueOf (drop (at + 1) (now (s .entry)))) name fill (now (store .entry)) ⌝ }
 {
-    if s.len() == at + 1 {
-        wipe_bytes(store, fill, name);
-        return ComponentAnswer::Panic(at);
-    }
     match parse_attr_value(&s[at + 1..], store, fill + name) {
         Name::Text(n, size) => {
             return ComponentAnswer::Component {

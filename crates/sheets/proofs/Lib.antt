@@ -7,3 +7,5 @@ pub mod StatementTurns
 pub mod SheetLaws
 pub mod NthRange
 pub mod SheetBack
+pub mod DigitPlaces
+pub mod BeforeCut

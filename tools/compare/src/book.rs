@@ -1,5 +1,6 @@
 //! Book order a second time, plainly: all that speaks for a slot is gathered in order and sorted by its key, and the last of the greatest wins.
 //! What is read and which selectors match is html2text's; html2text has no such cascade.
+use crate::asked;
 use judge::answers::{Page, SLOT_WIDTH, SLOTS, Style, StyleRow, Text};
 use judge::css::questions::{self as html2text, Applied};
 
@@ -146,7 +147,7 @@ fn style_row(records: &Records) -> StyleRow {
 
 /// The style of each element of a page, in row order; None where html2text panics.
 pub fn computed_styles(sheets: [&str; 3], page: &Page, document_styles: bool) -> Option<Vec<StyleRow>> {
-    let applied = html2text::applied_rules(sheets, page)?;
+    let applied = asked::applied_rules(sheets, page)?;
     let mut records = vec![Records::default(); page.rows()];
     for (&row, applied) in page.elements().iter().zip(&applied) {
         let attributes = if document_styles { page.attributes_of(row) } else { vec![] };

@@ -1,5 +1,6 @@
 //! Both sides of the comparison with html2text: what is asked, how it is generated, and the engine's exported functions.
 
+pub mod asked;
 pub mod book;
 pub mod engine;
 pub mod generate;

@@ -1,4 +1,5 @@
 //! The questions that both sides are asked, and what counts as the same answer.
+use crate::asked;
 use crate::engine::{self, Stores};
 use crate::generate;
 use crate::height::{a_height, ask_height};
@@ -116,7 +117,7 @@ pub fn all_clear(stores: &Stores) -> bool {
 }
 
 // ---- where html2text panics: it gives no place, but its readers go from left to right, so the shortest beginning of the sheet that makes it panic ends
-// in the number that is too large, or with the `=` that ends the whole sheet.
+// in the number that is too large. A panic at no number is at no place.
 
 // Beyond this length the place is not looked for.
 const SEARCHED: usize = 2000;
@@ -128,10 +129,8 @@ pub fn place_of_panic(sheet: &str) -> Option<usize> {
     let ends_in_number = |end: usize| sheet[..end].ends_with(|c: char| c.is_ascii_digit());
     let panics = |end: usize| ends_in_number(end) && html2text::read_sheet(&sheet[..end]).is_none();
     let ends = (1..=sheet.len()).filter(|&end| sheet.is_char_boundary(end));
-    match ends.into_iter().find(|&end| panics(end)) {
-        Some(end) => Some(sheet[..end].trim_end_matches(|c: char| c.is_ascii_digit()).len()),
-        None => Some(sheet.len() - 1),
-    }
+    let number = ends.into_iter().find(|&end| panics(end));
+    Some(number.map_or(usize::MAX, |end| sheet[..end].trim_end_matches(|c: char| c.is_ascii_digit()).len()))
 }
 
 // The same refusal, at the same place where that is known.
@@ -149,7 +148,7 @@ fn ask_sheet(input: &Input) -> Answer {
     let sheet = &input.texts[0];
     let mut stores = Stores::new(sheet.len(), FILLING);
     let this = stores.read_sheet(sheet.as_bytes());
-    let Some(read) = html2text::read_sheet(sheet) else {
+    let Some(read) = asked::read_sheet(sheet) else {
         return same_panic((this.refusal, this.place), sheet, all_clear(&stores));
     };
     if this.refusal != 0 {
@@ -245,8 +244,8 @@ fn ask_compile(input: &Input) -> Answer {
     let mut stores = Stores::new(agent.len() + user.len() + author.len(), FILLING);
     let mut compiled = vec![FILLING; COMPILED_LIMIT];
     let this = stores.compile([agent.as_bytes(), user.as_bytes(), author.as_bytes()], &mut compiled);
-    let Some(bytes) = html2text::compile(agent, user, author) else {
-        let text = input.texts.iter().position(|t| html2text::read_sheet(t).is_none()).expect("a sheet that panics");
+    let Some(bytes) = asked::compile([agent, user, author]) else {
+        let text = input.texts.iter().position(|t| asked::read_sheet(t).is_none()).expect("a sheet that panics");
         if this.text != text {
             return different(&format!("html2text panics in text {text}, this refuses text {}", this.text));
         }

@@ -1,12 +1,12 @@
 //! The questions of runs: three sheets are compiled, the bytes go down a page in one call, with document styles and without, and every row is held against html2text's
 //! computed style and against this engine's own style call for the element.
+use crate::asked;
 use crate::engine::{self, Lengths, Lent, RUN_CALL, Run, RunFunction, RunResult, STYLE_CALL, Stores, Styled};
 use crate::guarded::Guarded;
 use crate::pages;
 use crate::questions::{Answer, COMPILED_LIMIT, Input, is_clear, may_overflow};
 use crate::styled::{attribute_texts, row_by_texts, say, show};
 use judge::answers::{ELEMENT_KIND, Page, STYLE_ROW_WIDTH, StyleRow};
-use judge::css::questions as html2text;
 
 /// None where the engine does not export all that is asked yet.
 pub const ASK_RUN: Option<fn(&Input) -> Answer> = match (RUN_CALL, STYLE_CALL) {
@@ -230,7 +230,7 @@ pub fn wrong(asked: &Asked, ran: &Ran, switch: u32, styles: &[StyleRow]) -> Opti
 }
 
 fn ask_rows(function: RunFunction, asked: &Asked, document_styles: bool) -> Result<(), String> {
-    let styles = html2text::computed_styles(asked.styled.sheets, asked.styled.page, document_styles).ok_or("  html2text panics while it computes styles")?;
+    let styles = asked::computed_styles(asked.styled.sheets, asked.styled.page, document_styles).ok_or("  html2text panics while it computes styles")?;
     let (run, turn) = (asked.run(), asked.turn() + usize::from(document_styles));
     let switch = if document_styles { ON[turn % ON.len()] } else { 0 };
     let ran = run_with(function, &run, switch, run.least().longer(MORE[turn % MORE.len()]), asked.filling());
@@ -250,7 +250,7 @@ fn ask_run(input: &Input) -> Answer {
     let function = RUN_CALL.expect("a question that is there");
     let page = pages::page(&input.tree);
     let styled = Styled { sheets: [&input.texts[0], &input.texts[1], &input.texts[2]], page: &page };
-    let read: Vec<_> = styled.sheets.iter().map(|s| html2text::read_sheet(s)).collect();
+    let read: Vec<_> = styled.sheets.iter().map(|s| asked::read_sheet(s)).collect();
     let Some(compiled) = compile(styled.sheets) else {
         let panics = read.iter().any(Option::is_none);
         return if panics { Answer::SamePanic } else { Answer::Different("  this does not compile what html2text reads".to_string()) };

@@ -1,4 +1,5 @@
 //! The questions of styles: for each element of a page, with document styles and without, what three sheets and the page make of it.
+use crate::asked;
 use crate::book;
 use crate::engine::{self, BOOK_CALL, STYLE_CALL, Stores, StyleFunction, StyleResult, Styled};
 use crate::pages;
@@ -130,7 +131,7 @@ pub fn show(row: &StyleRow) -> String {
 
 // Those of all contents that a sheet's rules have, whether or not they match.
 fn sheet_texts(sheet: &str) -> Vec<u8> {
-    let read = html2text::read_sheet(sheet).expect("a sheet that reads");
+    let read = asked::read_sheet(sheet).expect("a sheet that reads");
     let content = |decl: &Decl| if let Decl::Content(text) = decl { text.clone() } else { vec![] };
     read.rules.iter().flat_map(|r| &r.declarations).flat_map(|d| content(&d.decl)).collect()
 }
@@ -259,7 +260,7 @@ fn ask(input: &Input, function: Option<StyleFunction>, styles: Styles) -> Answer
     if let Err(how) = refusals.iter().try_for_each(|ask| ask(function, &styled)) {
         return Answer::Different(how);
     }
-    let read: Vec<_> = styled.sheets.iter().map(|s| html2text::read_sheet(s)).collect();
+    let read: Vec<_> = styled.sheets.iter().map(|s| asked::read_sheet(s)).collect();
     if let Some(text) = read.iter().position(Option::is_none) {
         return answer(ask_where_it_panics(function, &styled, text), Answer::SamePanic);
     }
@@ -270,7 +271,7 @@ fn ask(input: &Input, function: Option<StyleFunction>, styles: Styles) -> Answer
 }
 
 fn ask_computed(input: &Input) -> Answer {
-    ask(input, STYLE_CALL, html2text::computed_styles)
+    ask(input, STYLE_CALL, asked::computed_styles)
 }
 
 fn ask_book(input: &Input) -> Answer {
