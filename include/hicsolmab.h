@@ -233,7 +233,7 @@ typedef struct {
 /* Reads a sheet: how many rules it has, and where reading stopped. Like html2text, a reader stops for good at the first rule that it cannot read; that is an
  * answer and no refusal. `rules` and `texts` get the rules (crates/syntax/specs/RuleLayout.antt says how they lie there).
  *
- * Least lengths for HICSOLMAB_READ_SHEET_BYTES. Refuses TOO_LONG, SHORT_STORE, NOT_UTF8, PANIC. Stack: 2,608 bytes. */
+ * Least lengths for HICSOLMAB_READ_SHEET_BYTES. Refuses TOO_LONG, SHORT_STORE, NOT_UTF8, PANIC. Stack: 2,624 bytes. */
 hicsolmab_sheet_result hicsolmab_read_sheet(const uint8_t *sheet, size_t sheet_length,
                                             uint32_t *rules, size_t rules_length,
                                             uint32_t *tokens, size_t tokens_length,
@@ -279,7 +279,7 @@ typedef struct {
  * crates/compiled/specs/Sheet.antt. What `texts` gets, the texts that rules name, a caller need not look at.)
  *
  * Least lengths for HICSOLMAB_COMPILE_BYTES; `compiled` may have any length, and is too short where NO_ROOM says so. Refuses TOO_LONG, SHORT_STORE, NOT_UTF8,
- * PANIC, NO_ROOM. Stack: 3,136 bytes. */
+ * PANIC, NO_ROOM. Stack: 3,152 bytes. */
 hicsolmab_compile_result hicsolmab_compile(const uint8_t *agent, size_t agent_length,
                                            const uint8_t *user, size_t user_length,
                                            const uint8_t *author, size_t author_length,
@@ -362,7 +362,7 @@ typedef struct {
  * `compiled`, a text that starts below c lies at compiled + start, any other at texts + (start - c). hicsolmab_content finds it.
  *
  * Least lengths for HICSOLMAB_RUN_BYTES, and HICSOLMAB_ROWS_LEAST and HICSOLMAB_STATE_LEAST. Refuses TOO_LONG, SHORT_STORE, TOO_LARGE, BAD_ROW, BAD_TEXT,
- * BAD_BYTES. Stack: 2,832 bytes. */
+ * BAD_BYTES. Stack: 2,880 bytes. */
 hicsolmab_run_result hicsolmab_run(const uint8_t *compiled, size_t compiled_length,
                                    const uint32_t *nodes, size_t nodes_length,
                                    const uint32_t *attributes, size_t attributes_length,
