@@ -166,7 +166,7 @@ module _ (s : SheetTexts) (g : Page) (settings : Settings) (code : List ℕ) (c 
   unfolding ran
   leaves-long = (padded-fits (pageRows code settings g) (length (b .rows)) rows-fit, padded-fits contents (length (b .texts)) texts-fit)
 
--- the claim
+-- where compiling and a style call refuse nothing and the run is lent enough, the run agrees with every style call of the page
 pub demand3 : Demand3
 demand3 =
     record {

@@ -54,7 +54,7 @@ module _ {A B : Type 0} (R : A → B → Type 0) where
       (h .styles-same))
       (declared-alike hs)
 
-  -- and match alike
+  -- of two such lists, the selectors that match a path are again the same one by one
   pub matching-alike : (p : Path) {xs : List (WalkedSelector A)} {ys : List (WalkedSelector B)} → Each SameSelector xs ys → Each SameSelector (matchingAt p xs) (matchingAt p ys)
   unfolding matchingBy
   matching-alike p none = none
@@ -69,7 +69,7 @@ module _ (p : Path) where
   abbrev said : List CompiledSelector → List (Declared Style)
   said ss = selectorsDeclare (matchingAt p (map meantSelector ss))
 
-  -- of two lists
+  -- what two lists of selectors say when joined is what the first says, then what the second says
   said-append : (a b : List CompiledSelector) → said (a ++ b) ≡ said a ++ said b
   said-append a b =
       rw (map-append meantSelector a b, matching-append p (map meantSelector a) (map meantSelector b), declared-append (matchingAt p (map meantSelector a)) (matchingAt p (map meantSelector b)))
@@ -102,7 +102,7 @@ module _ (p : Path) where
   nothing-one true a b e f = e
   nothing-one false a b e f = f
 
-  -- whatever its selectors
+  -- a rule without styles says nothing, whatever its selectors
   nothing-said : (ss : List Selector) → selectorsSay {A = Style} p [] ss ≡ []
   unfolding selectorsSay selectorSays
   nothing-said [] = refl
@@ -123,7 +123,7 @@ module _ (p : Path) where
       ∙ ap₂ _++_ (styled-said o (stylesOf (r .declarations)) (r .selectors)) (sheet-said o rs)
       ∙ sym (map-append (fromRule o) (selectorsSay p (map meant (ruleStyles r)) (r .selectors)) (rulesSay p (map meantRule rs)))
 
-  -- the three sheets
+  -- what the matching selectors of three sheets declare is what the agent's rules say, then the user's, then the author's
   pub selectors-declare : (agent user author : List RuleSet) → selectorsDeclare (matchingAt p (map meantSelector (selectorsOf agent user author)))
       ≡ map (fromRule agentOrigin) (rulesSay p (map meantRule agent)) ++ (map (fromRule userOrigin) (rulesSay p (map meantRule user)) ++ map (fromRule authorOrigin) (rulesSay p (map meantRule author)))
   unfolding selectorsOf

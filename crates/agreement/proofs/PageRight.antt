@@ -113,7 +113,7 @@ module _ (rules : Rules RuleSet) (fits : SheetFits (sheetsSelectors rules)) (set
   row-right zero there before k = absurd (omega (arith, k, document-kind (g .nodes) (g .attributes) (g .text) ok))
   row-right (suc i) there before k = element-right i there before k
 
-  -- the first n
+  -- so every row of the page is right, by the number n of rows up to it
   rows-right : (n i : ℕ) → i < n → i < count → RightAt i
   rows-right zero i l there = absurd (not-suc-le-zero l)
   rows-right (suc n) i l there = row-right i there (λ (j : ℕ) (h : j < i). rows-right n j (omega arith) (omega arith))

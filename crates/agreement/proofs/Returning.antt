@@ -71,7 +71,7 @@ module _ (s : SheetTexts) (b : CompileBuffers) where
       ap (λ (q : CompileNumbers). record { answer = q; compiled = k; texts = t; rules = y; tokens = x; brackets = z }) f ∙ e in
       (g, subst Within (sym g) bytes-within)
 
--- the three calls
+-- what the three calls leave, each as its contract says, agrees: the run's row is the style call's
 pub calls-agree : (s : SheetTexts) (g : Page) (settings : Settings) (b : CompileBuffers) (w : RunBuffers) (row : ℕ) (v : StyleBuffers) {c : CompileLeft} {r : RunLeft} {l : StyleLeft}
     → c ≡ compileWith s b → r ≡ runWith (codeOf c) settings g w → l ≡ styleWith settings s g row v → Agreed c r l row
 calls-agree s g settings b w row v {c} {r} {l} e f h =

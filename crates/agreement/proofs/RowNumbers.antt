@@ -44,7 +44,7 @@ record-number : (p : Record Value) (k n : ℕ) → length (p .slots) ≡ slotCou
 unfolding recordNumbers slotOf
 record-number p k n f h l = slots-number (p .slots) k n l (omega (arith, f))
 
--- its first number
+-- the first number of a record says whether it is present
 record-presence : (p : Record Value) → getD (recordNumbers p) 0 0 ≡ flag (p .present)
 unfolding recordNumbers
 record-presence p = refl

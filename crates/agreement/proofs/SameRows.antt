@@ -43,7 +43,7 @@ values-agree t u k style.displayNone v w o p q = (λ _. p ∙ sym q, λ e. absur
 values-agree t u k (style.whiteSpace x) v w o p q = (λ _. p ∙ sym q, λ e. absurd (omega (arith, o, e)))
 values-agree t u k (style.content x) v w o p q = (λ n. absurd (n (sym o)), λ _. record { within-t = p .within; within-u = q .within; same = p .named ∙ sym (q .named) })
 
--- ---- two slots
+-- ---- two slots for one style: both empty, or both held, of one weight and with values that agree
 pub data Alike (t u : List ℕ) (k : ℕ) : Slot Value → Slot Value → Type 0 where
   neither : Alike t u k empty empty
   both : {a b : Candidate Value} → a .weight ≡ b .weight → Agree t u k (a .value) (b .value) → Alike t u k (held a) (held b)
@@ -127,7 +127,7 @@ module _ {A B : Type 0} (R : A → B → Type 0) (x : ComputedStyle A) (y : Comp
       pick-same (SameRecord R) (is r mainRecord) (is r mainRecord) _ _ _ _ refl (q .main)
       (pick-same (SameRecord R) (is r beforeRecord) (is r beforeRecord) _ _ _ _ refl (q .before) (q .after))
 
-  -- and slots
+  -- at each record and place they have the same slots
   slots-same : (r k : ℕ) → SameSlot R (slotIn x r k) (slotIn y r k)
   unfolding slotIn slotOf
   slots-same r k = each-get (SameSlot R) k empty empty both-empty (records-same r .all)
@@ -175,7 +175,7 @@ module _ (t u : List ℕ) (x y : ComputedStyle Value) (m : ComputedStyle Style) 
         same = ap₂ (part t) xs xl ∙ s .same ∙ sym (ap₂ (part u) ys yl);
       }
 
-  -- all of it
+  -- two rows that say one style are the same row: numbers, flags, contents by their texts, zeros where a slot is not filled
   pub rows-same : SameRow t u (rowOf x) (rowOf y)
   rows-same =
       record {

@@ -58,7 +58,7 @@ module _ (t : List ℕ) where
       subst (Behind (i + length a + length b) x) (sym e) (content-behind (i + length a + length b) x)
       (omega (arith, held-within t i (a ++ (b ++ c)) h (style-some d), length-append a (b ++ c), length-append b c)) (text-there t d i h)
 
-  -- a style
+  -- where the bytes of a style lie, the pass reads it whole, with the same slot and importance, and its value says the style's
   style-walked : (d : StyleDecl) (i : ℕ) → StyleFits d → Held t i (styleBytes d)
       → Reads (mapped inNumbers (styleNumbersAt t i)) (i + length (styleBytes d)) (λ u x. SameStyled (Says u) x (meant d))
   style-walked d i f h = (
@@ -85,7 +85,7 @@ module _ (t : List ℕ) where
         λ more. next (one .2 more) (rest .2 more),
       )
 
-  -- with their count
+  -- the same with their count before them: where the bytes of a list of styles lie, they are read whole and say those styles
   counted-walked : (ds : List StyleDecl) (i : ℕ) → length ds < numberLimit → All StyleFits ds → Held t i (stylesBytes ds)
       → Reads (walkedStylesAt t i) (i + length (stylesBytes ds)) (λ u xs. Each (SameStyled (Says u)) xs (map meant ds))
   unfolding walkedStylesAt stylesBytes

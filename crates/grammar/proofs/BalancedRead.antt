@@ -46,7 +46,7 @@ unfoldable stack : List ℕ → List Frame → List ℕ
 stack base [] = base
 stack base (f ∷ fs) = closes (f .bracket) ∷ stack base fs
 
--- inside no other
+-- inside no other bracket, those are awaited that were before
 stack-none : (base : List ℕ) → stack base [] ≡ base
 unfolding stack
 stack-none base = refl
@@ -64,7 +64,7 @@ opening-opens round = refl
 opening-opens square = refl
 opening-opens curly = refl
 
--- closing ones too
+-- a closing bracket is written as in the tokens, too
 opening-closes : (b : Bracket) → grammar.closer (opening b) ≡ closes b
 unfolding opening closes grammar.closer
 opening-closes round = refl
@@ -152,7 +152,7 @@ left-clear calm v r fs l c =
     let k = all-first calm v fs c in
     all-other calm v r fs c (leaves-clear l (k .0), left-calm calm v r l (k .1))
 
--- behind a string
+-- where no semicolon and no brace block may stand, none stands behind a string either
 string-level : (base : List ℕ) (q : Quoted) (v : Balanced) → Level base (quoted q v) → Level base v
 unfolding Level Outside
 string-level [] q v s = s
@@ -188,7 +188,7 @@ bang-clear calm v fs c = let k = by-calm calm (all-first calm (bang v) fs c) in 
     by-calm true k = absurd (unfold CalmIf Calm in k .1)
     by-calm false k = unfold Clear CalmIf in ((λ e. never e), (k .0, tt))
 
--- inside a block
+-- a bracket that may stand there may be closed there, and what stands behind its block is as it must be
 block-level : (base : List ℕ) (b : Bracket) (w v : Balanced) → Level base (block b w v) → Closable base b [] × Level base v
 unfolding Level Outside Closable
 block-level [] round w v s = (tt, s)
@@ -222,7 +222,7 @@ block-clear calm b w v fs c = let k = by-calm calm (all-first calm (block b w v)
     by-calm true k = unfold Clear CalmIf Calm in ((k .0 .0, k .1 .0), (k .0 .1, k .1 .1))
     by-calm false k = unfold Clear CalmIf in ((k .0 .0, tt), (k .0 .1, tt))
 
--- behind a '!'
+-- what stands behind a '!' is as it must be there, too
 bang-level : (base : List ℕ) (v : Balanced) → Level base (bang v) → Level base v
 unfolding Level Outside
 bang-level [] v s = s
@@ -246,19 +246,19 @@ unfolding Unbanged
 unbanged-plain [] h = unfold isImportant in refl
 unbanged-plain (k ∷ ks) h = plain-first k ks (h .0) ∙ unbanged-plain ks (h .1)
 
--- steps at tokens
+-- what a statement does at each kind of token
 module _ (include : Bool) where
-  -- one without brackets
+  -- a token without brackets is passed: the brackets that are awaited stay
   harmless-goes : (k : Token) (cs : List ℕ) → Harmless k → stepOf include (bracketOf k) cs ≡ values.next cs
   unfolding stepOf
   harmless-goes k cs h = rw (h .0)
 
-  -- a function
+  -- at a function, the round bracket that closes it is awaited
   call-goes : (b : List ℕ) (cs : List ℕ) → stepOf include (bracketOf (tokens.function b)) cs ≡ values.next (closes round ∷ cs)
   unfolding stepOf bracketOf bracketBy coded closes
   call-goes b cs = refl
 
-  -- a string
+  -- a string is passed: the brackets that are awaited stay
   string-goes : (b : List ℕ) (cs : List ℕ) → stepOf include (bracketOf (tokens.string b)) cs ≡ values.next cs
   unfolding stepOf bracketOf bracketBy coded
   string-goes b cs = refl
@@ -268,12 +268,12 @@ module _ (include : Bool) where
   unfolding stepOf bracketOf bracketBy coded values.ending
   semicolon-goes c cs = refl
 
-  -- a '!'
+  -- a '!' is passed: the brackets that are awaited stay
   bang-goes : (cs : List ℕ) → stepOf include (bracketOf (tokens.delim ascii.exclamationMark)) cs ≡ values.next cs
   unfolding stepOf bracketOf bracketBy coded
   bang-goes cs = refl
 
-  -- an opening bracket
+  -- at an opening bracket, the one that closes it is awaited before the others
   block-goes : (base : List ℕ) (b : Bracket) (v : Balanced) (fs : List Frame)
       → stepOf include (bracketOf (grammar.meansOpening (opening b))) (stack base fs) ≡ values.next (stack base (record { bracket = b; behind = v } ∷ fs))
   unfolding stepOf bracketOf bracketBy coded grammar.meansOpening opening closes stack
@@ -295,7 +295,7 @@ module _ (include : Bool) where
   close-last square h = refl
   close-last curly h = absurd h
 
-  -- either
+  -- a closing bracket that is awaited is passed, whether others are awaited or not
   close-goes : (base : List ℕ) (b : Bracket) (fs : List Frame) → Closable base b fs
       → stepOf include (bracketOf (grammar.meansCloser (opening b))) (closes b ∷ stack base fs) ≡ values.next (stack base fs)
   unfolding stack
@@ -342,7 +342,7 @@ module _ (include calm : Bool) (base : List ℕ) (z : List ℕ) (hz : Halts z) w
       let f = token-fits s n k e in
       omega (arith, f .some, f .within-text, length-drop n s, ap length d)
 
-  -- behind white space
+  -- where a token begins behind white space and the rest passes, all of it passes
   token-step : (l : ℕ) (b : Blanks) (u t : List ℕ) (at n : ℕ) (k : Token) (cs ds : List ℕ) → Begins u n k → drop n u ≡ t → stepOf include (bracketOf k) cs ≡ values.next ds
       → (calm ≡ true → isDelim ascii.exclamationMark k ≡ false) → length (b .bytes ++ u) < suc l → ((j : ℕ) → length t < l → Through include calm t z j ds base) → Through include calm (b .bytes ++ u) z at cs base
   token-step l b u t at n k cs ds e d g w h r =
@@ -396,7 +396,7 @@ string-drop q b t =
 module _ (include calm : Bool) (base : List ℕ) (z : List ℕ) (hz : Halts z) (l : ℕ)
     (ih : (v : Balanced) (fs : List Frame) (at : ℕ) → length (writtenBalanced v ++ after fs z) < l → AllClear calm v fs → Sound base v fs
     → Through include calm (writtenBalanced v ++ after fs z) z at (stack base fs) base) where
-  -- a plain character
+  -- a text that begins with a plain character passes: with its token, whatever it is, if the rest does
   plain-step : (b : Blanks) (x : ℕ) (e : isPlain x ≡ true) (v : Balanced) (fs : List Frame) (at : ℕ) → length (b .bytes ++ (writtenBalanced (plain x e v) ++ after fs z)) < suc l
       → AllClear calm (plain x e v) fs → Sound base (plain x e v) fs → Through include calm (b .bytes ++ (writtenBalanced (plain x e v) ++ after fs z)) z at (stack base fs) base
   plain-step b x e v fs at h c s = by-token _ refl (start-in (after fs z) ha x e v k)
@@ -432,7 +432,7 @@ module _ (include calm : Bool) (base : List ℕ) (z : List ℕ) (hz : Halts z) (
               ih w (record { bracket = round; behind = r } ∷ fs) i d (block-clear calm round w r fs (left-clear calm (plain x e v) (block round w r) fs y c))
               (block-sound base round w r fs (left-sound base (plain x e v) (block round w r) fs y s))
 
-  -- a string
+  -- a text that begins with a string passes, if the rest does
   string-step : (b : Blanks) (q : Quoted) (v : Balanced) (fs : List Frame) (at : ℕ) → length (b .bytes ++ (writtenBalanced (quoted q v) ++ after fs z)) < suc l
       → AllClear calm (quoted q v) fs → Sound base (quoted q v) fs → Through include calm (b .bytes ++ (writtenBalanced (quoted q v) ++ after fs z)) z at (stack base fs) base
   string-step b q v fs at h c s =
@@ -465,7 +465,7 @@ module _ (include calm : Bool) (base : List ℕ) (z : List ℕ) (hz : Halts z) (
           semicolon-in b v [] at x cs (stack-none base ∙ e) h c (unfold Sound in (subst (λ (q : List ℕ). Level q v) (sym e) (unfold Level in tt), unfold Tight in k .1))
   semicolon-step b v (f ∷ fs) at h c s = semicolon-in b v (f ∷ fs) at (closes (f .bracket)) (stack base fs) (unfold stack in refl) h c (unfold Sound in s)
 
-  -- a '!'
+  -- a text that begins with a '!' passes, if the rest does
   bang-step : (b : Blanks) (v : Balanced) (fs : List Frame) (at : ℕ) → length (b .bytes ++ (writtenBalanced (bang v) ++ after fs z)) < suc l
       → AllClear calm (bang v) fs → Sound base (bang v) fs → Through include calm (b .bytes ++ (writtenBalanced (bang v) ++ after fs z)) z at (stack base fs) base
   unfolding writtenBalanced
@@ -475,7 +475,7 @@ module _ (include calm : Bool) (base : List ℕ) (z : List ℕ) (hz : Halts z) (
       token-step include calm base z hz l b (ascii.exclamationMark ∷ t) t at 1 (tokens.delim ascii.exclamationMark) (stack base fs) (stack base fs) (bang-begins t) refl (bang-goes include (stack base fs))
       (λ e. absurd (k .0 e)) h (λ i w. ih v fs i w (k .1) (bang-sound base v fs s))
 
-  -- an opening bracket
+  -- a text that begins with an opening bracket passes, if what is inside it and behind it does
   block-step : (b : Blanks) (k : Bracket) (w v : Balanced) (fs : List Frame) (at : ℕ) → length (b .bytes ++ (writtenBalanced (block k w v) ++ after fs z)) < suc l
       → AllClear calm (block k w v) fs → Sound base (block k w v) fs → Through include calm (b .bytes ++ (writtenBalanced (block k w v) ++ after fs z)) z at (stack base fs) base
   block-step b k w v fs at h c s =
@@ -501,7 +501,7 @@ module _ (include calm : Bool) (base : List ℕ) (z : List ℕ) (hz : Halts z) (
   solid-step b (bang v) fs at o h c s = bang-step b v fs at h c s
   solid-step b (block k w v) fs at o h c s = block-step b k w v fs at h c s
 
-  -- what closes it
+  -- where only white space is left, the bracket around the text is closed, or outside all brackets the end is reached
   void-step : (b : Blanks) (v : Balanced) (fs : List Frame) (at : ℕ) → Void v → writtenBalanced v ≡ b .bytes → length (writtenBalanced v ++ after fs z) < suc l
       → AllClear calm v fs → Sound base v fs → Through include calm (writtenBalanced v ++ after fs z) z at (stack base fs) base
   unfolding after stack AllClear Sound Unbanged
@@ -514,7 +514,7 @@ module _ (include calm : Bool) (base : List ℕ) (z : List ℕ) (hz : Halts z) (
       (token-step include calm base z hz l b (closes k ∷ t) t at 1 (grammar.meansCloser (opening k)) (closes k ∷ stack base fs) (stack base fs) (bracket-begins k t .1) refl (close-goes include base k fs (s .0))
       (λ _. brackets-unbanged k .1) (subst (λ (u : List ℕ). length (u ++ (closes k ∷ t)) < suc l) e h) (λ i w. ih (f .behind) fs i w (c .1) (s .1)))
 
-  -- every text
+  -- every text passes, if all shorter ones do
   text-step : (v : Balanced) (fs : List Frame) (at : ℕ) → length (writtenBalanced v ++ after fs z) < suc l → AllClear calm v fs → Sound base v fs
       → Through include calm (writtenBalanced v ++ after fs z) z at (stack base fs) base
   text-step v fs at h c s = by-skipped (skipped v (after fs z) (first-clear calm v fs c) (after-halts fs z hz))

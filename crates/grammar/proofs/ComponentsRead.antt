@@ -76,7 +76,7 @@ name-component x l n b e z p =
       zero-add n,
     )
 
--- a type selector
+-- a type selector: a name that ends there, with no bracket or mark before it
 module _ (n : Name) (t : List ℕ) (h : Ended t) where
   -- by how the name starts
   by-start : (bytes : List ℕ) → IdentSequence bytes → identOf (bytes ++ t) ≡ ok (length bytes) bytes → componentOf (bytes ++ t) ≡ reads (length bytes) (element bytes)

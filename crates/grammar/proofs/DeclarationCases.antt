@@ -36,7 +36,7 @@ use Rattle.grammar.specs.Declarations as declarations
 use Rattle.grammar.proofs.Spelling.{isSpelt, ident, spelt, hashed, quoted}
 use Rattle.grammar.proofs.GrammarCases.{nothing, blank}
 
--- `Color: #0F0`
+-- `Color: #0F0`, three digits and letters of either case: green
 unfoldable green : Declared
 unfolding isSpelt allOf ident hashed folded lower isHexDigit identStart identCodePoint letter knownName text utf8 pick or and is within
 green =
@@ -47,7 +47,7 @@ test-green : (property green .bytes ≡ text "Color") × (writtenValue green ≡
 unfolding green property ident writtenValue knownValues colourValues shadeValues hashed writtenValues writtenAtom meansDeclared meansKnown meansColour meansShade pair hexDigit text utf8 continuation pick and within
 test-green = (refl, refl, refl)
 
--- `background:Orange`
+-- `background:Orange`, a colour by its name in letters of either case
 unfoldable orange : Declared
 unfolding isSpelt allOf ident folded lower identStart identCodePoint letter knownName lookup foundOr sameText text utf8 continuation pick or and is within
 orange = known (ident (text "background") refl) nothing (background (named (record { name = ident (text "Orange") refl; means = rgb 255 165 0; listed = refl }))) refl
@@ -56,7 +56,7 @@ test-orange : (writtenValue orange ≡ text "Orange") × (meansDeclared orange �
 unfolding orange ident writtenValue knownValues shadeValues writtenValues writtenAtom meansDeclared meansKnown meansShade text utf8 continuation pick
 test-orange = (refl, refl)
 
--- `color:RGB( 7,+20 ,255)`
+-- `color:RGB( 7,+20 ,255)`, three numbers with white space and a sign
 unfoldable seven : Numeral
 unfolding isDigit and within text utf8 pick
 seven = record { sign = unsigned; fraction = false; digits = text "7"; are = more refl each.none; some = omega arith }
@@ -81,7 +81,7 @@ test-mixed : (writtenValue mixed ≡ text "RGB( 7,+20 ,255)") × (meansDeclared 
 unfolding mixed seven twenty full ident writtenValue knownValues colourValues partValues writtenValues writtenAtom writtenNumeral writtenSign writtenStop writtenOpening closer meansDeclared meansKnown meansColour worth numeral text utf8 continuation pick
 test-mixed = (refl, refl)
 
--- `height:.05EM`, `max-height:-0`
+-- `height:.05EM`, `max-height:-0`: a length that is not zero, and one that is
 unfoldable tiny : Declared
 unfolding isDigit isSpelt allOf ident folded lower identStart identCodePoint letter knownName isExponent startsWith isZero negative anyOf sameText text utf8 continuation pick or and is within
 tiny =

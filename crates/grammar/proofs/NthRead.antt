@@ -118,7 +118,7 @@ unworded t e =
       starts-not 0x6f (0x64 ∷ 0x64 ∷ []) t (differs numericByte (getD t 0 0) 0x6f e (no-words .1)),
     )
 
--- ---- an+b
+-- ---- an+b, an and b, by what stands behind the sign and the digits
 module _ (t : List ℕ) (i n w m : ℕ) (minus₁ : Bool) (hi : signTaken t ≡ i) (hn : digits (drop i t) ≡ n) (hm : isMinus t 0 ≡ minus₁) where
   -- all of it is there
   both-by : getD t (i + n) 0 ≡ ascii.smallN → skipWhitespace (drop (i + n + 1) t) ≡ w → digits (drop (i + n + 1 + w + 1) t) ≡ m → isSign t (i + n + 1 + w) ≡ true → 1 ≤ m

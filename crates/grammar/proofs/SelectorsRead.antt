@@ -293,7 +293,7 @@ end-fails (ends (block t)) = refl
 end-fails (ends (another t)) = refl
 end-fails (colons t) = refl
 
--- no white space
+-- there no white space, no '>' and no '*' begins
 end-item : {t : List ℕ} → Stops t → Begins t
 unfolding whitespaceItem isWhitespace commentOf pick or is
 end-item (ends text-ends) = record { item = refl; no-greater = refl; no-star = refl }
@@ -778,7 +778,7 @@ pseudo-found syntax.none t d = absurd (d refl)
 pseudo-found syntax.before t d = refl
 pseudo-found syntax.after t d = refl
 
--- whole
+-- a pseudo element takes as many bytes as it is written with
 pseudo-taken : (p : PseudoElement) → pseudoTaken p ≡ length (writtenPseudo p)
 unfolding writtenPseudo pseudoTaken
 pseudo-taken syntax.none = refl

@@ -84,7 +84,7 @@ plains (x ∷ w) e v = let p = and-true (balanced.isPlain x) (allOf balanced.isP
 abbrev spaced : balanced.Balanced → balanced.Balanced
 spaced v = balanced.space ascii.space blank-space v
 
--- ---- `@charset "utf-8";`
+-- ---- `@charset "utf-8";`, an at-rule that ends with a semicolon
 unfoldable encoding : Quoted
 unfolding isQuote plain ordinary unprocessed allOf text utf8 continuation pick or and is
 encoding = quoted ascii.quotationMark (text "utf-8") refl refl refl

@@ -126,7 +126,7 @@ module _ (v : Balanced) (h : Clear v) (o : Outside v) (r : Tight v) (g : Blanks)
       ended-by (writtenBalanced v ++ (g .bytes ++ (ascii.leftCurlyBracket ∷ f))) x e (passes-on p (passes-on q m)) (length (b .bytes) + 1) (meansCloser brace) (closer-read b brace x) (end-steps .1)
       (omega (arith, length-append (b .bytes) (ascii.rightCurlyBracket ∷ x)))
 
-  -- either
+  -- either way an at-rule ends where its statement does
   body-ends : (e : AtEnd) → Ended (writtenBalanced v ++ (g .bytes ++ writtenAtEnd e)) x
   body-ends semicolon = semicolon-ends
   body-ends (braces w c t b) = braces-end w c t b

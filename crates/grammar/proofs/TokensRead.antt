@@ -189,7 +189,7 @@ round-ends : (t : List ℕ) → NameEnds (ascii.leftParenthesis ∷ t)
 unfolding identCodePoint identStart letter or and within is
 round-ends t = record { no-character = refl; no-escape = λ q. omega arith }
 
--- where one does
+-- a name directly before a round bracket is read with it, as a function
 like-function : (n : Ident) (t : List ℕ) → identLikeOf (n .bytes ++ (ascii.leftParenthesis ∷ t)) ≡ ok (length (n .bytes) + 1) (tokens.function (folded n))
 unfolding identLikeOf onParsed pick is
 like-function n t = rw (name-whole n (ascii.leftParenthesis ∷ t) (round-ends t), behind-blank (n .bytes) (ascii.leftParenthesis ∷ t))
@@ -329,7 +329,7 @@ unsigned-read true ds u h l e = sym (pick-true _ _ _ _ (is-yes _ _ (stop-digits 
 unfoldable pub unsignedFirst : ℕ → Bool
 unsignedFirst x = or (isDigit x) (is x ascii.fullStop)
 
--- as it does
+-- a number without its sign does begin with one of these
 pub unsigned-first : (f : Bool) (ds u : List ℕ) → Each isDigit ds → 1 ≤ length ds → unsignedFirst (getD (writtenStop f ++ (ds ++ u)) 0 0) ≡ true
 unsigned-first true ds u h l = unfold writtenStop unsignedFirst isDigit or and within is in refl
 unsigned-first false _ u none l = absurd (omega arith)
@@ -345,7 +345,7 @@ pub first-signs : (unsignedFirst ascii.plusSign ≡ false) × (unsignedFirst asc
 unfolding unsignedFirst isDigit or and within is
 first-signs = (refl, refl)
 
--- without a sign
+-- a number without a sign is read as it is written
 unsigned-signed : (v : List ℕ) (n : ℕ) → unsignedFirst (getD v 0 0) ≡ true → numbers.unsigned v ≡ n → 1 ≤ n → numbers.signed v ≡ n
 unfolding numbers.signed numbers.sign pick or
 unsigned-signed v n e p l =
@@ -634,17 +634,17 @@ name-item n t = by-start (n .bytes) (n .sequence)
 mark-begins : (x : ℕ) (l : List ℕ) → whitespaceItem (x ∷ l) ≡ 0 → x ≤ 0x7f → startOf x ≡ Other → Begins (x ∷ l) 1 (markOf x)
 mark-begins x l e h s = begins-by x l 1 (markOf x) e h (unfold tokenBy in rw s)
 
--- a comma
+-- a comma is a token of one byte
 pub comma-token : (t : List ℕ) → Begins (ascii.comma ∷ t) 1 tokens.comma
 unfolding whitespaceItem isWhitespace commentOf startOf isQuote isIdentStart isDigit markOf pick or and within is
 comma-token t = mark-begins ascii.comma t refl (omega arith) refl
 
--- a colon
+-- a colon is a token of one byte
 pub colon-token : (t : List ℕ) → Begins (ascii.colon ∷ t) 1 tokens.colon
 unfolding whitespaceItem isWhitespace commentOf startOf isQuote isIdentStart isDigit markOf pick or and within is
 colon-token t = mark-begins ascii.colon t refl (omega arith) refl
 
--- a semicolon
+-- a semicolon is a token of one byte
 pub semicolon-token : (t : List ℕ) → Begins (ascii.semicolon ∷ t) 1 tokens.semicolon
 unfolding whitespaceItem isWhitespace commentOf startOf isQuote isIdentStart isDigit markOf pick or and within is
 semicolon-token t = mark-begins ascii.semicolon t refl (omega arith) refl
@@ -654,12 +654,12 @@ pub round-token : (t : List ℕ) → Begins (ascii.leftParenthesis ∷ t) 1 toke
 unfolding whitespaceItem isWhitespace commentOf startOf isQuote isIdentStart isDigit markOf pick or and within is
 round-token t = mark-begins ascii.leftParenthesis t refl (omega arith) refl
 
--- a square bracket
+-- an opening square bracket is a token of one byte
 pub square-token : (t : List ℕ) → Begins (ascii.leftSquareBracket ∷ t) 1 tokens.openSquare
 unfolding whitespaceItem isWhitespace commentOf startOf isQuote isIdentStart isDigit markOf pick or and within is
 square-token t = mark-begins ascii.leftSquareBracket t refl (omega arith) refl
 
--- a brace
+-- an opening brace is a token of one byte
 pub brace-token : (t : List ℕ) → Begins (ascii.leftCurlyBracket ∷ t) 1 tokens.openBrace
 unfolding whitespaceItem isWhitespace commentOf startOf isQuote isIdentStart isDigit markOf pick or and within is
 brace-token t = mark-begins ascii.leftCurlyBracket t refl (omega arith) refl

@@ -56,7 +56,7 @@ unfolding pick
 unsaid-by true p q u n k t e = absurd (let z : _≡_ {A = ℕ} 0 1 = cc in omega arith)
 unsaid-by false p q u n k t e = (refl, cc, cc, cc)
 
--- ---- `parse_statement_end`
+-- ---- `parse_statement_end`: the tokens of the statement are wiped again, and the stores are as they were
 module _ (s : List ℕ) (n : ℕ) (tokens brackets store : List ℕ) (fill : ℕ) (o : WorkRoom s tokens brackets store fill) (h : n ≤ length s) where
   -- the rest as the code lends it
   abbrev lent : List ℕ
@@ -147,7 +147,7 @@ module _ (s : List ℕ) (n : ℕ) (tokens brackets store : List ℕ) (fill : ℕ
     abbrev pub Ended : Reading → List ℕ → List ℕ → List ℕ → Type 0
     Ended r x′ b′ z′ = (r ≡ reading length (ruleRows fill) ruleTexts (statementEnd s n)) × ((x′ ≡ tokens) × ((b′ ≡ brackets) × (z′ ≡ store)))
 
-    -- a statement
+    -- the statement ends: its brackets match
     module _ {m k t : ℕ} (ea : a ≡ answer.Statement m k t) where
       -- its tokens have room
       pub some-count : tokenWidth * k < 2 ^ 64
@@ -177,7 +177,7 @@ module _ (s : List ℕ) (n : ℕ) (tokens brackets store : List ℕ) (fill : ℕ
           let q = unsaid ea in
           (rw (q .balanced), (tokens-back q ex, (brackets-back q eb, store-back q ez)))
 
--- ---- `parse_at_rule`
+-- ---- `parse_at_rule`: an '@', a name and the end of the statement; the stores are as they were
 module _ (s tokens brackets store : List ℕ) (fill : ℕ) (o : WorkRoom s tokens brackets store fill) where
   -- what the function ensures
   abbrev pub Told : Reading → List ℕ → List ℕ → List ℕ → Type 0

@@ -29,7 +29,7 @@ use Rattle.selectors.specs.Reading.{written}
 use Rattle.combinators.proofs.ZeroLaws.{zeros-back}
 use Rattle.selectors.proofs.ReadingLaws.{ReadAs}
 
--- ---- `parse_block`
+-- ---- `parse_block`: the place behind a ';', if there is one, and behind white space
 module _ (s : List ℕ) (e : ℕ) (h : e ≤ length s) {t : Bool} (et : t ≡ is (getD s e 0) ascii.semicolon) where
   -- a ';' is within the text
   pub semicolon-there : t ≡ true → e < length s
@@ -85,7 +85,7 @@ kept-starts at d (x ∷ ds) =
     let e : at + d + x .start ≡ at + (d + x .start) = omega arith in
     rw (named-same (x .decl), e, kept-starts at d ds)
 
--- ---- `parse_block`
+-- ---- `parse_block`: what it ensures, return by return
 module _ (s : List ℕ) (n at : ℕ) (rules : List ℕ) (place : ℕ) (tokens brackets store : List ℕ) (fill : ℕ)
     (o : BlockRoom s n at rules place tokens brackets store fill) where
   -- what the function ensures
@@ -124,7 +124,7 @@ module _ (s : List ℕ) (n at : ℕ) (rules : List ℕ) (place : ℕ) (tokens br
         abbrev ds : List Declaration
         ds = map (startsAt at) (map (startsAt d) (found .declarations))
 
-        -- what `parse_rules` left
+        -- what `parse_rules` left: the declarations of the block, written at the place
         module _ {r : RulesRead} {y x b z : List ℕ}
             (e : record { answer = r; rules = y; tokens = x; brackets = b; store = z } ≡ rulesLeft true (at + d) lent rules place tokens brackets store fill) where
           -- what was left is what these declarations leave

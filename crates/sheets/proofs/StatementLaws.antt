@@ -92,7 +92,7 @@ one-text : (r : RuleSet) → ruleText r ≡ ruleTexts (r ∷ [])
 unfolding ruleTexts textsMany
 one-text r = sym (append-nil (ruleText r))
 
--- ---- `parse_statement`
+-- ---- `parse_statement`: a rule, or else an at-rule, return by return
 module _ (s : List ℕ) (at : ℕ) (rules : List ℕ) (place : ℕ) (tokens brackets store : List ℕ) (fill : ℕ) (o : RuleRoom s at rules place tokens brackets store fill) where
   -- that of a rule
   abbrev meant : Outcome (List RuleSet)
@@ -112,7 +112,7 @@ module _ (s : List ℕ) (at : ℕ) (rules : List ℕ) (place : ℕ) (tokens brac
   abbrev first : Outcome RuleSet
   first = behind 0 (rulesetOf s) (movedBy at)
 
-  -- what `parse_ruleset` left
+  -- what `parse_ruleset` left: the rule, written at the place
   module _ {r : Reading} {y x b z : List ℕ} (e : (r ≡ reading (λ _. 1) (ruleRow fill) ruleText first)
       × ((y ≡ sets rules place (written (ruleRow fill) first)) × ((x ≡ tokens) × ((b ≡ brackets) × (z ≡ sets store fill (written ruleText first)))))) where
     -- of rows and texts
@@ -135,7 +135,7 @@ module _ (s : List ℕ) (at : ℕ) (rules : List ℕ) (place : ℕ) (tokens brac
         let g = panicked _ _ _ _ _ _ _ _ left h in
         stated (left-panics _ _ _ _ _ _ _ _ (either-panics at (atRuleOf s) (rulesetOf s) p (g .0)) (g .1 .0) (g .1 .1)) (e .1 .1 .0) (e .1 .1 .1 .0)
 
-    -- no rule
+    -- no rule stands here: the stores are as they were, and an at-rule is looked for
     module _ (h : r ≡ Fails) where
       -- it does not read, and the stores are as they were
       none : (first ≡ fails) × ((y ≡ rules) × (z ≡ store))

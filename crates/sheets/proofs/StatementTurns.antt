@@ -204,7 +204,7 @@ module _ {s rules₀ tokens₀ brackets₀ store₀ rules tokens brackets store 
     abbrev statements : Outcome (List RuleSet)
     statements = movedTo taken (statementsOf lent)
 
-    -- what `parse_statement` left
+    -- what `parse_statement` left: the rules of the statement, written behind those before
     module _ {r : Reading} {y x b z : List ℕ} (e : (r ≡ reading length (ruleRows text) ruleTexts statements)
         × ((y ≡ sets rules numbers (written (ruleRows text) statements)) × ((x ≡ tokens) × ((b ≡ brackets) × (z ≡ sets store text (written ruleTexts statements)))))) where
       -- of rows and texts
@@ -224,7 +224,7 @@ module _ {s rules₀ tokens₀ brackets₀ store₀ rules tokens brackets store 
           let a = all-read (ap (λ (t : List ℕ). sheetFrom (i .turns) t taken) (sym lent-is) ∙ turn-fails lent taken (n .0) (i .turns)) in
           (a .0, (n .1 .0 ∙ a .1 .0, (tokens-same, (brackets-same, n .1 .1 ∙ a .1 .1))))
 
-      -- the crate panics
+      -- the crate panics in the statement: what was read before is wiped
       module _ {p : ℕ} (g : r ≡ Panics p) where
         pub panic-fits : taken + p ≤ length s
         panic-fits = omega (arith, where-panics (length lent) _ statements p (panicked _ _ _ _ _ _ _ _ left g .0) (moved-keeps taken lent), lent-long, i .within)
@@ -237,7 +237,7 @@ module _ {s rules₀ tokens₀ brackets₀ store₀ rules tokens brackets store 
             let a = many-panics (i .gathered) (o .rules-zeros) (o .work .store-zeros) (ey ∙ ap (wiped 0 numbers) (n .1 .0)) (ez ∙ ap (wiped 0 text) (n .1 .1)) (taken + p) (taken + p) h (omega arith) in
             (a .0, (a .1 .0, (tokens-same, (brackets-same, a .1 .1))))
 
-      -- the next
+      -- the statement reads: its rules are added to those before
       module _ {n more row kept : ℕ} (g : r ≡ Reads n more row kept) where
         got : Found length (ruleRows text) ruleTexts statements rules numbers store text y z n more row kept
         got = found _ _ _ _ _ _ _ _ left g

@@ -57,7 +57,7 @@ module _ {A : Type 0} (u : ℕ → Decoded A) (left i end : ℕ) (others : List 
   pub counted-there : (p : ℕ) → 0 < left → u i ≡ fault p → ⊥
   counted-there p h f = no-fault (u i) _ p _ (counted-left h .first) f
 
-  -- none is left
+  -- where none is left to read, the list of the others is empty
   pub counted-end : left ≤ 0 → others ≡ []
   counted-end h =
       let d : left ≡ 0 = omega arith in

@@ -69,11 +69,11 @@ module _ (kind : ℕ) (s : Specificity) where
   abbrev Named : Type 0
   Named = (x : List ℕ) → s ≡ added (namedOf kind x)
 
-  -- an element's name
+  -- an element's name adds one to the type names, whatever it is
   pub element-weight : kind ≡ elementKind → s ≡ specificityOf 0 0 1 → Named
   element-weight e q = λ x. q ∙ element-adds kind x e
 
-  -- an id
+  -- an id adds one to the ids, whatever it is
   pub hash-weight : kind ≡ hashKind → s ≡ specificityOf 1 0 0 → Named
   hash-weight e q = λ x. q ∙ hash-adds kind x e
 
@@ -87,7 +87,7 @@ module _ (code : List ℕ) (at : ℕ) (r : ComponentAnswer) (er : r ≡ componen
   abbrev Is : Weight → Type 0
   Is w = w ≡ weightAt code at
 
-  -- star and combinators
+  -- star and combinators add nothing to the weight
   pub mark-weight : (n kind : ℕ) → r ≡ component.Mark n kind → Is (weight.Added n nothing)
   mark-weight n kind p = weight-read code at n _ _ (at-mark code at r er n kind p) (mark-adds kind)
 
@@ -95,7 +95,7 @@ module _ (code : List ℕ) (at : ℕ) (r : ComponentAnswer) (er : r ≡ componen
   pub name-weight : (n kind start size : ℕ) → r ≡ component.Name n kind start size → (s : Specificity) → Named kind s → Is (weight.Added n s)
   name-weight n kind start size p s q = weight-read code at n _ s (at-name code at r er n kind start size p) (q _)
 
-  -- an nth-child
+  -- an nth-child adds one to the classes
   pub numbers-weight : (n a b : ℕ) → r ≡ component.Numbers n a b → (s : Specificity) → s ≡ specificityOf 0 1 0 → Is (weight.Added n s)
   unfolding added
   numbers-weight n a b p s q = weight-read code at n _ s (at-numbers code at r er n a b p) q
@@ -105,7 +105,7 @@ module _ (code : List ℕ) (at : ℕ) (r : ComponentAnswer) (er : r ≡ componen
   unfolding added
   names-weight n a b f g p s q = weight-read code at n _ s (at-names code at r er n a b f g p) q
 
-  -- a fault
+  -- where no component is read, the fault is at the same place
   pub fault-weight : (p : ℕ) → r ≡ component.Fault p → Is (weight.Fault p)
   unfolding weightAt onDecoded
   fault-weight p q = rw (at-fault code at r er p q)
@@ -127,12 +127,12 @@ unfolding sum
 sum-assoc a b c =
     rw (← or-assoc (a .inline) (b .inline) (c .inline), add-assoc (a .id) (b .id) (c .id), add-assoc (a .class) (b .class) (c .class), add-assoc (a .typ) (b .typ) (c .typ))
 
--- nothing before
+-- a sum whose first part is nothing is its second
 sum-first : (s : Specificity) → sum nothing s ≡ s
 unfolding sum or
 sum-first s = rw (zero-add (s .id), zero-add (s .class), zero-add (s .typ))
 
--- nothing behind
+-- a sum whose second part is nothing is its first
 sum-last : (s : Specificity) → sum s noSpecificity ≡ s
 unfolding sum noSpecificity specificityOf
 sum-last s = rw (or-false (s .inline) false refl, add-zero (s .id), add-zero (s .class), add-zero (s .typ))
@@ -167,7 +167,7 @@ weighing-more s c (read n cs) = ap (weight.Added n) (sum-assoc s (added c) (spec
 weighing-more s c (fault p) = refl
 
 module _ (code : List ℕ) (s : Specificity) (i : ℕ) where
-  -- none is left
+  -- where no component is left, what was added is the whole sum
   weighing-end : (left : ℕ) → left ≤ 0 → weight.Added i s ≡ weighing s (counted (componentAt code) left i)
   unfolding weighing onDecoded counted specificity
   weighing-end zero h = ap (weight.Added i) (sym (sum-last s))
@@ -190,7 +190,7 @@ module _ (code : List ℕ) (s : Specificity) (i : ℕ) where
 
 -- ---- what a weight says that was read
 module _ {A : Type 0} (f : A → Specificity) (d : Decoded A) (q : Weight) (eq : q ≡ onDecoded d (λ n a. weight.Added n (f a)) (λ p. weight.Fault p)) where
-  -- something was read
+  -- a weight was answered: a value was read up to that place, and the weight is its own
   weight-of : (n : ℕ) (x : Specificity) → q ≡ weight.Added n x → (a : A) × (d ≡ read n a) × (x ≡ f a)
   unfolding onDecoded
   weight-of n x e = go d (sym eq ∙ e)
@@ -199,7 +199,7 @@ module _ {A : Type 0} (f : A → Specificity) (d : Decoded A) (q : Weight) (eq :
       go (read m a) z = let p : m ≡ n = cc in (a, ap (λ (k : ℕ). read k a) p, cc)
       go (fault p) z = absurd (let w : _≡_ {A = ℕ} 0 1 = cc in omega arith)
 
-  -- nothing was
+  -- a fault was answered: the reading failed at that place
   fault-of : (p : ℕ) → q ≡ weight.Fault p → d ≡ fault p
   unfolding onDecoded
   fault-of p e = go d (sym eq ∙ e)
@@ -227,7 +227,7 @@ add-begin code at count =
     }
 
 module _ (code : List ℕ) (at count : ℕ) (s : Specificity) (i left : ℕ) (v : Adding code at count s i left) where
-  -- all is added
+  -- where no component is left, the answer is the sum of all components
   pub add-end : left ≤ 0 → weight.Added i s ≡ weightsAt code count at
   add-end h = weighing-end code s i left h ∙ v .total
 
@@ -265,7 +265,7 @@ module _ (code : List ℕ) (at count : ℕ) (s : Specificity) (i left : ℕ) (v 
             types = omega (arith, few .1 .1, v .types);
           }
 
-      -- one component more
+      -- the component that was read is added, and the loop goes on behind it with one fewer left
       pub add-more : (t : Specificity) → t ≡ sum s x → Adding code at count t n (left - 1)
       add-more t p = rw p added-on
 

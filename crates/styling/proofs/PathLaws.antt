@@ -85,7 +85,7 @@ module _ (c : Cascade) (settings : Settings) (e : Element) where
   unfolding inlineContents
   contents-on h = ap attributesContents (counted-on h)
 
-  -- off: none does
+  -- off: no attribute of the element counts
   counted-off : settings .«document_styles» ≡ false → countedAttributes settings e ≡ []
   unfolding countedAttributes pick
   counted-off h = rw h

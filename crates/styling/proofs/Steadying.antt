@@ -51,7 +51,7 @@ sheet-back : {rows texts : List ℕ} (tokens : List ℕ) {end : ℕ} (x : SheetR
 unfolding keptSheet
 sheet-back {rows} {texts} tokens {end} x rs p q f others l e = rw (l .counted, l .rows-at, e) (rules-kept (sheetText texts (x .from) end) rs 0 f (l .behind) others (l .fit) (l .held))
 
--- its selectors
+-- the selectors that are read back of a sheet are those of its rules
 selectors-back : {rows texts : List ℕ} {end : ℕ} {x : SheetRules} {rs : List RuleSet} → SheetLies rows texts end x rs → sheetSelectors rows texts end x ≡ rulesSelectors rs
 unfolding sheetSelectors
 selectors-back l = ap rulesSelectors (sheet-rules l)
@@ -155,7 +155,7 @@ module _ {s : SheetsRules} {rows tokens texts : List ℕ} (h : SheetsHeld s rows
     unfolding readySheets styledPlaces
     ready-is = rw (agent-selectors _ _ rows-now texts-now, user-selectors _ _ rows-now texts-now, author-selectors _ _ rows-now texts-now) refl
 
-    -- room for them
+    -- there is room for the numbers of all selectors behind the kept styles, and the texts of each sheet lie in the store
     pub tops-room : SheetsTopsRoom rows tokens₃ texts₃ v
     unfolding styledPlaces
     tops-room =
@@ -268,7 +268,7 @@ module _ {s : SheetsRules} {rows tokens texts : List ℕ} (h : SheetsHeld s rows
                   (right-stored nodes attributes text row rooted SW Y);
             }
 
-      -- now
+      -- in the stores as they are now, the three sheets with their deciding styles are read back
       pub kept-now : keptSheets rows tokens₄ texts₃ ready ≡ decided (placedSheets read)
       kept-now = kept-as rows tokens₄ texts₃ (record { same-rows = refl; same-tokens = refl; same-texts = refl })
 

@@ -124,7 +124,7 @@ module _ {s : SheetsRules} {rows tokens texts : List ℕ} (h : SheetsHeld s rows
     pub now-room : (brackets : List ℕ) (p : Path) → PathHeld h brackets p → PathRoom w p rows y brackets x
     now-room brackets p r = rw w-is (still.path-room h t-is x-is nodes attributes text row rooted y-is brackets p r)
 
-    -- the row
+    -- the row of the path, by what is kept, is the row of the style call by the sheets that were read
     pub row-called : (c : Cascade) (settings : Settings) (p : Path) (ys : List ℕ) → ys ≡ rowOf (cascaded c (placedFrom (keptSheets rows y x w) (w .fill) settings p))
         → ys ≡ callRow c (sheetsFrom rows texts s) settings p
     unfolding callRow placedAlong

@@ -29,7 +29,7 @@ module _ (texts rows : List ℕ) (at n behind : ℕ) (en : n ≡ getD rows (at +
   abbrev pub lent : List ℕ
   lent = take (length rows - behind) (drop behind rows)
 
-  -- are its components
+  -- are, read as components, those of the selector
   pub lent-components : componentsAt texts lent n ≡ readSelector texts (drop at rows) .value .components
   unfolding componentsAt readSelector
   lent-components = rw (rest rows behind, eb, en, getD-drop at rows selectorComponents 0, drop-drop selectorHead at rows)
@@ -45,7 +45,7 @@ pub rule-selectors : (texts rows : List ℕ) (at k first : ℕ) → k ≡ getD r
 unfolding readRule
 rule-selectors texts rows at k first ek ef = rw (ek, ef, getD-drop at rows ruleSelectors 0, drop-drop ruleHead at rows)
 
--- so many
+-- a rule has as many selectors as its head says
 rule-counts : (texts rows : List ℕ) (at k : ℕ) → k ≡ getD rows (at + ruleSelectors) 0 → length (readRule texts (drop at rows) .value .selectors) ≡ k
 unfolding readRule
 rule-counts texts rows at k ek = many-length (readSelector texts) _ _ ∙ getD-drop at rows ruleSelectors 0 ∙ sym ek
@@ -64,7 +64,7 @@ unfolding readMany
 selectors-opened texts t zero h = absurd (omega arith)
 selectors-opened texts t (suc n) h = let q : suc n - 1 ≡ n = omega arith in rw q
 
--- none is left
+-- no selectors from a place on are none
 no-selectors : (texts rows : List ℕ) (n at : ℕ) → n ≤ 0 → readMany (readSelector texts) n (drop at rows) .value ≡ []
 unfolding readMany
 no-selectors texts rows zero at h = refl
@@ -122,7 +122,7 @@ module _ (nodes attributes text : List ℕ) (row : ℕ) where
       unfolding RightTops
       first-top top e = rw e (selector-parts .0)
 
-      -- and the others
+      -- and the numbers behind it decide for the others
       pub next-tops : (place′ : ℕ) → ((texts : List ℕ) → drop place′ rows ≡ readSelector texts (drop place rows) .rest) → (tops′ : ℕ) → drop tops′ styles ≡ drop (tops + topWidth) styles
           → SelectorsRight (n - 1) place′ tops′
       unfolding RightTops
@@ -139,7 +139,7 @@ module _ (nodes attributes text : List ℕ) (row : ℕ) where
       pub rule-tops : Right First (drop tops styles)
       rule-tops = rule-parts .0
 
-      -- and the others
+      -- and the numbers behind those of its selectors decide for the other rules
       pub later-tops : (k : ℕ) → k ≡ getD rows (place + ruleSelectors) 0 → (next : ℕ) → drop next rows ≡ readRule texts (drop place rows) .rest
           → (tops′ : ℕ) → drop tops′ styles ≡ drop (tops + topWidth * k) styles → RulesRight (n - 1) next tops′
       later-tops k ek next e tops′ f =
@@ -179,7 +179,7 @@ module _ (nodes attributes text : List ℕ) (row : ℕ) where
     store-begin r = record { stores = refl; long = refl; room = r .room }
 
     module _ (n from to : ℕ) (l : List ℕ) (s : SelectorsStored n from to l) where
-      -- one number more
+      -- the number of the first selector that is left is stored, and the others go behind it
       pub store-more : 0 < n → (top : ℕ) → top ≡ selectorNumber nodes attributes text row (readSelector texts (drop from rows) .value .components)
           → (next : ℕ) → ((texts : List ℕ) → drop next rows ≡ readSelector texts (drop from rows) .rest) → SelectorsStored (n - 1) next (to + topWidth) (set l to top)
       unfolding selectorsTops
@@ -197,7 +197,7 @@ module _ (nodes attributes text : List ℕ) (row : ℕ) where
             room = omega (arith, length-set l to top, s .room);
           }
 
-      -- all are stored
+      -- when none is left, the numbers of all selectors are stored, one behind the other
       pub store-done : n ≤ 0 → l ≡ sets tokens place (Tops (Selected count at))
       unfolding selectorsTops
       store-done h = (rw (no-selectors texts rows n from h) at (s .stores))
@@ -248,7 +248,7 @@ module _ (nodes attributes text : List ℕ) (row : ℕ) where
               room = omega (arith, o, p, s .room, m);
             }
 
-      -- all are stored
+      -- when none is left, the numbers of all selectors of the rules are stored, and the place is behind them
       pub rules-done : n ≤ 0 → (l ≡ sets tokens place (Tops (Ruled count at))) × (to ≡ place + length (Ruled count at))
       unfolding selectorsTops
       rules-done h = (rw (no-rules texts rows n from h) at (s .stores), omega (arith, s .ends, ap length (no-rules texts rows n from h)))
