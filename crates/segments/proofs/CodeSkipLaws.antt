@@ -44,7 +44,7 @@ module _ (code : List ℕ) (h : Hint) (above own width : ℕ) (state₀ : List �
       (n : ℕ) (en : n ≡ pairAt (part state above width) (p + toNext)) (small : n < pairLimit) (s₁ : List ℕ) (l : length s₁ ≡ length state)
       (visited : (e : Element) → Fits h e → (false ≡ visitAt code (e ∷ []) (part state above width) p .matched)
       × (s₁ ≡ blockStored state own width (visitAt code (e ∷ []) (part state above width) p) (pairAt (part state above width) (p + toNext)) p)) where
-    -- at an element
+    -- at an element that the hint fits, the selector fails and its block is stored
     module _ (e : Element) (fit : Fits h e) where
       abbrev flagsAbove : List ℕ
       flagsAbove = part state above width
@@ -81,7 +81,7 @@ module _ (code : List ℕ) (h : Hint) (above own width : ℕ) (state₀ : List �
           ∙ ap (λ (r : Passed). r .matched) (sym s)
           ∙ ap (λ (k : ℕ). passFrom code (e ∷ []) flagsAbove k p (part state own width) .matched) d
 
-    -- one more
+    -- the selector is passed over, and the loop goes on at the next one with one fewer left
     skip-on : Skipping code h above own width state₀ first count s₁ n (left - 1)
     skip-on =
         record {

@@ -20,7 +20,7 @@ use Rattle.segments.proofs.CodeVisitLaws.{marked-stays, visit-mark}
 
 -- ---- bytes of a part, by their places in the state
 module _ (state : List ℕ) (above width : ℕ) where
-  -- one
+  -- a byte of a part is the byte of the state at the part's place and its own
   byte-in : (j : ℕ) → j < width → getD (part state above width) j 0 ≡ getD state (above + j) 0
   unfolding part
   byte-in j h = getD-take width (drop above state) j 0 h ∙ getD-drop above state j 0
@@ -49,7 +49,7 @@ pub block-copied : (s₀ s₁ : List ℕ) (at next awaited tests n a t : ℕ) �
     → s₁ ≡ sets s₀ at (blockBytes n a (withTests ∷ pairBytes t))
 block-copied s₀ s₁ at next awaited tests n a t p q r e = e ∙ rw (p, q, r)
 
--- ---- one selector
+-- ---- one selector whose block stays
 module _ (code : List ℕ) (h : Hint) (state : List ℕ) (above own width p : ℕ) (b : BlockStays code state above width p h) where
   -- what its block says
   abbrev next : ℕ

@@ -87,7 +87,7 @@ module _ (code : List ℕ) where
 
   -- ---- the returns of `tests_fail`
   module _ (h : Hint) (at tests : ℕ) where
-    -- the first fails
+    -- where the first test fails, the tests do not all pass
     pub by-first : 0 < tests → TestFails code at h → TestsFail code at tests h
     by-first s f =
         let d : tests ≡ suc (tests - 1) = omega arith in
@@ -128,7 +128,7 @@ module _ (code : List ℕ) where
     pub near : i ≤ compiledLimit
 
   module _ (first i left : ℕ) (v : Stepping first i left) (more : 0 < left) where
-    -- behind a test
+    -- behind a test the compound goes on, and may not end here as before
     pub step-test : length code ≤ compiledLimit → (size : ℕ) → TestThere code i size → Stepping first (i + size) (left - 1)
     step-test few size t =
         let d : suc (left - 1) ≡ left = omega arith in
@@ -137,7 +137,7 @@ module _ (code : List ℕ) where
           near = omega (arith, few, t .inside);
         }
 
-    -- behind the step
+    -- behind the child step the compound is passed: it does not end here, and its left neighbour begins there
     pub step-child : (r : ℕ) → pieceAt code i ≡ read r direct → (row : Path) → compoundAt code row (length code) false first ≡ record { ends = false; place = r }
     step-child r e row =
         let d : left ≡ suc (left - 1) = omega arith in
@@ -189,12 +189,12 @@ step-sweep code row flags j i place tests k l f m et c fail =
     let b′ : flag (left .ends) ∷ sweptBehind code row flags k (j + 1) left ≡ 0 ∷ markBytes tests = unfold flag sweptBehind pick in refl in
     ap (λ (x : ℕ). sweepAt code row flags x j i) l ∙ a ∙ a′ ∙ ap (λ (x : List ℕ). 0 ∷ x) (b ∙ b′ ∙ ap (λ (x : List ℕ). 0 ∷ x) (sym (some-tests code row tests place fail)))
 
--- so nothing changes
+-- where the first flag is 0, the selector does not match and awaits the same segment
 decided-stays : (code : List ℕ) (p awaited : ℕ) (flags : List ℕ) → decided code p awaited (0 ∷ flags) ≡ record { matched = false; awaited = awaited; flags = flags }
 unfolding decided flagOf is pick
 decided-stays code p awaited flags = refl
 
--- ---- one selector
+-- ---- one selector whose block stays, of two compounds
 module _ (code : List ℕ) (h : Hint) (state : List ℕ) (above own width p : ℕ) (b : StepStays code state above width p h) where
   -- what its block says
   abbrev next : ℕ
@@ -206,7 +206,7 @@ module _ (code : List ℕ) (h : Hint) (state : List ℕ) (above own width p : �
   abbrev tests : ℕ
   tests = pairAt state (above + p + toStepTests)
 
-  -- its flags
+  -- its flags: the right compound may not end here, and the mark of the left one with its tests
   abbrev staying : List ℕ
   staying = 0 ∷ withTests ∷ pairBytes tests
 

@@ -69,7 +69,7 @@ abbrev pub Finding : List ℕ → ℕ → ℕ → ℕ → ℕ → Type 0
 Finding code count at left i = firstStyled code left i ≡ firstStyled code count at
 
 module _ (code : List ℕ) (count at left i : ℕ) (v : Finding code count at left i) where
-  -- what is answered
+  -- what is answered: the place of the first selector that has a style, which is within the bytes
   abbrev Found : ℕ → Type 0
   Found p = (p ≡ styledFrom code count at) × (p ≤ length code)
 
@@ -77,7 +77,7 @@ module _ (code : List ℕ) (count at left i : ℕ) (v : Finding code count at le
   found-as : SelectorsRead code count at → (p : ℕ) → p ≡ firstStyled code left i → p ≤ length code → Found p
   found-as s p e l = (e ∙ v ∙ first-styled code count (s .least) at (s .end) (s .selectors) (s .origin) (s .told), l)
 
-  -- none is left
+  -- where no selector is left, the answer is no place
   pub find-end : SelectorsRead code count at → left ≤ 0 → Found noPlace
   find-end s h =
       let d : 0 ≡ left = omega arith in
@@ -85,7 +85,7 @@ module _ (code : List ℕ) (count at left i : ℕ) (v : Finding code count at le
       found-as s noPlace (e ∙ ap (λ (k : ℕ). firstStyled code k i) d) (omega arith)
 
   module _ (h : 0 < left) (r : NumberAnswer) (er : r ≡ numberAnswer (styleCountAt code i)) where
-    -- one of them
+    -- the first of those that are left is by the styles of this one: it, or the first behind it
     find-step : onDecoded (styleCountAt code i) (λ n styles. pick (is styles 0) (firstStyled code (left - 1) n) i) (λ _. noPlace) ≡ firstStyled code left i
     find-step =
         let d : suc (left - 1) ≡ left = omega arith in
@@ -93,7 +93,7 @@ module _ (code : List ℕ) (count at left i : ℕ) (v : Finding code count at le
         unfold firstStyled in refl in
         e ∙ ap (λ (k : ℕ). firstStyled code k i) d
 
-    -- there is none
+    -- where no count of styles reads, the answer is no place
     pub find-fault : SelectorsRead code count at → (f : ℕ) → r ≡ number.Fault f → Found noPlace
     find-fault s f q =
         let e : noPlace ≡ onDecoded (styleCountAt code i) (λ n styles. pick (is styles 0) (firstStyled code (left - 1) n) i) (λ _. noPlace) =
@@ -109,7 +109,7 @@ module _ (code : List ℕ) (count at left i : ℕ) (v : Finding code count at le
           unfold onDecoded in rw (number-read (styleCountAt code i) r er n styles q) in
           e ∙ find-step
 
-      -- one or more
+      -- a selector of one style or more is the first
       pub find-styled : SelectorsRead code count at → 0 < styles → Found i
       find-styled s p =
           let e : i ≡ pick (is styles 0) (firstStyled code (left - 1) n) i = unfold pick in rw (is-no styles 0 (λ z. omega arith)) in

@@ -35,7 +35,7 @@ length-pair : (n : ℕ) → length (pairBytes n) ≡ 2
 unfolding pairBytes
 length-pair n = refl
 
--- two take four
+-- two numbers, those of the next selector and of the awaited segment, take four bytes
 length-places : (a b : ℕ) → length (pairBytes a ++ pairBytes b) ≡ 4
 unfolding pairBytes
 length-places a b = refl
@@ -85,7 +85,7 @@ awaits-stored s₀ s₁ s₂ own width p next s start steps tests e f g =
 -- ---- the returns of `put_stays`
 module _ (code : List ℕ) (row : Path) (s₀ s₁ s₂ : List ℕ) (above own width p next awaited : ℕ) (one : Swept)
     (e : s₁ ≡ partSets s₀ own width (p + toNext) (pairBytes next ++ pairBytes awaited)) where
-  -- what is stored
+  -- what is stored: both places and the flags behind the first compound
   abbrev Stays : Type 0
   Stays = s₂ ≡ partSets s₀ own width (p + toNext) (blockBytes next awaited (behindFirst code row (part s₀ above width) p one))
 
@@ -136,12 +136,12 @@ module _ (code : List ℕ) (p awaited : ℕ) (ends : Bool) where
     awaited-fault f q = rw (t, head-fault (headAt code agentOrigin p) r er f q)
 
     module _ (first origin pseudo count : ℕ) (q : r ≡ head.Head first origin pseudo count) where
-      -- the last one
+      -- where the segment that ends here is the last, the selector matches
       pub awaited-last : awaited ≡ first → segment.Same true ≡ nextAwaited code p awaited ends
       unfolding nextAwaited onDecoded pick
       awaited-last e = rw (t, head-read (headAt code agentOrigin p) r er first origin pseudo count q, is-yes awaited first e)
 
-      -- another
+      -- where it is not the last, the one before it in the bytes is awaited
       pub awaited-before : ¬ (awaited ≡ first) → segment.Before count first ≡ nextAwaited code p awaited ends
       unfolding nextAwaited onDecoded pick
       awaited-before e = rw (t, head-read (headAt code agentOrigin p) r er first origin pseudo count q, is-no awaited first e)
@@ -156,7 +156,7 @@ module _ (code flags : List ℕ) (p awaited : ℕ) where
   by-last true first count = refl
   by-last false first count = refl
 
-  -- by its head
+  -- for a selector by its head: what ends here is the whole selector, or the next segment is awaited
   by-head : (d : Decoded Head)
       → onDecoded d (λ first h. endedBy code awaited flags first (h .count)) (λ _. record { matched = false; awaited = awaited; flags = flags })
       ≡ awaitedVisit code awaited flags (onDecoded d (λ first h. pick (is awaited first) (segment.Same true) (segment.Before (h .count) first)) (λ _. segment.Same false))
@@ -171,7 +171,7 @@ module _ (code flags : List ℕ) (p awaited : ℕ) where
   decided-next false = unfold awaitedVisit in refl
 
 module _ (code : List ℕ) (row : Path) (s₀ : List ℕ) (above own width p next awaited : ℕ) (one : Swept) (r : Awaited) (er : r ≡ nextAwaited code p awaited (one .ends)) (s₁ : List ℕ) where
-  -- what is told
+  -- what is told: whether the selector matches, and the state with its block
   abbrev Sweeps : Bool → Type 0
   Sweeps b = Told s₀ own width next p (sweptVisit code row (part s₀ above width) p awaited one) b s₁
 
@@ -182,7 +182,7 @@ module _ (code : List ℕ) (row : Path) (s₀ : List ℕ) (above own width p nex
       let flags = behindFirst code row (part s₀ above width) p one in
       told-as s₀ own width next p _ w (decided-next code flags p awaited (one .ends) ∙ ap (awaitedVisit code awaited flags) (sym er) ∙ e) b s₁ t
 
-  -- the same segment
+  -- where the same segment is awaited on, its flags are stored
   pub swept-same : (b : Bool) → r ≡ segment.Same b → s₁ ≡ partSets s₀ own width (p + toNext) (blockBytes next awaited (behindFirst code row (part s₀ above width) p one)) → Sweeps b
   swept-same b q s =
       let flags = behindFirst code row (part s₀ above width) p one in
@@ -201,11 +201,11 @@ some-tests code row zero i e = never (sym e)
 some-tests code row (suc t) i e = refl
 
 module _ (code : List ℕ) (row : Path) (s₀ : List ℕ) (above own width p next awaited tests : ℕ) (ends : Bool) (ee : ends ≡ testsPass code row tests awaited) (s₁ : List ℕ) where
-  -- what is told
+  -- what is told of a segment of one compound with its mark: whether the selector matches, and the state with its block
   abbrev Marked : Bool → Type 0
   Marked b = Told s₀ own width next p (sweptVisit code row (part s₀ above width) p awaited (sweptMark code row tests awaited)) b s₁
 
-  -- they pass
+  -- what is told where the tests were run is told of the mark
   pub marked-ends : (b : Bool) → Told s₀ own width next p (sweptVisit code row (part s₀ above width) p awaited (record { marked = true; ends = ends; tests = tests; place = awaited })) b s₁ → Marked b
   marked-ends b t = rw (← ee) t
 
@@ -251,7 +251,7 @@ module _ (code : List ℕ) (row : Path) (s₀ : List ℕ) (above own width p : �
       (t .0, t .1 ∙ ap (λ (x : ℕ). blockStored s₀ own width w x p) n) in
       (told .0, (told .1, (n, en .1)))
 
-  -- of no bytes
+  -- where there are no bytes, no selector matches and no flag is stored
   pub visit-none : length code ≤ 0 → s₁ ≡ partSets s₀ own width (p + toNext) (pairBytes next ++ pairBytes awaited) → Visits false
   visit-none h e =
       let d : length code ≡ 0 = omega arith in

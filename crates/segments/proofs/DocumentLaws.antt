@@ -32,12 +32,12 @@ module _ (code : List ℕ) (k i : ℕ) where
     unfolding placedFrom onDecoded
     placed-fault = rw e
 
-    -- none is next
+    -- so no selector with a style is next
     styled-fault : styledFrom code (suc k) i ≡ noPlace
     unfolding styledFrom onDecoded
     styled-fault = rw e
 
-    -- the part stays
+    -- and the part is told of none: it stays as it was
     fresh-fault : (part : List ℕ) → freshFrom code (suc k) i part ≡ part
     unfolding freshFrom onDecoded
     fresh-fault part = rw e

@@ -43,17 +43,17 @@ module _ (e : Element) (x : List ℕ) where
   unfolding nameIs
   name-is t = same-is (e .name) x t
 
-  -- a class
+  -- a class asks whether an attribute has it
   class-tested : tested (e ∷ []) (namedOf classKind x) ≡ anyAttribute (isClass x) (e .attributes)
   unfolding tested namedOf step here hasClass pick is
   class-tested = and-yes _
 
-  -- an id
+  -- an id asks whether an attribute is it
   id-tested : tested (e ∷ []) (namedOf hashKind x) ≡ anyAttribute (isId x) (e .attributes)
   unfolding tested namedOf step here hasId pick is
   id-tested = and-yes _
 
-  -- an attribute
+  -- an attribute asks whether one has that name
   attribute-tested : tested (e ∷ []) (namedOf attributeKind x) ≡ anyAttribute (isNamed x) (e .attributes)
   unfolding tested namedOf step here hasAttribute pick is
   attribute-tested = and-yes _
@@ -97,7 +97,7 @@ cannot false h = refl
 
 -- ---- the returns of `name_fails`
 module _ (h : Hint) (kind size byte : ℕ) where
-  -- by the kind
+  -- where no text of that size and first byte passes for a kind of one text, the component fails
   by-kind : (k : ℕ) → kind ≡ k → isName k ≡ true
       → ((e : Element) → Fits h e → (x : List ℕ) → length x ≡ size → getD x 0 0 ≡ byte → tested (e ∷ []) (namedOf k x) ≡ true → ⊥) → NameFails h kind size byte
   by-kind k q n f =

@@ -64,7 +64,7 @@ head-lower t least i n h l e =
     let a = r .1 in
     (rw (r .0) (w .rest), omega arith)
 
--- the selector
+-- a selector reads the same where less is asked of its origin
 pub selector-lower : (t : List ℕ) (least i n : ℕ) (s : CompiledSelector) → agentOrigin ≤ least → selectorAt t least i ≡ read n s → (selectorAt t agentOrigin i ≡ read n s) × (agentOrigin ≤ s .origin)
 unfolding selectorAt andThen selectorOf
 selector-lower t least i n s l e =
@@ -161,7 +161,7 @@ style-count code i n s e =
     let c = styles-counted code (w .behind-components) n (s .styles) (w .styles-read) in
     record { place = c .0; told = rw (w .head-read, w .components-read) (c .1); none-behind = c .2 }
 
--- by the count
+-- a list of styles has one exactly if its count is not 0
 pub has-style : (ds : List StyleDecl) → hasStyle ds ≡ pick (is (length ds) 0) false true
 unfolding hasStyle
 has-style [] = pick-true _ _ _ _ (is-yes 0 0 refl) refl

@@ -49,7 +49,7 @@ pub record SameOutside (store other : List ℕ) (o n : ℕ) : Type 0 where
   pub behind : drop (o + n) store ≡ drop (o + n) other
   pub long : length store ≡ length other
 
--- nothing was done
+-- where nothing was done, a store is the same outside
 pub outside-same : (store : List ℕ) (o n : ℕ) → SameOutside store store o n
 outside-same store o n = record { before = refl; behind = refl; long = refl }
 
