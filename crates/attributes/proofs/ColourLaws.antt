@@ -35,7 +35,7 @@ use Rattle.styles.proofs.Merging.{merged-none, merged-more}
 use Rattle.attributes.specs.Merging.{colourSays, attributeColours}
 use Rattle.attributes.proofs.Fronts.{front-wiped}
 
--- ---- a value
+-- ---- what the value of a colour attribute declares
 module _ (spec : Specificity) (slot : ℕ) where
   -- what a colour's number declares
   abbrev pub numberDeclared : ℕ → Declared Value
@@ -60,7 +60,7 @@ module _ (spec : Specificity) (slot : ℕ) where
   said-none (found x) e = absurd (let z : _≡_ {A = ℕ} 0 1 = cc in omega arith)
   said-none missing e = refl
 
--- what `parse_color_attribute` left
+-- what `parse_color_attribute` left: its answer, and zeros where it used the stores
 module _ (s tokens brackets texts : List ℕ) (fill : ℕ) {r : ColourAnswer} {x b z : List ℕ}
     (e : record { answer = r; tokens = x; brackets = b; store = z } ≡ colourLeft s tokens brackets texts fill) where
   -- the reader's answer is the colour that the value names

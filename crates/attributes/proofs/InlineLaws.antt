@@ -42,7 +42,7 @@ use Rattle.styles.proofs.Room.{style-short}
 use Rattle.attributes.specs.Merging.{inlineImportant, shifted, inlineStyle, inlineDeclared, Shiftable, numbersIn, rowsDeclared, InlineRows, ValueRoom}
 use Rattle.attributes.proofs.Fronts.{front-wiped, text-stored}
 
--- ---- one style
+-- ---- one style, merged with the start of its content moved
 module _ (base : ℕ) (x : StyleNumbers) where
   -- a content starts `base` further
   pub shifted-content : x .slot ≡ contentSlot → record { number = x .value .number + base; second = x .value .second } ≡ shifted base x

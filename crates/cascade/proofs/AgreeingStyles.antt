@@ -26,7 +26,7 @@ of-all P f [] = tt
 of-all P f (a ∷ l) = (f a, of-all P f l)
 
 module _ {A : Type 0} where
-  -- ---- origins
+  -- ---- declarations have one of the three origins
   abbrev KnownDeclared : Declared A → Type 0
   KnownDeclared d = KnownOrigin (d .candidate .weight)
 

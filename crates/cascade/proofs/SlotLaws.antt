@@ -91,7 +91,7 @@ module _ (s : code.Slot) where
   unfolding inheritedSlot
   handed-on-empty f = rw (unfilled-slot s f) refl
 
--- ---- either cascade
+-- ---- a slot updated in the cascade that is asked for
 module _ (k : Cascade) (s n : Slot Value) (x : Candidate Value) where
   -- in the crate's cascade a slot is updated as the crate does
   pub by-crate : k ≡ Crate → n ≡ maybeUpdate s x → n ≡ updateBy k s x

@@ -9,7 +9,7 @@ use lib.Dec.{leb}
 use Rattle.combinators.specs.LeastLengths.{textLeast, bracketLeast, numberLeast, storesSuffice, Least}
 use Rattle.combinators.proofs.Rules.{same-test, and-gives, and-gives-false, and-true}
 
--- ---- `long_enough`
+-- ---- `long_enough`: a product compared without being formed
 module _ (long width count more : ℕ) where
   pub too-short : long < more → false ≡ leb (width * count + more) long
   too-short h = sym (lt-leb (width * count + more) long (omega arith))
@@ -22,7 +22,7 @@ module _ (long width count more : ℕ) where
       let l : count * width ≤ long - more = omega (arith, h, mul-comm width count) in
       le-leb count ((long - more) / width) (le-div-iff-mul-le w .1 l))
 
--- ---- `stores_suffice`
+-- ---- `stores_suffice`: the first store that is too short decides
 module _ (n rules tokens brackets texts : ℕ) {t : Bool} (et : t ≡ leb (textLeast n) texts) where
   pub texts-short : t ≡ false → false ≡ storesSuffice n rules tokens brackets texts
   unfolding storesSuffice

@@ -35,7 +35,7 @@ module _ {A : Type 0} (s : List ℕ) (rules tokens brackets texts : ℕ) (refuse
     unfolding refusedOr
     answered e = pick-false _ _ _ _ (le-ltb textLimit (length s) h) (pick-true _ _ _ _ (sym et ∙ e) refl)
 
--- ---- styles
+-- ---- the returns of `comparison_style_attribute`
 module _ (s rules tokens brackets texts : List ℕ) where
   pub style-too-long : textLimit < length s
       → record { result = record { refusal = tooLong; count = 0; bytes = 0 }; rules = rules; tokens = tokens; brackets = brackets; texts = texts }
@@ -63,7 +63,7 @@ module _ (s rules tokens brackets texts : List ℕ) where
       unfolding styleCalled styleRead stylesResult
       style-read p = ap styleRead p ∙ answered s (length rules) (length tokens) (length brackets) (length texts) _ _ h et e
 
--- ---- colours
+-- ---- the returns of `comparison_color_attribute`
 module _ (s tokens brackets texts : List ℕ) where
   pub colour-too-long : textLimit < length s
       → record { result = record { refusal = tooLong; found = 0; colour = 0 }; tokens = tokens; brackets = brackets; texts = texts }

@@ -24,7 +24,7 @@ pub letter : (n : ℕ) → decimalBase ≤ n → smallA + (n - decimalBase) ≡ 
 unfolding hexDigit
 letter n h = pick-false _ _ _ _ (le-ltb n decimalBase h) refl
 
--- ---- a pair
+-- ---- the pair of digits of a byte
 module _ (o₀ o₁ o₂ : Store) (b second first : ℕ) where
   -- its two digits, one after the other
   pub pair : second ≡ hexDigit (b % base) → first ≡ hexDigit (b / base) → o₁ ≡ emits o₀ (first ∷ []) → o₂ ≡ emits o₁ (second ∷ []) → o₂ ≡ emits o₀ (hexPair b)

@@ -21,7 +21,7 @@ use Rattle.compiled.specs.declared.sheets.SelectorAnswer.{SelectorAnswer
 use Rattle.compiled.specs.declared.sheets.SelectorAnswer.the-variants as selector
 use Rattle.compiled.proofs.Bounds.{Reaches, Holds}
 
--- ---- numbers
+-- ---- what an answer with a number says
 module _ (d : Decoded ℕ) (r : NumberAnswer) (e : r ≡ numberAnswer d) where
   -- a number was read
   pub number-read : (n v : ℕ) → r ≡ number.Number n v → d ≡ read n v
@@ -55,7 +55,7 @@ pub number-end : (len : ℕ) (r : NumberAnswer) (n v : ℕ) → numberWithin len
 unfolding numberWithin
 number-end len r n v h e = rw e at h
 
--- ---- texts
+-- ---- what an answer with a text says
 module _ (d : Decoded Span) (r : TextAnswer) (e : r ≡ textAnswer d) where
   -- a text was read
   pub text-read : (n start size : ℕ) → r ≡ text.Text n start size → d ≡ read n (record { start = start; size = size })
@@ -159,7 +159,7 @@ module _ (d : Decoded Head) (r : HeadAnswer) (e : r ≡ headAnswer d) where
       go (read m h) q = absurd (let z : _≡_ {A = ℕ} 0 1 = cc in omega arith)
       go (fault p′) q = cc
 
--- ---- selectors
+-- ---- what an answer with a selector says
 module _ (d : Decoded CompiledSelector) (r : SelectorAnswer) (e : r ≡ selectorAnswer d) where
   -- one was read, of this origin
   pub selector-read : (n origin : ℕ) → r ≡ selector.Selector n origin → (s : CompiledSelector) × (d ≡ read n s) × (s .origin ≡ origin)

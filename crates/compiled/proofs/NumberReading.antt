@@ -130,7 +130,7 @@ reading-one s at b e l h r p =
     let v : 0 + b * 1 ≡ b = omega arith in
     reading-last s at 0 1 at mostGroups (reading-begin s at) (omega arith) b e l h r (p ∙ limited-yes at (at + 1) b (omega arith) ∙ ap (λ (n : ℕ). numberAnswer (limited at (at + 1) n)) (sym v))
 
--- ---- `read_ranged`
+-- ---- `read_ranged`: the number that was read lies within the range, or it is a fault
 module _ (s : List ℕ) (at lo hi : ℕ) (r : NumberAnswer) (e : r ≡ numberAnswer (numberAt s at)) where
   -- the choice that it makes of the number
   chosen : (n v : ℕ) → r ≡ number.Number n v → rangedAt s at lo hi ≡ pick (within v lo hi) (read n v) (fault at)

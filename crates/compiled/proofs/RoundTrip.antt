@@ -49,7 +49,7 @@ pseudo-small : (p : PseudoElement) → pseudoNumber p < numberLimit
 unfolding pseudoNumber
 pseudo-small p = omega (arith, pseudo-le p)
 
--- ---- read back
+-- ---- parts of a sheet read back where their bytes lie
 module _ (t : List ℕ) where
   -- the styles with their count
   styles-back : (ds : List StyleDecl) (i : ℕ) → length ds < numberLimit → All StyleFits ds → Held t i (stylesBytes ds)

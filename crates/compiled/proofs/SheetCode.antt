@@ -102,7 +102,7 @@ pub short-read : (s : List ℕ) (at least : ℕ) → ShortHead s least at → (o
 unfolding headWithin
 short-read s at least h origin pseudo count eo ep ec = (rw (eo, ep, ec) (sym (h .numbers)), h .there)
 
--- ---- `skip_parts`
+-- ---- `skip_parts`: components, then styles
 module _ (s : List ℕ) (at count : ℕ) (r : PlaceAnswer) (e : r ≡ placeAnswer (counted (componentAt s) count at)) where
   -- with the components passed, the selector is what its styles make of it
   pub parts-skipped : (n : ℕ) → r ≡ place.At n → (q : PlaceAnswer) → q ≡ placeAnswer (stylesAt s n) → q ≡ placeAnswer (partsAt s count at)
@@ -150,7 +150,7 @@ module _ (s : List ℕ) (at least : ℕ) (r : HeadAnswer) (e : r ≡ headAnswer 
   selector-head-fault p q =
       faulty-selector _ p (then-fault (headAt s least at) (λ n h. mapped (selectorOf h) (partsAt s (h .count) n)) p (head-fault (headAt s least at) r e p q))
 
--- ---- `skip_selectors`
+-- ---- `skip_selectors`: one selector behind the other, by origins that do not go down
 module _ (s : List ℕ) where
   -- what is left to pass over at i, behind a selector of the origin `before`, is what was to be passed over
   abbrev pub Selecting : ℕ → ℕ → ℕ → ℕ → ℕ → ℕ → Type 0
@@ -192,7 +192,7 @@ module _ (s : List ℕ) where
     pub selecting-done : left ≤ 0 → place.At i ≡ placeAnswer (selectorsAt count s least at)
     selecting-done h = all-done left before i h ∙ c
 
--- ---- the check
+-- ---- the check of a whole sheet: its bytes end where its selectors do
 module _ (s : List ℕ) (at count : ℕ) (r : PlaceAnswer) (e : r ≡ placeAnswer (selectorsAt count s agentOrigin at)) where
   -- the bytes end with the selectors
   pub whole-sheet : (n : ℕ) → r ≡ place.At n → n ≡ length s → check.Sheet ≡ checkAnswer (wholeAt s count at)

@@ -131,7 +131,7 @@ module _ (s : List ℕ) (at : ℕ) (important : Bool) (r : NumberAnswer) (e : r 
   unfolding slotAt
   slot-fault p q = answered-fault _ p (then-fault (rangedAt s at colourSlot lastSlot) (λ m k. valuedAt s important k m) p (number-fault _ r e p q))
 
--- ---- a style
+-- ---- a style: whether it is important, then its slot and value
 module _ (s : List ℕ) (at : ℕ) where
   within-read : (d : Decoded StyleNumbers) → Reaches 1 (length s) at d → styleWithin (length s) (styleAnswer d)
   unfolding styleAnswer styleWithin Reaches
@@ -170,7 +170,7 @@ pub style-skipped : (s : List ℕ) (at : ℕ) (r q : StyleAnswer) → r ≡ styl
 unfolding styleAt
 style-skipped s at r q e p = ap placeOf (sym p ∙ e) ∙ place-of (styleNumbersAt s at) ∙ sym (place-mapped (styleIn s) (styleNumbersAt s at))
 
--- ---- `skip_styles`
+-- ---- `skip_styles`: a count, then as many styles
 module _ (s : List ℕ) (at : ℕ) (r : NumberAnswer) (e : r ≡ numberAnswer (numberAt s at)) where
   -- with their count read, the styles are passed one behind the other
   pub styles-skipped : (n count : ℕ) → r ≡ number.Number n count → (q : PlaceAnswer) → q ≡ placeAnswer (counted (styleAt s) count n) → q ≡ placeAnswer (stylesAt s at)

@@ -23,7 +23,7 @@ use Rattle.compiled.proofs.Answers.{number-read, number-fault, text-wit
 use Rattle.compiled.proofs.Bounds.{span-reaches, span-holds}
 use Rattle.compiled.proofs.Following.{then-read, then-fault}
 
--- ---- `read_text`
+-- ---- `read_text`: a length, then as many bytes, if there are so many
 module _ (s : List ℕ) (at : ℕ) (r : NumberAnswer) (e : r ≡ numberAnswer (numberAt s at)) where
   -- the choice that it makes of the length
   chosen : (n v : ℕ) → r ≡ number.Number n v → spanAt s at ≡ pick (leb (n + v) (length s)) (read (n + v) (record { start = n; size = v })) (fault at)

@@ -1,4 +1,4 @@
--- Returns of `compile`.
+-- Returns of `compile`: each test that refuses comes in the order of the definition, and behind all of them stands what writing leaves.
 use mathlib.Core.Path.{_≡_, refl, sym, _∙_}
 use mathlib.Core.Bool.{Bool, true, false}
 use mathlib.Core.List.{List}

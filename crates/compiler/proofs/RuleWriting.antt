@@ -201,7 +201,7 @@ module _ (rows : List ℕ) (count at : ℕ) where
   none-left origin texts (suc k) place h = absurd (omega arith)
 
   module _ (total place n : ℕ) (c : Counting total place n) where
-    -- a rule
+    -- the rule at the place has r selectors with a style: they are added to the count
     module _ (h : 0 < n) (r : ℕ) (e : (origin : ℕ) (texts : List ℕ) → r ≡ length (ruleSelectors origin (readRule texts (drop place rows) .value))) where
       pub counting-more : (next : ℕ) → ((texts : List ℕ) → drop next rows ≡ readRule texts (drop place rows) .rest) → Counting (total + r) next (n - 1)
       counting-more next d = record { left = λ origin texts. omega (arith, c .left origin texts, one-less origin texts n place next h (d texts), e origin texts) }

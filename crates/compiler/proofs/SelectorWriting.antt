@@ -96,7 +96,7 @@ pub pseudo-after : (n : ℕ) → ¬ (n ≡ 0) → ¬ (n ≡ 1) → 2 ≡ pseudoN
 unfolding pseudoNumber pseudoFrom
 pseudo-after n d e = ap pseudoNumber (pick-false _ _ _ _ (is-no n 0 d) (pick-false _ _ _ _ (is-no n 1 e) refl))
 
--- ---- selectors
+-- ---- the bytes of a selector at a place
 module _ (rows : List ℕ) (at origin : ℕ) (o₀ o₁ : Store) where
   -- what stands before the components of one at a place
   abbrev pub headAt : List ℕ

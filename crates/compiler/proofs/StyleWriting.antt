@@ -100,7 +100,7 @@ module _ (rows : List ℕ) (count at own : ℕ) (height-zero overflow-hidden : B
         few = omega (arith, c .few, l);
       }
 
-  -- all declarations
+  -- when all declarations are passed, the count is that of the rule's styles
   module _ (h : n ≤ 0) where
     abbrev both : Bool
     both = and (anyRow zeroRow count (drop at rows)) (anyRow hiddenRow count (drop at rows))

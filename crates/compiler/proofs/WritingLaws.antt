@@ -60,7 +60,7 @@ sheet-written rows texts s origin o₀ o₁ e =
 pub lies-same : (rows texts tokens x : List ℕ) (s : SheetRules) → x ≡ tokens → SheetLying rows texts tokens s → SheetLying rows texts x s
 lies-same rows texts tokens x s e l = rw e l
 
--- ---- three sheets
+-- ---- three sheets: the count of their selectors, then the agent's, the user's and the author's
 module _ (rows texts : List ℕ) (s : SheetsRules) where
   a : List CompiledSelector
   a = sheetSelectors agentOrigin (rulesFrom rows texts (s .agent))

@@ -85,7 +85,7 @@ module _ (s tokens brackets store : List ℕ) (fill : ℕ) (room : Room (length 
         → record { answer = answer.the-variants.NoColour; tokens = x′; brackets = b′; store = z′ } ≡ colourLeft s tokens brackets store fill
     none-left ex eb ez = attribute-left (none-here .count) (none-here .text) (sym (attribute-none s (none-here .balanced))) ex eb ez
 
-  -- ---- a value
+  -- ---- a value was read: its colour is looked for
   module _ {t k m : ℕ} {i : Bool} (ea : a ≡ value.Value t k m i) where
     -- the answer tells the bytes taken, how many tokens and bytes of text there are, and the mark
     some-here : declaring.Valued r t k m i

@@ -246,7 +246,7 @@ module _ (s tokens brackets store : List ℕ) (fill : ℕ) {a : ValueAnswer} {x 
         pub left-counted : Counted x j
         left-counted = record { inside = omega (arith, unmarked-le, tokens-long, ek, sized .counted, sized .within, room .for-tokens) }
 
--- ---- `parse_declared`
+-- ---- `parse_declared`: the value behind a property that was read
 module _ (names : Bool) (at : ℕ) (s rules : List ℕ) (place : ℕ) (tokens brackets store : List ℕ) (fill v n : ℕ)
     (room : RulesRoom s at rules place tokens brackets store fill) (read : PropertyRead s v n store fill) where
   abbrev name : List ℕ
@@ -287,7 +287,7 @@ module _ (names : Bool) (at : ℕ) (s rules : List ℕ) (place : ℕ) (tokens br
   pub fill-fits : fill + n < 2 ^ 64
   fill-fits = omega (arith, name-short, value-within, room .room .bits)
 
-  -- what `parse_value` left
+  -- what `parse_value` left: the tokens of the value, and their texts behind the name
   module _ {a : ValueAnswer} {x b z : List ℕ}
       (e : record { answer = a; rows = x; brackets = b; store = z } ≡ valueLeft (statementOf false (take (length s - v) (drop v s))) tokens brackets store (fill + n)) where
     left-is : record { answer = a; rows = x; brackets = b; store = z } ≡ valueLeft value-of tokens brackets store (fill + n)
@@ -323,7 +323,7 @@ module _ (names : Bool) (at : ℕ) (s rules : List ℕ) (place : ℕ) (tokens br
           (tokens-wiped (drop v s) tokens brackets store (fill + n) left-is (u .count) ex)
           (brackets-zero (drop v s) tokens brackets store (fill + n) left-is (u .count) eb) (ez ∙ store-wiped (u .text))
 
-    -- a value
+    -- a value was read, of k tokens and m bytes of text
     module _ {t k m : ℕ} {i : Bool} (ea : a ≡ value.Value t k m i) where
       some-here : Valued value-of t k m i
       some-here = some-said (drop v s) tokens brackets store (fill + n) left-is ea
@@ -470,7 +470,7 @@ module _ (names : Bool) (at : ℕ) (s rules : List ℕ) (place : ℕ) (tokens br
     unfolding declarationLeft leaves
     declared-left e = e ∙ rw wiped-name
 
-  -- none
+  -- no property reads: there is no declaration, and the name is wiped
   module _ {n : ℕ} (ea : p ≡ property.NoName n) where
     lacks : (propertyOf s ≡ err) × (n ≡ length (nameText (identOf s)))
     unfolding propertyAnswer

@@ -21,7 +21,7 @@ use Rattle.values.proofs.DeclLaws.{Textless, decl-text}
 use Rattle.declarations.specs.DeclRow.{namedDecl, namedBy, shift, keptText, Keeping, rowBy, Narrow}
 use Rattle.declarations.specs.Leaving.{PutRoom, declSaid, Put}
 
--- ---- `unmarked`
+-- ---- `unmarked`: the count of tokens without the two of a mark
 module _ (count : ℕ) where
   pub unmarked-few : (b : Bool) → b ≡ true → count < 2 → 0 ≡ pick b (count - 2) count
   unfolding pick

@@ -156,7 +156,7 @@ module _ (names : Bool) (at : ℕ) (s rules : List ℕ) (place : ℕ) (tokens br
       in
       ap (λ (l : Leaves DeclarationAnswer). record { answer = a; rules = l .rules; tokens = l .tokens; brackets = l .brackets; store = l .store }) q
 
--- ---- a turn
+-- ---- a turn of `more_rules`: a ';' and a declaration behind it, or the end
 module _ {names : Bool} {at : ℕ} {s : List ℕ} {from : ℕ} {rules₀ : List ℕ} {place : ℕ} {tokens₀ brackets₀ store₀ : List ℕ} {fill : ℕ}
     {rules tokens brackets store : List ℕ} {taken count text : ℕ}
     (c : Reading names at s from rules₀ place tokens₀ brackets₀ store₀ fill rules tokens brackets store taken count text)
@@ -230,7 +230,7 @@ module _ {names : Bool} {at : ℕ} {s : List ℕ} {from : ℕ} {rules₀ : List 
             start-bits = omega (arith, o .start-bits);
           }
 
-      -- what `parse_declaration` left
+      -- what `parse_declaration` left: the declaration, written behind those before
       module _ {a : DeclarationAnswer} {y x b z : List ℕ}
           (e : record { answer = a; rules = y; tokens = x; brackets = b; store = z }
           ≡ declarationLeft names (at + w) lent rules (place + declarationWidth * count) tokens brackets store (fill + text)) where
@@ -254,7 +254,7 @@ module _ {names : Bool} {at : ℕ} {s : List ℕ} {from : ℕ} {rules₀ : List 
               bounds,
             )
 
-        -- a declaration
+        -- a declaration was read: it is counted, and the loop goes on behind it
         module _ {n k : ℕ} (ea : a ≡ answer.Declaration n k) where
           next : Declared names (declarationOf (drop w s)) n k
           next = declared-by names (declarationOf (drop w s)) n k (sym ea ∙ said)
@@ -325,7 +325,7 @@ module _ (names : Bool) (at : ℕ) (s rules : List ℕ) (place : ℕ) (tokens br
       let p = rules-none names s n in
       none-is names at s rules place tokens brackets store fill e n r ∙ rw (er, p .0, p .1)
 
-  -- a declaration
+  -- the first declaration was read: others may follow behind a ';'
   module _ {n k : ℕ} (ea : a ≡ answer.Declaration n k) where
     one-said : Declared names (declarationOf s) n k
     one-said = declared-by names (declarationOf s) n k (sym ea ∙ answer-is names at s rules place tokens brackets store fill e)

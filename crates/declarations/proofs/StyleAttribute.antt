@@ -223,7 +223,7 @@ pub attribute-fits : (s : List ℕ) → StylesFit (styleAttribute s)
 unfolding styleAttribute
 attribute-fits s = styles-fit (declarationsOf s .declarations) (bounded false s .fit)
 
--- ---- `parse_style_attribute`
+-- ---- `parse_style_attribute`: declarations are read, and their styles written in their place
 module _ (s : List ℕ) where
   -- the declarations as they are kept
   abbrev ds : List Declaration
@@ -257,7 +257,7 @@ module _ (s : List ℕ) where
     rows-fit : 0 + length (declarationRows fill ds) ≤ length rules
     rows-fit = omega (arith, length-declarations fill ds, ds-long, declarations-count s, o .for-declarations .for-rules)
 
-    -- what `parse_rules` left
+    -- what `parse_rules` left: the declarations of the attribute, from the start of the store on
     module _ {r : RulesRead} {y x b z : List ℕ}
         (e : record { answer = r; rules = y; tokens = x; brackets = b; store = z } ≡ rulesLeft false 0 s rules 0 tokens brackets store fill) where
       -- the count of declarations

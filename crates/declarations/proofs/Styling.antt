@@ -180,7 +180,7 @@ module _ (rows : List ℕ) (count : ℕ) (styles₀ styles : List ℕ) (place : 
         long = k ∙ c .long;
       }
 
-  -- all declarations
+  -- when all declarations are passed, the styles are those of the rows, with the one that is added where it is asked for
   module _ (h : count ≤ i) (room : StylesRoom rows count styles₀) where
     -- behind the last declaration none is left
     none-left : count - i ≡ 0

@@ -127,7 +127,7 @@ module _ {A : Type 0} (b : Bool) (d v : ℕ) (bad : A) (good : ℕ → A) where
           let w : v ≤ 0 = omega (arith, within .1) in
           ap good (sym k) ∙ not-below (and-right _ _ (le-ltb 0 v w))
 
--- ---- `with_unit`
+-- ---- `with_unit`: a number in ten-thousandths, times the factor of its unit
 module _ (place kind factor : ℕ) (n : List ℕ) (x : Numeral) (e : x ≡ numeralOf n) where
   -- the parts of the number
   digits-are : x .digits ≡ capped (digitsNumber n)
@@ -225,7 +225,7 @@ module _ (place : ℕ) (n unit : List ℕ) (i : ℕ) (e : i ≡ placeOf unit (sp
   unit-unknown h =
       ap (λ (u : Found LengthUnit). onFound u (λ a. withUnit place n (a .kind) (a .factor)) NoLength) (sym (row-none units i h) ∙ table-place units unit i e)
 
--- ---- `number_length`
+-- ---- `number_length`: a number without a unit is a length only if it is zero
 module _ (n : List ℕ) (x : Numeral) (e : x ≡ numeralOf n) where
   number-digits : x .digits ≡ capped (digitsNumber n)
   unfolding numeralOf

@@ -100,7 +100,7 @@ module _ (place : ℕ) (t : List ℕ) (n : ℕ) where
       pub number-followed : b ≡ false → (NoLength ≡ lengthBehind place t n) × (z ≡ sets st 0 (nameText (identOf (drop n t))))
       number-followed e = (pick-false _ _ _ _ (last false e) refl ∙ sym (behind-none none), stored)
 
--- ---- tokens
+-- ---- the length of each kind of token
 module _ (place : ℕ) (n u : List ℕ) where
   of-dimension : tokenLength place (dimension n u) ≡ dimensionLength place n u
   unfolding tokenLength isKind kindOf firstOf numberOf unitOf coded columnsOf textOf pick is

@@ -105,7 +105,7 @@ pub skip-le : (s : List ℕ) → skipWhitespace s ≤ length s
 unfolding skipWhitespace
 skip-le s = omega (arith, many-le whitespaceItem s 0 0)
 
--- ---- `skip_from`
+-- ---- `skip_from`: the place behind white space and comments from a place on
 module _ (s : List ℕ) (at : ℕ) where
   pub skipped-from : {w : ℕ} → w ≡ skipWhitespace (take (length s - at) (drop at s)) → at + w ≡ at + skipWhitespace (drop at s)
   skipped-from e = ap (λ x. at + x) (e ∙ ap skipWhitespace (rest s at))

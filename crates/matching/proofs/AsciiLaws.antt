@@ -77,7 +77,7 @@ module _ (s : List ℕ) (i : ℕ) (inside : i < length s) (b : ℕ) (eb : b ≡ 
     graphic-goes-on c =
         repeat-more _ _ _ c 1 (sym (word-value (drop i s) _ (one-byte ascii) some-left 1 b refl _ false (sym no-white) refl)) (omega arith) (λ z. absurd (omega arith))
 
-  -- ---- a space
+  -- ---- a space, which is White_Space and ends a word
   module _ (e : b ≡ 0x20) where
     -- the byte of a space is White_Space
     white : true ≡ isWhiteSpace b

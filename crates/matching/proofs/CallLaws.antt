@@ -43,7 +43,7 @@ no-complete e = absurd (let z : _≡_ {A = ℕ} 0 1 = cc in omega arith)
 no-match : {A : Type 0} → Matches ≡ FailsLocally → A
 no-match e = absurd (let z : _≡_ {A = ℕ} 0 1 = cc in omega arith)
 
--- ---- products
+-- ---- what the bound says, one component or one ancestor further
 module _ (m d : ℕ) where
   -- the call itself is within the bound
   one-call : 1 ≤ suc m * suc d

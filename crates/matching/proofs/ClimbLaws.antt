@@ -102,7 +102,7 @@ module _ (store components nodes attributes text : List ℕ) where
   tells-below left row row′ h (Descendant n at) s t = (omega (arith, t .0), omega (arith, t .1), t .2, t .3)
 
   module _ (n : ℕ) (tells : (row : ℕ) → Rooted nodes row → Tells n row (Climb n row) (Result n row)) where
-    -- a child combinator
+    -- with a child combinator in front, a climb goes on from the parent and says the result there; from the document it fails
     child-tells : (row : ℕ) → Rooted nodes row
         → Tells (suc n) row (pick (is row 0) (Ended FailsCompletely) (Climb n (nodeAt nodes row .parent))) (resultOnParent (matchRecursively (componentsAt store components n)) (pathOf nodes attributes text row))
     unfolding Tells resultOnParent pick is

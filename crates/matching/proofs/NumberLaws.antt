@@ -190,7 +190,7 @@ module _ (nodes attributes text : List ℕ) where
       one-reaches row (below k l n r) e at w z =
           one-turn row (below k l n r) (λ q. absurd (omega arith)) (reaches (Climb cs row)) refl e (one-reaches (nodeAt nodes row .parent) r) at w z
 
-    -- ---- the number
+    -- ---- the number of a selector on a row
     module _ (row : ℕ) (r : Rooted nodes row) where
       abbrev Top : ℕ
       Top = selectorTop nodes attributes text row cs
@@ -219,7 +219,7 @@ module _ (nodes attributes text : List ℕ) where
       abbrev Sole : ℕ
       Sole = pick (matches cs (pathOf nodes attributes text (First row))) (parentReached nodes (Climb cs (First row))) row
 
-      -- it decides there
+      -- where one row alone reaches a descendant combinator, that number decides on this row
       on-first : (at : ℕ) → Line nodes row at → at ≡ First row → Says Sole at
       on-first at w e =
           ap (λ (i : ℕ). belowTop (pick (matches cs (pathOf nodes attributes text i)) (parentReached nodes (Climb cs i)) row) (Climb cs at)) (sym e)
@@ -309,7 +309,7 @@ module _ (nodes attributes text : List ℕ) where
             unfolding reachedNumber
             number-more y t et = pick-false _ _ _ _ (is-no _ _ no-first) (pick-false _ _ _ _ (is-no _ _ (λ e. y (second-is ∙ e))) et)
 
-            -- one does
+            -- only the first row reaches a descendant combinator: the matcher is asked there
             module _ (none : second ≡ 0) (b : Bool) (eb : b ≡ matches cs (pathOf nodes attributes text first)) where
               -- the number by what the matcher answers
               number-one : (n : ℕ) → n ≡ Sole → n ≡ reachedNumber nodes attributes text row cs
@@ -324,7 +324,7 @@ module _ (nodes attributes text : List ℕ) where
               pub number-yes : b ≡ true → (t : ℕ) → t ≡ parentReached nodes (Climb cs first) → t ≡ reachedNumber nodes attributes text row cs
               number-yes h t et = number-one t (pick-true _ _ _ _ (sym first-matched ∙ h) (et ∙ ap (λ (i : ℕ). parentReached nodes (Climb cs i)) ef))
 
-              -- or not
+              -- the selector does not match the first row: its number is the row itself
               pub number-no : b ≡ false → row ≡ reachedNumber nodes attributes text row cs
               number-no h = number-one row (pick-false _ _ _ _ (sym first-matched ∙ h) refl)
 
@@ -335,7 +335,7 @@ module _ (nodes attributes text : List ℕ) where
       unfolding parentReached
       parent-found e p ep = ep ∙ ap (parentReached nodes) (sym e ∙ et)
 
-      -- or not
+      -- no descendant combinator is reached: the answer is 0
       pub parent-none : {s : SelectorMatch} → t ≡ Ended s → 0 ≡ parentReached nodes (Climb cs row)
       unfolding parentReached
       parent-none e = ap (parentReached nodes) (sym e ∙ et)
@@ -377,7 +377,7 @@ module _ (nodes attributes text : List ℕ) where
         unfolding reaches
         reach-found e = sym (g .same-first ∙ first-here nodes attributes text cs at (g .rooted) z (ap reaches (sym et ∙ e)))
 
-        -- or not
+        -- no descendant combinator is reached here: the first is sought from the parent on
         pub reach-on : {s : SelectorMatch} → t ≡ Ended s → (p : ℕ) → Rooted nodes p → First (nodeAt nodes at .parent) ≡ First p → Reaching row p
         unfolding reaches
         reach-on e p rp ep = record { rooted = rp; same-first = g .same-first ∙ first-above nodes attributes text cs at (g .rooted) z (ap reaches (sym et ∙ e)) ∙ ep }
@@ -390,12 +390,12 @@ module _ (components : List ℕ) where
   pub record Looking (left n : ℕ) : Type 0 where
     pub same-has : (store : List ℕ) → Has store left ≡ Has store n
 
-  -- all are left
+  -- before the first component all are still to be looked at
   pub look-begin : (left : ℕ) → Looking left left
   look-begin left = record { same-has = λ store. refl }
 
   module _ (left n : ℕ) (g : Looking left n) where
-    -- none is left
+    -- where no component is left, there is no descendant combinator
     pub look-end : n ≡ 0 → (store : List ℕ) → false ≡ Has store left
     unfolding hasDescendant
     look-end e store = sym (g .same-has store ∙ ap (Has store) e ∙ ap hasDescendant (components-none store components))
@@ -414,7 +414,7 @@ module _ (components : List ℕ) where
       look-found e store =
           sym (g .same-has store ∙ last-asked store ∙ ap (λ (c : Component). byCombinator c (Has store (n - 1)) true (Has store (n - 1))) (from-descendant store _ _ _ _ (sym ek ∙ e)))
 
-      -- or another component
+      -- any other component is passed over, and those left of it are looked at
       pub look-on : ¬ (k ≡ descendantKind) → Looking left (n - 1)
       unfolding componentAt
       look-on d = record { same-has = λ store. g .same-has store ∙ last-asked store ∙ second-passed store _ _ _ _ (λ y. d (ek ∙ y)) _ _ }

@@ -38,7 +38,7 @@ module _ (f g : Path → Bool) (weaker : (q : Path) → f q ≡ false → g q �
       let w = neither (f (x ∷ up)) (or (f up) (onAncestors f up)) e in
       or-none (g (x ∷ up)) _ (weaker (x ∷ up) (w .0)) (none-beside up (w .1))
 
--- ---- one step
+-- ---- one step: child, descendant or simple selector
 module _ (f : Path → Bool) where
   -- what fails on all ancestors fails on the parent
   parent-fails : (q : Path) → onAncestors f q ≡ false → onParent f q ≡ false

@@ -19,7 +19,7 @@ unfolding or
 neither true b e = never (sym e)
 neither false b e = (refl, e)
 
--- ---- lengths
+-- ---- whether one of three sheets is too long
 module _ (a u w : ℕ) where
   pub agent-long : sheetLimit < a → true ≡ anyTooLong a u w
   unfolding anyTooLong
@@ -42,7 +42,7 @@ module _ (a u w : ℕ) where
       let q = neither _ _ (p .1) in
       (ltb-false _ _ (p .0), ltb-false _ _ (q .0), ltb-false _ _ (q .1))
 
--- ---- texts
+-- ---- whether all three sheets are UTF-8
 module _ (a u w : List ℕ) where
   pub agent-invalid : {t : Bool} → t ≡ valid a → t ≡ false → false ≡ allValid a u w
   unfolding allValid

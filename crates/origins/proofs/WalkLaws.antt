@@ -45,7 +45,7 @@ pub declaration-rest : (texts : List ℕ) (k : ℕ) (t : List ℕ) → readMany 
 unfolding readDeclaration
 declaration-rest texts k t = many-rest (readDeclaration texts) declarationWidth (λ _. refl) k t
 
--- ---- places
+-- ---- places behind a declaration, a selector and a rule
 module _ (rows : List ℕ) (at : ℕ) where
   -- a row's width further lies what is behind the declaration
   pub behind-declaration : (texts : List ℕ) (place : ℕ) → drop place rows ≡ drop (at + declarationWidth) rows → drop place rows ≡ readDeclaration texts (drop at rows) .rest

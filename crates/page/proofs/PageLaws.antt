@@ -13,7 +13,7 @@ use Rattle.page.specs.Rows.{nodeWidth, nodeCount, attributeWidth, attrib
 use Rattle.page.specs.Accepted.{nodeLimit, attributeLimit, textLimit, withinLimits, firstBadRow, firstBadText, rowsRefusal, pageRefusal, refusalOf}
 use Rattle.page.specs.declared.check.PageAnswer.the-variants.{Page, TooLarge, BadRow, BadText}
 
--- ---- `within_limits`
+-- ---- `within_limits`: each limit by its own test
 module _ (nodes attributes text : List ℕ) where
   abbrev All : Bool
   All = withinLimits nodes attributes text
@@ -53,7 +53,7 @@ module _ (nodes attributes text : List ℕ) where
         (and-both _ _ (le-leb (nodeCount nodes) nodeLimit ln) (and-both _ _ (le-leb (attributeRows attributes) attributeLimit lm) (le-leb (length text) textLimit ht)))
         (and-gives _ _ _ (is-yes _ _ e) refl)
 
--- ---- `check_page`
+-- ---- `check_page`: limits, rows and texts, the first that fails
 module _ (nodes attributes text : List ℕ) (t : Bool) (et : t ≡ withinLimits nodes attributes text) where
   -- it is over a limit
   pub page-too-large : t ≡ false → refusalOf TooLarge ≡ pageRefusal nodes attributes text

@@ -88,7 +88,7 @@ unfolding pick
 broken true x e = absurd (let z : _≡_ {A = ℕ} 0 1 = cc in omega arith)
 broken false x e = refl
 
--- ---- `check_element`
+-- ---- `check_element`: name and attributes, where they start and end
 module _ (attributes : List ℕ) (n : NodeRow) (first start s : ℕ) (es : s ≡ n .nameStart) where
   -- its name does not start where it should
   pub element-start : ¬ (s ≡ start) → Against ≡ elementAnswer attributes n first start
@@ -130,7 +130,7 @@ module _ (attributes : List ℕ) (n : NodeRow) (first start s : ℕ) (es : s ≡
             (and-both _ _ (and-both _ _ (is-yes _ _ (sym es ∙ ys)) (is-yes _ _ g)) (and-both _ _ (le-leb (first + n .attributeCount) (attributeRows attributes) l) (o .0)))
             (rw (ek, o .1, g))
 
--- ---- `check_kind`
+-- ---- `check_kind`: other content, or an element, from where the rows before leave off
 module _ (attributes : List ℕ) (n : NodeRow) (first start : ℕ) (z : endsInZeros n ≡ true) where
   -- it has no name
   no-name : n .nameLength ≡ 0
@@ -256,7 +256,7 @@ module _ (nodes : List ℕ) (row depth : ℕ) (h : BehindRow nodes row depth) (p
           let s : depthLimit < depthOf nodes row = omega (arith, own-depth) in
           pick-false _ _ _ _ (and-right _ _ (lt-leb (depthOf nodes row) depthLimit s)) refl
 
--- ---- `check_row`
+-- ---- `check_row`: row 0, or a row by its parent and its kind
 module _ (nodes attributes : List ℕ) where
   -- the rules of a row behind row 0
   pub later-right : (row : ℕ) → 0 < row

@@ -14,7 +14,7 @@ use Rattle.page.specs.Rows.{nodeAt, nodeCount, attributeAt}
 use Rattle.page.specs.Accepted.{textRight, attributeTextRight, attributeTextsRight, textsRight, firstBadText}
 use Rattle.page.proofs.FirstFault.{Seeking, seek-done, seek-stop}
 
--- ---- `is_text`
+-- ---- `is_text`: a part of the byte text that lies within it and is UTF-8
 module _ (text : List ℕ) (start n : ℕ) where
   -- it ends past the byte text
   pub text-past : length text < start + n → false ≡ textRight text start n
@@ -26,7 +26,7 @@ module _ (text : List ℕ) (start n : ℕ) where
   unfolding textRight
   text-inside h l p e r f = and-gives _ _ _ (le-leb (start + n) (length text) (omega arith)) (f ∙ ap valid e)
 
--- ---- `attribute_text`
+-- ---- `attribute_text`: the name and the value of an attribute
 module _ (attributes text : List ℕ) (at a b : ℕ) (ea : a ≡ attributeAt attributes at .nameStart) (eb : b ≡ attributeAt attributes at .nameLength)
     (t : Bool) (et : t ≡ textRight text a b) where
   -- what was asked of its name
@@ -73,7 +73,7 @@ module _ (attributes text : List ℕ) (first count at left : ℕ) (i : Reading a
     pub reading-stop : t ≡ false → false ≡ attributeTextsRight attributes text count first
     reading-stop n = and-gives-false _ _ n ∙ sym more ∙ i .work
 
--- ---- `row_texts`
+-- ---- `row_texts`: the name of a row and the texts of its attributes
 module _ (nodes attributes text : List ℕ) (row a b : ℕ) (ea : a ≡ nodeAt nodes row .nameStart) (eb : b ≡ nodeAt nodes row .nameLength)
     (t : Bool) (et : t ≡ textRight text a b) where
   -- what was asked of its name
@@ -91,7 +91,7 @@ module _ (nodes attributes text : List ℕ) (row a b : ℕ) (ea : a ≡ nodeAt n
   unfolding textsRight
   row-name-fails n = and-gives-false _ _ (own-name-is ∙ n)
 
--- ---- `first_bad_text`
+-- ---- `first_bad_text`: the rows before it have right texts
 module _ (nodes attributes text : List ℕ) (rows row : ℕ) (e : rows ≡ nodeCount nodes) (i : Seeking (textsRight nodes attributes text) rows row) where
   -- no row is left
   pub texts-done : rows ≤ row → row ≡ firstBadText nodes attributes text

@@ -45,7 +45,7 @@ sifted-same : (n m i j : Found (Styled Value)) (b c : Bool) → n ≡ m → i �
     → _≡_ {A = Sifted Value} (record { normal = n; important = i; behind = b }) (record { normal = m; important = j; behind = c })
 sifted-same n m i j b c e f g = rw (e, f, g)
 
--- ---- one style
+-- ---- one style, sifted for a slot
 module _ (s : code.Sifted) (k : ℕ) (x : StyleNumbers) where
   -- it is for another slot
   pub sifted-away : ¬ (x .slot ≡ k) → siftedIn s ≡ sift k (siftedIn s) (inNumbers x)

@@ -104,7 +104,7 @@ module _ {A : Type 0} (c : Cascade) (o r : ℕ) (p : Specificity) where
       go h (isAfter e) =
           same-put (λ q t. record { main = t .main; before = t .before; after = q }) (λ t. t .after) (λ k u t. update-after r k u t e) (λ t. refl) (λ q t. refl) (λ q v t. refl) h s (f .after) xs
 
--- ---- rows
+-- ---- the same of rows: styles that decide, merged, leave the row that all leave
 module _ (c : Cascade) (o : ℕ) where
   -- a row that a rule's styles are merged into
   pub deciding-row : (r : ℕ) (p : Specificity) (s : ComputedStyle Value) → Formed s → (xs : List (Styled Value))

@@ -136,7 +136,7 @@ module _ (t tokens : List ℕ) (place : ℕ) (o : RuleKeptRoom t tokens place) w
       module _ (y₂ z : List ℕ) (g : ℕ) (ey₂ : y₂ ≡ sets store made (textsMany rowOfNumbers (placedAll text fill (numbersOf count (drop made store)))))
           (ez : z ≡ sets texts (end + fill) (contentsOf text (numbersOf count (drop made store))))
           (eg : g ≡ fill + length (contentsOf text (numbersOf count (drop made store)))) where
-        -- their rows
+        -- the rows of the rule's styles, each content at its new place
         abbrev rows : List ℕ
         rows = textsMany rowOfNumbers (placedAll text fill (lyingStyles t))
 

@@ -151,7 +151,7 @@ module _ (rules : List ℕ) (at count : ℕ) (tokens₀ : List ℕ) (place : ℕ
   abbrev keptFrom : ℕ → ℕ → ℕ → List ℕ
   keptFrom f rows n = keptRules (styledRules sheet f n (drop rows rules))
 
-  -- their contents
+  -- the contents of n rules from a place on, one behind the other
   abbrev contentsFrom : ℕ → ℕ → List ℕ
   contentsFrom rows n = rulesContentsAt sheet n (drop rows rules)
 

@@ -17,7 +17,7 @@ use Rattle.rule_styles.specs.Placing.{sheetText, readNumbers, numbersOf,
 use Rattle.rule_styles.specs.PlacingRoom.{ContentsRoom, StyleRowsRoom}
 use Rattle.rule_styles.proofs.PlacingCopies.{sheet-text-kept}
 
--- ---- one style
+-- ---- one style, whose content is placed at the fill
 module _ (text : List ℕ) (fill : ℕ) (x : StyleNumbers) where
   -- a content: its text
   content-is : x .slot ≡ contentSlot → part text (x .value .number) (x .value .second) ≡ contentOf text x
@@ -47,13 +47,13 @@ module _ (tokens texts : List ℕ) (at from end fill : ℕ) (style : StyleNumber
   abbrev text : List ℕ
   text = sheetText texts from end
 
-  -- what it leaves
+  -- what it leaves: the style's row with its new place, its content at the fill, and the fill behind it
   abbrev Left : List ℕ → List ℕ → ℕ → Type 0
   Left t z r =
       (t ≡ sets tokens at (rowOfNumbers (placedNumbers text fill (numbersAt (drop at tokens)))))
       × ((z ≡ sets texts (end + fill) (contentOf text (numbersAt (drop at tokens)))) × (r ≡ fill + length (contentOf text (numbersAt (drop at tokens)))))
 
-  -- a content
+  -- the style is a content, whose text is copied
   module _ (h : style .slot ≡ contentSlot) where
     -- that there is room for it
     pub content-room : ContentsRoom texts from end fill (contentOf text (numbersAt (drop at tokens)))
@@ -125,7 +125,7 @@ module _ (tokens₀ : List ℕ) (at count : ℕ) (texts₀ : List ℕ) (from end
   abbrev rowsFrom : List ℕ → ℕ → ℕ → ℕ → List ℕ
   rowsFrom tokens f place n = textsMany rowOfNumbers (placedAll sheet f (numbersOf n (drop place tokens)))
 
-  -- their contents
+  -- the contents of n styles from a place on, one behind the other
   abbrev contentsFrom : List ℕ → ℕ → ℕ → List ℕ
   contentsFrom tokens place n = contentsOf sheet (numbersOf n (drop place tokens))
 
@@ -145,7 +145,7 @@ module _ (tokens₀ : List ℕ) (at count : ℕ) (texts₀ : List ℕ) (from end
     placing-begin = record { rows-left = refl; texts-left = refl; fill-left = refl; same = refl; row-room = s .room; row-length = refl; text-length = refl }
 
     module _ (tokens texts : List ℕ) (f place : ℕ) where
-      -- the next style
+      -- the numbers of the next style that is to be placed
       abbrev x : StyleNumbers
       x = numbersAt (drop place tokens)
 

@@ -277,7 +277,7 @@ module _ {s : SheetsRules} {rows tokens texts : List ℕ} (h : SheetsHeld s rows
           sheet-contents-room author-still f₂ (omega (arith, fill₂-is, long-x₂, end-is, sizes .texts-short, fits .contents-a, fits .contents-u, fits .contents-w, fits .texts-room))
           (omega (arith, fill₂-is, sizes .texts-short, sizes .few, fits .contents-a, fits .contents-u, fits .contents-w))
 
-      -- all of them
+      -- with the author's styles made, those of all three sheets are kept, with their contents
       module _ {t₃ x₃ : List ℕ} {p₃ f₃ : ℕ} (n : ℕ) (et₃ : t₃ ≡ sets t₂ p₂ (Kept f₂ w)) (ex₃ : x₃ ≡ sets x₂ (s .end + f₂) (rulesContents w)) (ep₃ : p₃ ≡ p₂ + length (Kept f₂ w)) (ef₃ : f₃ ≡ f₂ + length (rulesContents w))
           (en : n ≡ s .author .place + length (ruleRows 0 w)) where
         tokens-left : t₃ ≡ sets tokens 0 (sheetsKept read)

@@ -276,7 +276,7 @@ module _ (text : List ℕ) (g : ℕ) (r : RuleSet) (more : List ℕ) (h : Held t
   unfolding stylesPlaced said.ruleStyles
   rule-styles f = ap (λ (l : List StyleNumbers). map inNumbers (placedAll text f l)) rule-lying ∙ all-placed text (r .declarations) declared f held-declarations
 
--- ---- rules
+-- ---- rules one behind the other
 module _ (text : List ℕ) where
   pub rules-contents : (rs : List RuleSet) (g : ℕ) (more : List ℕ) → RulesFit rs → Held text g (ruleTexts rs)
       → rulesContentsAt text (length rs) (ruleRows g rs ++ more) ≡ rulesContents rs

@@ -87,7 +87,7 @@ module _ (code : List ℕ) (settings : Settings) (x : Handed) (parent state text
   unfolding stepOn openStep
   no-parent other = refl
 
--- ---- a row
+-- ---- a row: the parent's row copied to its place, and its step
 module _ {code : List ℕ} {g : Page} {rows₀ state₀ rules₀ tokens₀ brackets₀ texts₀ : List ℕ} {i fill : ℕ} (r : RowReady code g rows₀ state₀ rules₀ tokens₀ brackets₀ texts₀ i fill) where
   abbrev place : ℕ
   place = i * styleRowWidth
@@ -244,7 +244,7 @@ module _ {code : List ℕ} {g : Page} {rows₀ state₀ rules₀ tokens₀ brack
         pub row-long : length (putMid place (place + styleRowWidth - place) rows₁ ys) ≡ length rows₀
         row-long = ap length (row-back ys (long ∙ lent-long)) ∙ length-sets rows₀ place ys
 
--- ---- the loop
+-- ---- the loop over the rows of a page
 module _ (code : List ℕ) (settings : Settings) (g : Page) where
   -- one row less is left
   pub run-more : (i : ℕ) (x y z : Running) → i < nodeCount (g .nodes) → y ≡ runStep code settings g i x → runFrom code settings g (nodeCount (g .nodes) - i) i x ≡ z

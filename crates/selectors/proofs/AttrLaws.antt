@@ -459,7 +459,7 @@ module _ (s st : List ℕ) (fill : ℕ) (t : Bool) (et : t ≡ is (getD s 0 0) a
               let q : y ≡ st = ey ∙ ap (wiped fill m) stored-name ∙ zeros-back st fill c (name .name) m (omega (arith, name .long)) in
               rw q (left-none _ (pick-false _ _ _ _ (told _ _ _ ev g) refl ∙ sym (or-fails _ _ closed-fails) ∙ attr-by) st fill)
 
-          -- a `=`
+          -- an `=` stands behind the name: a value is looked for
           module _ (g : v ≡ true) where
             -- it lies within the text
             pub equal-before : 1 + n < length s

@@ -88,7 +88,7 @@ or-assoc (reads n a) o′ o″ = refl
 or-assoc fails o′ o″ = refl
 or-assoc (panics p) o′ o″ = refl
 
--- ---- `mark_taken`
+-- ---- `mark_taken`: white space or none, and a mark
 module _ (s : List ℕ) (mark w : ℕ) (ew : w ≡ skipWhitespace s) (t : Bool) (et : t ≡ is (getD s w 0) mark) where
   -- the mark is there
   pub mark-before : 1 ≤ mark → t ≡ true → w + 1 ≤ length s

@@ -104,7 +104,7 @@ unfoldable pub restOf : List ℕ → ℕ → ℕ → Outcome (List Component)
 restOf s turns taken = pick (is taken 0) (startedOf s) (componentsOf turns (drop taken s))
 
 module _ (s : List ℕ) (turns taken : ℕ) (enough : length s ≤ taken + turns) where
-  -- one more
+  -- a component of n bytes is read: what is to be read is it and what stands behind it, in turns that suffice
   record Step (n : ℕ) (c : Component) : Type 0 where
     others : ℕ
     suffice : length s ≤ taken + n + others
@@ -232,7 +232,7 @@ module _ {s rules₀ : List ℕ} {place : ℕ} {store₀ : List ℕ} {fill : ℕ
     pub texts-long : length store₁ ≡ length store → length store₁ ≡ length store₀
     texts-long l = l ∙ store-long (i .gathered)
 
-    -- one more
+    -- no component reads here
     module _ (told : a ≡ answer.NoComponent) where
       none : found ≡ fails
       none = fails-by found (sym told ∙ answered .0)
@@ -252,7 +252,7 @@ module _ {s rules₀ : List ℕ} {place : ℕ} {store₀ : List ℕ} {fill : ℕ
       unfolding componentRows componentTexts
       stops n = rw same (all-read (i .gathered) 0 taken (later-none s (i .turns) taken (i .enough) (i .turns) (is-no taken 0 n) none) (omega arith))
 
-    -- one more
+    -- the crate panics in the component: what was read before is wiped
     module _ {p : ℕ} (told : a ≡ answer.Panic p) where
       panic : found ≡ panics p
       panic = panics-by found p (sym told ∙ answered .0)
@@ -270,7 +270,7 @@ module _ {s rules₀ : List ℕ} {place : ℕ} {store₀ : List ℕ} {fill : ℕ
           all-panics (i .gathered) (r .zeros) (q .zeros) ey (ez ∙ ap (wiped fill text) panic-same) p (taken + p)
           (panics-at s (i .turns) taken (i .enough) (is taken 0) refl p panic (i .turns) (i .enough)) refl
 
-    -- one more
+    -- a component reads, of n bytes and the kind k
     module _ {n k f g : ℕ} (told : a ≡ answer.Component n k f g) where
       one : Read found n k f g
       one = read-by found n k f g (sym told ∙ answered .0)
@@ -302,7 +302,7 @@ module _ {s rules₀ : List ℕ} {place : ℕ} {store₀ : List ℕ} {fill : ℕ
           let b = row-numbers (drop taken s) (omega (arith, q .bits, length-drop taken s)) n c (keeps .0) (keeps .1) in
           record { first-fits = omega (arith, b .0, one .first); second-fits = omega (arith, b .1, one .second); fill-fits = omega (arith, q .bits, i .long, i .within) }
 
-      -- kept or not
+      -- its row is kept, but for a blank at the start of the selector
       module _ {kept : ℕ} (ek : kept ≡ pick (is taken 0) (pick (is k descendantKind) 0 1) 1) where
         kept-is : kept ≡ length (keptOf (is taken 0) c)
         kept-is = ek ∙ ap (λ (j : ℕ). pick (is taken 0) (pick (is j descendantKind) 0 1) 1) (one .kind) ∙ kept-count c 0 (is taken 0)

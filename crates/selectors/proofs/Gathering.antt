@@ -152,7 +152,7 @@ module _ {A : Type 0} {w : ℕ → A → List ℕ} {x : A → List ℕ} {whole :
     store-back : z ≡ store₀
     store-back = ez ∙ rw (g .store-is) (zeros-back store₀ fill v (textsMany x (g .done)) text (omega (arith, g .text-is)))
 
-    -- the crate panics
+    -- the crate panics: rows and texts are wiped, and the whole panics at that byte
     module _ (p m : ℕ) (e : rest ≡ panics p) (h : m ≡ k + p) where
       panic-is : whole ≡ panics m
       unfolding behind onOutcome

@@ -224,7 +224,7 @@ module _ (s st : List ℕ) (t : Bool) (et : t ≡ is (getD s 0 0) ascii.colon) w
       unfolding pseudoClassOf onParsed pick
       pseudo-is = rw (told _ _ _ et e, q .reading, q .same-name)
 
-      -- by the arguments
+      -- by the answer for the arguments, which stand behind the name
       module _ (r : NthAnswer) (er : r ≡ nthAnswer (nthArgsOf (take (length s - (1 + k)) (drop (1 + k) s)))) where
         -- of the rest of the text
         read : r ≡ nthAnswer (nthArgsOf (drop (1 + k) s))

@@ -31,7 +31,7 @@ text-both k a b n = pick-false _ _ _ _ (is-no k nthKind n) refl
 pub text-fits : (k a b m : ℕ) → (k ≡ nthKind → ⊥) → textLength k a b < m → a + b < m
 text-fits k a b m n h = subst (λ (t : ℕ). t < m) (sym (text-both k a b n)) h
 
--- ---- `drop_blank`
+-- ---- `kept_of`: how many rows a component has
 module _ (start k : ℕ) where
   -- a blank at the start is not kept
   pub kept-none : start ≡ 0 → k ≡ descendantKind → _≡_ {A = ℕ} 0 (pick (is start 0) (pick (is k descendantKind) 0 1) 1)
@@ -53,7 +53,7 @@ put-none kept row rules place e = ap (sets rules place) (pick-true _ _ _ _ (is-y
 pub put-one : (kept : ℕ) (row rules rules′ : List ℕ) (place : ℕ) → (kept ≡ 0 → ⊥) → rules′ ≡ sets rules place row → rules′ ≡ sets rules place (pick (is kept 0) [] row)
 put-one kept row rules rules′ place n e = e ∙ ap (sets rules place) (pick-false _ _ _ _ (is-no kept 0 n) refl)
 
--- ---- `drop_blank`
+-- ---- `drop_blank`: a blank at the end is dropped
 module _ (rules : List ℕ) (place count : ℕ) where
   -- there is no component
   none-last : count ≡ 0 → blankLast rules place count ≡ false

@@ -49,7 +49,7 @@ first-is : (s : List ℕ) → selectorsOf s ≡ nextOf s (λ n. length (drop (0 
 unfolding selectorsOf moreFrom nextOf
 first-is s = first-by (selectorOf s) (λ n. moreSelectors (length (drop n s)) (drop n s))
 
--- behind a ','
+-- whether a ',' stands behind so many bytes, and what follows it
 module _ (s : List ℕ) (taken : ℕ) {b : Bool} (eb : b ≡ is (getD s taken 0) ascii.comma) where
   none-follows : b ≡ false → (t : ℕ) → moreSelectors t (drop taken s) ≡ reads 0 []
   unfolding moreSelectors pick
@@ -177,7 +177,7 @@ module _ {s rules₀ : List ℕ} {place : ℕ} {store₀ : List ℕ} {fill : ℕ
         let n = nothing _ _ _ _ _ _ _ _ e g in
         rw (n .1 .0, n .1 .1) (many-read (i .gathered) 0 taken (rw (← lent-is, n .0)) (omega arith))
 
-    -- a first
+    -- the crate panics in the selector: what was read before is wiped
     module _ {p : ℕ} (g : r ≡ Panics p) where
       pub panic-within : next + p ≤ length s
       panic-within = omega (arith, where-panics (length lent) _ (selectorOf lent) p (panicked _ _ _ _ _ _ _ _ e g .0) (selector-keeps lent), lent-long, i .within)
@@ -189,7 +189,7 @@ module _ {s rules₀ : List ℕ} {place : ℕ} {store₀ : List ℕ} {fill : ℕ
           many-panics (i .gathered) (u .zeros) (v .zeros) (ey ∙ ap (wiped place numbers) (n .1 .0)) (ez ∙ ap (wiped fill text) (n .1 .1))
           (i .gap + p) (next + p) (rw (← lent-is, n .0)) (omega (arith, i .next-is))
 
-    -- a first
+    -- a selector reads: it is gathered with those before it
     module _ {n o row more : ℕ} (g : r ≡ Reads n o row more) where
       one : Found (λ _. 1) (selectorRow (fill + text)) selectorText (selectorOf lent) rules (place + numbers) store (fill + text) y z n o row more
       one = found _ _ _ _ _ _ _ _ e g
@@ -226,7 +226,7 @@ module _ {s rules₀ : List ℕ} {place : ℕ} {store₀ : List ℕ} {fill : ℕ
         pub comma-within : b ≡ true → next + n < length s
         comma-within f = comma-there s (next + n) eb f
 
-        -- all of them
+        -- a ',' follows: the list goes on behind it and the white space there
         module _ (f : b ≡ true) {next′ : ℕ} (en : next′ ≡ next + n + 1 + skipWhitespace (drop (next + n + 1) s)) (l : next′ ≤ length s) where
           pub later : next < next′
           later = omega (arith, en)

@@ -62,7 +62,7 @@ module _ (s st : List ℕ) (fill : ℕ) (r : ComponentAnswer) (z : List ℕ) (w 
   unfolding namedOf
   named-class h = left-first _ _ st fill r z w h
 
-  -- no class
+  -- no class was read: an attribute is tried
   module _ (h : r ≡ NoComponent) where
     -- the store is as it was
     pub same-class : z ≡ st
@@ -82,7 +82,7 @@ module _ (s st : List ℕ) (fill : ℕ) (r : ComponentAnswer) (z : List ℕ) (w 
       pub named-attr : OneOf some (tagOf the-type r₂) → Left (namedOf s) st fill r₂ z₂
       named-attr k = no-class r₂ z₂ (left-first _ _ st fill r₂ z₂ from-attr k)
 
-      -- no attribute
+      -- no attribute was read: a hash is tried
       module _ (h₂ : r₂ ≡ NoComponent) where
         -- the store is as it was
         pub same-attr : z₂ ≡ st
@@ -101,7 +101,7 @@ module _ (s st : List ℕ) (fill : ℕ) (r : ComponentAnswer) (z : List ℕ) (w 
           pub named-hash : OneOf some (tagOf the-type r₃) → Left (namedOf s) st fill r₃ z₃
           named-hash k = no-attr r₃ z₃ (left-first _ _ st fill r₃ z₃ from-hash k)
 
-          -- no hash
+          -- no hash was read: a type selector is tried
           module _ (h₃ : r₃ ≡ NoComponent) where
             -- the store is as it was
             same-hash : z₃ ≡ st
@@ -120,7 +120,7 @@ module _ (s st : List ℕ) (fill : ℕ) (r : ComponentAnswer) (z : List ℕ) (w 
               pub named-element : OneOf some (tagOf the-type r₄) → Left (namedOf s) st fill r₄ z₄
               named-element k = no-hash r₄ z₄ (left-first _ _ st fill r₄ z₄ from-element k)
 
-              -- no element
+              -- no type selector was read: a pseudo-class is tried
               module _ (h₄ : r₄ ≡ NoComponent) where
                 -- the store is as it was
                 pub same-element : z₄ ≡ st
@@ -196,7 +196,7 @@ module _ (start : ℕ) (s st : List ℕ) (fill : ℕ) where
     unfolding nextOf firstOf pick
     next-element k = rw (is-yes start 0 h) (left-first _ _ st fill r z w k)
 
-    -- none: any component
+    -- no type selector was read: any component is tried
     module _ (e : r ≡ NoComponent) where
       pub next-same : z ≡ st
       next-same = tried _ st fill r z w e .1

@@ -1,4 +1,4 @@
--- Turns of `parse_stylesheet`.
+-- Turns of `parse_stylesheet`: what was gathered and what is left to read make the whole sheet; a turn adds the rules of a statement, or ends.
 use mathlib.Core.Path.{_≡_, refl, ap, sym, subst, _∙_}
 use mathlib.Core.List.{List, [], _++_, map}
 use Prim.Native.Nat.{ℕ, zero, suc, _+_, _-_, _*_, _≤_, _<_}

@@ -83,7 +83,7 @@ module _ {A : Type 0} where
   presence-down [] r h = refl
   presence-down (x ∷ above) r h = same-presence (cascaded Crate above) (cascaded Book above) x r h (presence-down above r h)
 
--- ---- computed styles
+-- ---- the computed styles of both cascades
 module _ (rules : Rules RuleSet) (settings : Settings) (p : Path) where
   -- both cascades show the same in every slot where all that is declared for it, of the element and of those above it, is decided alike
   pub styles-show-same : ((r k : ℕ) → r < recordCount → k < slotCount → AgreesDown r k (sourcesAlong rules settings p))

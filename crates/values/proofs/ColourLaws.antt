@@ -268,7 +268,7 @@ module _ (s : List ℕ) (r : Bool) (er : r ≡ is (getD s 0 0) plusSign) where
     pub no-plus-read : r ≡ false → x ≡ numberAnswer (digitsIn p base d most s) → x ≡ numberAnswer (digitsIn p base d most (withoutPlus s))
     no-plus-read e h = h ∙ ap (λ t. numberAnswer (digitsIn p base d most t)) (no-plus e)
 
--- ---- `hash_colour`
+-- ---- `hash_colour`: three or six hexadecimal digits
 module _ (s : List ℕ) where
   -- no number is no colour
   hash-missing : parseHex 0xffffffff s ≡ missing → missing ≡ hashColour s

@@ -60,7 +60,7 @@ unfolding tokensAt readMany readToken
 tokens-length rows store zero = refl
 tokens-length rows store (suc n) = ap suc (tokens-length (drop tokenWidth rows) store n)
 
--- ---- `one_token`
+-- ---- `one_token`: a colour's name, or a hash
 module _ (rows store : List ℕ) where
   module _ (r : Bool) (er : r ≡ kindAt rows 0 identKind) where
     -- a name is the colour that the table gives it
@@ -163,7 +163,7 @@ pub value-here : (rows store r g b : List ℕ) → r ≡ firstText rows store to
 unfolding rgbHere
 value-here rows store r g b er eg eb x ex = ex ∙ rw (er, eg, eb)
 
--- ---- `rgb_tokens`
+-- ---- `rgb_tokens`: the seven tokens of `rgb()`
 module _ (rows store : List ℕ) where
   -- the token number i
   abbrev nth : ℕ → Token
@@ -357,7 +357,7 @@ module _ (rows : List ℕ) (n i : ℕ) (c : Seeking rows n i) where
     pub seeking-more : r ≡ false → Seeking rows n (i - 1)
     seeking-more p = record { left = turn ∙ sym (pick-false _ _ _ _ (told _ _ _ er p) refl); inside = let l = c .inside in omega arith }
 
--- ---- `parse_background_color`
+-- ---- `parse_background_color`: the colour behind the last comma
 module _ (rows store : List ℕ) (n i : ℕ) (h : i ≤ n) where
   -- the colour of the rows that are lent is that of what stands behind the last comma
   pub background : i ≡ lastPart rows n → (x : ColourAnswer)

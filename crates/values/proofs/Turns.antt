@@ -229,7 +229,7 @@ module _ {s : List ℕ} {include : Bool} {rows₀ brackets₀ store₀ : List �
         bounds-here,
       )
 
-  -- ---- a token
+  -- ---- a token was read: what its turn leaves
   module _ {w m : ℕ} {k : lexer.Token} (e : At w m k ≡ lexedAnswer (skipWhitespace ahead) (tokenOf ahead)) where
     -- the token, its bounds, and the code's token
     read : Reads ahead w m k
