@@ -39,6 +39,7 @@ module _ {A B : Type 0} (R : A → B → Type 0) where
     pub components-same : x .components ≡ y .components
     pub styles-same : Each (SameStyled R) (x .styles) (y .styles)
 
+  -- styles that are the same, of selectors with the same origin, pseudo element and specificity, are declared the same
   style-declared : (o o′ n n′ : ℕ) (c c′ : Specificity) → o ≡ o′ → n ≡ n′ → c ≡ c′ → (x : Styled A) (y : Styled B) → SameStyled R x y
       → SameDeclared R (fromRule o (ruleStyle n c x)) (fromRule o′ (ruleStyle n′ c′ y))
   style-declared o o′ n n′ c c′ e f g x y h = rw (e, f, g) (rule-declared R o′ (ruleStyle n′ c′ x) (ruleStyle n′ c′ y) (rule-style-same R n′ c′ x y h))

@@ -36,10 +36,12 @@ module _ (s : SheetTexts) (b : CompileBuffers) where
   unfolding unchanged
   none-left r = omega arith
 
+  -- where the buffers are zeroed for a refusal, no bytes are counted, so they lie within
   none-zeroed : (r : Refusal) → Within (zeroed (b .compiled) (b .texts) (b .rules) (b .tokens) (b .brackets) r)
   unfolding zeroed
   none-zeroed r = omega arith
 
+  -- the bytes that are answered lie within the buffer, which is filled up behind them
   some-answered : (bytes ts : List ℕ) → Within (answered (b .compiled) (b .texts) (b .rules) (b .tokens) (b .brackets) bytes ts)
   unfolding answered
   some-answered bytes ts = padded-long bytes (length (b .compiled))

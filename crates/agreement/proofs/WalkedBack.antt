@@ -45,10 +45,12 @@ module _ (t : List ℕ) where
   Behind n x s =
       n + length (styleBody s) ≤ length t → Held t (n + length (numberBytes (length (styleTextOf s)))) (styleTextOf s) → Lies t (n + length (numberBytes (length (styleTextOf s)))) x
 
+  -- of a content it is the text itself: it lies behind its length, within the bytes
   content-behind : (n : ℕ) (x : List ℕ) → Behind n x (style.content x)
   unfolding styleBody styleTextOf
   content-behind n x w h = record { within = omega (arith, w, text-length x); there = h }
 
+  -- so the text of a content lies where the pass says its place is
   content-lies : (d : StyleDecl) (i : ℕ) (h : Held t i (styleBytes d)) (x : List ℕ) → d .style ≡ style.content x → Lies t (place t d i h) x
   unfolding styleText styleBytes
   content-lies d i h x e =

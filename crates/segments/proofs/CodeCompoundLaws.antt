@@ -93,6 +93,7 @@ module _ (code : List ℕ) (row : Path) (count at i left : ℕ) (v : Testing cod
       e ∙ ap (λ (m : ℕ). testsPass code row m i) (sym d) ∙ v
 
   module _ (h : 0 < left) (q : Met) (eq : q ≡ metAt code row true i) where
+    -- what the tests that are left say by the next component is what all of them say
     from-test : (p : Met) → q ≡ p → testsBy code row (left - 1) p ≡ testsPass code row count at
     from-test p e =
         let d : left ≡ suc (left - 1) = omega arith in
@@ -140,6 +141,7 @@ module _ (code : List ℕ) (row : Path) (limit : ℕ) (may : Bool) (at i left : 
       e ∙ ap (λ (m : ℕ). compoundAt code row m ok i) (sym d) ∙ v
 
   module _ (h : 0 < left) (q : Met) (eq : q ≡ metAt code row ok i) where
+    -- what the compound comes to by the next component is what the whole comes to
     from-component : (p : Met) → q ≡ p → compoundBy code row (left - 1) ok i p ≡ compoundAt code row limit may at
     from-component p e =
         let d : left ≡ suc (left - 1) = omega arith in
@@ -194,6 +196,7 @@ module _ (code : List ℕ) (stop count first i left start steps tests : ℕ) (v 
       e ∙ ap (λ (m : ℕ). segmentBefore code stop m s i) (sym d) ∙ v .whole
 
   module _ (h : 0 < left) (q : Met) (eq : q ≡ metAt code [] false i) where
+    -- what the segment comes to by the next component is what the whole search comes to
     from-segment : (p : Met) → q ≡ p → segmentBy code stop (left - 1) (record { start = start; steps = steps; tests = tests }) p ≡ segmentBefore code stop count (beginning first) first
     from-segment p e =
         let s : Segment = record { start = start; steps = steps; tests = tests } in

@@ -37,6 +37,7 @@ module _ (code : List ℕ) (h : Hint) (above own width : ℕ) (state₀ : List �
   pub skip-none : (e : Element) → Fits h e → Skips code (e ∷ []) above own width state₀ first count state₀ first count
   skip-none e fit = record { stored = refl; matched = refl }
 
+  -- before the first selector the state is as it was lent, and all are left
   pub skip-begin : SkipLent code state₀ above own width first → above + width ≤ length state₀ → Skipping code h above own width state₀ first count state₀ first count
   skip-begin l w = record { skips = skip-none; long = refl; lent = l; held = w; fewer = omega arith }
 
@@ -67,10 +68,12 @@ module _ (code : List ℕ) (h : Hint) (above own width : ℕ) (state₀ : List �
           let o : part s₁ own width ≡ blockSet seen following p (part state own width) = ap (λ (x : List ℕ). part x own width) (visited e fit .1) ∙ block-own state own width seen following p in
           rw (a, o, en)
 
+      -- so no place is collected for the selector that surely fails
       none-here : matchedHere seen p ≡ []
       unfolding matchedHere pick
       none-here = rw (← visited e fit .0)
 
+      -- the selectors that match among the others are those that match among all
       matched-on : passFrom code (e ∷ []) (part s₁ above width) (left - 1) n (part s₁ own width) .matched ≡ passFrom code (e ∷ []) flagsAbove left p (part state own width) .matched
       matched-on =
           let d : suc (left - 1) ≡ left = omega arith in

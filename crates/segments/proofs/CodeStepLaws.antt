@@ -98,6 +98,7 @@ module _ (code : List ℕ) where
     unfolding testsPass onDecoded onPiece
     second-fails row n t c e f = rw (e, f) (and-right (tested row c) false refl)
 
+    -- where the second test fails, the tests do not all pass
     pub by-second : 1 < tests → (size : ℕ) → TestThere code at size → TestFails code (at + size) h → TestsFail code at tests h
     by-second s size t f =
         let d : tests ≡ suc (suc (tests - 2)) = omega arith in
@@ -218,6 +219,7 @@ module _ (code : List ℕ) (h : Hint) (state : List ℕ) (above own width p : �
   pub step-next : next ≡ pairAt (part state above width) (p + toNext)
   step-next = pair-of state above width p toNext (let w = b .inside in omega arith)
 
+  -- the segment that is awaited is the one that the parent's part says
   step-awaited : awaited ≡ pairAt (part state above width) (p + toAwaited)
   step-awaited = pair-of state above width p toAwaited (let w = b .inside in omega arith)
 

@@ -69,6 +69,7 @@ id-named x (a ∷ others) t =
 abbrev pub idStart : ℕ
 idStart = 0x69
 
+-- the name `id` begins with that byte
 id-start : getD (text "id") 0 0 ≡ idStart
 unfolding text utf8 pick
 id-start = refl
@@ -78,14 +79,17 @@ pub element-is-name : isName elementKind ≡ true
 unfolding isName or is
 element-is-name = refl
 
+-- a class is a kind of one text
 pub class-is-name : isName classKind ≡ true
 unfolding isName or is
 class-is-name = refl
 
+-- an id is a kind of one text
 pub hash-is-name : isName hashKind ≡ true
 unfolding isName or is
 hash-is-name = refl
 
+-- an attribute is a kind of one text
 pub attribute-is-name : isName attributeKind ≡ true
 unfolding isName or is
 attribute-is-name = refl

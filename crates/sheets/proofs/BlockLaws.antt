@@ -236,12 +236,14 @@ Calm (reads n ds) = Unit
 Calm fails = Unit
 Calm (panics p) = ⊥
 
+-- moving the starts of declarations adds no panic
 calm-moved : (at : ℕ) (o : Outcome (List Declaration)) → Calm o → Calm (behind 0 o (map (startsAt at)))
 unfolding behind onOutcome
 calm-moved at (reads n ds) h = tt
 calm-moved at fails h = tt
 calm-moved at (panics p) h = h
 
+-- reading a block does not panic
 calm-block : (s : List ℕ) (n : ℕ) → Calm (blockOf s n)
 unfolding blockOf
 calm-block s n = pick-holds Calm _ _ _ (λ _. pick-holds Calm _ _ _ (λ _. tt) (λ _. tt)) (λ _. tt)

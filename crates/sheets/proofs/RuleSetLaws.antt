@@ -145,7 +145,7 @@ module _ (s : List ℕ) (at : ℕ) (rules : List ℕ) (place : ℕ) (tokens brac
         got : Found length (selectorRows fill) selectorTexts list rules (place + ruleHead) store fill y z n count numbers text
         got = found-many _ _ _ _ _ _ _ _ (selectors-never (drop w s)) said h
 
-        -- the declarations that the text behind them means
+        -- the selectors that were read
         abbrev ss : List Selector
         ss = got .value
 
@@ -153,9 +153,11 @@ module _ (s : List ℕ) (at : ℕ) (rules : List ℕ) (place : ℕ) (tokens brac
         keeps : SelectorsKeep selectorHead (drop w s) n ss
         keeps = where-read (length (drop w s)) (SelectorsKeep selectorHead (drop w s)) list n ss (got .reads-it) (selectors-keep (drop w s))
 
+        -- their rows have no more numbers than a component's row for each byte taken, and a selector's head
         wide : numbers ≤ componentWidth * n + selectorHead
         wide = omega (arith, got .rows, length-selectors fill ss, keeps .wide)
 
+        -- their texts are at most two bytes longer than what they take
         long : text ≤ n + 2
         long = omega (arith, got .texts, keeps .long)
 

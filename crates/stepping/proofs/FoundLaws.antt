@@ -60,6 +60,7 @@ module _ (code : List ℕ) (p : ℕ) (r : HeadAnswer) (er : r ≡ headAnswer (he
     abbrev told : Head
     told = record { origin = origin; pseudo = pseudo; count = count }
 
+    -- with its head read, the selector is what its parts behind it make of it
     behind-head : walkedSelectorAt code agentOrigin p ≡ walkedPartsAt code told n
     unfolding walkedSelectorAt
     behind-head = then-read (headAt code agentOrigin p) _ n told (head-read _ r er n origin pseudo count h)

@@ -33,6 +33,7 @@ nothing = record { inline = false; id = 0; class = 0; typ = 0 }
 abbrev AddsNothing : Component → Type 0
 AddsNothing c = nothing ≡ added c
 
+-- a component that is its kind alone adds nothing, whichever it is
 mark-adds : (kind : ℕ) → AddsNothing (markOf kind)
 unfolding markOf added noSpecificity specificityOf
 mark-adds kind = pick-holds AddsNothing (is kind starKind) _ _ (λ _. refl) (λ _. pick-holds AddsNothing (is kind childKind) _ _ (λ _. refl) (λ _. refl))
@@ -52,6 +53,7 @@ module _ (kind : ℕ) (x : List ℕ) where
   abbrev AddsClass : Component → Type 0
   AddsClass c = specificityOf 0 1 0 ≡ added c
 
+  -- a text that is neither an element's name nor an id adds one to the classes
   class-adds : ¬ (kind ≡ elementKind) → ¬ (kind ≡ hashKind) → AddsClass (namedOf kind x)
   unfolding namedOf added
   class-adds no-element no-hash =
@@ -243,6 +245,7 @@ module _ (code : List ℕ) (at count : ℕ) (s : Specificity) (i left : ℕ) (v 
       unfolding weightAt
       one = weight-of added (componentAt code i) q eq n x e
 
+      -- it adds at most one to each count
       few : (x .id ≤ 1) × ((x .class ≤ 1) × (x .typ ≤ 1))
       few = rw (one .2) (added-few (one .0))
 
@@ -255,6 +258,7 @@ module _ (code : List ℕ) (at count : ℕ) (s : Specificity) (i left : ℕ) (v 
             type-fits = omega (arith, few .1 .1, v .types);
           }
 
+      -- with it added, what is left to add makes the same total
       added-on : Adding code at count (sum s x) n (left - 1)
       unfolding sum
       added-on =
