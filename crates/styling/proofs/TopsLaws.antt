@@ -70,6 +70,7 @@ unfolding readMany
 no-selectors texts rows zero at h = refl
 no-selectors texts rows (suc n) at h = absurd (omega arith)
 
+-- no rules from a place on have no selectors
 no-rules : (texts rows : List ℕ) (n at : ℕ) → n ≤ 0 → rulesSelectors (readMany (readRule texts) n (drop at rows) .value) ≡ []
 unfolding readMany rulesSelectors
 no-rules texts rows zero at h = refl
@@ -115,9 +116,11 @@ module _ (nodes attributes text : List ℕ) (row : ℕ) where
 
     -- the first selector of some
     module _ (n place tops : ℕ) (r : SelectorsRight n place tops) (h : 0 < n) where
+      -- the numbers decide for the first selector and for the others
       selector-parts : Right (readSelector texts (drop place rows) .value ∷ readMany (readSelector texts) (n - 1) (readSelector texts (drop place rows) .rest) .value) (drop tops styles)
       selector-parts = rw (selectors-opened texts (drop place rows) n h) at (r .right)
 
+      -- the first number decides for the first selector
       pub first-top : (top : ℕ) → top ≡ getD (drop tops styles) 0 0 → RightNumber nodes attributes text (readSelector texts (drop place rows) .value .components) row top
       unfolding RightTops
       first-top top e = rw e (selector-parts .0)
@@ -133,9 +136,11 @@ module _ (nodes attributes text : List ℕ) (row : ℕ) where
       abbrev First : List Selector
       First = readRule texts (drop place rows) .value .selectors
 
+      -- the numbers decide for the selectors of the first rule, and those behind them for the other rules
       rule-parts : Right First (drop tops styles) × Right (rulesSelectors (readMany (readRule texts) (n - 1) (readRule texts (drop place rows) .rest) .value)) (drop (length First) (drop tops styles))
       rule-parts = right-split First _ (drop tops styles) (rw (rules-opened texts (drop place rows) n h) at (r .right))
 
+      -- the first numbers decide for the selectors of the first rule
       pub rule-tops : Right First (drop tops styles)
       rule-tops = rule-parts .0
 
@@ -153,6 +158,7 @@ module _ (nodes attributes text : List ℕ) (row : ℕ) where
   tops-long [] = refl
   tops-long (s ∷ ss) = ap suc (tops-long ss)
 
+  -- the numbers of two lists of selectors joined are those of the first, then those of the second
   pub tops-append : (xs ys : List Selector) → Tops (xs ++ ys) ≡ Tops xs ++ Tops ys
   unfolding selectorsTops
   tops-append [] ys = refl
@@ -219,6 +225,7 @@ module _ (nodes attributes text : List ℕ) (row : ℕ) where
 
     module _ (n from to : ℕ) (l : List ℕ) (s : RulesStored n from to l) where
       module _ (h : 0 < n) (k : ℕ) (ek : k ≡ getD rows (from + ruleSelectors) 0) where
+        -- the selectors of the rules that are left are those of the first, then those of the others
         opened : (next : ℕ) → drop next rows ≡ readRule texts (drop from rows) .rest → Ruled n from ≡ readRule texts (drop from rows) .value .selectors ++ Ruled (n - 1) next
         opened next f = rw f (rules-opened texts (drop from rows) n h)
 
@@ -264,32 +271,40 @@ module _ (nodes attributes text : List ℕ) (row : ℕ) where
     abbrev W : List Selector
     W = sheetSelectors rows texts (v .end) (v .author .rules)
 
+    -- there is room for the numbers of all three sheets behind the kept styles
     all-long : v .behind + (length A + (length U + length W)) ≤ length tokens
     unfolding sheetsSelectors
     all-long = omega (arith, r .room, length-append A (U ++ W), length-append U W)
 
+    -- there is room for those of the agent's selectors
     pub agent-room : TopsRoom tokens (v .behind) (length A)
     agent-room = record { room = omega (arith, all-long) }
 
     module _ (t₁ : List ℕ) (p₁ : ℕ) (e₁ : t₁ ≡ sets tokens (v .behind) (Tops A)) (q₁ : p₁ ≡ v .behind + length A) where
+      -- the store is as long as it was, those of the agent stored
       long₁ : length t₁ ≡ length tokens
       long₁ = ap length e₁ ∙ length-sets tokens (v .behind) (Tops A)
 
+      -- there is room for those of the user's selectors behind them
       pub user-room : TopsRoom t₁ p₁ (length U)
       user-room = record { room = omega (arith, all-long, long₁, q₁) }
 
       module _ (t₂ : List ℕ) (p₂ : ℕ) (e₂ : t₂ ≡ sets t₁ p₁ (Tops U)) (q₂ : p₂ ≡ p₁ + length U) where
+        -- the store is as long as it was, those of the user stored
         long₂ : length t₂ ≡ length t₁
         long₂ = ap length e₂ ∙ length-sets t₁ p₁ (Tops U)
 
+        -- there is room for those of the author's selectors behind them
         pub author-room : TopsRoom t₂ p₂ (length W)
         author-room = record { room = omega (arith, all-long, long₁, long₂, q₁, q₂) }
 
+        -- the three stored in turn are the numbers of all selectors stored at once
         pub tops-stored : (t₃ : List ℕ) → t₃ ≡ sets t₂ p₂ (Tops W) → t₃ ≡ sets tokens (v .behind) (Tops (sheetsSelectors rows texts v))
         unfolding sheetsSelectors
         tops-stored t₃ e₃ =
             e₃ ∙ ap (λ (l : List ℕ). sets l p₂ (Tops W)) e₂ ∙ stored-both t₁ p₁ U W p₂ q₂ ∙ ap (λ (l : List ℕ). sets l p₁ (Tops (U ++ W))) e₁ ∙ stored-both tokens (v .behind) A (U ++ W) p₁ q₁
 
+        -- the places that are counted up are those of the sheets with a number for each selector
         pub places-ready : (p₃ : ℕ) → p₃ ≡ p₂ + length W → (s : ReadySheets) → s ≡ readyPlaces v p₁ p₂ p₃ → s ≡ readySheets rows texts v
         unfolding readySheets readyCounts
         places-ready p₃ q₃ s e =
