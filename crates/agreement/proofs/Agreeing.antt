@@ -178,8 +178,8 @@ demand3 =
           subst (Agreement settings s g code) (sym (run-leaves code settings g w t)) (leaves-agree s g settings code c w t);
     }
 
--- ---- beside it
--- sheets that compile
+-- ---- beside it: what else holds of sheets that compile, and of runs
+-- three sheets that were compiled without a refusal
 module _ (s : SheetTexts) (b : CompileBuffers) (compiles : compileWith s b .answer .refusal ≡ noRefusal) where
   -- every element of an accepted page is styled, by every style call that is lent enough: so the rows that `agrees` speaks of are those of all elements
   pub elements-styled : (settings : Settings) (g : Page) → pageRefusal (g .nodes) (g .attributes) (g .text) ≡ noRefusal

@@ -88,7 +88,7 @@ module _ (p : Path) where
   first-said o ds s =
       ap selectorsDeclare (append-nil (pick (matches (s .components) p) (meantSelector (compiledSelector o ds s) ∷ []) [])) ∙ one-said (matches (s .components) p) o ds s
 
-  -- the selectors of a rule
+  -- the selectors of a rule with these styles, compiled, say what the rule's selectors say
   selectors-said : (o : ℕ) (ds : List StyleDecl) (ss : List Selector) → said (map (compiledSelector o ds) ss) ≡ map (fromRule o) (selectorsSay p (map meant ds) ss)
   unfolding selectorsSay
   selectors-said o ds [] = unfold matchingBy selectorsDeclare in refl
@@ -115,7 +115,7 @@ module _ (p : Path) where
   styled-said o [] ss = unfold matchingBy selectorsDeclare in rw (nothing-said ss)
   styled-said o (d ∷ ds) ss = selectors-said o (d ∷ ds) ss
 
-  -- the rules of a sheet
+  -- the compiled selectors of a sheet say what its rules say
   sheet-said : (o : ℕ) (rs : List RuleSet) → said (sheetSelectors o rs) ≡ map (fromRule o) (rulesSay p (map meantRule rs))
   unfolding sheetSelectors ruleSelectors rulesSay meantRule ruleStyles
   sheet-said o [] = unfold matchingBy selectorsDeclare in refl

@@ -37,7 +37,7 @@ OwnAttribute x = OwnStyled (x .style)
 abbrev OwnDeclared : Declared Style → Type 0
 OwnDeclared d = styleSlotOf (d .candidate .value) ≡ d .slot
 
--- each by a function
+-- what holds of each of a list holds of each behind a function that keeps it
 all-map : {A B : Type 0} (P : A → Type 0) (Q : B → Type 0) (f : A → B) → ((a : A) → P a → Q (f a)) → (xs : List A) → All P xs → All Q (map f xs)
 all-map P Q f h [] p = tt
 all-map P Q f h (x ∷ xs) p = (h x (p .0), all-map P Q f h xs (p .1))
@@ -137,7 +137,7 @@ own-none k zero j = tt
 own-none k (suc n) zero = tt
 own-none k (suc n) (suc j) = own-none k n j
 
--- in each of its records
+-- the style in which nothing is declared holds nothing in each slot of each record
 empty-own : OwnSlots emptyStyle
 unfolding slotIn slotOf recordIn emptyStyle emptyRecord pick
 empty-own r k h l = go (is r 0) (is r 1)

@@ -65,7 +65,7 @@ module _ (s : SheetTexts) (b : CompileBuffers) where
       (λ _. none-left (refused notUtf8)))
       (λ _. none-left (refused shortStore)))
 
-  -- the answer in numbers
+  -- the answer in numbers leaves the same, and counts no more bytes than the buffer has
   pub compiled-within : {n m : CompileNumbers} {k t y x z : List ℕ} → record { answer = m; compiled = k; texts = t; rules = y; tokens = x; brackets = z } ≡ compileWith s b → n ≡ m
       → (record { answer = n; compiled = k; texts = t; rules = y; tokens = x; brackets = z } ≡ compileWith s b) × (n .bytes ≤ length k)
   compiled-within {n} {m} {k} {t} {y} {x} {z} e f =

@@ -68,7 +68,7 @@ module _ (s : ComputedStyle Value) (f : Formed s) where
   whole (suc (suc zero)) h = f .after
   whole (suc (suc (suc r))) h = absurd (omega arith)
 
-  -- a number of a record
+  -- a number of the row, at the place of a record, is a number of that record
   in-record : (r o : ℕ) → r < recordCount → o < recordWidth → getD (rowOf s) (recordPlace r + o) 0 ≡ getD (recordNumbers (recordIn s r)) o 0
   unfolding rowOf recordIn pick is
   in-record zero o h l =
@@ -88,14 +88,14 @@ module _ (s : ComputedStyle Value) (f : Formed s) where
       let z : recordPlace r ≡ recordPlace r + 0 = omega arith in
       ap (λ (j : ℕ). getD (rowOf s) j 0) z ∙ in-record r 0 h (omega arith) ∙ record-presence (recordIn s r)
 
-  -- a number of a slot
+  -- a number of the row, at the place of a slot, is a number of that slot
   pub slot-number : (r k n : ℕ) → r < recordCount → k < slotCount → n < slotWidth → getD (rowOf s) (slotPlace r k + n) 0 ≡ getD (slotNumbers (slotIn s r k)) n 0
   unfolding slotIn
   slot-number r k n h l m =
       let z : slotPlace r k + n ≡ recordPlace r + suc (k * slotWidth + n) = omega arith in
       ap (λ (j : ℕ). getD (rowOf s) j 0) z ∙ in-record r (suc (k * slotWidth + n)) h (omega arith) ∙ record-number (recordIn s r) k n (whole r h) l m
 
-  -- the first of them
+  -- the number at the place of a slot is the slot's first, its flag
   pub slot-flag : (r k : ℕ) → r < recordCount → k < slotCount → getD (rowOf s) (slotPlace r k) 0 ≡ getD (slotNumbers (slotIn s r k)) 0 0
   slot-flag r k h l =
       let z : slotPlace r k ≡ slotPlace r k + 0 = omega arith in

@@ -452,7 +452,7 @@ module _ (t : List ℕ) (h : Halts t) where
       (λ e. subst (λ (m : ℕ). Eaten v t (numbers.sign s + m)) (ap numbers.unsigned (sym (k .onto))) (eaten-on k j))
 
 -- ---- white space and comments
--- the asterisk
+-- an asterisk is a plain character
 star-plainly : Plainly (λ x. is x ascii.asterisk)
 unfolding is opens closes
 star-plainly =
@@ -847,7 +847,7 @@ module _ (t : List ℕ) (h : Halts t) where
             (pick-holds Harmless (is x ascii.comma) tokens.comma _ (λ d. harmless-marks .1) (λ d. pick-holds Harmless (is x ascii.colon) tokens.colon (tokens.delim x) (λ f. harmless-marks .0) (λ f. harmless-delim x (p .no-bang))))
 
 -- ---- the token that a plain character begins
--- '-' and '>'
+-- a '-' is a plain character
 dash-plainly : Plainly (λ x. is x ascii.hyphenMinus)
 unfolding is opens closes
 dash-plainly =

@@ -169,7 +169,7 @@ module _ (code : List ℕ) (few : length code ≤ compiledLimit) (sheet : bytesR
           })
 
   -- ---- every row
-  -- one
+  -- the step of every row is right, if the rows before it are
   step-after : (i : ℕ) → i < count → (r : Running) → Before i r → After i r (stepAt i r)
   step-after zero there r b = document-after r b
   step-after (suc i) there r b = go (kinds (g .nodes) (g .attributes) (g .text) ok i there)

@@ -52,7 +52,7 @@ module _ (state : List ℕ) (own width j b : ℕ) where
       (λ e. drop-set-lt (own + width) state (own + j) b (let h = ltb-true j width e in omega arith)) (λ _. refl)
 
 -- ---- bytes
--- the own part
+-- the own part has the bytes, as far as it goes
 pub own-sets : (bs state : List ℕ) (own width j : ℕ) → part (partSets state own width j bs) own width ≡ sets (part state own width) j bs
 unfolding partSets
 own-sets [] state own width j = refl

@@ -173,7 +173,7 @@ pub record Seeking (code : List ℕ) (stop count first i left start steps tests 
   pub few-steps : steps + left ≤ count
   pub few-tests : tests + left ≤ count
 
--- at the first component
+-- at the first component no step and no test is counted, and all are left
 pub seek-begin : (code : List ℕ) (stop count first : ℕ) → Seeking code stop count first first count first 0 0
 unfolding beginning
 seek-begin code stop count first = record { whole = refl; few-steps = omega arith; few-tests = omega arith }

@@ -29,7 +29,7 @@ module _ (code : List ℕ) (row : Path) (above own width p : ℕ) (state : List 
 
 -- ---- one of several
 module _ (code : List ℕ) (row : Path) (above own width : ℕ) (state : List ℕ) (p left : ℕ) (h : 0 < left) where
-  -- the first, then the others
+  -- a pass with visits left is the visit of the first, then the pass over the others
   pass-step : pick (is p noPlace) state (passStored code row above own width (left - 1) (nextFrom state above width p) (visitStored code row above own width p state))
       ≡ passStored code row above own width left p state
   pass-step =
@@ -38,7 +38,7 @@ module _ (code : List ℕ) (row : Path) (above own width : ℕ) (state : List �
       ≡ passStored code row above own width (suc (left - 1)) p state = unfold passStored in refl in
       e ∙ ap (λ (n : ℕ). passStored code row above own width n p state) d
 
-  -- behind the first, the others
+  -- from the state with the block of the first, the pass over the others leaves what the whole leaves
   pub pass-turn : ¬ (p ≡ noPlace) → (next : ℕ) → next ≡ pairAt (part state above width) (p + toNext)
       → (s₁ : List ℕ) → s₁ ≡ blockStored state own width (visitAt code row (part state above width) p) (pairAt (part state above width) (p + toNext)) p
       → passStored code row above own width (left - 1) next s₁ ≡ passStored code row above own width left p state

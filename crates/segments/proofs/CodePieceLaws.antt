@@ -143,7 +143,7 @@ module _ (code : List ℕ) (row : Path) (ok : Bool) (at : ℕ) (r : ComponentAns
   unfolding piece
   nth-is n a b p t q = test-is n (nth (signedOf a) (signedOf b)) (at-numbers code at r er n a b p) refl t q
 
-  -- an attribute of a value
+  -- an attribute of a value is met as a test, of its two texts
   equal-is : (n a b f g : ℕ) → r ≡ component.Names n a b f g → (t : Bool) → t ≡ and ok (tested row (attributeEqual (part code a b) (part code f g))) → Is (met.Test n t)
   unfolding piece
   equal-is n a b f g p t q = test-is n (attributeEqual (part code a b) (part code f g)) (at-names code at r er n a b f g p) refl t q
@@ -167,7 +167,7 @@ module _ (code : List ℕ) (ok : Bool) (at : ℕ) (r : ComponentAnswer) (er : r 
   pub numbers-passed : (n a b : ℕ) → r ≡ component.Numbers n a b → met.Test n false ≡ metAt code [] ok at
   numbers-passed n a b p = nth-is code [] ok at r er n a b p false (failed ok _ (nth-fails a b))
 
-  -- an attribute of a value
+  -- at the document an attribute of a value is met as a test that fails
   pub names-passed : (n a b f g : ℕ) → r ≡ component.Names n a b f g → met.Test n false ≡ metAt code [] ok at
   names-passed n a b f g p = equal-is code [] ok at r er n a b f g p false (failed ok _ (equal-fails _ _))
 
@@ -186,7 +186,7 @@ module _ (code : List ℕ) (x : Element) (at : ℕ) (r : ComponentAnswer) (er : 
   unfolding and
   numbers-tested n a b p t et = nth-is code (x ∷ []) true at r er n a b p t (et ∙ nth-tested a b x)
 
-  -- an attribute of a value
+  -- at an element an attribute of a value is met as the test of its two texts
   pub names-tested : (n a b f g : ℕ) → r ≡ component.Names n a b f g → (w : List ℕ) → w ≡ part code a b → (y : List ℕ) → y ≡ part code f g
       → (t : Bool) → t ≡ firstIs w y (x .attributes) → met.Test n t ≡ metAt code (x ∷ []) true at
   unfolding and

@@ -60,7 +60,7 @@ module _ (code : List ℕ) (h : Hint) (above own width : ℕ) (state₀ : List �
       stored-on : passStored code (e ∷ []) above own width (left - 1) n s₁ ≡ passStored code (e ∷ []) above own width left p state
       stored-on = pass-turn code (e ∷ []) above own width state p left more (λ q. omega arith) n en s₁ (visited e fit .1)
 
-      -- and match as before
+      -- and the pass over them is the same from the state as from the parts
       others-are : passFrom code (e ∷ []) (part s₁ above width) (left - 1) n (part s₁ own width)
           ≡ passFrom code (e ∷ []) flagsAbove (left - 1) following (blockSet seen following p (part state own width))
       others-are =

@@ -29,7 +29,7 @@ module _ (state : List ℕ) (above width : ℕ) where
   pub byte-of : (p k : ℕ) → p + k < width → getD (part state above width) (p + k) 0 ≡ getD state (above + p + k) 0
   byte-of p k h = let e : above + (p + k) ≡ above + p + k = omega arith in byte-in (p + k) h ∙ ap (λ (i : ℕ). getD state i 0) e
 
-  -- a number of it
+  -- a number of the block of a selector is the same in the state and in the part
   pub pair-of : (p k : ℕ) → p + k + 1 < width → pairAt state (above + p + k) ≡ pairAt (part state above width) (p + k)
   unfolding pairAt
   pair-of p k h =
@@ -65,7 +65,7 @@ module _ (code : List ℕ) (h : Hint) (state : List ℕ) (above own width p : �
   abbrev pub copied : List ℕ
   copied = sets state (own + p + toNext) (blockBytes next awaited (withTests ∷ pairBytes tests))
 
-  -- by the parent's part
+  -- the next selector is the one that the parent's part says
   pub next-in : next ≡ pairAt (part state above width) (p + toNext)
   next-in = pair-of state above width p toNext (let w = b .inside in omega arith)
 

@@ -93,7 +93,7 @@ module _ (code : List ℕ) where
         let d : tests ≡ suc (tests - 1) = omega arith in
         record { there = f .there; fails = λ e fit. ap (λ (n : ℕ). testsPass code (e ∷ []) n at) d ∙ f .fails e fit (tests - 1) }
 
-    -- behind a test, the second
+    -- where the tests behind the first do not pass, the tests do not all pass
     second-fails : (row : Path) (n t : ℕ) (c : Component) → pieceAt code at ≡ read n (test c) → testsPass code row t n ≡ false → testsPass code row (suc t) at ≡ false
     unfolding testsPass onDecoded onPiece
     second-fails row n t c e f = rw (e, f) (and-right (tested row c) false refl)
@@ -113,7 +113,7 @@ module _ (code : List ℕ) where
   child-there at l e = rw (number-one code at childKind l e (omega arith), within-yes childKind starKind attributeEqualKind (omega arith) (omega arith))
 
   -- ---- a compound that may not end here
-  -- a test changes nothing
+  -- a test in a compound that may not end here changes nothing
   compound-test : (row : Path) (k i n : ℕ) (c : Component) → pieceAt code i ≡ read n (test c) → compoundAt code row (suc k) false i ≡ compoundAt code row k false n
   unfolding compoundAt onDecoded onPiece and
   compound-test row k i n c e = rw e
@@ -215,7 +215,7 @@ module _ (code : List ℕ) (h : Hint) (state : List ℕ) (above own width p : �
   abbrev pub copiedStep : List ℕ
   copiedStep = sets state (own + p + toNext) (blockBytes next awaited staying)
 
-  -- by the parent's part
+  -- the next selector is the one that the parent's part says
   pub step-next : next ≡ pairAt (part state above width) (p + toNext)
   step-next = pair-of state above width p toNext (let w = b .inside in omega arith)
 

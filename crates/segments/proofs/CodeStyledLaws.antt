@@ -27,7 +27,7 @@ use Rattle.segments.specs.Document.{styledFrom, styleCountAt, firstStyle
 use Rattle.segments.proofs.SheetLaws.{selector-lower, first-styled}
 
 -- ---- the returns of `style_count`
--- a fault
+-- where the reading fails, the answer is that fault
 faulty : (d : Decoded ℕ) (f : ℕ) → d ≡ fault f → number.Fault f ≡ numberAnswer d
 unfolding numberAnswer
 faulty d f e = ap numberAnswer (sym e)
@@ -50,7 +50,7 @@ module _ (code : List ℕ) (at : ℕ) (r : HeadAnswer) (er : r ≡ headAnswer (h
         let w = place-read (counted (componentAt code) count n) p ep m h in
         e ∙ ap numberAnswer (sym (count-behind ∙ then-read (counted (componentAt code) count n) (λ k _. numberAt code k) m (w .0) (w .1)))
 
-    -- a fault in a component
+    -- where a component does not read, the answer is that fault
     pub count-fault : (f : ℕ) → p ≡ place.Fault f → number.Fault f ≡ numberAnswer (styleCountAt code at)
     count-fault f h =
         faulty (styleCountAt code at) f

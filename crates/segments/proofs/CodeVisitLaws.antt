@@ -50,7 +50,7 @@ module _ (s₀ s₁ s₂ : List ℕ) (own width p next awaited : ℕ) where
       ∙ ap (λ (n : ℕ). partSets (partSets s₀ own width (p + toNext) (pairBytes next)) own width n (pairBytes awaited)) d
       ∙ sym (stored-then (pairBytes next) (pairBytes awaited) s₀ own width (p + toNext))
 
-  -- the places, then the flags
+  -- both places stored, then the flags behind them, are the block stored whole
   pub block-stored : (flags : List ℕ) → s₁ ≡ partSets s₀ own width (p + toNext) (pairBytes next ++ pairBytes awaited) → s₂ ≡ partSets s₁ own width (p + toFlags) flags
       → s₂ ≡ partSets s₀ own width (p + toNext) (blockBytes next awaited flags)
   unfolding blockBytes
@@ -89,13 +89,13 @@ module _ (code : List ℕ) (row : Path) (s₀ s₁ s₂ : List ℕ) (above own w
   abbrev Stays : Type 0
   Stays = s₂ ≡ partSets s₀ own width (p + toNext) (blockBytes next awaited (behindFirst code row (part s₀ above width) p one))
 
-  -- the mark of the leftmost
+  -- where the first compound is the leftmost, its mark is what is stored
   pub stays-marked : one .marked ≡ true → s₂ ≡ partSets s₁ own width (p + toFlags) (markBytes (one .tests)) → Stays
   stays-marked m f =
       let w : markBytes (one .tests) ≡ behindFirst code row (part s₀ above width) p one = unfold behindFirst sweptBehind pick in rw m in
       block-stored s₀ s₁ s₂ own width p next awaited _ e (f ∙ ap (partSets s₁ own width (p + toFlags)) w)
 
-  -- the flags of the others
+  -- where it is not the leftmost, the flags of the compounds left of it are stored
   pub stays-others : Apart above own width → one .marked ≡ false
       → s₂ ≡ partSets s₁ own width (p + toFlags) (sweepAt code row (part s₁ above width) (length code - 1) (p + toFlags + 1) (one .place)) → Stays
   stays-others h m f =
@@ -188,7 +188,7 @@ module _ (code : List ℕ) (row : Path) (s₀ : List ℕ) (above own width p nex
       let flags = behindFirst code row (part s₀ above width) p one in
       sweeps-as (record { matched = b; awaited = awaited; flags = flags }) (unfold awaitedVisit in rw q) b (told-stays s₀ own width next p b awaited flags s₁ s)
 
-  -- the one before it
+  -- where the segment before it is awaited, its fresh flags are stored
   pub swept-before : (count first : ℕ) → r ≡ segment.Before count first
       → s₁ ≡ blockStored s₀ own width (awaits (segmentBefore code awaited count (beginning first) first)) next p → Sweeps false
   swept-before count first q s = sweeps-as (awaits (segmentBefore code awaited count (beginning first) first)) (unfold awaitedVisit in rw q) false (unfold awaits in refl, s)
@@ -261,7 +261,7 @@ module _ (code : List ℕ) (row : Path) (s₀ : List ℕ) (above own width p : �
       (told-stays s₀ own width next p false awaited [] s₁ (block-stored s₀ s₁ s₁ own width p next awaited [] e (unfold partSets in refl)))
 
   module _ (h : 0 < length code) (one : Swept) (eo : one ≡ sweptOne code row flags (p + toFlags) awaited) where
-    -- by its first compound
+    -- the visit by the sweep of the whole segment is the visit by its first compound and those behind it
     visit-first : decided code p awaited (sweepAt code row flags (length code) (p + toFlags) awaited) ≡ sweptVisit code row (part s₀ above width) p awaited one
     unfolding sweptVisit behindFirst
     visit-first =

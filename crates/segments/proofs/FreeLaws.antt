@@ -55,7 +55,7 @@ pass-once code part other path c (s ∷ others) (suc k) from p own f y t u =
     )
     (ap (λ (r : Passed). record { part = r .part; matched = matchedHere v (s .place) ++ r .matched }) ih)
 
--- so over a sheet
+-- over a sheet, two parts that tell right of all selectors lead to the same pass
 pub pass-at-once : (code : List ℕ) → length code ≤ pairValues → (part other : List ℕ) (path : Path) (own : List ℕ) → ToldIn code part path → ToldIn code other path
     → passAt code (alone path) part own ≡ passAt code (alone path) other own
 unfolding ToldIn passAt placedIn styledIn onDecoded
@@ -69,7 +69,7 @@ pass-at-once code c part other path own = go (numberAt code 0) refl
 
 -- ---- the own part: which selectors match
 
--- the same of either answer
+-- answers that match the same on both branches of a test do so whichever is taken
 either-matched : (t : Bool) (a b c d : Passed) → a .matched ≡ c .matched → b .matched ≡ d .matched → pick t a b .matched ≡ pick t c d .matched
 unfolding pick
 either-matched true a b c d e f = e
@@ -158,7 +158,7 @@ module _ (m : ℕ) (own other : List ℕ) where
   either-alike false a b c d e f = f
 
   module _ (code : List ℕ) (row : Path) (above : List ℕ) where
-    -- the blocks of a pass
+    -- parts of one length that are alike stay so through a pass
     pass-alike : (k p : ℕ) (left right : List ℕ) → length left ≡ length right → Alike m own other left right
         → Alike m own other (passFrom code row above k p left .part) (passFrom code row above k p right .part)
     unfolding passFrom

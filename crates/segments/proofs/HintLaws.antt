@@ -110,7 +110,7 @@ module _ (h : Hint) (kind size byte : ℕ) where
         fails = λ e fit x l b. cannot _ (λ t. f e fit x l b (sym (ap (λ (m : ℕ). tested (e ∷ []) (namedOf m x)) q) ∙ t));
       }
 
-  -- a name of another length
+  -- an element's name of another length than the hint's fails
   pub length-fails : kind ≡ elementKind → ¬ (size ≡ h .size) → NameFails h kind size byte
   length-fails k d =
       by-kind elementKind k element-is-name

@@ -107,7 +107,7 @@ more-test code p i m n k c ws e l =
       value = rw (l .value) (sym (and-assoc (tested (alone p) c) (l .passes) (onParent (asks (l .rest)) p)));
     }
 
--- at a child step
+-- at a child step a compound ends that is not the leftmost, with what lies left of the step
 at-step : (code : List ℕ) (p : Path) (i n k : ℕ) (ws : List Piece) (m : ℕ) → pieceAt code i ≡ read m direct → Lies code m ws → More code p i n (suc k) (direct ∷ ws)
 unfolding told compoundAt onDecoded onPiece left asks meets and
 at-step code p i n k ws m e s =

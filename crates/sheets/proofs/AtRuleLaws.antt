@@ -88,7 +88,7 @@ module _ (s : List ℕ) (n : ℕ) (tokens brackets store : List ℕ) (fill : ℕ
     left-is : record { answer = a; rows = x; brackets = b; store = z } ≡ left stated tokens brackets store fill
     left-is = e ∙ ap (λ l. left (statementOf true l) tokens brackets store fill) (rest s n)
 
-    -- the rows of its tokens
+    -- the store has the rows of its tokens from the start on
     tokens-are : x ≡ sets tokens 0 (rowsOf fill (stated .tokens))
     unfolding left
     tokens-are = ap (λ (l : Left). l .rows) left-is
@@ -200,7 +200,7 @@ module _ (s tokens brackets store : List ℕ) (fill : ℕ) (o : WorkRoom s token
 
       -- a name from i on
       module _ {i : ℕ} (ei : i ≡ a + 1 + skipWhitespace (drop (a + 1) s)) (hi : i ≤ length s) where
-        -- the meaning, from there on
+        -- behind the '@' an at-rule is a name, and a statement from its end on
         rule-is : atRuleOf s ≡ onParsed (identOf (drop i s)) (λ n name. statementEnd s (i + n)) fails
         unfolding atRuleOf pick spaced
         rule-is = rw (← ea, ← et, f, ← ei)

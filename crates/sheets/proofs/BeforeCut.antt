@@ -161,7 +161,7 @@ module _ {A B : Type 0} (S : Outcome A → Type 0) (S′ : Outcome B → Type 0)
   then-compared (panics p) o′ (inl h) = rw (h .0) (inl (refl, ap (λ (k : ℕ). isDigit (getD t k 0)) (eg p) ∙ ap isDigit (sym (getD-drop w t p 0)) ∙ h .1))
   then-compared (panics p) o′ (inr c) = inr (cut-from S S′ t w p (g p) o′ _ (eg p) (ks o′) c)
 
--- the same behind w bytes
+-- if the readings behind w bytes compare, so do those of the whole text
 behind-compared : {A B : Type 0} (S : Outcome A → Type 0) (S′ : Outcome B → Type 0) (t : List ℕ) (w : ℕ) (f : A → B) → ((o : Outcome A) → S o → S′ (behind w o f))
     → (o o′ : Outcome A) → Compared S (drop w t) o o′ → Compared S′ t (behind w o f) (behind w o′ f)
 unfolding behind
@@ -312,7 +312,7 @@ some-compared t o o′ c =
     then-compared (ComponentsTo t) (StopsAt Opening t) t 0 _ _ fails (λ p. p) (λ p. omega arith)
     (λ n cs. same (StopsAt Opening t) t (pick (is (length cs) 0) fails (reads n cs)) (pick-holds (AtDigit t) _ _ _ (λ _. tt) (λ _. tt))) refl (some-stops t) o o′ c
 
--- behind a type selector
+-- components that end before a `[` do so behind a type selector
 element-reads : (t : List ℕ) (n : ℕ) (name : List ℕ) (o : Outcome (List Component)) → ComponentsTo (drop n t) o → ReadsTo Opening t (behind n o (λ cs. element name ∷ cs))
 unfolding behind onOutcome
 element-reads t n name (reads m cs) h = sym (getD-drop n t m 0) ∙ h .0
@@ -415,7 +415,7 @@ first-reads t (reads n x) h = last-reads (length (drop n t)) t n x h
 first-reads t fails h = inl h
 first-reads t (panics p) h = absurd h
 
--- a list of selectors
+-- a list of selectors reads as before; where it was cut, reading now ends before a `[` or a ','
 selectors-compared : (t : List ℕ) → Compared (ReadsTo Barring t) t (selectorsBefore t) (selectorsOf t)
 unfolding selectorsBefore selectorsOf moreFrom
 selectors-compared t =
@@ -571,7 +571,7 @@ unfolding isDigit within and
 no-digit x e = rw e
 
 module _ (s : List ℕ) (p : ℕ) (e : sheetBefore s ≡ panics p) where
-  -- by where it panicked
+  -- a sheet that panicked did so at a digit, where it still panics, or was cut
   was : ((sheetOf s ≡ panics p) × (isDigit (getD s p 0) ≡ true)) ⊎ Cut Calm s p (sheetOf s)
   was = subst (λ (o : Outcome (List RuleSet)). Compared Calm s o (sheetOf s)) e (sheet-compared s)
 

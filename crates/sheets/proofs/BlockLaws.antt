@@ -35,7 +35,7 @@ module _ (s : List ℕ) (e : ℕ) (h : e ≤ length s) {t : Bool} (et : t ≡ is
   pub semicolon-there : t ≡ true → e < length s
   semicolon-there f = byte-there s e ascii.semicolon (omega arith) (sym et ∙ f)
 
-  -- the place behind it
+  -- a ';' is passed, and the place behind it lies within the text
   pub semicolon-past : t ≡ true → (e + 1 ≡ pick (is (getD s e 0) ascii.semicolon) (e + 1) e) × (e + 1 ≤ length s)
   unfolding pick
   semicolon-past f = (rw (← et, f), omega (arith, semicolon-there f))
@@ -139,12 +139,12 @@ module _ (s : List ℕ) (n at : ℕ) (rules : List ℕ) (place : ℕ) (tokens br
           unfolding leaves rulesAnswer
           taken-is = ap (λ (l : Leaves RulesRead). l .answer .taken) left-is
 
-          -- the count of declarations
+          -- as many declarations are counted as there are
           count-is : r .count ≡ length ds
           unfolding leaves rulesAnswer
           count-is = ap (λ (l : Leaves RulesRead). l .answer .count) left-is
 
-          -- the bytes of their texts
+          -- as many bytes are counted as their texts have
           text-is : r .text ≡ length (declarationTexts ds)
           unfolding leaves rulesAnswer
           text-is = ap (λ (l : Leaves RulesRead). l .answer .text) left-is

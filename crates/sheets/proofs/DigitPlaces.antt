@@ -29,7 +29,7 @@ AtDigit t fails = Unit
 AtDigit t (panics p) = isDigit (getD t p 0) ≡ true
 
 -- ---- by the parts of the definitions
--- of two alternatives
+-- two alternatives panic at digits alone, if each does
 digit-else : {A : Type 0} (t : List ℕ) (o q : Outcome A) → AtDigit t o → AtDigit t q → AtDigit t (orElse o q)
 unfolding orElse
 digit-else t (reads n a) q h k = tt
@@ -130,7 +130,7 @@ digit-pseudo t =
     (λ _. tt)
 
 -- ---- attributes never panic
--- by their bracket
+-- the end of an attribute, its bracket, never panics
 pub digit-closed : (t : List ℕ) (j : ℕ) (c : Component) → AtDigit t (closed t j c)
 unfolding closed
 digit-closed t j c = pick-holds (AtDigit t) _ _ _ (λ _. tt) (λ _. tt)
@@ -151,7 +151,7 @@ digit-attr t =
     (λ _. tt)
 
 -- ---- every component
--- a mark
+-- a mark never panics, be it `>` or `*`
 digit-marked : (t : List ℕ) (mark : ℕ) (c : Component) → AtDigit t (marked t mark c)
 unfolding marked
 digit-marked t mark c = pick-holds (AtDigit t) _ _ _ (λ _. tt) (λ _. tt)

@@ -104,7 +104,7 @@ module _ (s : List ℕ) (at : ℕ) (rules : List ℕ) (place : ℕ) (tokens brac
           bits = omega (arith, o .for-rules, o .row-bits);
         }
 
-    -- and for their texts
+    -- there is room for the texts of the selectors
     pub texts-room : TextRoom 4 lent store fill
     texts-room =
         let l = lent-long in
@@ -114,14 +114,14 @@ module _ (s : List ℕ) (at : ℕ) (rules : List ℕ) (place : ℕ) (tokens brac
     abbrev list : Outcome (List Selector)
     list = selectorsOf (drop w s)
 
-    -- the rule, by its selectors
+    -- the rule is what its selectors and the block behind them make of it
     ruleset-is : rulesetOf s ≡ onOutcome list (λ n ss. behind 0 (blockOf s (w + n)) (ruleAt w ss)) fails (λ p. panics (w + p))
     unfolding rulesetOf
     ruleset-is = rw (← ew)
 
     -- what `parse_selectors` left: the selectors, written behind the head of the rule
     module _ {r : ManyReading} {y z : List ℕ} (e : LeftMany length (selectorRows fill) selectorTexts (selectorsOf lent) rules (place + ruleHead) store fill r y z) where
-      -- the answer, by their meaning
+      -- what was left is what the selectors of the text behind white space leave
       said : LeftMany length (selectorRows fill) selectorTexts list rules (place + ruleHead) store fill r y z
       said = rw (← rest s w) e
 
@@ -200,7 +200,7 @@ module _ (s : List ℕ) (at : ℕ) (rules : List ℕ) (place : ℕ) (tokens brac
         abbrev block : Outcome (List Declaration)
         block = blockAt at s (w + n)
 
-        -- the rule, by its block
+        -- the rule, by where it starts in the whole text, is its block with its selectors
         meant-is : meant ≡ behind 0 block (ruleAt (at + w) ss)
         unfolding onOutcome blockAt
         meant-is =

@@ -191,7 +191,7 @@ unfolding ruleTexts textsMany sizes
 no-rules s n h i =
     record { within = i; some = h; counted = omega arith; wide = omega arith; long = omega arith; small = tt; fit = tt }
 
--- the end of a statement
+-- the end of a statement lies within the text, and keeps no rules
 end-keeps : (s : List ℕ) (n : ℕ) → 1 ≤ n → n ≤ length s → Where (length s) (RulesKeep s) (statementEnd s n)
 unfolding statementEnd
 end-keeps s n h i =

@@ -30,7 +30,7 @@ use Rattle.sheets.specs.declared.sheet.SheetAnswer.the-variants.{Sheet, 
 use Rattle.combinators.proofs.ZeroLaws.{zeros-all}
 
 -- ---- zeros
--- a store cleared throughout
+-- a store cleared throughout is as many zeros
 all-cleared : (l : List ℕ) → cleared 0 l ≡ replicate (length l) 0
 all-cleared l =
     let e : length l - 0 ≡ length l = omega arith in

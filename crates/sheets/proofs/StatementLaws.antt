@@ -65,7 +65,7 @@ module _ (at : ℕ) (k : Outcome (List RuleSet)) where
   either-reads fails n x e = absurd (let z : _≡_ {A = ℕ} 0 1 = cc in omega arith)
   either-reads (panics p) n x e = absurd (let z : _≡_ {A = ℕ} 0 1 = cc in omega arith)
 
-  -- the crate panics in it
+  -- where the crate panics in the rule, it panics in the statement, at the same byte
   either-panics : (o : Outcome RuleSet) (p : ℕ) → behind 0 o (movedBy at) ≡ panics p → either-of o ≡ panics p
   unfolding behind onOutcome orElse
   either-panics (reads m a) p e = absurd (let z : _≡_ {A = ℕ} 0 1 = cc in omega arith)
@@ -115,7 +115,7 @@ module _ (s : List ℕ) (at : ℕ) (rules : List ℕ) (place : ℕ) (tokens brac
   -- what `parse_ruleset` left: the rule, written at the place
   module _ {r : Reading} {y x b z : List ℕ} (e : (r ≡ reading (λ _. 1) (ruleRow fill) ruleText first)
       × ((y ≡ sets rules place (written (ruleRow fill) first)) × ((x ≡ tokens) × ((b ≡ brackets) × (z ≡ sets store fill (written ruleText first)))))) where
-    -- of rows and texts
+    -- its answer, rows and texts, without the other stores
     left : Left (λ _. 1) (ruleRow fill) ruleText first rules place store fill r y z
     left = (e .0, (e .1 .0, e .1 .1 .1 .1))
 

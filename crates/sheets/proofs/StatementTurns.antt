@@ -148,7 +148,7 @@ Ends s rules tokens brackets store r y x b z =
 
 module _ {s rules₀ tokens₀ brackets₀ store₀ rules tokens brackets store : List ℕ} {taken count numbers text : ℕ}
     (i : Reading-on s rules₀ tokens₀ brackets₀ store₀ rules tokens brackets store taken count numbers text) where
-  -- the stores keep their lengths
+  -- the store of rules is as long as at first
   pub rules-kept : length rules ≡ length rules₀
   rules-kept = rules-long (i .gathered)
 
@@ -170,7 +170,7 @@ module _ {s rules₀ tokens₀ brackets₀ store₀ rules tokens brackets store 
   unfolding ruleRows ruleTexts
   all-read e = many-read (i .gathered) taken taken e (omega arith)
 
-  -- the end of the text
+  -- at the end of the text, what was gathered is the whole sheet
   pub at-end : length s ≤ taken → Ends s rules₀ tokens₀ brackets₀ store₀ (many.Reads taken count numbers text) rules tokens brackets store
   at-end l =
       let e : drop taken s ≡ [] = nil-of (drop taken s) (omega (arith, length-drop taken s)) in
@@ -222,7 +222,7 @@ module _ {s rules₀ tokens₀ brackets₀ store₀ rules tokens brackets store 
     -- what `parse_statement` left: the rules of the statement, written behind those before
     module _ {r : Reading} {y x b z : List ℕ} (e : (r ≡ reading length (ruleRows text) ruleTexts statements)
         × ((y ≡ sets rules numbers (written (ruleRows text) statements)) × ((x ≡ tokens) × ((b ≡ brackets) × (z ≡ sets store text (written ruleTexts statements)))))) where
-      -- of rows and texts
+      -- its answer, rows and texts, without the other stores
       left : Left length (ruleRows text) ruleTexts statements rules numbers store text r y z
       left = (e .0, (e .1 .0, e .1 .1 .1 .1))
 

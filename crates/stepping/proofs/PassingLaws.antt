@@ -59,7 +59,7 @@ module _ (code : List ℕ) where
   abbrev declaredAt : List ℕ → List (Declared Value)
   declaredAt ps = selectorsDeclare (foundAt code ps)
 
-  -- the first, then the others
+  -- what selectors at places declare is what the first declares, then what the others do
   first-declared : (p : ℕ) (ps : List ℕ) → declaredAt (p ∷ ps) ≡ declaredAt (p ∷ []) ++ declaredAt ps
   unfolding readIn
   first-declared p ps =
@@ -211,13 +211,13 @@ module _ (code : List ℕ) (sheet : bytesRefusal code ≡ noRefusal) (r : Number
       let d = decoded code sheet in
       no-fault (numberAt code 0) _ p _ (sheet-steps code (d .0) (d .1) (d .2) .count-read) (number-fault (numberAt code 0) r er p q)
 
-  -- behind it the selectors
+  -- behind the count that was read, as many selectors read
   pub selectors-there : (n count : ℕ) → r ≡ number.Number n count → SelectorsRead code count n
   selectors-there n count h = let d = decoded code sheet in sheet-selectors code (d .0) (d .1) (d .2) n count (number-read (numberAt code 0) r er n count h)
 
 -- ---- what `pass_element` asks for, and its return
 module _ (code state : List ℕ) (above own width place : ℕ) (l : SheetLent code state above own width place) where
-  -- a visit of the first
+  -- the first selector, which lies within the bytes, may be visited
   pub element-lent : (first : ℕ) → first ≤ length code → VisitLent code state above own width first place
   element-lent first f = record { room = l .room; apart = l .apart; few-bytes = l .few-bytes; near = omega (arith, f, l .few-bytes); few = l .few }
 

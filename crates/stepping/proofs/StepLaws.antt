@@ -68,7 +68,7 @@ parts-fit d w n h l =
 
 -- ---- what opening a row knows
 module _ (code out state : List ℕ) (l : OpenLent code out state) where
-  -- a row for a style
+  -- the buffer that is lent has room for a row
   pub row-there : RowRoom out
   row-there = record { room = omega (arith, l .one-row) }
 

@@ -109,7 +109,7 @@ module _ (code : List ℕ) (count at origin pseudo : ℕ) (spec : Specificity) (
   unfolding stylesDeclare fromRule ruleStyle inNumbers
   style-merged row z x m = m .numbers ∙ sym (merged-more Crate row (fromRule origin (ruleStyle pseudo spec (inNumbers x))) [] ∙ merged-none Crate _)
 
-  -- the first, and the others
+  -- what styles declare is what the first declares, then what the others do
   one-declared : (others rest : List (Styled Value)) (x : Styled Value) → others ≡ x ∷ rest
       → stylesDeclare origin pseudo spec others ≡ stylesDeclare origin pseudo spec (x ∷ []) ++ stylesDeclare origin pseudo spec rest
   unfolding stylesDeclare
@@ -174,7 +174,7 @@ module _ (code : List ℕ) (at : ℕ) (r : NumberAnswer) (e : r ≡ numberAnswer
   count-none p q origin pseudo spec row = unmerged origin pseudo spec row _ (listed-none _ p (then-fault (numberAt code at) _ p (number-fault (numberAt code at) r e p q)))
 
   module _ (n k : ℕ) (p : r ≡ number.Number n k) where
-    -- behind it the styles
+    -- behind the count that was read, as many styles are read
     styles-behind : walkedStylesAt code at ≡ counted (walkedStyleAt code) k n
     unfolding walkedStylesAt
     styles-behind = then-read (numberAt code at) (λ n count. counted (walkedStyleAt code) count n) n k (number-read (numberAt code at) r e n k p)

@@ -79,7 +79,7 @@ module _ (kind : ℕ) (s : Specificity) where
   pub hash-weight : kind ≡ hashKind → s ≡ specificityOf 1 0 0 → Named
   hash-weight e q = λ x. q ∙ hash-adds kind x e
 
-  -- a class or an attribute
+  -- a class or an attribute adds one to the classes, whatever it is
   pub class-weight : ¬ (kind ≡ elementKind) → ¬ (kind ≡ hashKind) → s ≡ specificityOf 0 1 0 → Named
   class-weight no-element no-hash q = λ x. q ∙ class-adds kind x no-element no-hash
 
@@ -93,7 +93,7 @@ module _ (code : List ℕ) (at : ℕ) (r : ComponentAnswer) (er : r ≡ componen
   pub mark-weight : (n kind : ℕ) → r ≡ component.Mark n kind → Is (weight.Added n nothing)
   mark-weight n kind p = weight-read code at n _ _ (at-mark code at r er n kind p) (mark-adds kind)
 
-  -- a component of one text
+  -- a component of one text adds what its kind adds
   pub name-weight : (n kind start size : ℕ) → r ≡ component.Name n kind start size → (s : Specificity) → Named kind s → Is (weight.Added n s)
   name-weight n kind start size p s q = weight-read code at n _ s (at-name code at r er n kind start size p) (q _)
 
@@ -102,7 +102,7 @@ module _ (code : List ℕ) (at : ℕ) (r : ComponentAnswer) (er : r ≡ componen
   unfolding added
   numbers-weight n a b p s q = weight-read code at n _ s (at-numbers code at r er n a b p) q
 
-  -- an attribute of a value
+  -- an attribute of a value adds one to the classes
   pub names-weight : (n a b f g : ℕ) → r ≡ component.Names n a b f g → (s : Specificity) → s ≡ specificityOf 0 1 0 → Is (weight.Added n s)
   unfolding added
   names-weight n a b f g p s q = weight-read code at n _ s (at-names code at r er n a b f g p) q
@@ -162,7 +162,7 @@ unfolding weighing onDecoded
 weighing-begin (read n cs) = ap (weight.Added n) (sum-first (specificity cs))
 weighing-begin (fault p) = refl
 
--- a component before the others
+-- a component before the others is added to what was added before
 weighing-more : (s : Specificity) (c : Component) (d : Decoded (List Component)) → weighing (sum s (added c)) d ≡ weighing s (mapped (λ r. c ∷ r) d)
 unfolding weighing onDecoded mapped specificity
 weighing-more s c (read n cs) = ap (weight.Added n) (sum-assoc s (added c) (specificity cs))

@@ -312,7 +312,7 @@ module _ (nodes attributes text : List ℕ) (row : ℕ) (h : Rooted nodes row) w
   pub path-by : ¬ (row ≡ 0) → (p : ℕ) → p ≡ nodeAt nodes row .parent → pathOf nodes attributes text row ≡ elementAt nodes attributes text row ∷ pathOf nodes attributes text p
   path-by z p e = rw e (other-path nodes attributes text row h z)
 
--- a store written over throughout
+-- a store written over throughout is what was written
 sets-all : (l vs : List ℕ) → length vs ≡ length l → sets l 0 vs ≡ vs
 sets-all l vs e = sets-eq vs l 0 (omega (arith, e)) ∙ ap (λ (r : List ℕ). vs ++ r) (drop-of-length-le l {i = 0 + length vs} (omega (arith, e))) ∙ append-nil vs
 

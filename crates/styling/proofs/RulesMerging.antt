@@ -145,7 +145,7 @@ module _ (styles : List ℕ) (at n : ℕ) (e : n ≡ getD styles (at + keptCount
   unfolding readKept
   kept-rows first p = rw (e, p, getD-drop at styles keptCount 0, drop-drop keptHead at styles)
 
-  -- the place behind them
+  -- the place behind their rows is where the styles of the next rule are kept
   pub behind-kept : (place : ℕ) → drop place styles ≡ drop (at + (keptHead + styleWidth * n)) styles → drop place styles ≡ readKept (drop at styles) .rest
   unfolding readKept readStyled
   behind-kept place p =
@@ -230,7 +230,7 @@ module _ (c : Cascade) (origin : ℕ) (p : Path) (ds : List (Styled Value)) (tex
     selectors-done h = (merging-done c row₀ _ row _ (m .merging) (none-selected n place h), passing-done readSelector rows count at n place (m .passing) h texts)
 
 -- ---- returns of `merge_rule`
--- nothing, or nothing
+-- a choice between nothing and nothing is nothing
 nothing-picked : (b : Bool) → pick {A = List (RuleStyle Value)} b [] [] ≡ []
 unfolding pick
 nothing-picked true = refl
@@ -261,7 +261,7 @@ module _ (c : Cascade) (origin : ℕ) (p : Path) (texts rows : List ℕ) (at : �
       → z ≡ mergedRow c row ruleDeclared
   rule-merged kept ek selectors start es ep row z ez = ez ∙ rw (kept-rows styles first n en kept ek, rule-selectors texts rows at selectors start es ep)
 
--- the numbers of its selectors
+-- numbers that decide for the selectors of a rule decide for them as they are lent
 pub lent-tops : (nodes attributes text : List ℕ) (row : ℕ) (texts rows : List ℕ) (at selectors start : ℕ) → selectors ≡ getD rows (at + ruleSelectors) 0 → drop start rows ≡ drop (at + ruleHead) rows
     → (t : List ℕ) → RightTops nodes attributes text row (readRule texts (drop at rows) .value .selectors) t → RightTops nodes attributes text row (readMany (readSelector texts) selectors (drop start rows) .value) t
 lent-tops nodes attributes text row texts rows at selectors start es ep t r = rw (rule-selectors texts rows at selectors start es ep) r

@@ -31,7 +31,7 @@ use Rattle.rule_styles.proofs.SheetsStyled.{SheetLies, sheet-rules}
 use Rattle.rule_styles.proofs.SheetsHeldLaws as held
 use Rattle.rule_styles.proofs.SheetsHeldLaws.{agent-lies-in, user-lies-in, author-lies-in}
 
--- a list by its front
+-- a list whose first n numbers are known is these and what lies behind
 front-known : (n : ℕ) (l xs : List ℕ) → take n l ≡ xs → l ≡ xs ++ drop n l
 front-known n l xs e = sym (take-append-drop n l) ∙ ap (λ (f : List ℕ). f ++ drop n l) e
 
