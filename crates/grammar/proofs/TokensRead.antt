@@ -345,7 +345,7 @@ pub first-signs : (unsignedFirst ascii.plusSign ≡ false) × (unsignedFirst asc
 unfolding unsignedFirst isDigit or and within is
 first-signs = (refl, refl)
 
--- a number without a sign is read as it is written
+-- where no sign stands before a number, reading it with its sign takes the number alone
 unsigned-signed : (v : List ℕ) (n : ℕ) → unsignedFirst (getD v 0 0) ≡ true → numbers.unsigned v ≡ n → 1 ≤ n → numbers.signed v ≡ n
 unfolding numbers.signed numbers.sign pick or
 unsigned-signed v n e p l =

@@ -29,7 +29,7 @@ module _ (texts rows : List ℕ) (at n behind : ℕ) (en : n ≡ getD rows (at +
   abbrev pub lent : List ℕ
   lent = take (length rows - behind) (drop behind rows)
 
-  -- are, read as components, those of the selector
+  -- the lent numbers, read as components, are those of the selector
   pub lent-components : componentsAt texts lent n ≡ readSelector texts (drop at rows) .value .components
   unfolding componentsAt readSelector
   lent-components = rw (rest rows behind, eb, en, getD-drop at rows selectorComponents 0, drop-drop selectorHead at rows)
