@@ -65,10 +65,12 @@ module _ (store components nodes attributes text : List ℕ) where
         pub up-rooted : Rooted nodes p
         up-rooted = parent-rooted nodes at (s .rooted) z p ep
 
+        -- the number that is right for a row is right for its parent
         pub up-right : RightTop nodes attributes text before p top
         up-right = right-above nodes attributes text before at top p (s .right) (line-up nodes same z p ep)
 
         module _ (b : Bool) (eb : b ≡ matches before (pathOf nodes attributes text p)) where
+          -- with the parent as what is found where its path matches, the search from the parent on finds what the whole search finds
           asked : lastMatched nodes attributes text before (ancestorsOf nodes p) (pick b p found) ≡ topmost nodes attributes text before row
           asked =
               rw (eb, ep) (sym (last-above nodes attributes text before at (parent-before nodes at (s .rooted) z _ refl) found)) ∙ s .finds
@@ -104,6 +106,7 @@ module _ (store components nodes attributes text : List ℕ) where
       so-far r = rw (g .is-top) (right-top nodes attributes text row r (componentsAt store components i))
 
       module _ (h : i < left) (k : ℕ) (ek : k ≡ componentNumber components i componentKindAt) where
+        -- one component more: a descendant combinator takes the topmost ancestor, any other keeps the number so far
         one-more : selectorTop nodes attributes text row (componentsAt store components (i + 1))
             ≡ byCombinator (componentAt store components i) (selectorTop nodes attributes text row (componentsAt store components i)) (topmost nodes attributes text (componentsAt store components i) row) (selectorTop nodes attributes text row (componentsAt store components i))
         unfolding selectorTop
@@ -122,6 +125,7 @@ module _ (store components nodes attributes text : List ℕ) where
   -- where nothing is found for a descendant combinator, nothing is for those behind it
   module _ (row : ℕ) (r : Rooted nodes row) (i : ℕ) (e : componentNumber components i componentKindAt ≡ descendantKind)
       (none : topmost nodes attributes text (componentsAt store components i) row ≡ row) where
+    -- the first i + 1 components are a descendant combinator in front of the first i
     combinator : componentsAt store components (suc i) ≡ descendant ∷ componentsAt store components i
     unfolding componentAt
     combinator = components-more store components i ∙ ap (λ (c : Component). c ∷ componentsAt store components i) (from-descendant store _ _ _ _ e)
@@ -136,6 +140,7 @@ module _ (store components nodes attributes text : List ℕ) where
         (λ (l : n ≤ i). let q : n ≡ i = omega arith in rw (q, combinator) (λ p z. z))
         (lt-or-ge i n)
 
+    -- for any more than the first i components the number is the row itself
     pub none-behind : (n : ℕ) → i < n → selectorTop nodes attributes text row (componentsAt store components n) ≡ row
     unfolding selectorTop byCombinator
     none-behind zero h = absurd (omega arith)

@@ -56,6 +56,7 @@ module _ (store components nodes attributes text : List ℕ) where
       none-left e = one.match-end store components nodes attributes text n at e ∙ sym (g .same)
 
       module _ (some : 0 < n) (k : ℕ) (ek : k ≡ componentNumber components (n - 1) componentKindAt) where
+        -- where some component is left, their count is not 0
         no-zero : ¬ (n ≡ 0)
         no-zero z = absurd (omega arith)
 

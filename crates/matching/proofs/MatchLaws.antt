@@ -75,6 +75,7 @@ module _ (store components nodes attributes text : List ℕ) where
       module _ (k : ℕ) (ek : k ≡ componentNumber components (left - 1) componentKindAt) where
         -- the component is a child combinator
         module _ (e : k ≡ childKind) where
+          -- a child combinator fails on the document, and else leads where what is left leads from the parent
           child-opened : Climb left row ≡ Up
           unfolding componentAt byCombinator
           child-opened = opened ∙ ap (λ (c : Component). byCombinator c Up (Descendant (left - 1) row) On) (from-child store _ _ _ _ (sym ek ∙ e))
@@ -94,10 +95,12 @@ module _ (store components nodes attributes text : List ℕ) where
 
         -- any other component, asked of the row itself
         module _ (no-child : ¬ (k ≡ childKind)) (no-descendant : ¬ (k ≡ descendantKind)) where
+          -- a component that is neither combinator is a simple one
           pub match-simple : SimpleAt components (left - 1)
           match-simple = record { no-child = λ z. no-child (ek ∙ z); no-descendant = λ z. no-descendant (ek ∙ z) }
 
           module _ (b : Bool) (eb : b ≡ matches (componentAt store components (left - 1) ∷ []) (pathOf nodes attributes text row)) where
+            -- the row's answer decides: what is left leads on from the row, or the climb fails locally
             asked : Climb left row ≡ pick b (Climb (left - 1) row) (Ended FailsLocally)
             unfolding componentAt
             asked =

@@ -16,6 +16,7 @@ use Rattle.combinators.proofs.Words.{same-lengths}
 pub fewer-taken : (a b : ℕ) → a < b → (l : List ℕ) → length l ≡ b → length (take a l) ≡ a
 fewer-taken a b h l e = length-take-le a l (omega arith)
 
+-- where there are no more than a, all b of them are taken
 pub all-taken : (a b : ℕ) → b ≤ a → (l : List ℕ) → length l ≡ b → length (take a l) ≡ b
 all-taken a b h l e = ap length (take-all a l (omega arith)) ∙ e
 
