@@ -44,6 +44,7 @@ module _ (d : declared.Decl) (store : List ℕ) (f n t : ℕ) (k : Keeping d sto
   pub keep-down : (m : ℕ) → m ≡ shift d n → Downward store (f + m) f (d .text)
   keep-down m e = record { down = omega arith; inside = omega (arith, k .inside, k .among) }
 
+  -- the part that is kept has all bytes of the declaration's text
   length-kept : length (part store from (d .text)) ≡ d .text
   unfolding part
   length-kept = length-take-le (d .text) (drop from store) (omega (arith, length-drop from store, k .inside, k .among))
@@ -70,6 +71,7 @@ module _ (d : declared.Decl) (store : List ℕ) (f n t : ℕ) (k : Keeping d sto
 
 -- ---- `put_declaration`: the five numbers of its row, one behind the other
 module _ (d : declared.Decl) (l : List ℕ) (at i s f : ℕ) (v : ℕ) (ev : v ≡ rowValue f d) (m : ℕ) (em : m ≡ i) where
+  -- five numbers emitted in turn, kind, mark, start, value and length of text, leave the declaration's row
   pub row-left : (l₁ l₂ l₃ l₄ l₅ : List ℕ) (f₁ f₂ f₃ f₄ f₅ : ℕ)
       → record { bytes = l₁; fill = f₁ } ≡ emits (record { bytes = l; fill = at }) (d .kind ∷ [])
       → record { bytes = l₂; fill = f₂ } ≡ emits (record { bytes = l₁; fill = f₁ }) (m ∷ [])

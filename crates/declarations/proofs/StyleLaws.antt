@@ -141,6 +141,7 @@ module _ (store : List ℕ) where
   reads-said (Style x) = reads-one x
   reads-said NoStyle = reads-none
 
+  -- the row of the declaration at the start of a stream reads as the style that it asks for
   reads-declared : (t : List ℕ) → Reads (ownRow t) (styleOf (readDeclaration store t .value .important) (readDeclaration store t .value .decl))
   unfolding ownRow
   reads-declared t = rw (← declared-said t) (reads-said (ownNumbersAt t))
@@ -169,6 +170,7 @@ module _ (store : List ℕ) where
 
   -- a test of one of them
   module _ (p : List ℕ → Bool) (q : Decl → Bool) (h : (t : List ℕ) → p t ≡ q (readDeclaration store t .value .decl)) where
+    -- some row passes p exactly if some of the declarations that the rows mean passes q
     any-row : (n : ℕ) (t : List ℕ) → anyRow p n t ≡ anyDecl q (declarationsAt t store n)
     unfolding anyRow anyDecl declarationsAt readMany readDeclaration
     any-row zero t = refl
@@ -430,6 +432,7 @@ own-rows-only (d ∷ ds) f t u =
 
 -- a test of one of them
 module _ (p : List ℕ → Bool) (q : Decl → Bool) (h : (i s f : ℕ) (d : Decl) (t : List ℕ) → p (declRow i s f d ++ t) ≡ q d) where
+  -- some row passes p exactly if some of the declarations whose rows they are passes q
   pub any-declared : (ds : List Declaration) (f : ℕ) (t : List ℕ) → anyRow p (length ds) (declarationRows f ds ++ t) ≡ anyDecl q ds
   unfolding anyRow anyDecl declarationRows declarationRow rowsMany
   any-declared [] f t = refl

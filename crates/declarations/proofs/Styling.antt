@@ -46,6 +46,7 @@ module _ (rows : List ℕ) (at k a : ℕ) (ek : k ≡ getD rows (at + declaratio
 
   -- whether it is of one of two kinds, with a value
   module _ (m n v : ℕ) where
+    -- the test of the two numbers that were read is the test of the row at its place
     value-at : (r : Bool) → r ≡ and (or (is k m) (is k n)) (is a v) → r ≡ hasValue m n v (drop at rows)
     unfolding hasValue
     value-at r e = e ∙ rw (ek, ea, getD-drop at rows declarationKind 0, getD-drop at rows declarationValue 0)
