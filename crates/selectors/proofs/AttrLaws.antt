@@ -261,7 +261,7 @@ module _ (s st z : List ℕ) (fill : ℕ) (x : Name) (w : idents.Named (closedBy
       value-first b e = unfold attrValueOf parsing.orElse in rw e
 
   module _ (h : x ≡ NoName) where
-    -- none, and nothing was written
+    -- no quoted string with its bracket reads
     none : closedBy s (quotedOf s) ≡ err
     none = unnamed-from _ (sym h ∙ w .0)
 
@@ -392,7 +392,7 @@ module _ (s st : List ℕ) (fill : ℕ) (t : Bool) (et : t ≡ is (getD s 0 0) a
   attr-missing e = left-none _ (pick-false _ _ _ _ (told _ _ _ et e) refl) st fill
 
   module _ (e : t ≡ true) (z : List ℕ) (x : Name) (w : idents.Named (identOf (take (length s - 1) (drop 1 s))) st fill x z) where
-    -- of the rest of the text
+    -- the name that was read is that of the rest of the text
     lent : idents.Named (identOf (drop 1 s)) st fill x z
     lent = rw (rest s 1) at w
 
@@ -474,6 +474,7 @@ module _ (s st : List ℕ) (fill : ℕ) (t : Bool) (et : t ≡ is (getD s 0 0) a
                   room = omega (arith, c .room, name .long, b, equal-before, ap length stored-name, length-sets st fill (name .name));
                 }
 
+            -- the return behind an `=`: an attribute with its value, or none where no value reads
             pub attr-equal : Zeros st fill → (r : ComponentAnswer) (y : List ℕ)
                 → (r ≡ equalAnswer (attrValueOf (drop (1 + n + 1) s)) (1 + n) m) × (y ≡ equalStore (attrValueOf (drop (1 + n + 1) s)) m fill z) → Left (attrOf s) st fill r y
             attr-equal c r y q =

@@ -34,6 +34,7 @@ by-component l m t h (reads n c) e = rw (e, h n (component-some t n c e))
 by-component l m t h fails e = rw e
 by-component l m t h (panics p) e = rw e
 
+-- at the end of the text no components are read, however many turns there are
 at-end : (m : ℕ) (t : List ℕ) → length t ≤ 0 → componentsOf m t ≡ reads 0 []
 unfolding componentsOf onOutcome
 at-end zero t h = refl

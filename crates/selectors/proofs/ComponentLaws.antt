@@ -65,6 +65,7 @@ answer-bare : (o : Outcome syntax.Component) (n : ℕ) (c : syntax.Component) (k
 unfolding componentAnswer onOutcome
 answer-bare o n c kind b e = rw (← e, b .kind-is, b .first-is, b .second-is)
 
+-- what does not read is answered as no component
 pub answer-none : (o : Outcome syntax.Component) → fails ≡ o → NoComponent ≡ componentAnswer o
 unfolding componentAnswer onOutcome
 answer-none o e = rw (← e)
@@ -81,7 +82,7 @@ module _ {A : Type 0} (o o′ : Outcome A) where
   unfolding orElse
   or-reads n a e = rw e
 
--- brackets do not matter
+-- of three alternatives it does not matter which two are taken together
 pub or-assoc : {A : Type 0} (o o′ o″ : Outcome A) → orElse (orElse o o′) o″ ≡ orElse o (orElse o′ o″)
 unfolding orElse
 or-assoc (reads n a) o′ o″ = refl

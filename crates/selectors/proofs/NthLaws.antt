@@ -97,6 +97,7 @@ one : pick {A = ℕ} true 1 0 ≡ 1
 unfolding pick
 one = refl
 
+-- no sign takes no byte
 none : pick {A = ℕ} false 1 0 ≡ 0
 unfolding pick
 none = refl
@@ -114,10 +115,12 @@ module _ (s : List ℕ) (x : SignedInteger) (ex : x ≡ integerOf s) where
   unfolding integerOf
   sign-is = ap (λ (r : SignedInteger). r .sign) ex
 
+  -- the number takes its sign and its digits
   taken-is : x .taken ≡ i + n
   unfolding integerOf
   taken-is = ap (λ (r : SignedInteger). r .taken) ex
 
+  -- its value is that of the digits behind the sign, negative where the sign is a minus
   value-is : x .value ≡ integerBy s i n (isMinus s 0)
   unfolding integerOf
   value-is = ap (λ (r : SignedInteger). r .value) ex

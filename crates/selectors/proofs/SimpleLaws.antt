@@ -126,7 +126,7 @@ module _ (s st : List ℕ) (fill : ℕ) (r : ComponentAnswer) (z : List ℕ) (w 
                 pub same-element : z₄ ≡ st
                 same-element = tried _ st fill r₄ z₄ from-element h₄ .1
 
-                -- a pseudo-class, or nothing
+                -- the return where a pseudo-class was tried, as the last alternative
                 pub named-pseudo : (x : ComponentAnswer) (y : List ℕ) → (x ≡ componentAnswer (pseudoClassOf s)) × (y ≡ z₄) → Left (namedOf s) st fill x y
                 named-pseudo x y v =
                     no-hash x y (left-second _ _ st fill (tried _ st fill r₄ z₄ from-element h₄ .0) x y (v .0, v .1 ∙ same-element ∙ sym (ap (sets st fill) (pseudo-textless s))))
@@ -198,9 +198,11 @@ module _ (start : ℕ) (s st : List ℕ) (fill : ℕ) where
 
     -- no type selector was read: any component is tried
     module _ (e : r ≡ NoComponent) where
+      -- where no type selector was read the store is as it was
       pub next-same : z ≡ st
       next-same = tried _ st fill r z w e .1
 
+      -- where none was read, what the reader of any component leaves is left
       pub next-other : (x : ComponentAnswer) (y : List ℕ) → Left (componentOf s) z fill x y → Left (nextOf (is start 0) s) st fill x y
       unfolding nextOf firstOf pick
       next-other x y v = rw (is-yes start 0 h) (left-second _ _ st fill (tried _ st fill r z w e .0) x y (rw next-same at v))
