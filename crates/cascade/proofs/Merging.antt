@@ -84,6 +84,7 @@ module _ (u : Slot Value → Candidate Value → Slot Value) (xs : List ℕ) (d 
 
 -- ---- by the update of a cascade
 module _ (c : Cascade) (xs ys : List ℕ) (d : Declared Value) (h : RowRoom xs) where
+  -- numbers that are those of the merged row are the merge, as its style is the merged one
   by-numbers : ys ≡ mergeRowBy (updateBy c) xs d → Merged c xs ys d
   by-numbers e = record { numbers = e; meaning = ap styleAt e ∙ merge-view (updateBy c) xs d (h .room) }
 

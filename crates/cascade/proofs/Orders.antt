@@ -108,6 +108,7 @@ flags-differ true false h = absurd (omega arith)
 flags-differ false true h = (refl, refl)
 flags-differ false false h = absurd (omega arith)
 
+-- flags with the same number are the same
 flags-agree : (p q : Bool) → flag p ≡ flag q → p ≡ q
 unfolding flag
 flags-agree true true h = refl
@@ -116,6 +117,7 @@ flags-agree false true h = absurd (omega arith)
 flags-agree false false h = refl
 
 module _ (a b : Specificity) where
+  -- where both are inline or neither is, what the test of the counts says is the order
   by-selector : a .inline ≡ b .inline → lessBySelector a b ≡ true → LessSpecific a b
   unfolding lessBySelector
   by-selector i e =

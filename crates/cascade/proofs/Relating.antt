@@ -85,6 +85,7 @@ module _ {A B : Type 0} (R : A → B → Type 0) where
   tests-same : (f : Weight → Weight → Bool) (c x : Candidate A) (d y : Candidate B) → SameCandidate R c d → SameCandidate R x y → f (c .weight) (x .weight) ≡ f (d .weight) (y .weight)
   tests-same f c x d y p q = rw (p .weights, q .weights)
 
+  -- of two candidates and two that are the same, the same one is chosen
   chosen-same : (f : Weight → Weight → Bool) (c x : Candidate A) (d y : Candidate B) → SameCandidate R c d → SameCandidate R x y
       → SameSlot R (pick (f (c .weight) (x .weight)) (held c) (held x)) (pick (f (d .weight) (y .weight)) (held d) (held y))
   chosen-same f c x d y p q = pick-same (SameSlot R) _ _ (held c) (held x) (held d) (held y) (tests-same f c x d y p q) (both-held p) (both-held q)
@@ -98,11 +99,13 @@ module _ {A B : Type 0} (R : A → B → Type 0) where
   update-same Book (held c) (held d) x y (both-held p) q = chosen-same heldInBook c x d y p q
 
   module _ (k : Cascade) (x : Candidate A) (y : Candidate B) (c : SameCandidate R x y) where
+    -- records that are the same stay so when one slot of both is updated
     record-updated : (i : ℕ) (p : Record A) (q : Record B) → SameRecord R p q → SameRecord R (updateRecord i (λ s. updateBy k s x) p) (updateRecord i (λ s. updateBy k s y) q)
     unfolding updateRecord slotOf
     record-updated i p q h =
         record { presence = refl; all = each-set (SameSlot R) i _ _ (update-same k _ _ x y (each-get (SameSlot R) i empty empty both-empty (h .all)) c) (h .all) }
 
+    -- styles that are the same stay so when one slot of one record of both is updated
     style-updated : (r i : ℕ) (s : ComputedStyle A) (t : ComputedStyle B) → SameStyle R s t → SameStyle R (updateStyle r i (λ z. updateBy k z x) s) (updateStyle r i (λ z. updateBy k z y) t)
     unfolding updateStyle
     style-updated r i s t h =
@@ -134,6 +137,7 @@ module _ {A B : Type 0} (R : A → B → Type 0) where
   slot-inherited empty empty both-empty = both-empty
   slot-inherited (held c) (held d) (both-held p) = both-held (record { weights = refl; values = p .values })
 
+  -- records that are the same are inherited as the same in the book order
   record-inherited : (p : Record A) (q : Record B) → SameRecord R p q → SameRecord R (inheritRecord p) (inheritRecord q)
   unfolding inheritRecord
   record-inherited p q h = record { presence = h .presence; all = each-map (SameSlot R) (SameSlot R) inheritedSlot inheritedSlot slot-inherited (h .all) }
@@ -153,6 +157,7 @@ module _ {A B : Type 0} (R : A → B → Type 0) where
   unfolding emptyRecord
   empty-record-same = record { presence = refl; all = each-replicate (SameSlot R) slotCount empty empty both-empty }
 
+  -- the empty styles are the same, whatever form their values have
   pub empty-same : SameStyle R emptyStyle emptyStyle
   unfolding emptyStyle
   empty-same = record { main = empty-record-same; before = empty-record-same; after = empty-record-same }
@@ -177,15 +182,18 @@ module _ {A B : Type 0} (R : A → B → Type 0) where
   attribute-declared i j p x y e h =
       record { pseudos = refl; slots = h .styles .slots; candidates = record { weights = weight-same i j authorOrigin p p e refl; values = h .styles .values } }
 
+  -- styles of rules that are the same, of one origin, are declared the same
   rules-declared : (o : ℕ) {xs : List (RuleStyle A)} {ys : List (RuleStyle B)} → Each SameRule xs ys → Each SameDeclared (map (fromRule o) xs) (map (fromRule o) ys)
   rules-declared o h = each-map SameRule SameDeclared (fromRule o) (fromRule o) (rule-declared o) h
 
+  -- attributes that are the same declare the same colours
   colours-declared : {xs : List (AttributeStyle A)} {ys : List (AttributeStyle B)} → Each SameAttribute xs ys → Each SameDeclared (colourAttributes xs) (colourAttributes ys)
   unfolding colourAttributes
   colours-declared none = none
   colours-declared (next {a = x} {b = y} h hs) =
       each-append SameDeclared (pick-same (Each SameDeclared) (x .isStyle) (y .isStyle) [] _ [] _ (h .kinds) none (next (attribute-declared false false noSpecificity x y refl h) none)) (colours-declared hs)
 
+  -- attributes that are the same have the same `style` declarations
   styles-declared : {xs : List (AttributeStyle A)} {ys : List (AttributeStyle B)} → Each SameAttribute xs ys → Each SameDeclared (styleAttributes xs) (styleAttributes ys)
   unfolding styleAttributes
   styles-declared none = none

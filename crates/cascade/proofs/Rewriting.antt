@@ -196,30 +196,38 @@ module _ (xs : List ℕ) (h : styleRowWidth ≤ length xs) where
   abbrev three : List ℕ
   three = rewriteRecord u afterRecord two
 
+  -- with the main record rewritten, the row is as long as it was
   long-one : length one ≡ length xs
   long-one = rewritten-long u mainRecord xs
 
+  -- with `::before` rewritten too, the row is as long as it was
   long-two : length two ≡ length xs
   long-two = rewritten-long u beforeRecord one ∙ long-one
 
+  -- with all three rewritten, the row is as long as it was
   long-three : length three ≡ length xs
   long-three = rewritten-long u afterRecord two ∙ long-two
 
+  -- the main record of the rewritten row is what is inherited of the row's
   main-three : recordAt three 0 ≡ inheritRecord (recordAt xs 0)
   unfolding inheritRecord
   main-three = rewritten-before u afterRecord two 0 (omega arith) ∙ rewritten-before u beforeRecord one 0 (omega arith) ∙ rewritten-here u mainRecord xs (omega arith)
 
+  -- rewriting `::before` makes that record what is inherited of it
   before-one : recordAt two recordWidth ≡ inheritRecord (recordAt one recordWidth)
   unfolding inheritRecord
   before-one = rewritten-here u beforeRecord one (omega (arith, long-one))
 
+  -- the `::before` of the rewritten row is what is inherited of the row's
   before-three : recordAt three recordWidth ≡ inheritRecord (recordAt xs recordWidth)
   before-three = rewritten-before u afterRecord two recordWidth (omega arith) ∙ before-one ∙ ap inheritRecord (rewritten-behind u mainRecord xs recordWidth (omega arith))
 
+  -- rewriting `::after` makes that record what is inherited of it
   after-two : recordAt three (2 * recordWidth) ≡ inheritRecord (recordAt two (2 * recordWidth))
   unfolding inheritRecord
   after-two = rewritten-here u afterRecord two (omega (arith, long-two))
 
+  -- the `::after` of the rewritten row is what is inherited of the row's
   after-three : recordAt three (2 * recordWidth) ≡ inheritRecord (recordAt xs (2 * recordWidth))
   after-three = after-two ∙ ap inheritRecord (rewritten-behind u beforeRecord one (2 * recordWidth) (omega arith) ∙ rewritten-behind u mainRecord xs (2 * recordWidth) (omega arith))
 

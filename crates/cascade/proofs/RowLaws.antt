@@ -70,6 +70,7 @@ candidate-back : (c : Candidate Value) → readCandidate (slotNumbers (held c)) 
 unfolding readCandidate slotNumbers valueNumbers
 candidate-back c = rw (flag-back (c .weight .spec .inline), flag-back (c .weight .important))
 
+-- a slot is read back from its numbers
 pub slot-back : (s : Slot Value) → readSlot (slotNumbers s) ≡ s
 slot-back empty = unfold readSlot in unfold slotNumbers in unfold flagOf in unfold is in unfold pick in refl
 slot-back (held c) = unfold readSlot in (filled ∙ ap held (candidate-back c))
@@ -229,12 +230,15 @@ module _ {A : Type 0} (r k : ℕ) (u : Slot A → Slot A) (s : ComputedStyle A) 
   update-after e = sym (pick-false _ _ _ _ (is-no r mainRecord (λ z. omega arith)) (pick-false _ _ _ _ (is-no r beforeRecord (λ z. omega arith)) refl))
 
 module _ (r k : ℕ) (u : Slot Value → Slot Value) (xs : List ℕ) (long : styleRowWidth ≤ length xs) (h : r < recordCount) (l : k < slotCount) where
+  -- the record at b, where its slot is updated, is the updated record
   record-here : (b : ℕ) → recordPlace r ≡ b → recordAt (updateRow r k u xs) b ≡ updateRecord k u (recordAt xs b)
   record-here b e = rw e at (record-updated r k u xs (omega arith) l)
 
+  -- a record before the updated one stays
   record-before : (b : ℕ) → b + recordWidth ≤ recordPlace r → recordAt (updateRow r k u xs) b ≡ recordAt xs b
   record-before b e = same-record (updateRow r k u xs) xs b (λ p m n. update-low r k u xs (omega arith) l p (omega arith))
 
+  -- a record behind the updated one stays
   record-behind : (b : ℕ) → recordPlace r + recordWidth ≤ b → recordAt (updateRow r k u xs) b ≡ recordAt xs b
   record-behind b e = same-record (updateRow r k u xs) xs b (λ p m n. update-high r k u xs (omega arith) l p (omega arith))
 

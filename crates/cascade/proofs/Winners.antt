@@ -59,6 +59,7 @@ module _ (x y z : Weight) where
   pub stays-unbeaten : ¬ (Weaker x y) → ¬ (Weaker y z) → ¬ (Weaker x z)
   stays-unbeaten n m = weaker-denies x z (weaker-trans-not x y z (weaker-denied x y n) (weaker-denied y z m))
 
+-- a test holds or it does not
 decide : (t : Bool) → (t ≡ true) ⊎ (t ≡ false)
 decide true = inl refl
 decide false = inr refl
