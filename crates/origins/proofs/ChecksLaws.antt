@@ -21,15 +21,18 @@ neither false b e = (refl, e)
 
 -- ---- whether one of three sheets is too long
 module _ (a u w : ℕ) where
+  -- the return where the agent's sheet is too long: one of the three is
   pub agent-long : sheetLimit < a → true ≡ anyTooLong a u w
   unfolding anyTooLong
   agent-long h = or-gives-true _ _ (lt-ltb sheetLimit a h)
 
   module _ (h : a ≤ sheetLimit) where
+    -- the return where the user's sheet is too long, and the agent's is not
     pub user-long : sheetLimit < u → true ≡ anyTooLong a u w
     unfolding anyTooLong
     user-long k = or-gives _ _ true (le-ltb sheetLimit a h) (or-gives-true _ _ (lt-ltb sheetLimit u k))
 
+    -- the return where neither is: the author's sheet alone decides
     pub author-long : u ≤ sheetLimit → ltb sheetLimit w ≡ anyTooLong a u w
     unfolding anyTooLong
     author-long k = or-gives _ _ (ltb sheetLimit w) (le-ltb sheetLimit a h) (or-gives _ _ (ltb sheetLimit w) (le-ltb sheetLimit u k) refl)
@@ -44,15 +47,18 @@ module _ (a u w : ℕ) where
 
 -- ---- whether all three sheets are UTF-8
 module _ (a u w : List ℕ) where
+  -- the return where the agent's sheet is no UTF-8: not all three are
   pub agent-invalid : {t : Bool} → t ≡ valid a → t ≡ false → false ≡ allValid a u w
   unfolding allValid
   agent-invalid e f = and-gives-false _ _ (sym e ∙ f)
 
   module _ {t : Bool} (e : t ≡ valid a) (f : t ≡ true) where
+    -- the return where the user's sheet is no UTF-8, and the agent's is
     pub user-invalid : {v : Bool} → v ≡ valid u → v ≡ false → false ≡ allValid a u w
     unfolding allValid
     user-invalid g h = and-gives _ _ false (sym e ∙ f) (and-gives-false _ _ (sym g ∙ h))
 
+    -- the return where both are UTF-8: the author's sheet alone decides
     pub author-valid : {v x : Bool} → v ≡ valid u → v ≡ true → x ≡ valid w → x ≡ allValid a u w
     unfolding allValid
     author-valid {v} {x} g h k = and-gives _ _ x (sym e ∙ f) (and-gives _ _ x (sym g ∙ h) k)

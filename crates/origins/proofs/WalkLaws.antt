@@ -20,7 +20,7 @@ module _ {A : Type 0} (u : List ℕ → Read A) where
   many-length zero t = refl
   many-length (suc k) t = ap suc (many-length k (u t .rest))
 
-  -- rows of one width
+  -- values whose rows all have one width
   module _ (w : ℕ) (h : (t : List ℕ) → u t .rest ≡ drop w t) where
     -- what stands behind them
     pub many-rest : (k : ℕ) (t : List ℕ) → readMany u k t .rest ≡ drop (w * k) t
@@ -41,6 +41,7 @@ pub component-rest : (texts : List ℕ) (k : ℕ) (t : List ℕ) → readMany (r
 unfolding readComponent
 component-rest texts k t = many-rest (readComponent texts) componentWidth (λ _. refl) k t
 
+-- behind k declarations lies what is k rows further
 pub declaration-rest : (texts : List ℕ) (k : ℕ) (t : List ℕ) → readMany (readDeclaration texts) k t .rest ≡ drop (declarationWidth * k) t
 unfolding readDeclaration
 declaration-rest texts k t = many-rest (readDeclaration texts) declarationWidth (λ _. refl) k t
@@ -86,12 +87,14 @@ module _ {A : Type 0} (u : List ℕ → List ℕ → Read A) (rows : List ℕ) (
   abbrev pub Passing : ℕ → ℕ → Type 0
   Passing left place = (texts : List ℕ) → readMany (u texts) left (drop place rows) .rest ≡ readMany (u texts) count (drop at rows) .rest
 
+  -- passing over one, and then one fewer from behind it, ends where passing over all from here ends
   one-behind : (texts : List ℕ) (left place next : ℕ) → 0 < left → drop next rows ≡ u texts (drop place rows) .rest
       → readMany (u texts) (left - 1) (drop next rows) .rest ≡ readMany (u texts) left (drop place rows) .rest
   unfolding readMany
   one-behind texts zero place next h e = absurd (omega arith)
   one-behind texts (suc k) place next h e = let q : suc k - 1 ≡ k = omega arith in rw (q, e)
 
+  -- with none left to pass over, what is left lies here
   none-behind : (texts : List ℕ) (left place : ℕ) → left ≤ 0 → drop place rows ≡ readMany (u texts) left (drop place rows) .rest
   unfolding readMany
   none-behind texts zero place h = refl

@@ -195,6 +195,7 @@ decl-placed name ks p e r er = er ∙ ap (λ f. declAnswer (onFound f (λ read. 
 
 -- what holds of the declaration of every row, and of the unknown one
 module _ (P : Decl → Type 0) (name : List ℕ) (ks : List Token) where
+  -- what holds of the declaration of each property in the table, and of the unknown one, holds of every declaration
   decl-holds : P (onFound (colourOf ks) backgroundColor (unknown name)) → P (onFound (backgroundOf ks) backgroundColor (unknown name))
       → P (onFound (colourOf ks) color (unknown name)) → P (onFound (heightOf ks) height (unknown name))
       → P (onFound (heightOf ks) maxHeight (unknown name)) → P (onFound (overflowOf ks) overflow (unknown name))
