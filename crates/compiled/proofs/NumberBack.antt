@@ -54,6 +54,7 @@ groups-few (suc k) v =
     (λ h. omega (arith, ap length (group-more k v h), groups-few k (v / groupValues)))
     (lt-or-ge v groupValues)
 
+-- the groups of a number that k + 1 of them hold are bytes
 groups-bytes : (k v : ℕ) → v < values k → Bytes (groupBytes k v)
 groups-bytes zero v l = rw (group-last zero v l) (omega arith, tt)
 groups-bytes (suc k) v l =
@@ -98,6 +99,7 @@ module _ (t : List ℕ) (i : ℕ) where
   unfolding groupsAt pick
   more-at k b acc scale n l e h = rw (lt-leb (length t) n l, e, le-ltb b groupValues h)
 
+  -- a number of one group is read back: the reading ends behind it, with its worth at the scale added
   last-back : (k v acc scale n : ℕ) → v < groupValues → Held t n (groupBytes k v)
       → groupsAt (suc k) t i acc scale n ≡ limited i (n + length (groupBytes k v)) (acc + v * scale)
   last-back k v acc scale n l h =
@@ -105,6 +107,7 @@ module _ (t : List ℕ) (i : ℕ) where
       let g : Held t n (v ∷ []) = rw e at h in
       rw e (last-at k v acc scale n (held-there t n v [] g) (held-byte t n v [] g) l)
 
+  -- a number of any groups is read back: the reading ends behind them, with their worth at the scale added
   groups-back : (k v acc scale n : ℕ) → v < values k → Held t n (groupBytes k v)
       → groupsAt (suc k) t i acc scale n ≡ limited i (n + length (groupBytes k v)) (acc + v * scale)
   groups-back zero v acc scale n l h = last-back zero v acc scale n l h

@@ -64,6 +64,7 @@ module _ (s : List ℕ) (at : ℕ) where
     unfolding contentAt
     content-read n start size p = valued _ n _ (mapped-read _ (spanAt s at) n _ (text-read (spanAt s at) r e n start size p))
 
+    -- where no text was read, the fault is that of the content's text
     pub content-fault : (p : ℕ) → r ≡ text.Fault p → value.Fault p ≡ valueAnswer (contentAt s at)
     unfolding contentAt
     content-fault p q =
@@ -75,6 +76,7 @@ module _ (s : List ℕ) (at : ℕ) where
     unfolding numberUpTo
     number-up-to n v p = valued _ n _ (mapped-read _ (rangedAt s at 0 greatest) n v (number-read (rangedAt s at 0 greatest) r e n v p))
 
+    -- where no number in the range was read, the fault is that of the number
     pub number-up-to-fault : (p : ℕ) → r ≡ number.Fault p → value.Fault p ≡ valueAnswer (numberUpTo greatest s at)
     unfolding numberUpTo
     number-up-to-fault p q =
@@ -108,6 +110,7 @@ module _ (s : List ℕ) (at : ℕ) where
 
     -- ---- the style of the slot
     module _ (important : Bool) (r : ValueAnswer) (e : r ≡ valueAnswer (valueAt s slot at)) where
+      -- with its value read, the style is its importance, its slot and that value
       pub valued-read : (n : ℕ) (v : Value) → r ≡ value.Value n v
           → style.Style n (record { slot = slot; important = important; value = v }) ≡ styleAnswer (valuedAt s important slot at)
       unfolding valuedAt
@@ -133,11 +136,13 @@ module _ (s : List ℕ) (at : ℕ) (important : Bool) (r : NumberAnswer) (e : r 
 
 -- ---- a style: whether it is important, then its slot and value
 module _ (s : List ℕ) (at : ℕ) where
+  -- a style that was read ends within the bytes, and so does the place of a fault
   within-read : (d : Decoded StyleNumbers) → Reaches 1 (length s) at d → styleWithin (length s) (styleAnswer d)
   unfolding styleAnswer styleWithin Reaches
   within-read (read n x) h = h .1
   within-read (fault p) h = tt
 
+  -- an answer that is what the bytes say lies within them
   bounded : (q : StyleAnswer) → q ≡ styleAnswer (styleNumbersAt s at) → (q ≡ styleAnswer (styleNumbersAt s at)) × styleWithin (length s) q
   bounded q e = (e, rw e (within-read (styleNumbersAt s at) (style-numbers-reach s at)))
 
@@ -160,12 +165,13 @@ abbrev pub placeOf : StyleAnswer → PlaceAnswer
 placeOf (style.Style n x) = place.At n
 placeOf (style.Fault p) = place.Fault p
 
+-- the place in a style's answer is the place where reading it ended, or its fault
 place-of : (d : Decoded StyleNumbers) → placeOf (styleAnswer d) ≡ placeAnswer d
 unfolding styleAnswer placeAnswer
 place-of (read n x) = refl
 place-of (fault p) = refl
 
--- it is the answer
+-- passing over a style ends where reading it does
 pub style-skipped : (s : List ℕ) (at : ℕ) (r q : StyleAnswer) → r ≡ styleAnswer (styleNumbersAt s at) → r ≡ q → placeOf q ≡ placeAnswer (styleAt s at)
 unfolding styleAt
 style-skipped s at r q e p = ap placeOf (sym p ∙ e) ∙ place-of (styleNumbersAt s at) ∙ sym (place-mapped (styleIn s) (styleNumbersAt s at))

@@ -48,6 +48,7 @@ module _ (t : List ℕ) (i : ℕ) (x : List ℕ) (h : Held t i (textBytes x)) wh
   unfolding textBytes
   text-held = held-right t i (numberBytes (length x)) x h
 
+  -- what lies there, cut by start and length, is the text
   pub span-text : textIn t span ≡ x
   unfolding textIn
   span-text = held-part t (i + length (numberBytes (length x))) x text-held

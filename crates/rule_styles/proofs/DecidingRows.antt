@@ -107,12 +107,12 @@ module _ (rows : List ℕ) (k : ℕ) where
       ∙ a
 
 -- ---- rows written
--- the row of one style
+-- the row of one style is four numbers
 pub styled-long : (x : Styled Value) → length (styledRow x) ≡ styleWidth
 unfolding styledRow
 styled-long x = length-style (record { slot = x .slot; important = x .important; value = x .value })
 
--- and the rows of many
+-- the rows of many styles are four numbers for each
 pub styles-long : (xs : List (Styled Value)) → length (textsMany styledRow xs) ≡ length xs * styleWidth
 unfolding textsMany
 styles-long [] = refl
@@ -225,6 +225,7 @@ module _ (rows₀ : List ℕ) (at count place : ℕ) where
 
     -- the styles of one slot
     module _ (s : code.Sifted) (e : siftedIn s ≡ foldl (sift slot) nothingSifted (stylesFrom rows at count)) where
+      -- the styles sifted for the slot are those that decide in it, of the styles as they lay
       styles-now : siftedStyles (siftedIn s) ≡ decidingFor slot xs
       unfolding decidingFor
       styles-now = ap siftedStyles (e ∙ ap (λ (t : List ℕ). foldl (sift slot) nothingSifted (readMany readStyled count t .value)) (k .unread))
