@@ -62,6 +62,7 @@ module _ (origin : ℕ) where
 -- ---- returns of `count_rule`: a rule at a place
 module _ (rows : List ℕ) (at declarations count : ℕ) (d : (texts : List ℕ) → drop declarations rows ≡ selectorsRead texts (drop at rows) .rest)
     (e : count ≡ getD rows (at + ruleDeclarations) 0) (x : ℕ) (f : x ≡ styleCount (drop declarations rows) count) (origin : ℕ) (texts : List ℕ) where
+  -- the count is that of the styles which the rule's declarations mean
   count-is : x ≡ length (stylesOf (readRule texts (drop at rows) .value .declarations))
   unfolding readRule selectorsRead declarationsAt
   count-is = f ∙ count-styles texts (drop declarations rows) count ∙ rw (d texts, e, getD-drop at rows ruleDeclarations 0)
@@ -91,6 +92,7 @@ module _ (rows : List ℕ) (at origin : ℕ) (tokens : List ℕ) (styles : ℕ) 
   abbrev styledText : List ℕ
   styledText = textsMany selectorBytes (styledSelectors origin ds (readRule texts (drop at rows) .value .selectors))
 
+  -- as many styles are read as were counted
   long : length ds ≡ styles
   unfolding stylesAt
   long = many-length (readStyle texts) styles tokens
@@ -150,7 +152,7 @@ module _ (rows : List ℕ) (count at origin : ℕ) (tokens₀ texts st₀ : List
   writing-begin o = record { emitted = emitting-begin (readRule texts) (ruleBytes origin) rows count at st₀ fill; lent = o; same = refl }
 
   module _ (n place : ℕ) (tokens st : List ℕ) (f : ℕ) (c : Writing n place tokens st f) where
-    -- a rule is written
+    -- a turn: one rule is written, and the rules behind it are left
     pub writing-more : 0 < n → (x : List ℕ) → x ≡ tokens → (z : List ℕ) (g : ℕ)
         → record { bytes = z; fill = g } ≡ emits (record { bytes = st; fill = f }) (ruleBytes origin (readRule texts (drop place rows) .value)) → length z ≡ length st
         → (next : ℕ) → ((texts : List ℕ) → drop next rows ≡ readRule texts (drop place rows) .rest) → Writing (n - 1) next x z g
@@ -167,7 +169,7 @@ module _ (rows : List ℕ) (count at origin : ℕ) (tokens₀ texts st₀ : List
     writing-done h =
         (c .same, rules-written origin _ _ _ (emitting-done (readRule texts) (ruleBytes origin) rows count at st₀ fill n place st f (c .emitted) h))
 
-    -- the store is full
+    -- with the store full, what is left to write changes nothing more, and the store of tokens is as it was
     pub writing-past : f ≡ length st + 1 → (tokens ≡ tokens₀)
         × (record { bytes = st; fill = f } ≡ emits (record { bytes = st₀; fill = fill }) (textsMany selectorBytes (sheetSelectors origin (readMany (readRule texts) count (drop at rows) .value))))
     writing-past h =
@@ -187,6 +189,7 @@ module _ (rows : List ℕ) (count at : ℕ) where
   pub counting-begin : Counting 0 at count
   counting-begin = record { left = λ origin texts. omega arith }
 
+  -- n rules have the selectors of the first and of the n - 1 behind it
   one-less : (origin : ℕ) (texts : List ℕ) (n place next : ℕ) → 0 < n → drop next rows ≡ readRule texts (drop place rows) .rest
       → selectorsFrom origin texts n place ≡ length (ruleSelectors origin (readRule texts (drop place rows) .value)) + selectorsFrom origin texts (n - 1) next
   unfolding readMany sheetSelectors
@@ -195,6 +198,7 @@ module _ (rows : List ℕ) (count at : ℕ) where
       let q : suc k - 1 ≡ k = omega arith in
       rw (q, e) (length-append (ruleSelectors origin (readRule texts (drop place rows) .value)) (sheetSelectors origin (readMany (readRule texts) k (readRule texts (drop place rows) .rest) .value)))
 
+  -- no rules have no selectors
   none-left : (origin : ℕ) (texts : List ℕ) (n place : ℕ) → n ≤ 0 → selectorsFrom origin texts n place ≡ 0
   unfolding readMany sheetSelectors
   none-left origin texts zero place h = refl
@@ -203,6 +207,7 @@ module _ (rows : List ℕ) (count at : ℕ) where
   module _ (total place n : ℕ) (c : Counting total place n) where
     -- the rule at the place has r selectors with a style: they are added to the count
     module _ (h : 0 < n) (r : ℕ) (e : (origin : ℕ) (texts : List ℕ) → r ≡ length (ruleSelectors origin (readRule texts (drop place rows) .value))) where
+      -- with the rule's selectors added, the rules behind it are left to be counted
       pub counting-more : (next : ℕ) → ((texts : List ℕ) → drop next rows ≡ readRule texts (drop place rows) .rest) → Counting (total + r) next (n - 1)
       counting-more next d = record { left = λ origin texts. omega (arith, c .left origin texts, one-less origin texts n place next h (d texts), e origin texts) }
 

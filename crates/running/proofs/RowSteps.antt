@@ -43,20 +43,25 @@ module _ (nodes rows : List ℕ) (i p : ℕ) (ep : p ≡ nodeAt nodes i .parent)
   unfolding withParent styleRowAt
   parent-placed h ys e = pick-true _ _ _ _ (rw (← ep) (lt-ltb p i h)) (e ∙ ap (λ (n : ℕ). sets rows (i * styleRowWidth) (take styleRowWidth (drop (n * styleRowWidth) rows))) ep)
 
+-- a row and a parent before it lie apart in the rows, and the row has its place there
 pub two-rooms : (rows : List ℕ) (i p : ℕ) → PlaceRoom i rows → p < i → TwoRooms rows (p * styleRowWidth) (i * styleRowWidth)
 two-rooms rows i p r h = record { apart = omega (arith, h); room = r .room }
 
 -- ---- numbers stored where as many were stored before
 module _ (l : List ℕ) (a : ℕ) (xs : List ℕ) (h : a + length xs ≤ length l) where
+  -- numbers stored at a place stand between what lies before and behind them
   stored : sets l a xs ≡ take a l ++ (xs ++ drop (a + length xs) l)
   stored = sets-eq xs l a h ∙ append-assoc (take a l) xs (drop (a + length xs) l)
 
+  -- what lies before the place stays
   front : take a (sets l a xs) ≡ take a l
   front = ap (take a) stored ∙ take-at (take a l) (xs ++ drop (a + length xs) l) a (length-take-le a l (omega (arith, h)))
 
+  -- from the place on stand the numbers that were stored, and what lies behind them
   at-place : drop a (sets l a xs) ≡ xs ++ drop (a + length xs) l
   at-place = ap (drop a) stored ∙ drop-at (take a l) (xs ++ drop (a + length xs) l) a (length-take-le a l (omega (arith, h)))
 
+  -- what lies behind them stays
   behind : drop (a + length xs) (sets l a xs) ≡ drop (a + length xs) l
   behind =
       ap (drop (a + length xs)) (sets-eq xs l a h)
@@ -67,6 +72,7 @@ module _ (code : List ℕ) (settings : Settings) (x : Handed) (parent state text
   abbrev Short : Stepped → Type 0
   Short s = length (s .texts) ≤ length texts + valuesOf (x .attributes) + 2 * length (x .attributes)
 
+  -- an open row's step adds no more texts than its values, and two bytes for each attribute
   open-short : (depth : ℕ) → Short (openStep code settings x depth parent state texts)
   unfolding openStep documentStep elementStep
   open-short zero = omega arith
@@ -92,36 +98,45 @@ module _ {code : List ℕ} {g : Page} {rows₀ state₀ rules₀ tokens₀ brack
   abbrev place : ℕ
   place = i * styleRowWidth
 
+  -- the style row of row i lies within the rows
   place-inside : place + styleRowWidth ≤ length rows₀
   place-inside = omega (arith, r .there, r .ready .lengths .for-rows)
 
+  -- the row is below the limit of nodes
   few : i < nodeLimit
   few = omega (arith, r .there, handed.ok r .few)
 
+  -- so there is a place for its style row
   pub place-room : PlaceRoom i rows₀
   place-room = record { few = few; room = place-inside }
 
+  -- the attribute rows that the node names lie within those of the page
   pub attribute-rows-inside : (first count : ℕ) → first ≡ nodeAt (g .nodes) i .firstAttribute → count ≡ nodeAt (g .nodes) i .attributeCount
       → first * attributeWidth + count * attributeWidth ≤ length (g .attributes)
   attribute-rows-inside first count ef ec = omega (arith, handed.attributes-inside r, ef, ec)
 
+  -- the numbers of the node lie within those of the page
   pub node-inside : i * nodeWidth + nodeWidth ≤ length (g .nodes)
   node-inside = omega (arith, r .there)
 
   module _ {rows₁ : List ℕ} (e₁ : rows₁ ≡ withParent (g .nodes) i rows₀) where
+    -- the parent's row copied, the rows are as long as before
     long₁ : length rows₁ ≡ length rows₀
     unfolding withParent
     long₁ = ap length e₁ ∙ pick-holds (λ (l : List ℕ). length l ≡ length rows₀) _ _ _ (λ _. length-sets rows₀ place (styleRowAt rows₀ (nodeAt (g .nodes) i .parent))) (λ _. refl)
 
+    -- the place of the row lies within them still
     pub place-still : place + styleRowWidth ≤ length rows₁
     place-still = omega (arith, place-inside, long₁)
 
     abbrev lent : List ℕ
     lent = take (place + styleRowWidth - place) (drop place rows₁)
 
+    -- the part that is lent is one style row long
     lent-long : length lent ≡ styleRowWidth
     lent-long = ap length (lent-row rows₁ place place-still) ∙ length-take-le styleRowWidth (drop place rows₁) (omega (arith, place-still, length-drop place rows₁))
 
+    -- the parent's style row is one style row long, where the parent comes before
     parent-long : nodeAt (g .nodes) i .parent < i → length (styleRowAt rows₀ (nodeAt (g .nodes) i .parent)) ≡ styleRowWidth
     unfolding styleRowAt
     parent-long h =
@@ -170,12 +185,14 @@ module _ {code : List ℕ} {g : Page} {rows₀ state₀ rules₀ tokens₀ brack
       abbrev node : List ℕ
       node = take (i * nodeWidth + nodeWidth - i * nodeWidth) (drop (i * nodeWidth) (g .nodes))
 
+      -- the attribute rows that are lent are the part which the node names
       own-part : own ≡ part (g .attributes) (nodeAt (g .nodes) i .firstAttribute * attributeWidth) (nodeAt (g .nodes) i .attributeCount * attributeWidth)
       own-part =
           part-whole (g .attributes) (first * attributeWidth) (count * attributeWidth)
           ∙ ap (λ (n : ℕ). part (g .attributes) (n * attributeWidth) (count * attributeWidth)) ef
           ∙ ap (λ (n : ℕ). part (g .attributes) (nodeAt (g .nodes) i .firstAttribute * attributeWidth) (n * attributeWidth)) ec
 
+      -- the attributes that are read of them are those of the row
       own-given : attributesFrom own (g .text) (attributeRows own) 0 ≡ handed.given r
       own-given =
           ap (λ (l : List ℕ). attributesFrom l (g .text) (attributeRows l) 0) own-part
@@ -188,6 +205,7 @@ module _ {code : List ℕ} {g : Page} {rows₀ state₀ rules₀ tokens₀ brack
           ap (λ (l : List ℕ). handedFrom l own (g .text)) (part-whole (g .nodes) (i * nodeWidth) nodeWidth)
           ∙ ap (λ (l : List ℕ). handedFrom (part (g .nodes) (i * nodeWidth) nodeWidth) l (g .text)) own-part
 
+      -- what is lent to the step is what it asks for
       pub step-lent : StepLent code own (g .text) depth lent state₀ rules₀ tokens₀ brackets₀ texts₀ fill
       step-lent =
           record {
@@ -241,6 +259,7 @@ module _ {code : List ℕ} {g : Page} {rows₀ state₀ rules₀ tokens₀ brack
             let la : length (attributesFrom own (g .text) (attributeRows own) 0) ≡ length (handed.given r) = ap (λ (l : List Attribute). length l) own-given in
             rw z (omega (arith, a, b, c, f, va, la, r .filled, handed.texts-grow r))
 
+        -- with the row put back, the rows are as long as before
         pub row-long : length (putMid place (place + styleRowWidth - place) rows₁ ys) ≡ length rows₀
         row-long = ap length (row-back ys (long ∙ lent-long)) ∙ length-sets rows₀ place ys
 
