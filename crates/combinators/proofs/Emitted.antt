@@ -38,10 +38,12 @@ pub sets-out : (vs l : List ℕ) (i : ℕ) → length l ≤ i → sets l i vs �
 sets-out [] l i h = refl
 sets-out (v ∷ vs) l i h = rw (set-out l i v h) (sets-out vs l (suc i) (omega arith))
 
+-- a byte within the store is stored at the fill, which goes on by one
 in-step : (l : List ℕ) (f x : ℕ) → f < length l → step (record { bytes = l; fill = f }) x ≡ record { bytes = set l f x; fill = f + 1 }
 unfolding step pick
 in-step l f x h = rw (lt-ltb f (length l) h)
 
+-- a byte past the end is not stored, and the fill stands one above the length
 out-step : (l : List ℕ) (f x : ℕ) → length l ≤ f → step (record { bytes = l; fill = f }) x ≡ record { bytes = l; fill = length l + 1 }
 unfolding step pick
 out-step l f x h = rw (le-ltb f (length l) h)
@@ -110,6 +112,7 @@ module _ (s : List ℕ) (n : ℕ) (st₀ : List ℕ) (fill : ℕ) (st : List ℕ
       let p : take (n - i) (drop i s) ≡ (getD s i 0 ∷ []) ++ take (n - (i + 1)) (drop (i + 1) s) = rw (d, drop-cons s i 0 l, add-one i) in
       record { left = onto _ _ _ _ e ∙ sym (ap (emits _) p) ∙ c .left; long = k ∙ c .long }
 
+  -- with nothing left to emit, the store is what emitting all of it leaves
   done : take (n - i) (drop i s) ≡ [] → record { bytes = st; fill = f } ≡ emits (record { bytes = st₀; fill = fill }) (take n s)
   done p = sym (ap (emits _) p ∙ emits-none _) ∙ c .left
 

@@ -11,6 +11,7 @@ use Rattle.combinators.proofs.Rules.{same-test, and-gives, and-gives-fa
 
 -- ---- `long_enough`: a product compared without being formed
 module _ (long width count more : ℕ) where
+  -- a store shorter than what is asked beside the product is too short
   pub too-short : long < more → false ≡ leb (width * count + more) long
   too-short h = sym (lt-leb (width * count + more) long (omega arith))
 
@@ -24,20 +25,24 @@ module _ (long width count more : ℕ) where
 
 -- ---- `stores_suffice`: the first store that is too short decides
 module _ (n rules tokens brackets texts : ℕ) {t : Bool} (et : t ≡ leb (textLeast n) texts) where
+  -- where the text store is too short, the stores do not suffice
   pub texts-short : t ≡ false → false ≡ storesSuffice n rules tokens brackets texts
   unfolding storesSuffice
   texts-short e = and-gives-false _ _ (sym et ∙ e)
 
   module _ (e : t ≡ true) where
+    -- where the store of brackets is too short, they do not suffice
     pub brackets-short : brackets < bracketLeast n → false ≡ storesSuffice n rules tokens brackets texts
     unfolding storesSuffice
     brackets-short h = and-gives _ _ false (sym et ∙ e) (and-gives-false _ _ (lt-leb (bracketLeast n) brackets h))
 
     module _ (b : bracketLeast n ≤ brackets) {r : Bool} (er : r ≡ leb (numberLeast n) rules) where
+      -- where the rules store is too short, they do not suffice
       pub rules-short : r ≡ false → false ≡ storesSuffice n rules tokens brackets texts
       unfolding storesSuffice
       rules-short f = and-gives _ _ false (sym et ∙ e) (and-gives _ _ false (le-leb (bracketLeast n) brackets b) (and-gives-false _ _ (sym er ∙ f)))
 
+      -- where the other three are long enough, the store of tokens decides
       pub by-tokens : r ≡ true → {k : Bool} → k ≡ leb (numberLeast n) tokens → k ≡ storesSuffice n rules tokens brackets texts
       unfolding storesSuffice
       by-tokens f {k} ek = and-gives _ _ k (sym et ∙ e) (and-gives _ _ k (le-leb (bracketLeast n) brackets b) (and-gives _ _ k (sym er ∙ f) ek))

@@ -97,6 +97,7 @@ module _ (a b : Bool) where
   pub and-gives-false : a ≡ false → false ≡ and a b
   and-gives-false e = sym (and-left e)
 
+-- a test beside one that fails does not hold
 and-no : (a : Bool) → and a false ≡ false
 unfolding and
 and-no true = refl
@@ -118,7 +119,7 @@ unfolding or
 or-false true b e = refl
 or-false false b e = e
 
--- brackets do not matter
+-- of three tests it does not matter which two are taken together
 pub or-assoc : (a b c : Bool) → or a (or b c) ≡ or (or a b) c
 unfolding or
 or-assoc true b c = refl

@@ -60,6 +60,7 @@ module _ (d t v w p q : ℕ) (hv : v < p) (hw : w < q) where
   left : (d * p + v) * (q * 10) ≡ (d * (p * q) + v * q) * 10
   left = rw (← mul-assoc (d * p + v) q 10, add-mul (d * p) v q, mul-assoc d p q)
 
+  -- the right side multiplied out, ten being a factor of all of it
   right : (t * q + w) * (p * 10) ≡ (t * (p * q) + w * p) * 10
   right = rw (← mul-assoc (t * q + w) p 10, add-mul (t * q) w p, mul-assoc t q p, mul-comm q p)
 
@@ -67,6 +68,7 @@ module _ (d t v w p q : ℕ) (hv : v < p) (hw : w < q) where
   left-rest : v * q < p * q
   left-rest = mul-lt-mul-of-pos-right hv (omega arith)
 
+  -- on the right, too, the digits behind the leading one make less than one of those
   right-rest : w * p < p * q
   right-rest = rw (mul-comm p q) (mul-lt-mul-of-pos-right hw (omega arith))
 

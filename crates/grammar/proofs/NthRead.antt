@@ -64,7 +64,7 @@ worth-on t i (x ∷ ds) r h e =
     worth-some : (t : List ℕ) (i x : ℕ) (ds : List ℕ) → take (suc (length ds)) (drop i t) ≡ x ∷ ds → Each isDigit (x ∷ ds) → digitsWorth t i (suc (length ds)) ≡ worth (x ∷ ds)
     worth-some t i x ds e h = unfold digitsWorth worth pick in rw (is-no (suc (length ds)) 0 (λ z. omega arith), e) (numeral-same h 0)
 
--- so they are converted
+-- so digits that stand in a text are converted to the number that they write
 converted-on : {A : Type 0} (t : List ℕ) (i : ℕ) (c : Count) (r : List ℕ) (m : Bool) (f : ℤ → Outcome A) → drop i t ≡ c .bytes ++ r
     → converted t i (length (c .bytes)) m f ≡ f (signed m (worth (c .bytes)))
 unfolding converted pick
@@ -344,19 +344,23 @@ unfolding writtenArgument
 multiple-onto s a l =
     append-assoc (writtenSign s) (a .bytes ++ (ascii.smallN ∷ [])) l ∙ ap (λ (x : List ℕ). writtenSign s ++ x) (append-assoc (a .bytes) (ascii.smallN ∷ []) l)
 
+-- an argument `an` is as long as its sign, its digits and the `n`
 multiple-length : (s : Sign) (a : Count) → length (writtenSign s) + length (a .bytes) + 1 ≡ length (writtenArgument (multiple s a))
 unfolding writtenArgument
 multiple-length s a = omega (arith, length-append (writtenSign s) (a .bytes ++ (ascii.smallN ∷ [])), length-append (a .bytes) (ascii.smallN ∷ []))
 
+-- an argument `b` with l behind it is its sign, its digits and l
 number-onto : (s : Sign) (b : Integer) (l : List ℕ) → writtenArgument (number s b) ++ l ≡ writtenSign s ++ (b .count .bytes ++ l)
 unfolding writtenArgument
 number-onto s b l = append-assoc (writtenSign s) (b .count .bytes) l
 
+-- an argument `b` is as long as its sign and its digits
 number-length : (s : Sign) (b : Integer) → length (writtenSign s) + length (b .count .bytes) ≡ length (writtenArgument (number s b))
 unfolding writtenArgument
 number-length s b = sym (length-append (writtenSign s) (b .count .bytes))
 
 module _ (s : Sign) (a : Count) (w : Blanks) (m : Bool) (b : Integer) where
+  -- an argument `an+b` with l behind it is its sign and digits, the `n`, white space, a sign, digits and l
   sum-onto : (l : List ℕ) → writtenArgument (sum s a w m b) ++ l ≡ writtenSign s ++ (a .bytes ++ (ascii.smallN ∷ (w .bytes ++ (signByte m ∷ (b .count .bytes ++ l)))))
   unfolding writtenArgument
   sum-onto l =
@@ -365,6 +369,7 @@ module _ (s : Sign) (a : Count) (w : Blanks) (m : Bool) (b : Integer) where
       ∙ ap (λ (x : List ℕ). writtenSign s ++ x)
       (append-assoc (a .bytes) (ascii.smallN ∷ (w .bytes ++ v)) l ∙ ap (λ (x : List ℕ). a .bytes ++ (ascii.smallN ∷ x)) (append-assoc (w .bytes) v l))
 
+  -- an argument `an+b` is as long as these parts together
   sum-length : length (writtenSign s) + length (a .bytes) + 1 + length (w .bytes) + 1 + length (b .count .bytes) ≡ length (writtenArgument (sum s a w m b))
   unfolding writtenArgument
   sum-length =

@@ -817,6 +817,7 @@ module _ (t : List ℕ) (h : Halts t) where
 
   -- behind one plain character
   module _ (x : ℕ) (e : isPlain x ≡ true) (v : Balanced) where
+    -- what a reader takes behind one plain character, it takes with that character in front
     behind-one : (p : Parsed Token) → TokenIn v t p → TokenIn (plain x e v) t (parser.behind 1 p)
     unfolding parser.behind
     behind-one _ tokenless = tokenless

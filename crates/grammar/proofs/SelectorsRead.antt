@@ -149,11 +149,13 @@ length-attribute : (n : Name) → 1 + length (n .bytes) + 1 ≡ length (writtenS
 unfolding writtenSimple
 length-attribute n = omega (arith, length-append (n .bytes) (ascii.rightSquareBracket ∷ []))
 
+-- an attribute with a name as its value is as long as both names, the brackets and the `=`
 length-attribute-is : (n v : Name) → 2 + length (n .bytes) + length (v .bytes) + 1 ≡ length (writtenSimple (attributeIs n v))
 unfolding writtenSimple
 length-attribute-is n v =
     omega (arith, length-append (n .bytes) (ascii.equalsSign ∷ (v .bytes ++ (ascii.rightSquareBracket ∷ []))), length-append (v .bytes) (ascii.rightSquareBracket ∷ []))
 
+-- an attribute with a string as its value is as long as its name, the string with its quotes, the brackets and the `=`
 length-attribute-string : (n : Name) (v : Quoted) → 2 + length (n .bytes) + (1 + length (v .bytes) + 1) + 1 ≡ length (writtenSimple (attributeString n v))
 unfolding writtenSimple
 length-attribute-string n v =
@@ -168,6 +170,7 @@ attribute-onto : (n : Name) (s : List ℕ) → writtenSimple (attribute n) ++ s 
 unfolding writtenSimple
 attribute-onto n s = ap (λ (l : List ℕ). ascii.leftSquareBracket ∷ l) (append-assoc (n .bytes) (ascii.rightSquareBracket ∷ []) s)
 
+-- an attribute with a name as its value, and s behind it, is its parts in order and s
 attribute-is-onto : (n v : Name) (s : List ℕ)
     → writtenSimple (attributeIs n v) ++ s ≡ ascii.leftSquareBracket ∷ (n .bytes ++ (ascii.equalsSign ∷ (v .bytes ++ (ascii.rightSquareBracket ∷ s))))
 unfolding writtenSimple
@@ -176,6 +179,7 @@ attribute-is-onto n v s =
     (append-assoc (n .bytes) (ascii.equalsSign ∷ (v .bytes ++ (ascii.rightSquareBracket ∷ []))) s
     ∙ ap (λ (l : List ℕ). n .bytes ++ (ascii.equalsSign ∷ l)) (append-assoc (v .bytes) (ascii.rightSquareBracket ∷ []) s))
 
+-- an attribute with a string as its value, and s behind it, is its parts in order and s
 attribute-string-onto : (n : Name) (v : Quoted) (s : List ℕ)
     → writtenSimple (attributeString n v) ++ s
     ≡ ascii.leftSquareBracket ∷ (n .bytes ++ (ascii.equalsSign ∷ v .quote ∷ (v .bytes ++ (v .quote ∷ ascii.rightSquareBracket ∷ s))))
@@ -187,6 +191,7 @@ attribute-string-onto n v s =
 
 -- `nth-child`, and what is written behind it
 module _ (b : Blanks) (x : Argument) (c : Blanks) where
+  -- `:nth-child()` with s behind it is its name, the bracket, white space, the argument, white space, the bracket and s
   nth-child-onto : (s : List ℕ)
       → writtenSimple (nthChild b x c) ++ s
       ≡ ascii.colon ∷ (text "nth-child" ++ (ascii.leftParenthesis ∷ (b .bytes ++ (writtenArgument x ++ (c .bytes ++ (ascii.rightParenthesis ∷ s))))))
@@ -200,6 +205,7 @@ module _ (b : Blanks) (x : Argument) (c : Blanks) where
       (append-assoc (b .bytes) (a ++ (c .bytes ++ v)) s
       ∙ ap (λ (l : List ℕ). b .bytes ++ l) (append-assoc a (c .bytes ++ v) s ∙ ap (λ (l : List ℕ). a ++ l) (append-assoc (c .bytes) v s))))
 
+  -- `:nth-child()` is as long as these parts together
   nth-child-length : 10 + (1 + length (b .bytes) + length (writtenArgument x) + length (c .bytes) + 1) ≡ length (writtenSimple (nthChild b x c))
   unfolding writtenSimple text utf8 continuation pick
   nth-child-length =

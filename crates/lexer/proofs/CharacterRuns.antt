@@ -30,9 +30,11 @@ stands s k v e = ap bytesOf e
 
 -- a character, and those behind it
 module _ (s : List ℕ) (n v : ℕ) (e : nmcharOf s ≡ Value n v) where
+  -- a character takes a byte or more
   nonzero : ¬ (n ≡ 0)
   nonzero q = omega (arith, char-of s n v e .some)
 
+  -- the reader of characters takes the bytes of that one
   takes-n : charTaken s ≡ n
   unfolding takenOf
   takes-n = takes s _ e

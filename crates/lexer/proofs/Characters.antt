@@ -58,6 +58,7 @@ lower-le x h = pick-holds (λ (y : ℕ). y ≤ 0x7f) _ _ _ (λ w. omega (arith, 
 pub lower-byte : (x : ℕ) → isNmchar x ≡ true → utf8 (lower x) ≡ lower x ∷ []
 lower-byte x e = utf8-ascii _ (lower-le x (nmchar-le x e))
 
+-- a character that is no escape takes one byte that is there, or nothing, and its text keeps to the bound
 nmchar-char-fine : (s : List ℕ) → Fine s (nmcharCharOf s)
 unfolding nmcharCharOf foldedChar
 nmchar-char-fine s =

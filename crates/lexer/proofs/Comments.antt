@@ -107,11 +107,14 @@ skip-le s = omega (arith, many-le whitespaceItem s 0 0)
 
 -- ---- `skip_from`: the place behind white space and comments from a place on
 module _ (s : List ℕ) (at : ℕ) where
+  -- what is skipped of the lent rest is what is skipped from the place on
   pub skipped-from : {w : ℕ} → w ≡ skipWhitespace (take (length s - at) (drop at s)) → at + w ≡ at + skipWhitespace (drop at s)
   skipped-from e = ap (λ x. at + x) (e ∙ ap skipWhitespace (rest s at))
 
+  -- skipping from a place within the text ends within the text
   pub skip-from-le : at ≤ length s → at + skipWhitespace (drop at s) ≤ length s
   skip-from-le h = omega (arith, skip-le (drop at s), length-drop at s)
 
+  -- so does skipping in the lent rest
   pub skipped-le : at ≤ length s → {w : ℕ} → w ≡ skipWhitespace (take (length s - at) (drop at s)) → at + w ≤ length s
   skipped-le h e = omega (arith, skipped-from e, skip-from-le h)

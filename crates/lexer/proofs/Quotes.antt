@@ -29,10 +29,12 @@ fine-byte : (s : List ℕ) (n b : ℕ) → n ≤ length s → 1 ≤ n → Fine s
 unfolding takenOf textOf
 fine-byte s n b h l = record { within-text = h; small = l }
 
+-- bytes that stand for nothing, no more than there are, are fine
 fine-skip : (s : List ℕ) (n : ℕ) → n ≤ length s → Fine s (Skip n)
 unfolding takenOf textOf
 fine-skip s n h = record { within-text = h; small = omega arith }
 
+-- the end of a string, which takes nothing, is fine
 fine-stop : (s : List ℕ) → Fine s Stop
 unfolding takenOf textOf
 fine-stop s = record { within-text = omega arith; small = omega arith }

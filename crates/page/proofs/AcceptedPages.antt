@@ -48,6 +48,7 @@ module _ (right : ℕ → Bool) (rows : ℕ) where
 numbers : {x y p q : ℕ} → refusedAt x p ≡ refusedAt y q → x ≡ y
 numbers e = ap (λ (r : Refusal). r .number) e
 
+-- two refusals that are the same have the same place
 places : {x y p q : ℕ} → refusedAt x p ≡ refusedAt y q → q ≡ p
 places e = sym (ap (λ (r : Refusal). r .place) e)
 

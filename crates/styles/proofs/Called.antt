@@ -52,6 +52,7 @@ book-style-decides rules settings e up r k h l = book-decides (cascaded Book (so
 
 -- ---- along a path: where t has the contents of the sheets, and those of the path behind them
 module _ (t : List ℕ) (c : Cascade) (rules : Rules RuleSet) (settings : Settings) (sheets : Lies t 0 (sheetsContents rules)) where
+  -- what sheets and attributes say of an element by numbers, over the texts in t, is what they mean
   said-here : (e : Element) (up : Path) → Lies t (length (sheetsContents rules) + length (pathContents settings up)) (inlineContents settings e)
       → SameSources (Says t) (sourcesFrom (placedSheets rules) (placedAttributes (length (sheetsContents rules) + length (pathContents settings up)) (countedAttributes settings e)) (e ∷ up))
       (sourcesFrom (meantRules rules) (attributesSay (countedAttributes settings e)) (e ∷ up))

@@ -39,18 +39,20 @@ module _ {A B : Type 0} (R : A → B → Type 0) where
     pub users : Each SameStyledRule (x .user) (y .user)
     pub authors : Each SameStyledRule (x .author) (y .author)
 
-  -- a style of a selector
+  -- a style of a selector is said the same, where the styles are the same
   pub rule-style-same : (n : ℕ) (c : Specificity) (x : Styled A) (y : Styled B) → SameStyled R x y → SameRule R (ruleStyle n c x) (ruleStyle n c y)
   unfolding ruleStyle
   rule-style-same n c x y h = record { pseudos = refl; specs = refl; styles = h }
 
   module _ (p : Path) where
+    -- styles that are the same are said the same by one selector, where it matches the path
     selector-same : (xs : List (Styled A)) (ys : List (Styled B)) (s : Selector) → Each (SameStyled R) xs ys → Each (SameRule R) (selectorSays p xs s) (selectorSays p ys s)
     unfolding selectorSays
     selector-same xs ys s h =
         let say = rule-style-same (pseudoNumber (s .pseudo)) (specificity (s .components)) in
         pick-same (Each (SameRule R)) (matches (s .components) p) (matches (s .components) p) _ [] _ [] refl (each-map (SameStyled R) (SameRule R) _ _ say h) none
 
+    -- styles that are the same are said the same by all selectors of a rule
     selectors-same : (xs : List (Styled A)) (ys : List (Styled B)) (ss : List Selector) → Each (SameStyled R) xs ys → Each (SameRule R) (selectorsSay p xs ss) (selectorsSay p ys ss)
     unfolding selectorsSay
     selectors-same xs ys [] h = none
@@ -82,14 +84,17 @@ module _ (t : List ℕ) where
   value-says f (style.whiteSpace w) h = refl
   value-says f (style.content x) h = let l = h x refl in record { long = refl; within = l .within; named = held-part t f x (l .there) }
 
+  -- a style in numbers says the style, where its text lies at f if it is a content
   pub style-says : (f : ℕ) (d : StyleDecl) → ((x : List ℕ) → d .style ≡ style.content x → Lies t f x) → SameStyled (Says t) (inNumbers (numbersFrom f d)) (meant d)
   unfolding inNumbers numbersFrom meant
   style-says f d h = record { slots = refl; importances = refl; values = value-says f (d .style) h }
 
+  -- the text of a style that is a content is that content
   content-text : (d : StyleDecl) (x : List ℕ) → d .style ≡ style.content x → styleText d ≡ x
   unfolding styleText styleTextOf
   content-text d x e = rw e
 
+  -- a style in numbers says the style, where its text, empty for others than contents, lies at f
   style-placed : (f : ℕ) (d : StyleDecl) → Lies t f (styleText d) → SameStyled (Says t) (inNumbers (numbersFrom f d)) (meant d)
   style-placed f d h = style-says f d (λ x e. rw (content-text d x e) at h)
 
@@ -127,6 +132,7 @@ module _ (t : List ℕ) where
   unfolding attributeStyle
   attribute-same i x y h = record { kinds = refl; styles = h }
 
+  -- what an attribute says by numbers, over the contents in t, is what it means
   pub attribute-placed : (a : Attribute) (f : ℕ) → Lies t f (attributeContents a) → Each (SameAttribute (Says t)) (attributeSays (placedStyles f) a) (attributeSays (map meant) a)
   unfolding attributeSays attributeContents
   attribute-placed a f h =
