@@ -26,6 +26,7 @@ use Rattle.runner.specs.PageRows.{selectorsDeclare}
 use Rattle.runner.proofs.FoundLaws.{declared-append}
 
 -- ---- selectors one after the other: which of them match
+-- of selectors one after the other, those that match are those of the first that do, then those of the second
 matching-append : {A : Type 0} (p : Path) (a b : List (WalkedSelector A)) → matchingAt p (a ++ b) ≡ matchingAt p a ++ matchingAt p b
 unfolding matchingBy
 matching-append p [] b = refl

@@ -15,6 +15,7 @@ use Rattle.cascade.specs.Row.{slotWidth, recordWidth, recordPlace, slotPlace, s
 use Rattle.cascade.proofs.RowLaws.{slot-width}
 
 -- ---- of slots one behind the other
+-- the numbers of slots one behind the other are a slot's width each
 slots-long : (ss : List (Slot Value)) → length (slotsNumbers ss) ≡ length ss * slotWidth
 unfolding slotsNumbers
 slots-long [] = refl
@@ -34,6 +35,7 @@ slots-number (s ∷ ss) (suc k) n h l =
     ∙ slots-number ss k n h (omega arith)
 
 -- ---- of a record
+-- the numbers of a record with all its slots are a record's width
 record-long : (p : Record Value) → length (p .slots) ≡ slotCount → length (recordNumbers p) ≡ recordWidth
 unfolding recordNumbers
 record-long p h = omega (arith, slots-long (p .slots))

@@ -90,6 +90,7 @@ module _ (code : List ℕ) (settings : Settings) (g : Page) (b : RunBuffers) whe
       (λ _. refusing (refused shortStore) (λ e. omega (arith, e))))
 
   -- ---- what it leaves there
+  -- where the bytes, the page and the buffers are as a run asks for, the call leaves what a run that refuses nothing leaves
   pub run-leaves : RunTakes code g b → runWith code settings g b ≡ leaves
   unfolding runCall runBy
   run-leaves t =

@@ -56,6 +56,7 @@ module _ {A : Type 0} where
     known-origins x = all-for (λ c. KnownOrigin (c .weight)) (crateDeclared x) (declared-known x)
 
     -- ---- the declarations for a slot that both count
+    -- of declarations behind declarations, those for a slot are those of the first, then those of the second
     pub candidates-append : (ds es : List (Declared A)) → candidatesFor r k (ds ++ es) ≡ candidatesFor r k ds ++ candidatesFor r k es
     unfolding candidatesFor
     candidates-append [] es = refl

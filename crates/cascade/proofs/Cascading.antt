@@ -36,6 +36,7 @@ fold-append f b (x ∷ xs) ys = fold-append f (f b x) xs ys
 
 module _ {A : Type 0} where
   -- ---- nothing of no declarations
+  -- no declarations leave the style as it is
   pub no-declarations : (u : Slot A → Candidate A → Slot A) (s : ComputedStyle A) → foldl (mergeBy u) s [] ≡ s
   no-declarations u s = refl
 
@@ -230,6 +231,7 @@ module _ {A : Type 0} where
       unnamed-slot ds s f e = slot-folds ds s f ∙ ap (foldl u (slotIn s r k)) e
 
   -- ---- what a child begins with
+  -- every record of a formed style has all its slots
   formed-record : (s : ComputedStyle A) (r : ℕ) → Formed s → r < recordCount → Whole s r
   formed-record s r f h = go (which r h)
     where
@@ -277,6 +279,7 @@ module _ {A : Type 0} where
         go (isAfter e) = rw (in-after (inheritInBookOrder s) r e, in-after s r e) (mapped _ (s .after) refl)
 
   -- ---- the update of a cascade, by its name
+  -- the crate's cascade, by its name, updates a slot with all its candidates as the crate does
   by-crate : (xs : List (Candidate A)) (s : Slot A) → foldl (updateBy Crate) s xs ≡ foldl maybeUpdate s xs
   by-crate [] s = refl
   by-crate (x ∷ xs) s = by-crate xs (updateBy Crate s x) ∙ ap (λ (t : Slot A). foldl maybeUpdate t xs) (unfold updateBy in refl)
@@ -287,6 +290,7 @@ module _ {A : Type 0} where
   by-book (x ∷ xs) s = by-book xs (updateBy Book s x) ∙ ap (λ (t : Slot A). foldl bookUpdate t xs) (unfold updateBy in refl)
 
   -- ---- the book order
+  -- from what is inherited on, a slot holds the winner among the inherited value and the candidates, or nothing where there are none
   decides : (s : Slot A) (xs : List (Candidate A)) → Decided (foldl bookUpdate (inheritedSlot s) xs) (inheritedCandidates s ++ xs)
   decides empty [] = unfold inheritedSlot in unfold inheritedCandidates in unset refl
   decides empty (x ∷ xs) = unfold inheritedSlot in unfold inheritedCandidates in decided (won x xs)
@@ -341,6 +345,7 @@ module _ {A : Type 0} where
   cascade-main-present Book parent x = main-present (updateBy Book) (declaredBy Book x) (inheritInBookOrder parent) refl
 
   -- ---- the crate's cascade is the fold: each slot is what its candidates make, one after the other, of the parent's
+  -- before its declarations a child has the slots of its parent, in the crate's cascade
   inherit-slot : (s : ComputedStyle A) (r k : ℕ) → r < recordCount → slotIn (inherit s) r k ≡ slotIn s r k
   unfolding slotIn inherit slotOf
   inherit-slot s r k h = go (which r h)

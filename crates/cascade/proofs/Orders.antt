@@ -101,6 +101,7 @@ module _ (a b c : Specificity) where
       (λ p q. le-ltb (a .typ) (c .typ) (omega (arith, ltb-false (a .typ) (b .typ) p, ltb-false (b .typ) (c .typ) q)))))
 
 -- ---- it is the order of Selectors Level 3
+-- a flag with the less number is not set, and the other is
 flags-differ : (p q : Bool) → flag p < flag q → (p ≡ false) × (q ≡ true)
 unfolding flag
 flags-differ true true h = absurd (omega arith)

@@ -17,6 +17,7 @@ use Rattle.cascade.specs.Record.{slotCount, mainRecord, beforeRecord, Re
 use Rattle.cascade.specs.Related.{Each, none, next, SameCandidate, SameSlot, both-empty, both-held, SameRecord, SameStyle}
 
 -- ---- a choice between things that are related
+-- two choices by the same test are related, where their first arms are and their second arms are
 pub pick-same : {A B : Type 0} (P : A → B → Type 0) (t u : Bool) (a c : A) (b d : B) → t ≡ u → P a b → P c d → P (pick t a c) (pick u b d)
 unfolding pick
 pick-same P true true a c b d e p q = p
@@ -132,6 +133,7 @@ module _ {A B : Type 0} (R : A → B → Type 0) where
   merges-same k (next {a = x} {b = y} d ds) s t h = merges-same k ds (mergeBy (updateBy k) s x) (mergeBy (updateBy k) t y) (merge-same k s t x y h d)
 
   -- ---- what a child begins with
+  -- slots that are the same are inherited as the same in the book order
   slot-inherited : (s : Slot A) (t : Slot B) → SameSlot R s t → SameSlot R (inheritedSlot s) (inheritedSlot t)
   unfolding inheritedSlot inheritedCandidate
   slot-inherited empty empty both-empty = both-empty
@@ -163,6 +165,7 @@ module _ {A B : Type 0} (R : A → B → Type 0) where
   empty-same = record { main = empty-record-same; before = empty-record-same; after = empty-record-same }
 
   -- ---- all declarations of an element
+  -- weights of one origin with the same importance and the same specificity are the same
   weight-same : (a b : Bool) (o : ℕ) (p q : Specificity) → a ≡ b → p ≡ q → _≡_ {A = Weight} (record { important = a; origin = o; spec = p }) (record { important = b; origin = o; spec = q })
   weight-same a b o p q e f = rw (e, f)
 

@@ -34,6 +34,7 @@ pub sets-first : (vs xs : List ℕ) (p : ℕ) → p < length vs → length vs �
 sets-first vs xs p h l = let e : 0 + p ≡ p = omega arith in rw e at (sets-there vs xs 0 p h (omega arith))
 
 -- ---- the parent's numbers, but for the presence of the main record, are the inherited style
+-- a row with a first number that says present, and the parent's numbers behind it, has the parent's main record, made present
 inherit-main : (zs parent : List ℕ) → ((p : ℕ) → 0 < p → p < styleRowWidth → getD zs p 0 ≡ getD parent p 0) → getD zs 0 0 ≡ presentFlag
     → recordAt zs 0 ≡ record { present = true; slots = recordAt parent 0 .slots }
 unfolding recordAt
@@ -77,6 +78,7 @@ module _ (xs : List ℕ) (from to : ℕ) (h : TwoRooms xs from to) where
   within-done ys i k = let z : styleRowWidth - i ≡ 0 = omega arith in rw z
 
 -- ---- slots rewritten one after the other
+-- rewriting slots leaves a row as long as it was
 pub rewrites-long : (u : Slot Value → Slot Value) (n i : ℕ) (xs : List ℕ) → length (rewrites u i n xs) ≡ length xs
 unfolding rewrites
 rewrites-long u zero i xs = refl
@@ -244,6 +246,7 @@ module _ (xs : List ℕ) (h : styleRowWidth ≤ length xs) where
       main-slots = unfold inheritRecord in main-three
 
 -- ---- a row of zeros
+-- with n zeros written over the start of a list, each of its first n numbers is a zero
 zeros-number : (n : ℕ) (xs : List ℕ) (p : ℕ) → n ≤ length xs → p < n → getD (sets xs 0 (replicate n 0)) p 0 ≡ getD (replicate n 0) p 0
 zeros-number n xs p h l = let e : length (replicate {A = ℕ} n 0) ≡ n = length-replicate n 0 in sets-first (replicate n 0) xs p (omega (arith, e)) (omega (arith, e))
 

@@ -17,6 +17,7 @@ use Rattle.cascade.proofs.RowLaws.{cons-same, record-same, style-same, 
 use Rattle.cascade.proofs.Merging.{named-says, merge-long, merge-view}
 
 -- ---- written, then read
+-- written slots one behind the other are a slot's width each
 slots-width : (ss : List (Slot Value)) → length (slotsNumbers ss) ≡ length ss * slotWidth
 unfolding slotsNumbers
 slots-width [] = refl
@@ -110,6 +111,7 @@ module _ (s : ComputedStyle Value) (f : Formed s) where
   }
 
 -- ---- read, then written
+-- well-formed slots that are read and written again are the same numbers
 slots-forth : (n : ℕ) (xs : List ℕ) (i : ℕ) → i + n * slotWidth ≤ length xs → AllFine (windows xs i n) → slotsNumbers (map readSlot (windows xs i n)) ≡ take (n * slotWidth) (drop i xs)
 unfolding windows slotsNumbers
 slots-forth zero xs i h f = refl
@@ -145,6 +147,7 @@ row-back xs f =
     ∙ take-append-drop recordWidth xs
 
 -- ---- the style in any row has all its slots
+-- as many windows are cut as were asked for
 windows-count : (n : ℕ) (xs : List ℕ) (i : ℕ) → length (windows xs i n) ≡ n
 unfolding windows
 windows-count zero xs i = refl
@@ -165,6 +168,7 @@ unfolding emptyStyle emptyRecord
 empty-formed = record { main = refl; before = refl; after = refl }
 
 -- ---- an update keeps a row well formed
+-- well-formed slots stay so with one of them replaced by a well-formed one
 all-set : (ws : List (List ℕ)) (k : ℕ) (v : List ℕ) → AllFine ws → SlotFine v → AllFine (set ws k v)
 all-set [] k v f g = f
 all-set (w ∷ ws) zero v f g = (g, f .1)

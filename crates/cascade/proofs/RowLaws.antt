@@ -17,6 +17,7 @@ use Rattle.cascade.specs.Row.{slotWidth, recordWidth, styleRowWidth, rec
 use Rattle.cascade.proofs.Windows.{reads-same, reads-sets, sets-low, sets-high}
 
 -- ---- pairs of equal things
+-- lists with equal first members and equal rests are equal
 pub cons-same : {A : Type 0} (a b : A) (l m : List A) → a ≡ b → l ≡ m → a ∷ l ≡ b ∷ m
 cons-same a b l m e f = rw (e, f)
 
@@ -36,6 +37,7 @@ map-set f (a ∷ l) zero v = refl
 map-set f (a ∷ l) (suc k) v = rw (map-set f l k v)
 
 -- ---- flags: written and read, read and written
+-- a flag is read back from its number
 pub flag-back : (b : Bool) → flagOf (flag b) ≡ b
 unfolding flagOf flag is
 flag-back true = refl
@@ -60,6 +62,7 @@ unfolding flagOf is
 flag-one = refl
 
 -- ---- one slot: its numbers, and back. These name the numbers of a slot
+-- the numbers of a slot are a slot's width
 pub slot-width : (s : Slot Value) → length (slotNumbers s) ≡ slotWidth
 unfolding slotNumbers valueNumbers
 slot-width empty = refl
@@ -98,6 +101,7 @@ unfolding readSlot flagOf is pick
 slot-empty = refl
 
 -- ---- the slots of a record, number by number
+-- where the numbers are the same, so are the windows over them
 pub same-windows : (n : ℕ) (xs ys : List ℕ) (i : ℕ) → ((p : ℕ) → i ≤ p → p < i + n * slotWidth → getD xs p 0 ≡ getD ys p 0) → windows xs i n ≡ windows ys i n
 unfolding windows
 same-windows zero xs ys i f = refl
@@ -131,6 +135,7 @@ get-windows (suc n) (suc k) xs i h =
     rw z (get-windows n k xs (i + slotWidth) (omega arith))
 
 -- ---- the view after an update of slot k of record r
+-- an update leaves a row as long as it was
 pub update-long : (r k : ℕ) (u : Slot Value → Slot Value) (xs : List ℕ) → length (updateRow r k u xs) ≡ length xs
 unfolding updateRow
 update-long r k u xs = simp (length-set, length-sets)

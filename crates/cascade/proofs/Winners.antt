@@ -128,6 +128,7 @@ module _ {A : Type 0} where
   won-inherited c xs = won-from (inheritedCandidate c) xs
 
   -- ---- there is one winner only
+  -- what holds of every member of a list holds of the one at any place in it
   all-at : (P : Candidate A → Type 0) (b : List (Candidate A)) (w : Candidate A) (a : List (Candidate A)) → All P (b ++ (w ∷ a)) → P w
   all-at P [] w a p = p .0
   all-at P (x ∷ b) w a p = all-at P b w a (p .1)

@@ -64,6 +64,7 @@ written-length room b l h =
     omega (arith, h, length-append (sets (take room l) 0 b) (drop room l), length-sets (take room l) 0 b, length-take-le room l h, length-drop room l)
 
 -- ---- what is left, by its parts
+-- what is left is the same where the answer and each of the five buffers are
 left-by : {a a′ : CompileNumbers} {k k′ t t′ y y′ x x′ b b′ : List ℕ} → a ≡ a′ → k ≡ k′ → t ≡ t′ → y ≡ y′ → x ≡ x′ → b ≡ b′
     → _≡_ {A = CompileLeft} (record { answer = a; compiled = k; texts = t; rules = y; tokens = x; brackets = b }) (record { answer = a′; compiled = k′; texts = t′; rules = y′; tokens = x′; brackets = b′ })
 left-by p q r s t u = rw (p, q, r, s, t, u) refl

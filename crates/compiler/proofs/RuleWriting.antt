@@ -113,6 +113,7 @@ module _ (rows : List ℕ) (at origin : ℕ) (tokens : List ℕ) (styles : ℕ) 
       ∙ ap (emits o₀) (sym (ap (textsMany selectorBytes) (all-styled origin ds _ (λ z. h (sym long ∙ z))) ∙ styled-bytes origin ds _))
 
 -- ---- returns of `emit_rule`: the styles lie in the store of tokens, which was zero, and are taken back
+-- with the styles taken back, the store of tokens is as it was, and the bytes of the rule's selectors are written
 pub rule-written : (rows : List ℕ) (at origin : ℕ) (texts x y z : List ℕ) (n : ℕ) → Zeros x 0 → y ≡ sets x 0 (ruleStyles (drop at rows))
     → styleWidth * n ≡ length (ruleStyles (drop at rows))
     → ((texts : List ℕ) → stylesAt y texts n ≡ stylesOf (readRule texts (drop at rows) .value .declarations)) → (o₀ o₁ : Store)

@@ -27,6 +27,7 @@ use Rattle.compiler.specs.Writing.{SelectorsFew}
 use Rattle.compiler.specs.Written.{selectorsFrom, SheetLying, fillOf, writtenIn}
 
 -- ---- the room of a buffer
+-- a buffer above the limit has the limit as its room
 pub room-limit : (n : ℕ) → compiledLimit < n → compiledLimit ≡ roomOf n
 unfolding roomOf
 room-limit n h = pick-true _ _ _ _ (lt-ltb compiledLimit n h) refl

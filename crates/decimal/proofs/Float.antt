@@ -121,6 +121,7 @@ module _ (f : Format) (n den : ℕ) (D : 0 < den) where
       omega arith
 
 -- ---- for any format: up to half of the smallest positive value
+-- a fraction rounds to zero exactly if it is at most half of the format's smallest positive value
 round-zero : (f : Format) (s : Bool) (num den : ℕ) → 0 < den → isZero (round f s num den) ≡ leb (num * 2 ^ suc (low f)) den
 round-zero f s num den D =
     let n = num * 2 ^ low f in

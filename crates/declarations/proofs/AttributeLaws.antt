@@ -25,6 +25,7 @@ use Rattle.declarations.specs.Leaving.{colourLeft}
 use Rattle.declarations.proofs.Declaring as declaring
 
 -- ---- `or_faulty`: a colour stays
+-- where a colour was found, the faulty syntax is not asked, and the colour is the answer
 pub colour-stays : (a : answer.ColourAnswer) (v : ℕ) (s : List ℕ) → a ≡ answer.the-variants.Colour v → answer.the-variants.Colour v ≡ orFaultyBy a s
 unfolding orFaultyBy
 colour-stays a v s e = rw e

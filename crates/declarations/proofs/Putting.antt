@@ -39,6 +39,7 @@ module _ (count : ℕ) where
   unmarked-all b e = rw e
 
 -- ---- a declaration as the code has it, without its name if asked
+-- leaving out the name in the code's answer is the answer for the declaration without its name
 pub named-answer : (names : Bool) (d : Decl) → namedBy names (declAnswer d) ≡ declAnswer (namedDecl names d)
 unfolding namedBy declAnswer namedDecl declOfNumbers pick is
 named-answer names (color c) = refl

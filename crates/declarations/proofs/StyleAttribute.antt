@@ -315,6 +315,7 @@ module _ (s : List ℕ) where
           rw (en, styles-are, et, ew, ex, tokens-are, numbers-are, eb, ez, ds-texts, ds-long)
 
     -- ---- what is left reads back: there was room for the texts
+    -- the texts of the attribute's styles fit the store behind the fill
     texts-fit : fill + length (styleTexts (styleAttribute s)) ≤ length store
     texts-fit =
         let b = bounded false s in

@@ -36,6 +36,7 @@ use Rattle.engine.specs.declared.run.RunResult.{RunResult}
 use Rattle.engine.specs.Style.{switchOff, settingsFrom}
 
 -- ---- a refusal in a call with one text has the text 0
+-- a refusal of the text 0 is made of its number and its place alone
 one-text : (r : Refusal) → r .text ≡ 0 → refusedAt (r .number) (r .place) ≡ r
 one-text r e = ap (λ (n : ℕ). refusedIn (r .number) n (r .place)) (sym e)
 
@@ -67,6 +68,7 @@ page-text (page.BadRow row) = refl
 page-text (page.BadText row) = refl
 
 -- ---- the numbers of a sheet, without the text
+-- the numbers of a sheet, with the refusal made of its number and place, are those of the answer
 pub sheet-numbers : (a : SheetAnswer) {n : SheetNumbers} → n ≡ numbersOf a
     → _≡_ {A = SheetNumbers}
     (record { refusal = refusedAt (n .refusal .number) (n .refusal .place); count = n .count; stop = n .stop; numbers = n .numbers; bytes = n .bytes }) (numbersOf a)
@@ -87,6 +89,7 @@ pub page-refused : (a : PageAnswer) {r q : Refusal} → r ≡ refusalOf a → re
 page-refused a {r} e f = one-text r (ap (λ (x : Refusal). x .text) e ∙ page-text a) ∙ e ∙ f
 
 -- ---- what is left of a call, with its answer in numbers
+-- where the numbers are those of the answer, a sheet call leaves what its definition says
 pub sheet-called : {n m : SheetNumbers} {y x b z : List ℕ} {l : SheetLeft} → record { answer = m; rules = y; tokens = x; brackets = b; texts = z } ≡ l
     → n ≡ m → record { answer = n; rules = y; tokens = x; brackets = b; texts = z } ≡ l
 sheet-called {n} {m} {y} {x} {b} {z} e f = ap (λ (q : SheetNumbers). record { answer = q; rules = y; tokens = x; brackets = b; texts = z }) f ∙ e
@@ -104,6 +107,7 @@ compile-called {n} {m} {k} {t} {y} {x} {b} e f =
     ap (λ (q : CompileNumbers). record { answer = q; compiled = k; texts = t; rules = y; tokens = x; brackets = b }) f ∙ e
 
 -- ---- a style call: the switch as a number, and its answer
+-- a switch that is off turns the document's styles off
 pub switched-off : (n : ℕ) → n ≡ switchOff → _≡_ {A = Settings} (record { «document_styles» = false }) (settingsFrom n)
 unfolding settingsFrom
 switched-off n e = ap (λ (b : Bool). record { «document_styles» = b }) (pick-true false false true (is n switchOff) (is-yes n switchOff e) refl)

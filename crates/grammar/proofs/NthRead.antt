@@ -319,6 +319,7 @@ module _ (c : Blanks) (r : List ℕ) where
       ∙ ap (λ (l : Bool). reads (p + 1 + length d) (record { a = signed (negative s) (worth (a .bytes)); b = signed l (worth d) })) (h .1))
 
 -- ---- the whole argument
+-- white space and comments begin with no byte that begins numbers
 numeric-unblank : Unblank numericByte
 unfolding numericByte unsignedByte isDigit or and within is
 numeric-unblank = record { of-space = refl; of-tab = refl; of-line-feed = refl; of-carriage-return = refl; of-form-feed = refl; of-solidus = refl }
@@ -407,6 +408,7 @@ argument-read (number s b) c r =
     ∙ ap (λ (n : ℕ). reads n (record { a = pos 0; b = signed (negative s) (worth (b .count .bytes)) })) (number-length s b)
 
 -- ---- `nth-child(`, the argument, and `)`
+-- a bracket, white space, an argument, white space and a bracket are read as the argument
 args-by : (t : List ℕ) (w n : ℕ) (x : Nth) (k : ℕ) → getD t 0 0 ≡ ascii.leftParenthesis → 1 + skipWhitespace (drop 1 t) ≡ w → nthOf (drop w t) ≡ reads n x
     → skipWhitespace (drop (w + n) t) ≡ k → getD t (w + n + k) 0 ≡ ascii.rightParenthesis → nthArgsOf t ≡ reads (w + n + k + 1) x
 unfolding nthArgsOf onOutcome pick is

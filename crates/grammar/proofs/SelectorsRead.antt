@@ -135,6 +135,7 @@ unfolding identCodePoint identStart letter or and within is
 greater-ended l = record { no-character = refl; no-escape = λ q. omega arith; no-round = refl }
 
 -- ---- a simple selector
+-- a simple selector is written in one byte or more
 simple-some : (p : Simple) → 1 ≤ length (writtenSimple p)
 unfolding writtenSimple
 simple-some (id n) = omega arith
@@ -231,6 +232,7 @@ simple-read (nthChild b x c) s h =
     ∙ ap (λ (m : ℕ). reads m (syntax.nth (meansArgument x .a) (meansArgument x .b))) (nth-child-length b x c)
 
 -- ---- simple selectors one behind the other
+-- where a name ends before s, it ends before simple selectors with s behind them
 simples-ended : (ps : List Simple) (s : List ℕ) → Ended s → Ended (writtenSimples ps ++ s)
 unfolding writtenSimples
 simples-ended [] s h = h
@@ -384,6 +386,7 @@ combinator-ended (child b c) s =
 combinator-ended (descendant w) s = white-ended (w .more .bytes ++ s) (w .white)
 
 -- ---- the first byte of a selector
+-- an asterisk begins no white space and no comment
 star-item : (l : List ℕ) → whitespaceItem (ascii.asterisk ∷ l) ≡ 0
 unfolding whitespaceItem isWhitespace commentOf pick or is
 star-item l = refl
@@ -544,6 +547,7 @@ module _ {b t : List ℕ} (hb : Blank b) (ht : Stops t) where
   complex-comes (joined k (descendant w) g) a = joined-end k (descendant w) g (complex-comes g (a .2)) (a .1) (a .0)
 
 -- ---- `bodyOf`, which reads a name at the start by itself
+-- a name at the start is read as an element, in front of the components that come behind it
 element-named : (m : Name) (r : List ℕ) (n : ℕ) (cs : List Component) → Ended r → Comes r n cs
     → withElementOf (m .bytes ++ r) ≡ reads (length (m .bytes) + n) (syntax.element (m .bytes) ∷ cs)
 unfolding withElementOf componentsFrom onParsed behind onOutcome

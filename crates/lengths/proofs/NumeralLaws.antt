@@ -117,6 +117,7 @@ module _ (negative : Bool) (u : List ℕ) (n : ℕ) (e : n ≡ digits u) (w : �
   point-numeral f ef v ev = parts f (ef ∙ rest u (n + 1)) (length f) v refl ev
 
 -- ---- `numeral_of`: w bytes of white space, and a sign of k
+-- the number behind white space and its sign, read without a sign, is that of the whole text
 pub numeral-read : (s : List ℕ) (w : ℕ) → w ≡ skipWhitespace s → (t : List ℕ) → t ≡ take (length s - w) (drop w s) → (b : Bool)
     → b ≡ is (getD t 0 0) hyphenMinus → (k : ℕ) → k ≡ sign t → (r : Numeral) → r ≡ unsignedNumeral b (take (length t - k) (drop k t)) → r ≡ numeralOf s
 unfolding numeralOf unsignedNumeral digitsNumber decimals isNegative integerOf fractionOf unsignedOf

@@ -34,6 +34,7 @@ unfolding startOf isQuote numbers.isDigit
 digit-start c n₁ n₂ n₃ n₄ n₅ n₆ n₇ n₈ i d = search cases depth 40
 
 -- ---- `mark_of`: a mark, as the code has it
+-- the code's token of a mark is that of the byte which it was made of
 pub marked : (k : Token) (c : ℕ) → k ≡ markOf c → coded k ≡ coded (markOf c)
 marked k c e = ap coded e
 

@@ -29,6 +29,7 @@ use Rattle.matching.proofs.PathLaws.{parent-rooted, parent-before}
 use Rattle.matching.proofs.TopmostLaws.{line-up, last-document, last-above, Needs, step-needs, none-found, right-top, top-within, right-above}
 
 -- ---- the returns of `matches_below`: where the climb leads, the number decides
+-- what the number says of where the climb leads is whether the components match the path
 pub below-top : (nodes attributes text : List ℕ) (cs : List Component) (row top : ℕ) → RightTop nodes attributes text cs row top
     → (t : Climbed) → t ≡ climbOf nodes attributes text cs row → (x : Climbed) → t ≡ x → belowTop top x ≡ matches cs (pathOf nodes attributes text row)
 below-top nodes attributes text cs row top g t e x f = ap (belowTop top) (sym f ∙ e) ∙ g .decides row same

@@ -250,6 +250,7 @@ pub document-exactly : (c : Component) → Exactly (matches (c ∷ []) [] ≡ tr
 document-exactly c = (document-star c, (λ e. ap (λ (d : Component). matches (d ∷ []) []) e ∙ universal []))
 
 -- ---- on an accepted page the values of every element are in UTF-8, as `class-exactly` asks
+-- attributes have values in UTF-8, where those of their rows are
 values-from : (attributes bytes : List ℕ) (k at : ℕ) → ((j : ℕ) → j < k → valid (attributeValue attributes bytes (at + j)) ≡ true)
     → All (λ a. valid (a .value) ≡ true) (attributesFrom attributes bytes k at)
 unfolding attributesFrom

@@ -13,6 +13,7 @@ use Rattle.combinators.proofs.Parts.{part-none}
 use Rattle.combinators.proofs.Words.{same-lengths}
 
 -- ---- the returns of `least`: the first a of b are a, or all of them
+-- where there are more than a, the first a of them are a
 pub fewer-taken : (a b : ℕ) → a < b → (l : List ℕ) → length l ≡ b → length (take a l) ≡ a
 fewer-taken a b h l e = length-take-le a l (omega arith)
 

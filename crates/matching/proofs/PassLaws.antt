@@ -27,6 +27,7 @@ and-yes true = refl
 and-yes false = refl
 
 -- ---- the return of `is_called`: the part that is compared is the name
+-- comparing the part that the node's numbers name is comparing the element's name
 pub called-as : (nodes text name : List ℕ) (row start n : ℕ) → start ≡ nodeAt nodes row .nameStart → n ≡ nodeAt nodes row .nameLength → (r : Bool)
     → r ≡ sameText (part text start n) name → r ≡ sameText (nameOf nodes text row) name
 unfolding nameOf

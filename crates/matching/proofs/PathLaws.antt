@@ -59,6 +59,7 @@ parent-before nodes row (document d) z p e = absurd (z refl)
 parent-before nodes row (below k l n r) z p e = rw e l
 
 -- ---- the place of a row is at most the length of the page's rows
+-- a test counts for at most one
 one-most : (t : Bool) → pick t 1 0 ≤ 1
 unfolding pick
 one-most true = omega arith

@@ -36,6 +36,7 @@ module _ (white : ℕ → Bool) (w : List ℕ) where
     leads : Leads rest
 
   -- ---- the first piece of a text
+  -- by whether the first character is white: the first piece has no white space in it, where that of the rest has none
   front-by : (t : Bool) (v : ℕ) (vs : List ℕ) → white v ≡ t → All (λ x. white x ≡ false) (front white vs) → All (λ x. white x ≡ false) (pick t [] (v ∷ front white vs))
   unfolding pick
   front-by true v vs e h = tt
@@ -135,6 +136,7 @@ module _ (white : ℕ → Bool) (w : List ℕ) where
   others-exactly (v ∷ vs) = others-by (white v) v vs refl (others-exactly vs)
 
   -- ---- all pieces: w begins a text, or what stands behind some white space of it, exactly if w is parted from the rest of the text
+  -- w leads a text or follows some white space of it exactly if it is parted from the rest
   parted-exactly : (t : List ℕ) → Exactly (Leads t ⊎ Follows t) (Parted white w t)
   parted-exactly t = (⊎-elim first later, back)
     where
@@ -170,6 +172,7 @@ module _ (white : ℕ → Bool) (w : List ℕ) where
       (exactly-then (In (front white t ∷ others white t)) (Leads t ⊎ Follows t) (Parted white w t) (exactly-either _ _ _ _ (first-exactly t) (others-exactly t)) (parted-exactly t))
 
   -- ---- words are the pieces that have a character
+  -- w is among the pieces that are kept exactly if it has a character and is a piece
   kept-exactly : (ps : List (List ℕ)) → Exactly (In (withoutEmpty ps)) ((¬ (w ≡ [])) × In ps)
   unfolding withoutEmpty
   kept-exactly [] = ((λ q. absurd q), (λ q. q .1))

@@ -152,6 +152,7 @@ module _ {a b x : ℤ} {idx : ℕ} (fa : SFits w64 a) (fb : SFits w64 b) (fx : S
         (pick-false _ _ _ (isZero (remZ (pos idx -ℤ b) a)) (sym rem-test ∙ ne-eqb (ofZ w64 (remZ DD AA)) 0 z) refl)
 
 -- ---- `signed_of`: h is what `widened` gave
+-- -1 less k is the negative number that is one greater in size than k
 minus : (k : ℕ) → negsuc 0 -ℤ pos k ≡ negsuc k
 minus zero = refl
 minus (suc k) = ap (λ (j : ℕ). negsuc (suc j)) (zero-add k)

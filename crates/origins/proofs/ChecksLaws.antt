@@ -64,6 +64,7 @@ module _ (a u w : List ℕ) where
     author-valid {v} {x} g h k = and-gives _ _ x (sym e ∙ f) (and-gives _ _ x (sym g ∙ h) k)
 
 -- ---- no text is too long, and the stores suffice
+-- where both tests are passed, the three sheets and the stores are as a call asks for
 pub lent-by : (agent user author rules tokens brackets texts : List ℕ) → anyTooLong (length agent) (length user) (length author) ≡ false
     → storesSuffice (length agent + length user + length author) (length rules) (length tokens) (length brackets) (length texts) ≡ true
     → Lent agent user author rules tokens brackets texts

@@ -23,6 +23,7 @@ use Rattle.origins.specs.declared.reading.RulesRead.the-variants.{Rules,
 use Rattle.origins.proofs.Parts.{lentPart, part-length, part-zeros, part-stored}
 
 -- ---- answers, by the reader's
+-- the reader's answer with sizes is the answer with the same count, numbers and bytes
 answer-reads : (o : Outcome (List RuleSet)) (n c m x : ℕ) → many.Reads n c m x ≡ manyReading length (ruleRows 0) ruleTexts o → Rules c m x ≡ rulesAnswer o
 unfolding manyReading rulesAnswer onOutcome
 answer-reads (reads k rs) n c m x e = cc

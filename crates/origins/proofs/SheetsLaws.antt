@@ -58,6 +58,7 @@ broke fails p e = absurd (let z : _≡_ {A = ℕ} 0 1 = cc in omega arith)
 broke (panics q) p e = let z : q ≡ p = cc in record { rows = refl; texts = refl; next = λ which f. ap (panicked which) z }
 
 -- ---- room for a sheet behind what is stored at the start of stores that were zero
+-- where the lengths suffice, there is room for a sheet behind rows and texts that were stored at the start
 behind-room : (xs ts : List ℕ) {s y₀ x₀ b₀ z₀ y x b z : List ℕ} {p f : ℕ} → Zeros y₀ 0 → Zeros x₀ 0 → Zeros b₀ 0 → Zeros z₀ 0
     → y ≡ sets y₀ 0 xs → x ≡ x₀ → b ≡ b₀ → z ≡ sets z₀ 0 ts → p ≡ length xs → f ≡ length ts
     → p + (ruleWidth * length s + ruleWidth) ≤ length y₀ → length y₀ < 2 ^ 64 → tokenWidth * length s ≤ length x₀ → length s ≤ length b₀
@@ -115,6 +116,7 @@ module _ {a u w y₀ x₀ b₀ z₀ : List ℕ} (o : SheetsRoom a u w y₀ x₀ 
   left-panic e ey ex eb ez = rw e (refl, (ey, (ex, (eb, ez))))
 
   -- ---- the agent's sheet
+  -- the stores, zero throughout, have room for the agent's sheet at their start
   pub first-room : ReadRoom a y₀ 0 x₀ b₀ z₀ 0
   first-room =
       record {

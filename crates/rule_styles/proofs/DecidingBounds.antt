@@ -120,6 +120,7 @@ module _ {A : Type 0} where
   from-counted (suc n) k xs = omega (arith, length-append (decidingFor k xs) (decidingFrom n (suc k) xs), for-counted k xs, from-counted n (suc k) xs)
 
   -- ---- each style is counted for one slot at most
+  -- a style of a slot before k is not counted for the slots from k on
   counted-below : (n k : ℕ) (d : Styled A) (xs : List (Styled A)) → d .slot < k → countedFrom n k (d ∷ xs) ≡ countedFrom n k xs
   unfolding countedFrom counted
   counted-below zero k d xs h = refl

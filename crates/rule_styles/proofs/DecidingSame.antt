@@ -44,6 +44,7 @@ module _ {A : Type 0} (c : Cascade) (o r : ℕ) (p : Specificity) where
   into = mergedInto (updateFrom c o p)
 
   -- ---- no such record: nothing changes
+  -- one style of a record that there is not leaves the computed style as it is
   one-nowhere : recordCount ≤ r → (s : ComputedStyle A) (d : Styled A) → one s d ≡ s
   unfolding mergeBy fromRule ruleStyle
   one-nowhere h s d = sym (pick-false _ _ _ _ (no-record r (d .slot) h) refl)
@@ -54,6 +55,7 @@ module _ {A : Type 0} (c : Cascade) (o r : ℕ) (p : Specificity) where
   all-nowhere h (d ∷ xs) s = all-nowhere h xs (one s d) ∙ one-nowhere h s d
 
   -- ---- a record that there is: only its slots decide
+  -- one style updates its slot where there is such a slot, and else leaves the computed style as it is
   one-there : r < recordCount → (s : ComputedStyle A) (d : Styled A)
       → one s d ≡ pick (ltb (d .slot) slotCount) (updateStyle r (d .slot) (λ x. updateFrom c o p x d) s) s
   unfolding mergeBy fromRule ruleStyle updateFrom candidateOf isNamed

@@ -32,6 +32,7 @@ use Rattle.rule_styles.proofs.PlacingLies.{written-room, written-rest, 
 use Rattle.rule_styles.proofs.Written.{rules-contents, rules-styled}
 
 -- ---- contents are among the texts of their rules
+-- the text of the style of a declaration is no longer than the text of the declaration
 own-short : (i : Bool) (d : Decl) → length (styleTexts (styleOf i d)) ≤ length (declText d)
 unfolding styleTexts textsMany styleText styleTextOf styleOf one declText pick
 own-short i (color c) = omega arith

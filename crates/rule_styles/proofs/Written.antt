@@ -33,6 +33,7 @@ use Rattle.styles.specs.StyleCall.{ruleContents, rulesContents, inNumbers, plac
 use Rattle.rule_styles.specs.Placing.{readNumbers, numbersOf, contentOf, placedValue, placedNumbers, contentsOf, placedAll, lyingStyles, contentsAt, stylesPlaced, styledRule, rulesContentsAt, styledRules}
 
 -- ---- lists of styles in numbers
+-- styles in numbers, of two lists in a row, are those of the first and then those of the second
 numbers-append : (xs ys : List StyleNumbers) → map inNumbers (xs ++ ys) ≡ map inNumbers xs ++ map inNumbers ys
 numbers-append [] ys = refl
 numbers-append (x ∷ xs) ys = rw (numbers-append xs ys)

@@ -37,6 +37,7 @@ use Rattle.running.specs.Ready.{Lengths, RunReady}
 use Rattle.running.specs.RunAnswer.{RunLeft, unchanged, ran, runSuffices, runBy, runCall}
 
 -- ---- the answer and the six buffers, one by one
+-- what is left is the same where the answer and each of the six buffers are
 left-by : {a a′ : RunAnswer} {r r′ t t′ s s′ u u′ k k′ b b′ : List ℕ} → a ≡ a′ → r ≡ r′ → t ≡ t′ → s ≡ s′ → u ≡ u′ → k ≡ k′ → b ≡ b′
     → _≡_ {A = RunLeft} (record { answer = a; rows = r; texts = t; state = s; rules = u; tokens = k; brackets = b }) (record { answer = a′; rows = r′; texts = t′; state = s′; rules = u′; tokens = k′; brackets = b′ })
 left-by ea er et es eu ek eb = rw (ea, er, et, es, eu, ek, eb) refl

@@ -173,6 +173,7 @@ module _ (code : List ℕ) where
   next-segment k ws i l h = either k ws i l h (next-later k ws (beginning i) i l)
 
   -- ---- the leftmost, before no place
+  -- pieces without a descendant step are one segment, which is read whole where no place is sought
   leftmost-first : (ws : List Piece) (s : Segment) (i : ℕ) → Lies code i ws → steps ws ≡ 0 → segmentBefore code noPlace (length ws) s i ≡ reading s ws
   unfolding segmentBefore onDecoded onPiece reading
   leftmost-first [] s i l h = refl

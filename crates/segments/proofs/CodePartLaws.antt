@@ -69,11 +69,13 @@ stored-within (b ∷ bs) state own width j h =
     ∙ stored-within bs (partSet state own width j b) own width (j + 1) (omega arith)
 
 -- ---- the return of `put_pair_there`
+-- the low byte and then the high byte of a number, stored in turn, are its pair
 pub pair-there : (s : List ℕ) (at n : ℕ) → set (set s at (n % byteValues)) (at + 1) (n / byteValues % byteValues) ≡ sets s at (pairBytes n)
 unfolding pairBytes
 pair-there s at n = let e : at + 1 ≡ suc at = omega arith in ap (λ (i : ℕ). set (set s at (n % byteValues)) i (n / byteValues % byteValues)) e
 
 -- ---- the return of `put_mark_there`
+-- the mark, then the low and the high byte of its tests, stored in turn, are the mark with its pair
 pub mark-there : (s : List ℕ) (at n : ℕ) → set (set (set s at withTests) (at + 1) (n % byteValues)) (at + 2) (n / byteValues % byteValues) ≡ sets s at (withTests ∷ pairBytes n)
 unfolding pairBytes
 mark-there s at n =

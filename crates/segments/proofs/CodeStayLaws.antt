@@ -39,12 +39,14 @@ module _ (state : List ℕ) (above width : ℕ) where
       rw (a, b)
 
 -- ---- the return of `block_stays`
+-- a block with a mark, within the part, whose tests the hint says to fail, stays
 pub stays : (code state : List ℕ) (above width p : ℕ) (h : Hint) → ¬ (p ≡ noPlace) → p + toEnd ≤ width → getD state (above + p + toFlags) 0 ≡ withTests
     → (awaited : ℕ) → awaited ≡ pairAt state (above + p + toAwaited) → (tests : ℕ) → tests ≡ pairAt state (above + p + toTests) → TestsFail code awaited tests h
     → BlockStays code state above width p h
 stays code state above width p h z w m awaited ea tests et f = record { some = omega arith; inside = w; mark = m; fails = rw (ea, et) at f }
 
 -- ---- the return of `copy_block`
+-- the block that was stored is that of equal numbers
 pub block-copied : (s₀ s₁ : List ℕ) (at next awaited tests n a t : ℕ) → next ≡ n → awaited ≡ a → tests ≡ t → s₁ ≡ sets s₀ at (blockBytes next awaited (withTests ∷ pairBytes tests))
     → s₁ ≡ sets s₀ at (blockBytes n a (withTests ∷ pairBytes t))
 block-copied s₀ s₁ at next awaited tests n a t p q r e = e ∙ rw (p, q, r)

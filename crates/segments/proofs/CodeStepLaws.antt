@@ -108,6 +108,7 @@ module _ (code : List ℕ) where
         }
 
   -- ---- the return of `behind_child`
+  -- a byte of the child combinator's kind is read as a child step
   pub child-there : (at : ℕ) → at < length code → getD code at 0 ≡ childKind → pieceAt code at ≡ read (at + 1) direct
   unfolding pieceAt componentAt writtenAt rangedAt andThen bodyAt isMark componentIn markOf piece mapped pick or is
   child-there at l e = rw (number-one code at childKind l e (omega arith), within-yes childKind starKind attributeEqualKind (omega arith) (omega arith))
@@ -145,17 +146,20 @@ module _ (code : List ℕ) where
         sym (v .whole row) ∙ ap (λ (k : ℕ). compoundAt code row k false i) d ∙ compound-child row (left - 1) i r e
 
 -- ---- the return of `step_fails`
+-- a step fails where the compound does not end here and the tests of the one behind it fail by the hint
 pub step-fails : (code : List ℕ) (at tests : ℕ) (h : Hint) (place : ℕ) → 0 < place
     → ((row : Path) → compoundAt code row (length code) false at ≡ record { ends = false; place = place }) → TestsFail code place tests h → StepFails code at tests h
 step-fails code at tests h place f b t = record { place = place; far = f; behind = b; fails = t }
 
 -- ---- the return of `step_stays`
+-- a block with a flag of 0 and a mark behind it, whose step fails by the hint, stays
 pub step-stays : (code state : List ℕ) (above width p : ℕ) (h : Hint) → ¬ (p ≡ noPlace) → p + toStepEnd ≤ width → getD state (above + p + toFlags) 0 ≡ 0
     → getD state (above + p + toStepMark) 0 ≡ withTests → (awaited : ℕ) → awaited ≡ pairAt state (above + p + toAwaited) → (tests : ℕ) → tests ≡ pairAt state (above + p + toStepTests)
     → StepFails code awaited tests h → StepStays code state above width p h
 step-stays code state above width p h z w f m awaited ea tests et s = record { some = omega arith; inside = w; flag = f; mark = m; fails = rw (ea, et) at s }
 
 -- ---- the return of `put_step`
+-- next, awaited, the flag of 0 and the mark, stored in turn, are the block
 pub step-stored : (s₀ s₁ s₂ s₃ s₄ : List ℕ) (at next awaited tests : ℕ) → s₁ ≡ sets s₀ (at + toNext) (pairBytes next) → s₂ ≡ sets s₁ (at + toAwaited) (pairBytes awaited)
     → s₃ ≡ sets s₂ (at + toFlags) (0 ∷ []) → s₄ ≡ sets s₃ (at + toStepMark) (withTests ∷ pairBytes tests)
     → s₄ ≡ sets s₀ (at + toNext) (blockBytes next awaited (0 ∷ withTests ∷ pairBytes tests))
@@ -167,6 +171,7 @@ step-stored s₀ s₁ s₂ s₃ s₄ at next awaited tests e₁ e₂ e₃ e₄ =
     e₄ ∙ rw (e₃, e₂, e₁, a, f, m)
 
 -- ---- the return of `copy_step`
+-- the block of a step that was stored is that of equal numbers
 pub step-copied : (s₀ s₁ : List ℕ) (at next awaited tests n a t : ℕ) → next ≡ n → awaited ≡ a → tests ≡ t → s₁ ≡ sets s₀ at (blockBytes next awaited (0 ∷ withTests ∷ pairBytes tests))
     → s₁ ≡ sets s₀ at (blockBytes n a (0 ∷ withTests ∷ pairBytes t))
 step-copied s₀ s₁ at next awaited tests n a t p q r e = e ∙ rw (p, q, r)

@@ -57,6 +57,7 @@ module _ (code : List ℕ) (at : ℕ) (r : HeadAnswer) (er : r ≡ headAnswer (h
         (count-behind ∙ then-fault (counted (componentAt code) count n) (λ k _. numberAt code k) f (place-fault (counted (componentAt code) count n) p ep f h))
 
 -- ---- where a selector stands whose styles are counted
+-- head, components and the count of styles take at least four bytes, and end within the bytes
 count-reaches : (code : List ℕ) (i : ℕ) → Reaches 4 (length code) i (styleCountAt code i)
 unfolding styleCountAt
 count-reaches code i =
@@ -125,6 +126,7 @@ module _ (code : List ℕ) (count at left i : ℕ) (v : Finding code count at le
           e ∙ find-count ∙ v
 
 -- ---- the selectors of a sheet are read behind their count
+-- where a sheet is decoded, its selectors are read from behind the count, as many as it says
 pub sheet-selectors : (code : List ℕ) (m : ℕ) (ss : List CompiledSelector) → decode code ≡ read m ss → (n k : ℕ) → numberAt code 0 ≡ read n k → SelectorsRead code k n
 sheet-selectors code m ss e n k q =
     let w = sheet-steps code m ss e in

@@ -19,6 +19,7 @@ use Rattle.segments.specs.declared.sweeping.Swept.{Swept}
 use Rattle.segments.proofs.CodePartLaws.{length-part-set, stored-first, part-above}
 
 -- ---- the returns of `flag_byte`
+-- what is true has the flag 1
 pub flag-yes : (b : Bool) → b ≡ true → 1 ≡ flag b
 unfolding flag
 flag-yes b e = rw e
@@ -43,6 +44,7 @@ module _ (code : List ℕ) (row : Path) (part : List ℕ) (j i b : ℕ) (eb : b 
   one-mark h n en e ee = rw (← eb, le-leb withoutTests b h, ← en, ee)
 
 -- ---- one compound, then those behind it
+-- by whether the compound is marked: its flag, and its mark or what stands behind it, are those of what was swept
 by-mark : (t e : Bool) (n i : ℕ) (c : Ended) (behind : ℕ → List ℕ)
     → pick t (flag e ∷ markBytes n) (flag (c .ends) ∷ behind (c .place))
     ≡ (let s : Swept = pick t (record { marked = true; ends = e; tests = n; place = i }) (record { marked = false; ends = c .ends; tests = 0; place = c .place }) in

@@ -42,6 +42,7 @@ length-places a b = refl
 
 module _ (s₀ s₁ s₂ : List ℕ) (own width p next awaited : ℕ) where
   -- ---- the return of `put_places`
+  -- the place of the next selector and the awaited place, stored in turn, are both of them stored at once
   pub places-stored : s₁ ≡ partSets s₀ own width (p + toNext) (pairBytes next) → s₂ ≡ partSets s₁ own width (p + toAwaited) (pairBytes awaited)
       → s₂ ≡ partSets s₀ own width (p + toNext) (pairBytes next ++ pairBytes awaited)
   places-stored e f =
@@ -63,6 +64,7 @@ module _ (s₀ s₁ s₂ : List ℕ) (own width p next awaited : ℕ) where
       ∙ ap (partSets s₀ own width (p + toNext)) (append-assoc (pairBytes next) (pairBytes awaited) flags)
 
 -- ---- the return of `put_marked`
+-- next, awaited and the mark with its tests, stored in turn, are the block
 pub marked-stored : (s₀ s₁ s₂ s₃ : List ℕ) (at next awaited tests : ℕ) → s₁ ≡ sets s₀ (at + toNext) (pairBytes next) → s₂ ≡ sets s₁ (at + toAwaited) (pairBytes awaited)
     → s₃ ≡ sets s₂ (at + toFlags) (withTests ∷ pairBytes tests) → s₃ ≡ sets s₀ (at + toNext) (blockBytes next awaited (withTests ∷ pairBytes tests))
 unfolding pairBytes blockBytes
@@ -72,6 +74,7 @@ marked-stored s₀ s₁ s₂ s₃ at next awaited tests e₁ e₂ e₃ =
     e₃ ∙ rw (e₂, e₁, a, f)
 
 -- ---- the return of `put_awaits`
+-- both places and the flags of a segment that is awaited from its start, stored in turn, are its block
 pub awaits-stored : (s₀ s₁ s₂ : List ℕ) (own width p next : ℕ) (s : Segment) (start steps tests : ℕ) → record { start = start; steps = steps; tests = tests } ≡ s
     → s₁ ≡ partSets s₀ own width (p + toNext) (pairBytes next ++ pairBytes start)
     → s₂ ≡ partSets s₁ own width (p + toFlags) (freshBytes (record { start = start; steps = steps; tests = tests }))

@@ -152,6 +152,7 @@ pub none-begin : (attributes : List ℕ) → length attributes < attributeWidth 
 none-begin attributes few s = ((λ text c t. never (sym (no-attribute (isClass c) attributes text few) ∙ t)), (λ text n t. never (sym (no-attribute (isNamed n) attributes text few) ∙ t)))
 
 -- ---- the return of `hint_of`
+-- the length of a name, its first byte, and what classes and attribute names begin with fit the element
 pub hint-fits : (name attributes text : List ℕ) (first : ℕ) → first ≡ getD name 0 0 → (classes names : Starts)
     → ClassesBegin classes (attributesFrom attributes text (attributeRows attributes) 0) → NamesBegin names (attributesFrom attributes text (attributeRows attributes) 0)
     → (place : ℕ) → Fits (record { size = length name; first = first; classes = classes; names = names }) (handedElement name attributes text place)

@@ -85,6 +85,7 @@ ended [] = empty refl
 ended (d ∷ ds) = one-more d ds (ended ds)
 
 -- ---- a blank at the end has no texts
+-- components with a last one have the same texts without it, where it is a blank
 by-end : (xs : List Component) (c : Component) (b : Bool) → isDescendant c ≡ b → componentTexts (xs ++ pick b [] (c ∷ [])) ≡ componentTexts (xs ++ c ∷ [])
 unfolding pick componentTexts
 by-end xs c true e = rw (append-nil xs) (sym (texts-append componentRow componentText xs (c ∷ []) ∙ rw (one-text componentRow componentText c, blank-text c e) (append-nil (textsMany componentText xs))))

@@ -36,6 +36,7 @@ unfolding keptOf
 kept-first c = sym (pick-true _ _ _ _ refl refl)
 
 -- ---- a blank at the start
+-- of components with a first one, that first one is dropped where it is a blank
 pub without-first : (c : Component) (cs : List Component) → withoutFirst (c ∷ cs) ≡ keptOf true c ++ cs
 unfolding withoutFirst
 without-first c cs =
@@ -90,6 +91,7 @@ both-ends (c ∷ d ∷ cs) =
     ∙ ap withoutBlank (sym (without-first c (d ∷ cs)))
 
 -- ---- reading components never fails: where none reads there are none
+-- reading components, in any number of turns, reads or panics
 pub never-fail : (l : ℕ) (t : List ℕ) → componentsOf l t ≡ fails → ⊥
 unfolding componentsOf
 never-fail zero t e = reads-no e

@@ -275,6 +275,7 @@ module _ {s rules₀ : List ℕ} {place : ℕ} {store₀ : List ℕ} {fill : ℕ
               }
 
 -- ---- reading selectors never fails
+-- reading further selectors, in any number of turns, reads or panics
 more-never : (l : ℕ) (t : List ℕ) → moreSelectors l t ≡ fails → ⊥
 unfolding moreSelectors
 more-never zero t e = reads-no e

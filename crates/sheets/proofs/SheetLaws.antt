@@ -182,6 +182,7 @@ module _ (s rules tokens brackets texts : List ℕ) where
         read f p = pick-false _ _ _ _ (le-ltb sheetLimit (length s) h) (pick-true _ _ _ _ (sym et ∙ e) (pick-true _ _ _ _ (sym ev ∙ f) p))
 
 -- ---- reading a sheet never fails
+-- reading statements, in any number of turns, reads or panics
 never-fails : (t : ℕ) (s : List ℕ) (at : ℕ) → sheetFrom t s at ≡ fails → ⊥
 unfolding sheetFrom
 never-fails zero s at e = reads-no e

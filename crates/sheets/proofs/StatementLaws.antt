@@ -83,6 +83,7 @@ module _ (at : ℕ) (k : Outcome (List RuleSet)) where
   either-second (panics p) e = absurd (let z : _≡_ {A = ℕ} 0 1 = cc in omega arith)
 
 -- ---- one rule as a list
+-- the row of one rule is that of a list of that rule alone
 one-rule : (f : ℕ) (r : RuleSet) → ruleRow f r ≡ ruleRows f (r ∷ [])
 unfolding ruleRows rowsMany
 one-rule f r = sym (append-nil (ruleRow f r))

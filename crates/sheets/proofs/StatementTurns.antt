@@ -35,6 +35,7 @@ use Rattle.selectors.proofs.ReadingLaws.{Left, LeftMany, Found, found, nothing,
 use Rattle.sheets.proofs.SheetBounds.{RulesKeep, moved-keeps}
 
 -- ---- no statement at the end of a text
+-- no name reads at the end of a text
 no-name : name.identOf [] ≡ err
 unfolding name.identOf name.nameOf name.nameFrom name.dash name.nmstartOf name.either name.nmstartCharOf name.foldedChar name.identEscapeOf name.escapedOf name.behindOne name.lower name.isNmstart skipWhitespace whitespaceItem isWhitespace commentOf parsed.behind many took utf8.takenOf utf8.scalarOf utf8.scalarBy utf8.leadOf pick or and is within
 no-name = refl

@@ -145,6 +145,7 @@ module _ (code : List ℕ) (count at origin pseudo : ℕ) (spec : Specificity) (
     styles-done h = merging-done row₀ _ row _ (m .merging) (none-declared (m .others) (counted-end (walkedStyleAt code) left i (m .end) (m .others) (m .told) h))
 
 -- ---- where nothing is read, nothing is merged
+-- no styles, merged into a row, leave it as it is
 pub unmerged : (origin pseudo : ℕ) (spec : Specificity) (row : List ℕ) (xs : List (Styled Value)) → xs ≡ [] → row ≡ mergedRow Crate row (stylesDeclare origin pseudo spec xs)
 unfolding stylesDeclare
 unmerged origin pseudo spec row xs e = rw e (sym (merged-none Crate row))

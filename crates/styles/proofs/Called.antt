@@ -28,6 +28,7 @@ use Rattle.styles.proofs.Lying.{Lies, lies-left, lies-right, lies-at, l
 use Rattle.styles.proofs.Placed.{sources-same, sheets-placed, attributes-placed}
 
 -- ---- the row of the empty style
+-- a row of zeros is the row of the style in which nothing is declared
 pub empty-row : replicate styleRowWidth 0 ≡ rowOf emptyStyle
 unfolding rowOf emptyStyle emptyRecord recordNumbers slotsNumbers slotNumbers flag
 empty-row = refl

@@ -76,6 +76,7 @@ module _ {A B : Type 0} (R : A → B → Type 0) where
 
 module _ (t : List ℕ) where
   -- ---- a style in numbers, whose text lies at f if it is a content
+  -- the value of a style in numbers says the style, where the text of a content lies at f
   pub value-says : (f : ℕ) (s : Style) → ((x : List ℕ) → s ≡ style.content x → Lies t f x) → Says t (valueFrom f s) s
   unfolding Says valueFrom
   value-says f (style.colour c) h = refl
@@ -106,6 +107,7 @@ module _ (t : List ℕ) where
       next (style-placed f d (lies-left t f (styleText d) (styleTexts ds) h)) (styles-placed ds (f + length (styleText d)) (lies-right t f (styleText d) (styleTexts ds) h))
 
   -- ---- the rules of a sheet
+  -- the rules of a sheet, by numbers over the contents that lie from f on, say what the rules mean
   pub rules-placed : (rs : List RuleSet) (f : ℕ) → Lies t f (rulesContents rs) → Each (SameStyledRule (Says t)) (placedRules f rs) (map meantRule rs)
   unfolding placedRules meantRule ruleContents rulesContents textsMany
   rules-placed [] f h = none
@@ -128,6 +130,7 @@ module _ (t : List ℕ) where
       }
 
   -- ---- what attributes say
+  -- an attribute's style that is the same is the same as said by the attribute
   attribute-same : (i : Bool) (x : Styled Value) (y : Styled Style) → SameStyled (Says t) x y → SameAttribute (Says t) (attributeStyle i x) (attributeStyle i y)
   unfolding attributeStyle
   attribute-same i x y h = record { kinds = refl; styles = h }

@@ -45,6 +45,7 @@ use Rattle.styling.specs.declared.tops.ReadySheets.{ReadySheets}
 use Rattle.styling.proofs.TopsLaws.{right-parent}
 
 -- ---- an element begins with what it inherits, and the rules of agent and user
+-- inherited, then two lists of declarations merged in turn, are both lists merged into what is inherited
 pub begun : (c : Cascade) (xs a b ys : List ℕ) (ds es : List (Declared Value)) → Inherited c xs a → b ≡ mergedRow c a ds → ys ≡ mergedRow c b es
     → ys ≡ mergedRow c (inheritedRow c xs) (ds ++ es)
 begun c xs a b ys ds es h e k = rw (merged-append c (inheritedRow c xs) ds es) (k ∙ ap (λ (r : List ℕ). mergedRow c r es) (e ∙ ap (λ (r : List ℕ). mergedRow c r ds) (h .numbers)))
@@ -264,6 +265,7 @@ module _ (c : Cascade) (rules : Rules (StyledRule Value)) (inline : List (Attrib
       (ez ∙ ap (λ (r : List ℕ). mergedRow c r L) (d′ ∙ ap (λ (r : List ℕ). mergedRow c r W) (eb ∙ ap (λ (r : List ℕ). mergedRow c r E) (ea ∙ merged-append c i A U))))
 
 -- ---- what an element leaves: the texts up to the new fill, and what is kept
+-- the texts up to the new fill are the old ones and the contents added, and what is kept of the sheets is the same
 pub element-kept : (s : ReadySheets) (fill r : ℕ) (rows tokens texts tokens₁ texts₁ rows₂ tokens₂ texts₂ more : List ℕ) → s .end + fill ≤ length texts₁ → r ≡ fill + length more
     → take (s .behind) tokens₁ ≡ take (s .behind) tokens → take (s .end + fill) texts₁ ≡ take (s .end + fill) texts
     → take (s .rows) rows₂ ≡ take (s .rows) rows → take (s .behind) tokens₂ ≡ take (s .behind) tokens₁ → take (s .end + r) texts₂ ≡ take (s .end + fill) texts₁ ++ more

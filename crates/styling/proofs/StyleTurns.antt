@@ -53,6 +53,7 @@ module _ (nodes : List ℕ) (row n : ℕ) (en : n ≡ nodeCount nodes) where
   element-beyond h = rw (← en, le-ltb row n h) refl
 
 -- ---- whether what is lent suffices
+-- a test beside one that fails does not hold
 and-false : (a : Bool) → and a false ≡ false
 unfolding and
 and-false true = refl
@@ -79,6 +80,7 @@ module _ (n out rules tokens brackets texts : ℕ) where
   by-stores h r e = rw (le-leb styleRowWidth out h) e
 
 -- ---- contents moved down, and zeros behind them
+-- the contents, moved down to the start and cleared behind, are the contents and zeros
 pub contents-kept : (l y z : List ℕ) (end fill : ℕ) → end + fill ≤ length l → y ≡ sets l 0 (part l end fill) → z ≡ cleared fill y → z ≡ padded (part l end fill) (length l)
 unfolding padded
 contents-kept l y z end fill h ey ez =
@@ -193,6 +195,7 @@ module _ {s : SheetsRules} {rows tokens texts : List ℕ} (h : SheetsHeld s rows
           behind (take (w .end) l) (take r (drop (w .end) l)) (take (s .end) texts) (C ++ P) (b ∙ sym a) (sym (take-add (w .end) r l) ∙ whole) ∙ sym store-is
 
 -- ---- the row that is lent
+-- the part of the row that is lent is one style row long
 pub row-lent : (l : List ℕ) → styleRowWidth ≤ length l → styleRowWidth ≡ length (take styleRowWidth l)
 row-lent l h = sym (length-take-le styleRowWidth l h)
 
@@ -201,6 +204,7 @@ pub row-returned : (l ys : List ℕ) → styleRowWidth ≤ length l → length y
 row-returned l ys h e = omega (arith, e, row-lent l h, length-append ys (drop styleRowWidth l), length-drop styleRowWidth l)
 
 -- ---- stores cleared throughout, which kept their length
+-- a store cleared throughout is as many zeros as it was long before
 pub cleared-throughout : (l m z : List ℕ) → length l ≡ length m → z ≡ cleared 0 l → z ≡ replicate (length m) 0
 cleared-throughout l m z e h = h ∙ zeros-of l m e
 

@@ -40,6 +40,7 @@ module _ (texts rows : List ℕ) (at n behind : ℕ) (en : n ≡ getD rows (at +
   lent-top nodes attributes text row top r = rw lent-components r
 
 -- ---- the selectors of a rule, from the place and the count that its head says
+-- the selectors that are read from there, as many, are those of the rule
 pub rule-selectors : (texts rows : List ℕ) (at k first : ℕ) → k ≡ getD rows (at + ruleSelectors) 0 → drop first rows ≡ drop (at + ruleHead) rows
     → readMany (readSelector texts) k (drop first rows) .value ≡ readRule texts (drop at rows) .value .selectors
 unfolding readRule
@@ -153,6 +154,7 @@ module _ (nodes attributes text : List ℕ) (row : ℕ) where
           record { right = rw (e, ← g) (rule-parts .1) }
 
   -- ---- numbers that are found
+  -- there is one number for each selector
   pub tops-long : (ss : List Selector) → length (Tops ss) ≡ length ss
   unfolding selectorsTops
   tops-long [] = refl

@@ -17,6 +17,7 @@ use Rattle.syntax.specs.Style.{Style, StyleDecl}
 use Rattle.syntax.proofs.Streams.{Held, held-part, many-back, sets-drop, sets-held}
 
 -- ---- flags and words
+-- a flag is read back from its number
 pub flag-back : (b : Bool) → flagOf (flag b) ≡ b
 unfolding flag flagOf is
 flag-back true = refl

@@ -186,6 +186,7 @@ module _ (p : ℕ) (name : List ℕ) (ks : List Token) where
   unknown-at l h i j r er = er ∙ ap (λ f. declAnswer (onFound f (λ read. read name ks) (unknown name))) (sym (row-none properties p (omega arith)))
 
 -- ---- `decl_of`: at the place p that the code finds
+-- the declaration at the place of the name in the table of properties is the declaration of the property
 pub decl-placed : (name : List ℕ) (ks : List Token) (p : ℕ) → p ≡ placeOf name (split (joinedOf properties) (lengthsOf properties))
     → (r : declared.Decl) → r ≡ declAnswer (declAt p name ks) → r ≡ declAnswer (declOf name ks)
 unfolding declAt declOf
