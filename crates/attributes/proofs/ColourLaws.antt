@@ -76,7 +76,7 @@ module _ (s tokens brackets texts : List ℕ) (fill : ℕ) {r : ColourAnswer} {x
       ap (λ (l : ColourLeft). take fill (l .store)) e ∙ front-wiped texts fill u
 
   module _ (c : Cascade) (spec : Specificity) (slot : ℕ) (out : List ℕ) where
-    -- a colour is merged
+    -- the return where a colour was found: merged into the row, it is what the attribute declares
     pub colour-merged : (n : ℕ) (out′ : List ℕ) → r ≡ answer.Colour n → Merged c out out′ (numberDeclared spec slot n) → out′ ≡ mergedRow c out (map (fromAttribute false spec) (colourSays slot s))
     unfolding colourSays said
     colour-merged n out′ q m =
@@ -114,7 +114,7 @@ module _ (name value : List ℕ) (c : Cascade) (spec : Specificity) (out : List 
   colour-named h out′ p = p ∙ ap (λ l. mergedRow c out (map (fromAttribute false spec) l)) (pick-true _ _ _ _ (color-test ∙ h) refl)
 
   module _ (h : t ≡ false) (u : Bool) (q : u ≡ sameText name (0x62 ∷ 0x67 ∷ 0x63 ∷ 0x6f ∷ 0x6c ∷ 0x6f ∷ 0x72 ∷ [])) where
-    -- whether it is `bgcolor`
+    -- the code's test for the name `bgcolor` is the definition's
     bgcolor-test : isNamed (text "bgcolor") (record { name = name; value = value }) ≡ u
     unfolding isNamed
     bgcolor-test = ap (sameText name) bgcolor-name ∙ sym q

@@ -305,7 +305,7 @@ module _ {A : Type 0} where
     replaced x c a n l =
         all-both (NormalAuthor r k) (λ y. ¬ (LessSpecific (y .weight .spec) (c .weight .spec))) (λ y. InheritedAlike (c .weight) (y .weight)) (λ y p q. by-author (p .1) (p .0) (n .1) q) (declaredFor r k x) a l
 
-    -- they meet the condition
+    -- sheets of the author alone, without `!important`, meet the condition down a path, where specificities do not fall
     pub author-agrees : (xs : List (Sources A)) → AuthorDown r k xs → AgreesDown r k xs
     author-agrees [] h = tt
     author-agrees (x ∷ above) h = (

@@ -42,11 +42,11 @@ module _ (r k : ℕ) where
 
 -- ---- what writing a slot leaves
 module _ (s : code.Slot) (xs ys : List ℕ) (i : ℕ) where
-  -- one that holds something
+  -- writing the numbers of what a filled slot holds is writing the slot
   pub wrote-held : s .filled ≡ true → ys ≡ sets xs i (slotNumbers (held (record { weight = s .weight; value = s .value }))) → ys ≡ sets xs i (slotNumbers (slotBy s))
   wrote-held f e = rw (filled-slot s f) e
 
-  -- one that holds nothing
+  -- wiping a slot's width is writing an empty slot
   pub wrote-empty : s .filled ≡ false → ys ≡ wiped i slotWidth xs → ys ≡ sets xs i (slotNumbers (slotBy s))
   unfolding wiped slotNumbers
   wrote-empty f e = rw (unfilled-slot s f) e

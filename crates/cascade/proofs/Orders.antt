@@ -64,7 +64,7 @@ module _ (a b : ℕ) (rest : Bool) where
 
 -- below carries over, where it does in what follows; and so does not below
 module _ (a b c : ℕ) (p q r : Bool) where
-  -- below what is below
+  -- what is below something is below what that is below
   pub then-trans : (p ≡ true → q ≡ true → r ≡ true) → lessThen a b p ≡ true → lessThen b c q ≡ true → lessThen a c r ≡ true
   then-trans f e₁ e₂ =
       ⊎-elim

@@ -27,17 +27,17 @@ pick-same P false false a c b d e p q = q
 
 -- ---- lists, member by member
 module _ {A B : Type 0} (P : A → B → Type 0) where
-  -- one behind the other
+  -- lists that are related member by member stay so with related lists behind them
   pub each-append : {l us : List A} {m vs : List B} → Each P l m → Each P us vs → Each P (l ++ us) (m ++ vs)
   each-append none q = q
   each-append (next p ps) q = next p (each-append ps q)
 
-  -- each by a function
+  -- related members stay related when each is put through its function
   pub each-map : {C D : Type 0} (Q : C → D → Type 0) (f : A → C) (g : B → D) → ((a : A) (b : B) → P a b → Q (f a) (g b)) → {l : List A} {m : List B} → Each P l m → Each Q (map f l) (map g m)
   each-map Q f g h none = none
   each-map Q f g h (next {a} {b} p ps) = next (h a b p) (each-map Q f g h ps)
 
-  -- one of them changed
+  -- related lists stay so with one member of both replaced by related ones
   pub each-set : {l : List A} {m : List B} (k : ℕ) (a : A) (b : B) → P a b → Each P l m → Each P (set l k a) (set m k b)
   each-set k a b p none = none
   each-set zero a b p (next q qs) = next p qs
@@ -179,7 +179,7 @@ module _ {A B : Type 0} (R : A → B → Type 0) where
         candidates = record { weights = weight-same (x .style .important) (y .style .important) o (x .spec) (y .spec) (h .styles .importances) (h .specs); values = h .styles .values };
       }
 
-  -- one of an attribute
+  -- styles of attributes that are the same are declared the same
   pub attribute-declared : (i j : Bool) (p : Specificity) (x : AttributeStyle A) (y : AttributeStyle B) → i ≡ j → SameAttribute x y → SameDeclared (fromAttribute i p x) (fromAttribute j p y)
   unfolding fromAttribute
   attribute-declared i j p x y e h =

@@ -84,7 +84,7 @@ unfolding rewrites
 rewrites-long u zero i xs = refl
 rewrites-long u (suc n) i xs = rewrites-long u n (i + slotWidth) (sets xs i (slotNumbers (u (slotAt xs i)))) ∙ length-sets xs i (slotNumbers (u (slotAt xs i)))
 
--- numbers before them stay
+-- numbers before the rewritten slots stay
 pub rewrites-low : (u : Slot Value → Slot Value) (n i : ℕ) (xs : List ℕ) (p : ℕ) → p < i → getD (rewrites u i n xs) p 0 ≡ getD xs p 0
 unfolding rewrites
 rewrites-low u zero i xs p h = refl
@@ -92,7 +92,7 @@ rewrites-low u (suc n) i xs p h =
     let vs = slotNumbers (u (slotAt xs i)) in
     rewrites-low u n (i + slotWidth) (sets xs i vs) p (omega arith) ∙ sets-low vs xs i p h
 
--- and those behind them
+-- numbers behind the rewritten slots stay
 pub rewrites-high : (u : Slot Value → Slot Value) (n i : ℕ) (xs : List ℕ) (p : ℕ) → i + n * slotWidth ≤ p → getD (rewrites u i n xs) p 0 ≡ getD xs p 0
 unfolding rewrites
 rewrites-high u zero i xs p h = refl
@@ -132,14 +132,14 @@ module _ (u : Slot Value → Slot Value) (r : ℕ) (xs : List ℕ) where
   unfolding rewriteRecord
   rewritten-long = rewrites-long u slotCount (recordPlace r + 1) xs
 
-  -- its slots are rewritten
+  -- the record that is rewritten has each of its slots rewritten
   pub rewritten-here : recordPlace r + recordWidth ≤ length xs
       → recordAt (rewriteRecord u r xs) (recordPlace r) ≡ record { present = recordAt xs (recordPlace r) .present; slots = map u (recordAt xs (recordPlace r) .slots) }
   unfolding recordAt rewriteRecord
   rewritten-here h =
       record-same _ _ _ _ (ap flagOf (rewrites-low u slotCount (recordPlace r + 1) xs (recordPlace r) (omega arith))) (rewrites-slots u slotCount (recordPlace r + 1) xs (omega arith))
 
-  -- the other records stay
+  -- a record before the rewritten one stays
   pub rewritten-before : (b : ℕ) → b + recordWidth ≤ recordPlace r → recordAt (rewriteRecord u r xs) b ≡ recordAt xs b
   unfolding rewriteRecord
   rewritten-before b h = same-record (rewrites u (recordPlace r + 1) slotCount xs) xs b (λ p a c. rewrites-low u slotCount (recordPlace r + 1) xs p (omega arith))
@@ -169,7 +169,7 @@ rewrite-turn u i left xs ys w s n h e f g k =
 
 -- ---- the main record made present
 module _ (xs : List ℕ) (h : styleRowWidth ≤ length xs) where
-  -- the other numbers stay
+  -- marking the main record as present leaves every other number
   pub present-number : (p : ℕ) → 0 < p → getD (set xs 0 1) p 0 ≡ getD xs p 0
   present-number p a = getD-set-other xs 0 p 1 0 (λ e. omega arith)
 
@@ -281,6 +281,6 @@ inherited-in-book-order k xs a b c ys i h e f g j =
     let n : ys ≡ inheritedRow Book xs = unfold inheritedRow in unfold presentRow in (j ∙ ap (λ (r : List ℕ). set r 0 1) (g ∙ ap (rewriteRecord inheritedSlot afterRecord) (f ∙ ap (rewriteRecord inheritedSlot beforeRecord) e))) in
     rw i (record { numbers = n; meaning = ap styleAt n ∙ (unfold inheritBy in inherit-book-view xs (h .room)) })
 
--- zeros over the row
+-- zeros written over a row leave the row of nothing declared
 pub emptied : (xs ys : List ℕ) → RowRoom xs → ys ≡ wiped 0 styleRowWidth xs → Emptied xs ys
 emptied xs ys h e = record { numbers = e; meaning = ap styleAt e ∙ empty-view xs (h .room) }

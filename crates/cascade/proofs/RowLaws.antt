@@ -149,7 +149,7 @@ module _ (r k : ℕ) (u : Slot Value → Slot Value) (xs : List ℕ) (h : record
       let vs = slotNumbers (u (slotAt xs i)) in
       getD-set-other (sets xs i vs) (recordPlace r) p 1 0 (λ e. omega arith) ∙ sets-low vs xs i p (omega arith)
 
-  -- and those behind it
+  -- numbers behind the record stay
   pub update-high : (p : ℕ) → recordPlace r + recordWidth ≤ p → getD (updateRow r k u xs) p 0 ≡ getD xs p 0
   unfolding updateRow
   update-high p a =
@@ -157,7 +157,7 @@ module _ (r k : ℕ) (u : Slot Value → Slot Value) (xs : List ℕ) (h : record
       let vs = slotNumbers (u (slotAt xs i)) in
       getD-set-other (sets xs i vs) (recordPlace r) p 1 0 (λ e. omega arith) ∙ sets-high vs xs i p (omega (arith, slot-width (u (slotAt xs i))))
 
-  -- the record is present
+  -- the updated record is marked as present
   pub update-presence : getD (updateRow r k u xs) (recordPlace r) 0 ≡ 1
   unfolding updateRow
   update-presence =

@@ -15,7 +15,7 @@ use Rattle.cascade.proofs.Orders.{then-lower, then-equal, then-true, th
 
 -- ---- the test is the order
 module _ (x y : Weight) where
-  -- what the test says
+  -- where the test says weaker, the first loses to the second
   pub weaker-says : weaker x y ≡ true → Weaker x y
   unfolding weaker
   weaker-says e = ⊎-elim (λ h. by-rank h) (λ h. by-specificity (h .0) (less-says (x .spec) (y .spec) (h .1))) (then-true (rankOf x) (rankOf y) _ e)
@@ -26,7 +26,7 @@ module _ (x y : Weight) where
   weaker-said (by-rank h) = sym (then-lower (rankOf x) (rankOf y) _ h)
   weaker-said (by-specificity e l) = sym (then-equal (rankOf x) (rankOf y) _ true e (sym (less-said (x .spec) (y .spec) l)))
 
-  -- what its failing says
+  -- where the test fails, the first does not lose to the second
   pub weaker-denies : weaker x y ≡ false → ¬ (Weaker x y)
   weaker-denies e w = never (sym e ∙ weaker-said w)
 
@@ -72,7 +72,7 @@ module _ {A : Type 0} where
     unfolding bookUpdate heldInBook
     update-keeps e = sym (pick-true _ _ _ _ e refl)
 
-    -- any other takes it
+    -- a candidate that is not the weaker takes the slot
     pub update-takes : weaker (x .weight) (w .weight) ≡ false → bookUpdate (held w) x ≡ held x
     unfolding bookUpdate heldInBook
     update-takes e = sym (pick-false _ _ _ _ e refl)

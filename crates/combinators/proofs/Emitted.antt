@@ -65,7 +65,7 @@ pub sets-onto : (l l₁ xs ys : List ℕ) (f f₁ : ℕ) → record { bytes = l�
 sets-onto l l₁ xs ys f f₁ e =
     sym (emits-bytes ys l₁ f₁) ∙ ap (λ (o : Store). o .bytes) (onto _ _ xs ys e) ∙ emits-bytes (xs ++ ys) l f
 
--- and the text alone
+-- the bytes that an emitted text leaves are the old ones with it stored at the fill
 pub sets-emitted : (l l₁ xs : List ℕ) (f f₁ : ℕ) → record { bytes = l₁; fill = f₁ } ≡ emits (record { bytes = l; fill = f }) xs → l₁ ≡ sets l f xs
 sets-emitted l l₁ xs f f₁ e = ap (λ (o : Store). o .bytes) e ∙ emits-bytes xs l f
 
@@ -99,12 +99,12 @@ pub record Copying (s : List ℕ) (n : ℕ) (st₀ : List ℕ) (fill : ℕ) (st 
   pub left : emits (record { bytes = st; fill = f }) (take (n - i) (drop i s)) ≡ emits (record { bytes = st₀; fill = fill }) (take n s)
   pub long : length st ≡ length st₀
 
--- nothing is emitted yet
+-- before the first byte nothing is emitted, and all of it is left
 pub copying-begin : (s : List ℕ) (n : ℕ) (st : List ℕ) (fill : ℕ) → Copying s n st fill st fill 0
 copying-begin s n st fill = let d : n - 0 ≡ n = omega arith in record { left = rw d; long = refl }
 
 module _ (s : List ℕ) (n : ℕ) (st₀ : List ℕ) (fill : ℕ) (st : List ℕ) (f i : ℕ) (c : Copying s n st₀ fill st f i) where
-  -- a byte is emitted
+  -- with one byte emitted, those behind it are left
   pub copying-more : i < n → i < length s → (z : List ℕ) (g : ℕ)
       → record { bytes = z; fill = g } ≡ emits (record { bytes = st; fill = f }) (getD s i 0 ∷ []) → length z ≡ length st → Copying s n st₀ fill z g (i + 1)
   copying-more h l z g e k =
@@ -116,7 +116,7 @@ module _ (s : List ℕ) (n : ℕ) (st₀ : List ℕ) (fill : ℕ) (st : List ℕ
   done : take (n - i) (drop i s) ≡ [] → record { bytes = st; fill = f } ≡ emits (record { bytes = st₀; fill = fill }) (take n s)
   done p = sym (ap (emits _) p ∙ emits-none _) ∙ c .left
 
-  -- all n are emitted
+  -- with all n emitted, the store is what emitting the whole leaves
   pub copying-done : n ≤ i → record { bytes = st; fill = f } ≡ emits (record { bytes = st₀; fill = fill }) (take n s)
   copying-done h = let d : n - i ≡ 0 = omega arith in done (rw d)
 

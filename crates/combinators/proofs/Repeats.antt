@@ -30,7 +30,7 @@ module _ (u : List ℕ → ℕ) where
       → many u i 0 (drop i s) ≡ many u (i + n) 0 (drop (i + n) s)
   many-more s i n h e d = many-took (drop i s) i n h e d ∙ ap (λ l. many u (i + n) 0 l) (drop-drop n i s)
 
-  -- the reader takes none
+  -- where the reader takes none, the repetition stops there
   pub many-stop : (l : List ℕ) (i : ℕ) → u l ≡ 0 → many u i 0 l ≡ i
   unfolding many took
   many-stop [] i e = refl
@@ -127,7 +127,7 @@ module _ (u : List ℕ → ℕ) (b : List ℕ → List ℕ) where
       → texts u b 0 (drop i s) ≡ b (drop i s) ++ texts u b 0 (drop (i + n) s)
   texts-more s i n h e d = texts-took (drop i s) n h e d ∙ ap (λ t. b (drop i s) ++ texts u b 0 t) (drop-drop n i s)
 
-  -- the reader takes none
+  -- where the reader takes none, the text that is left is empty
   pub texts-stop : (l : List ℕ) → u l ≡ 0 → texts u b 0 l ≡ []
   unfolding texts took
   texts-stop [] e = refl

@@ -59,7 +59,7 @@ module _ (a b : Bool) where
   unfolding or
   or-left e = rw e
 
-  -- only the second does
+  -- where the first test fails and the second holds, `or` does
   pub or-right : a ≡ false → b ≡ true → or a b ≡ true
   unfolding or
   or-right e p = rw (e, p)
@@ -74,7 +74,7 @@ module _ (a b : Bool) where
   unfolding and
   and-both e p = rw (e, p)
 
-  -- the first does not
+  -- where the first test fails, `and` does not hold
   pub and-left : a ≡ false → and a b ≡ false
   unfolding and
   and-left e = rw e
@@ -132,7 +132,7 @@ same-test false true f g = g refl
 same-test false false f g = refl
 
 -- ---- a test that a call made, or the code
--- what the call answered
+-- a test that a call answered has the answer that was found
 pub told : (r a v : Bool) → r ≡ a → r ≡ v → a ≡ v
 told r a v e p = sym e ∙ p
 
@@ -141,7 +141,7 @@ pub is-yes : (x k : ℕ) → x ≡ k → is x k ≡ true
 unfolding is
 is-yes x k e = eq-eqb x k e
 
--- it found them different
+-- the test of two different numbers fails
 pub is-no : (x k : ℕ) → ¬ (x ≡ k) → is x k ≡ false
 unfolding is
 is-no x k e = ne-eqb x k e

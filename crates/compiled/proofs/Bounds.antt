@@ -41,7 +41,7 @@ module _ {A : Type 0} (len i : ℕ) where
   unfolding Reaches
   reaches-end k n a d h e = rw e at h
 
-  -- where a fault lies
+  -- a fault lies within the bytes or at their end
   pub reaches-place : (k p : ℕ) (d : Decoded A) → Reaches k len i d → d ≡ fault p → i ≤ len → p ≤ len
   unfolding Reaches
   reaches-place k p d h e = rw e at h
@@ -108,7 +108,7 @@ module _ (t : List ℕ) where
       (λ e. reaches-less (length t) (g n a) 0 n 1 i (p n a e (h .1)) (omega arith) (omega arith) (λ _. h .1)) (λ _ l. l)
   reaches-test (fault q) i f g h p = h
 
-  -- one in its range
+  -- a number in a range takes at least a byte and ends within the bytes
   pub ranged-reaches : (i lo hi : ℕ) → Reaches 1 (length t) i (rangedAt t i lo hi)
   unfolding rangedAt
   ranged-reaches i lo hi = reaches-test (numberAt t i) i (λ n v. within v lo hi) (λ n v. read n v) (number-reaches i) (λ n v e l. reaches-read (length t) n 0 n v (omega arith) l)

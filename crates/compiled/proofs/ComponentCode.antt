@@ -72,7 +72,7 @@ module _ (s : List ℕ) (at : ℕ) where
     unfolding nameAt
     name-fault kind p q = answered-fault _ p (mapped-fault (λ x. name kind x) (spanAt s at) p (text-fault (spanAt s at) r e p q))
 
-    -- the second of two
+    -- the second of two texts read, the component is an attribute with that value
     pub second-name-read : (a b n start size : ℕ) → r ≡ text.Text n start size
         → component.Names n a b start size ≡ componentAnswer (secondNameAt s (record { start = a; size = b }) at)
     unfolding secondNameAt writtenAnswer

@@ -34,7 +34,7 @@ pub group-more : (k v : ℕ) → groupValues ≤ v → groupBytes (suc k) v ≡ 
 unfolding groupBytes pick
 group-more k v h = rw (le-ltb v groupValues h)
 
--- there is a byte
+-- every number has at least one group
 pub groups-some : (k v : ℕ) → 1 ≤ length (groupBytes k v)
 unfolding groupBytes
 groups-some zero v = omega arith
@@ -69,7 +69,7 @@ module _ (v : ℕ) where
   unfolding numberBytes
   number-some = groups-some 4 v
 
-  -- and at most five
+  -- a number takes at most five bytes
   pub number-few : length (numberBytes v) ≤ 5
   unfolding numberBytes
   number-few = groups-few 4 v

@@ -149,7 +149,7 @@ module _ (s : List ℕ) (at lo hi : ℕ) (r : NumberAnswer) (e : r ≡ numberAns
   unfolding numberAnswer
   ranged-below n v p h = answered _ (ap numberAnswer (pick-false _ (read n v) _ _ (sym (within-false v lo hi h)) refl ∙ sym (chosen n v p)))
 
-  -- it is too great
+  -- the number is above the range: a fault where it starts
   pub ranged-above : (n v : ℕ) → r ≡ number.Number n v → hi < v
       → (number.Fault at ≡ numberAnswer (rangedAt s at lo hi)) × numberWithin (length s) (number.Fault at)
   unfolding numberAnswer

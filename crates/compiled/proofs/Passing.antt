@@ -36,14 +36,14 @@ module _ {A : Type 0} (u : ℕ → Decoded A) where
   all-done (suc k) i h = absurd (omega arith)
 
   module _ (k at left i : ℕ) (c : Passing k at left i) where
-    -- one is passed over
+    -- with one value passed over, the others are left from behind it
     pub passing-more : 0 < left → (r : PlaceAnswer) → r ≡ placeAnswer (u i) → (n : ℕ) → r ≡ place.At n → Passing k at (left - 1) n
     passing-more h r e n p = let w = place-read (u i) r e n p in one-more left i n (w .0) h (w .1) ∙ c
 
-    -- there is a fault
+    -- a fault in the next value is that of all
     pub passing-fault : 0 < left → (r : PlaceAnswer) → r ≡ placeAnswer (u i) → (p : ℕ) → r ≡ place.Fault p → place.Fault p ≡ placeAnswer (counted u k at)
     passing-fault h r e p q = one-fault left i p h (place-fault (u i) r e p q) ∙ c
 
-    -- all are passed over
+    -- with none left, passing over all of them ends here
     pub passing-done : left ≤ 0 → place.At i ≡ placeAnswer (counted u k at)
     passing-done h = all-done left i h ∙ c

@@ -47,7 +47,7 @@ module _ (s : List ℕ) (at origin pseudo : ℕ) (r : NumberAnswer) (e : r ≡ n
   count-fault p q = faulty _ p (mapped-fault (λ k. record { origin = origin; pseudo = pseudo; count = k }) (numberAt s at) p (number-fault _ r e p q))
 
 module _ (s : List ℕ) (at origin : ℕ) (r : NumberAnswer) (e : r ≡ numberAnswer (rangedAt s at (pseudoNumber none) (pseudoNumber after))) where
-  -- behind the pseudo element
+  -- with the pseudo element read, the head is what the count behind it makes of it
   pub pseudo-read : (n pseudo : ℕ) → r ≡ number.Number n pseudo → (q : HeadAnswer) → q ≡ headAnswer (countAt s origin pseudo n)
       → q ≡ headAnswer (pseudoAt s origin at)
   unfolding pseudoAt
@@ -186,19 +186,19 @@ module _ (s : List ℕ) where
   all-done (suc k) before i h = absurd (omega arith)
 
   module _ (count least at left before i : ℕ) (c : Selecting count least at left before i) where
-    -- one is passed over
+    -- with one selector passed over, the others are left from behind it, of its origin or a later one
     pub selecting-more : 0 < left → (r : SelectorAnswer) → r ≡ selectorAnswer (selectorAt s before i) → (n origin : ℕ) → r ≡ selector.Selector n origin
         → Selecting count least at (left - 1) origin n
     selecting-more h r e n origin p =
         let w = selector-read (selectorAt s before i) r e n origin p in
         ap (λ (o : ℕ). placeAnswer (selectorsAt (left - 1) s o n)) (sym (w .2)) ∙ one-more left before i n (w .0) h (w .1) ∙ c
 
-    -- there is a fault
+    -- a fault in the next selector is that of all
     pub selecting-fault : 0 < left → (r : SelectorAnswer) → r ≡ selectorAnswer (selectorAt s before i) → (p : ℕ) → r ≡ selector.Fault p
         → place.Fault p ≡ placeAnswer (selectorsAt count s least at)
     selecting-fault h r e p q = one-fault left before i p h (selector-fault (selectorAt s before i) r e p q) ∙ c
 
-    -- all are passed over
+    -- with no selector left, passing over all of them ends here
     pub selecting-done : left ≤ 0 → place.At i ≡ placeAnswer (selectorsAt count s least at)
     selecting-done h = all-done left before i h ∙ c
 
@@ -211,7 +211,7 @@ module _ (s : List ℕ) (at count : ℕ) (r : PlaceAnswer) (e : r ≡ placeAnswe
       let w = place-read (selectorsAt count s agentOrigin at) r e n p in
       ap checkAnswer (sym (then-read (selectorsAt count s agentOrigin at) _ n (w .0) (w .1) ∙ sym (pick-true (read n (w .0)) _ _ _ (is-yes _ _ h) refl)))
 
-  -- bytes are left over
+  -- bytes that are left over behind the selectors are a fault where these end
   pub whole-left : (n : ℕ) → r ≡ place.At n → ¬ (n ≡ length s) → check.Fault n ≡ checkAnswer (wholeAt s count at)
   unfolding wholeAt ending checkAnswer
   whole-left n p h =

@@ -113,7 +113,7 @@ module _ (t : List ℕ) where
     abbrev pub place : ℕ
     place = textPlace (i + length a + length b) (d .style)
 
-    -- the text lies there
+    -- the style's text lies behind its length
     pub text-there : Held t place (styleText d)
     unfolding styleText
     text-there = body-text (d .style) (i + length a + length b) (held-right t (i + length a) b c behind-flag)

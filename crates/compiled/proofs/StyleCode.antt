@@ -116,7 +116,7 @@ module _ (s : List ℕ) (at : ℕ) where
       unfolding valuedAt
       valued-read n v p = answered _ n _ (mapped-read _ (valueAt s slot at) n v (value-read (valueAt s slot at) r e n v p))
 
-      -- there is no value
+      -- where no value was read, the fault is that of the value
       pub valued-none : (p : ℕ) → r ≡ value.Fault p → style.Fault p ≡ styleAnswer (valuedAt s important slot at)
       unfolding valuedAt
       valued-none p q =
@@ -147,7 +147,7 @@ module _ (s : List ℕ) (at : ℕ) where
   bounded q e = (e, rw e (within-read (styleNumbersAt s at) (style-numbers-reach s at)))
 
   module _ (r : NumberAnswer) (e : r ≡ numberAnswer (rangedAt s at 0 1)) where
-    -- behind its first number
+    -- with its importance read, the style is what its slot and value make of it
     pub style-read : (n important : ℕ) → r ≡ number.Number n important → (q : StyleAnswer) → q ≡ styleAnswer (slotAt s (eqb important 1) n)
         → (q ≡ styleAnswer (styleNumbersAt s at)) × styleWithin (length s) q
     unfolding styleNumbersAt flagOf is

@@ -34,7 +34,7 @@ module _ (s : List ℕ) (at : ℕ) (r : NumberAnswer) (e : r ≡ numberAnswer (n
   answered : (q : TextAnswer) → q ≡ textAnswer (spanAt s at) → (q ≡ textAnswer (spanAt s at)) × textWithin (length s) q
   answered q p = text-within (spanAt s at) q p (length s) at (span-reaches s at) (span-holds s at)
 
-  -- the text is there
+  -- a text that is no longer than what is left lies behind its length
   pub text-there : (n v : ℕ) → r ≡ number.Number n v → n ≤ length s → v ≤ length s - n
       → (text.Text (n + v) n v ≡ textAnswer (spanAt s at)) × textWithin (length s) (text.Text (n + v) n v)
   unfolding textAnswer

@@ -53,7 +53,7 @@ module _ (s : List ℕ) (at : ℕ) (r : ComponentAnswer) (e : r ≡ componentAns
   unfolding componentAt
   component-is q p = ap (mapped (componentIn s)) (sym (written-of (writtenAt s at)) ∙ ap writtenOf (sym e ∙ p))
 
-  -- star, child or descendant
+  -- an answer that is a mark says that star, child or descendant was read
   pub at-mark : (n kind : ℕ) → r ≡ component.Mark n kind → componentAt s at ≡ read n (markOf kind)
   unfolding mapped componentIn
   at-mark n kind p = component-is _ p

@@ -104,7 +104,7 @@ module _ (t : List ℕ) (kind f a b : ℕ) (o₀ o₁ : Store) where
   equal-written m k n p = p ∙ ap (emits o₀) (sym (ap componentBytes (equal-is m k n) ∙ equal-bytes _ _))
 
 -- ---- styles
--- the words of `white-space`
+-- the number 0 stays 0 as a word of `white-space`: normal
 pub word-normal : (n : ℕ) → n ≡ 0 → 0 ≡ whiteSpaceNumber (whiteSpaceOf n)
 unfolding whiteSpaceNumber whiteSpaceOf
 word-normal n e = ap whiteSpaceNumber (pick-true _ _ _ _ (is-yes n 0 e) refl)
@@ -170,7 +170,7 @@ module _ (t : List ℕ) (slot : ℕ) (v : Value) (o₀ o₁ : Store) where
           (append-nil (numberBytes displaySlot)) p
 
       module _ (c : ¬ (slot ≡ displaySlot)) where
-        -- a word of `white-space`
+        -- a word of `white-space` is written as its slot and its number
         pub white-space-written : slot ≡ whiteSpaceSlot → (n : ℕ) → n ≡ whiteSpaceNumber (whiteSpaceOf (v .number))
             → o₁ ≡ emits o₀ (numberBytes whiteSpaceSlot ++ numberBytes n) → o₁ ≡ emits o₀ (slotBytes (styleOf t slot v))
         unfolding styleOf styleSlotOf styleBody

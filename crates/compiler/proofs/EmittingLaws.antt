@@ -53,7 +53,7 @@ module _ {A : Type 0} (u : List ℕ → Read A) (w : A → List ℕ) (rows : Lis
         ≡ emits (record { bytes = st₀; fill = fill }) (textsMany w (readMany u count (drop at rows) .value))
     pub long : length st ≡ length st₀
 
-  -- nothing is written yet
+  -- before the first value all of them are left to write
   pub emitting-begin : Emitting count at st₀ fill
   emitting-begin = record { left = refl; long = refl }
 

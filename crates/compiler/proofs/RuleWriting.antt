@@ -54,7 +54,7 @@ module _ (origin : ℕ) where
       ap (λ (l : List ℕ). textsMany selectorBytes (ruleSelectors origin r) ++ l) (sheet-bytes rs)
       ∙ sym (texts-append (λ _ _. []) selectorBytes (ruleSelectors origin r) (sheetSelectors origin rs))
 
-  -- all rules are written
+  -- the bytes of all rules are those of their compiled selectors
   pub rules-written : (rs : List RuleSet) (o₀ o₁ : Store) → o₁ ≡ emits o₀ (textsMany (ruleBytes origin) rs)
       → o₁ ≡ emits o₀ (textsMany selectorBytes (sheetSelectors origin rs))
   rules-written rs o₀ o₁ p = p ∙ ap (emits o₀) (sheet-bytes rs)
@@ -67,7 +67,7 @@ module _ (rows : List ℕ) (at declarations count : ℕ) (d : (texts : List ℕ)
   unfolding readRule selectorsRead declarationsAt
   count-is = f ∙ count-styles texts (drop declarations rows) count ∙ rw (d texts, e, getD-drop at rows ruleDeclarations 0)
 
-  -- it has no style
+  -- a rule without a style counts with no selectors
   pub rule-uncounted : x ≡ 0 → 0 ≡ length (ruleSelectors origin (readRule texts (drop at rows) .value))
   unfolding ruleSelectors
   rule-uncounted h = sym (ap length (none-styled origin _ _ (sym count-is ∙ h)))
@@ -132,7 +132,7 @@ unfolding EachRoom
 lent-first zero t tokens h o = absurd (omega arith)
 lent-first (suc k) t tokens h o = record { room = o .room .each .0; zeros = o .zeros }
 
--- and those behind it
+-- the rules behind the first can be asked for their styles too
 pub lent-next : (n : ℕ) (t tokens : List ℕ) → 0 < n → RulesLent n t tokens → (x : List ℕ) → x ≡ tokens → (next : List ℕ) → ((texts : List ℕ) → next ≡ readRule texts t .rest)
     → RulesLent (n - 1) next x
 unfolding EachRoom
@@ -148,7 +148,7 @@ module _ (rows : List ℕ) (count at origin : ℕ) (tokens₀ texts st₀ : List
     pub lent : RulesLent n (drop place rows) tokens
     pub same : tokens ≡ tokens₀
 
-  -- nothing is written yet
+  -- before the first rule all of them are left to write
   pub writing-begin : RulesLent count (drop at rows) tokens₀ → Writing count at tokens₀ st₀ fill
   writing-begin o = record { emitted = emitting-begin (readRule texts) (ruleBytes origin) rows count at st₀ fill; lent = o; same = refl }
 
@@ -186,7 +186,7 @@ module _ (rows : List ℕ) (count at : ℕ) where
   pub record Counting (total place n : ℕ) : Type 0 where
     pub left : (origin : ℕ) (texts : List ℕ) → total + selectorsFrom origin texts n place ≡ selectorsFrom origin texts count at
 
-  -- nothing is counted yet
+  -- before the first rule all of them are left to count
   pub counting-begin : Counting 0 at count
   counting-begin = record { left = λ origin texts. omega arith }
 
@@ -212,7 +212,7 @@ module _ (rows : List ℕ) (count at : ℕ) where
       pub counting-more : (next : ℕ) → ((texts : List ℕ) → drop next rows ≡ readRule texts (drop place rows) .rest) → Counting (total + r) next (n - 1)
       counting-more next d = record { left = λ origin texts. omega (arith, c .left origin texts, one-less origin texts n place next h (d texts), e origin texts) }
 
-      -- the total stays small
+      -- the count so far is below 2^32
       pub counting-fits : SelectorsFew (drop at rows) count → total + r < numberLimit
       unfolding readMany sheetSelectors
       counting-fits few = omega (arith, c .left (few .origin) (few .texts), at-least n h, e (few .origin) (few .texts), few .few)

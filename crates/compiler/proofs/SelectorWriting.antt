@@ -19,7 +19,7 @@ use Rattle.compiler.specs.Selectors.{compiledSelector}
 use Rattle.compiler.specs.Writing.{styledBytes}
 
 -- ---- components
--- one, from its row
+-- the numbers of a component's row are the component that is read there
 pub component-at : (rows : List ℕ) (at : ℕ) (texts : List ℕ) (k f a b : ℕ) → k ≡ getD rows (at + componentKindAt) 0 → f ≡ getD rows (at + componentTextAt) 0
     → a ≡ getD rows (at + componentFirstAt) 0 → b ≡ getD rows (at + componentSecondAt) 0 → (o₀ o₁ : Store)
     → o₁ ≡ emits o₀ (componentBytes (componentFrom texts k f a b)) → o₁ ≡ emits o₀ (componentBytes (readComponent texts (drop at rows) .value))
@@ -48,7 +48,7 @@ module _ (rows : List ℕ) (at count : ℕ) (texts st₀ : List ℕ) (fill : ℕ
     pub long : length st ≡ length st₀
     pub few : n ≤ count
 
-  -- nothing is written yet
+  -- before the last component all of them are left to write
   pub returning-begin : Returning count st₀ fill
   returning-begin = record { left = refl; long = refl; few = omega arith }
 

@@ -43,7 +43,7 @@ pub record Finding (rows : List ℕ) (count at own : ℕ) (height-zero overflow-
   pub overflow : or overflow-hidden (anyRow hiddenRow n (drop place rows)) ≡ anyRow hiddenRow count (drop at rows)
   pub few : own + n ≤ count
 
--- nothing is counted yet
+-- before the first declaration all of them are left to count
 pub finding-begin : (rows : List ℕ) (count at : ℕ) → Finding rows count at 0 false false at count
 unfolding or
 finding-begin rows count at = record { left = omega arith; height = refl; overflow = refl; few = omega arith }

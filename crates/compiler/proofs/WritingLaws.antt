@@ -79,7 +79,7 @@ module _ (rows texts : List ℕ) (s : SheetsRules) where
   abbrev all : List CompiledSelector
   all = selectorsFrom rows texts s
 
-  -- how many they are
+  -- all selectors are as many as those of the three sheets together
   total : length all ≡ length a + length u + length w
   unfolding a u w selectorsFrom selectorsOf
   total = omega (arith, length-append a (u ++ w), length-append u w)

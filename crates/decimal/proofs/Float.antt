@@ -81,7 +81,7 @@ module _ (a b : ℕ) (B : 0 < b) where
       (λ (l : b ≤ a). le-trans (le-div-iff-mul-le B .1 (omega arith)) (nearest-ge (a / b) (compare (a % b * 2) b)))
       (lt-or-ge a b)
 
-  -- together, as one test
+  -- the whole number nearest to a / b is 0 exactly if twice a is at most b
   closest-zero : eqb (closest a b) 0 ≡ leb (a * 2) b
   closest-zero =
       ⊎-elim

@@ -43,7 +43,7 @@ faulty-answer missing s = refl
 
 -- ---- the colour of an attribute, by its statement
 module _ (s : List ℕ) where
-  -- a bracket is wrong
+  -- where a bracket is wrong, the attribute has no colour
   attribute-none : statementOf false s .balanced ≡ false → colourAnswer (colourAttribute s) ≡ answer.the-variants.NoColour
   unfolding colourAttribute valueOf valueFrom onParsed pick colourAnswer onFound
   attribute-none h = rw h
@@ -60,7 +60,7 @@ module _ (s tokens brackets store : List ℕ) (fill : ℕ) (room : Room (length 
   r = statementOf false s
 
   module _ {k m : ℕ} (ek : k ≡ length (r .tokens)) (em : m ≡ length (textsOf (r .tokens))) where
-    -- the texts, wiped again
+    -- wiping the texts that were written leaves the store wiped by the value's texts
     store-wiped : {z′ : List ℕ} → z′ ≡ wiped fill m z → z′ ≡ wiped fill (length (textsOf (r .tokens))) store
     store-wiped q = q ∙ rw (em, declaring.store-is s tokens brackets store fill e) (wiped-over store fill (length (textsOf (r .tokens))) (textsOf (r .tokens)) (omega arith))
 

@@ -212,17 +212,17 @@ module _ (s tokens brackets store : List ℕ) (fill : ℕ) {a : ValueAnswer} {x 
   pub none-said : {k m : ℕ} → a ≡ value.NoValue k m → Unvalued stated k m
   none-said {k} {m} ea = unvalued stated k m (sym ea ∙ answer-is)
 
-  -- those of a value
+  -- an answer with a value says that the brackets are right, and has the value's numbers
   pub some-said : {t k m : ℕ} {i : Bool} → a ≡ value.Value t k m i → Valued stated t k m i
   some-said {t} {k} {m} {i} ea = valued stated t k m i (sym ea ∙ answer-is)
 
   module _ {k : ℕ} (ek : k ≡ length (stated .tokens)) where
-    -- the rows, wiped again
+    -- wiping the rows that were written leaves the store wiped by the value's rows
     pub tokens-wiped : {x′ : List ℕ} → x′ ≡ wiped 0 (tokenWidth * k) x → x′ ≡ wiped 0 (tokenWidth * length (stated .tokens)) tokens
     tokens-wiped q =
         q ∙ rw (ek, tokens-are) (wiped-over tokens 0 (tokenWidth * length (stated .tokens)) (rowsOf fill (stated .tokens)) (omega (arith, rows-long (stated .tokens) fill)))
 
-    -- the brackets, wiped again
+    -- wiping the brackets leaves the store wiped by as many as there are tokens
     pub brackets-zero : {b′ : List ℕ} → b′ ≡ wiped 0 k b → b′ ≡ wiped 0 (length (stated .tokens)) brackets
     brackets-zero q = q ∙ rw (ek, brackets-are) (brackets-wiped (stated .tokens) brackets 0 (length (stated .tokens)) (omega arith))
 
@@ -235,7 +235,7 @@ module _ (s tokens brackets store : List ℕ) (fill : ℕ) {a : ValueAnswer} {x 
       pub count-bits : tokenWidth * k < 2 ^ 64
       count-bits = omega (arith, ek, sized .counted, sized .within, room .bits)
 
-      -- the tokens read back
+      -- the token rows read back as the value's tokens
       back : tokensAt x z k ≡ tokensOf (stated .tokens)
       unfolding left
       back =
@@ -285,7 +285,7 @@ module _ (names : Bool) (at : ℕ) (s rules : List ℕ) (place : ℕ) (tokens br
   sized-value : Sized (drop v s) 0 value-of
   sized-value = statement-sized false (drop v s)
 
-  -- the value has room
+  -- the stores have room for the value behind the name
   rest-room : Room (length (drop v s)) (fill + n) tokens brackets store
   rest-room =
       let l = length-drop v s in

@@ -100,7 +100,7 @@ module _ (store : List ℕ) where
   unfolding readMany readStyle
   reads-one x = record { long = length-style x; reads = λ t. rw (row-numbers-back x t, row-numbers-rest x t) }
 
-  -- one behind the other
+  -- rows behind rows read as the styles of the first and then of the second
   reads-both : (xs ys : List ℕ) (ds es : List StyleDecl) → Reads xs ds → Reads ys es → Reads (xs ++ ys) (ds ++ es)
   reads-both xs ys ds es p q =
       let e : length (ds ++ es) ≡ length ds + length es = length-append ds es in
@@ -135,7 +135,7 @@ module _ (store : List ℕ) where
   unfolding ownNumbersAt declaredValue readDeclaration
   declared-said t = own-said _ _ _
 
-  -- its row reads so
+  -- the row of what a declaration asks for reads as that style, or none
   reads-said : (o : OwnStyle) → Reads (rowOfOwn o) (saidBy o)
   unfolding rowOfOwn saidBy
   reads-said (Style x) = reads-one x
@@ -197,7 +197,7 @@ module _ (store : List ℕ) where
   unfolding styleNumbers stylesOf
   reads-styles rows n = rw (any-zero n rows, any-hidden n rows) (reads-both _ _ _ _ (reads-rows n rows) (reads-added _))
 
-  -- how many these are
+  -- the count of styles that the rows have is that of the declarations' styles
   pub count-styles : (rows : List ℕ) (n : ℕ) → styleCount rows n ≡ length (stylesOf (declarationsAt rows store n))
   unfolding styleCount
   count-styles rows n = omega (arith, reads-styles rows n .long)
@@ -458,7 +458,7 @@ unfolding pick one rowsMany rowOfOwn numbersFrom styleSlotOf valueFrom
 added-row true f = sym (one-row addedStyle f _ refl)
 added-row false f = refl
 
--- it has no text
+-- the style that is added has no text
 added-text : (z : Bool) → textsMany styleText (pick z (one false style.displayNone) []) ≡ []
 unfolding pick one textsMany styleText styleTextOf
 added-text true = refl

@@ -61,7 +61,7 @@ module _ (rows : List ℕ) (at k a : ℕ) (ek : k ≡ getD rows (at + declaratio
     unfolding is
     value-second d e = value-at _ (and-gives _ _ _ (or-right _ _ (is-no k m d) (is-yes k n e)) refl)
 
-    -- it is of neither
+    -- a declaration of neither kind has no such value
     pub value-none : ¬ (k ≡ m) → ¬ (k ≡ n) → false ≡ hasValue m n v (drop at rows)
     value-none d e = value-at _ (and-gives-false _ _ (or-none _ _ (is-no k m d) (is-no k n e)))
 
@@ -157,7 +157,7 @@ pub record Styling (rows : List ℕ) (count : ℕ) (styles₀ styles : List ℕ)
   pub within : i ≤ count
   pub long : length styles ≡ length styles₀
 
--- nothing is written yet
+-- before the first declaration nothing is written, and neither flag is set
 pub styling-begin : (rows : List ℕ) (count : ℕ) (styles : List ℕ) → Styling rows count styles styles 0 false false 0 0
 unfolding or
 styling-begin rows count styles =
@@ -195,7 +195,7 @@ module _ (rows : List ℕ) (count : ℕ) (styles₀ styles : List ℕ) (place : 
     both : (height-zero && overflow-hidden) ≡ and (anyRow zeroRow count rows) (anyRow hiddenRow count rows)
     both = and-is height-zero overflow-hidden ∙ rw (any-done zeroRow _ _ height-zero _ none-left (c .height), any-done hiddenRow _ _ overflow-hidden _ none-left (c .overflow))
 
-    -- they add a style
+    -- both flags set: the style that is added is put behind the others
     pub styling-added : (height-zero && overflow-hidden) ≡ true → (x : StyleNumbers) → x ≡ addedStyle → (styles₁ : List ℕ) (place₁ : ℕ)
         → record { bytes = styles₁; fill = place₁ } ≡ emits (record { bytes = styles; fill = place }) (rowOfNumbers x)
         → Styled rows count styles₀ styles₁ (place₁ / styleWidth)

@@ -76,7 +76,7 @@ sheet-numbers a {n} e =
     let t : n .refusal .text ≡ 0 = ap (λ (m : SheetNumbers). m .refusal .text) e ∙ sheet-text a in
     ap (λ (r : Refusal). record { refusal = r; count = n .count; stop = n .stop; numbers = n .numbers; bytes = n .bytes }) (one-text (n .refusal) t) ∙ e
 
--- those of a length
+-- the numbers of a length, with the refusal made of its number and place, are those of the answer
 pub length-numbers : (a : LengthAnswer) {n : LengthNumbers} → n ≡ lengths.numbersOf a
     → _≡_ {A = LengthNumbers}
     (record { refusal = refusedAt (n .refusal .number) (n .refusal .place); kind = n .kind; amount = n .amount }) (lengths.numbersOf a)
@@ -168,7 +168,7 @@ run-textless rows texts state rules tokens brackets code settings g =
     pick-holds textlessLeft _ _ _ (λ _. refl)
     (λ _. pick-holds textlessLeft _ _ _ (λ _. by-textless rows texts state rules tokens brackets code settings g _ _ (page-textless g) (bytes-textless code)) (λ _. refl))
 
--- its answer in numbers
+-- a run's answer, put in numbers and read back, is the answer
 answer-told : (a : RunAnswer) → textless (a .refusal) → answerIn (resultOf a) ≡ a
 unfolding answerIn resultOf
 answer-told a e = ap (λ (r : Refusal). record { refusal = r; texts = a .texts }) (one-text (a .refusal) e)

@@ -225,7 +225,7 @@ row-found (e ∷ es) zero h = (e .means, refl, λ f. refl)
 row-found (e ∷ es) (suc i) h = row-found es i (omega arith)
 
 module _ (place : ℕ) (n unit : List ℕ) (i : ℕ) (e : i ≡ placeOf unit (split (joinedOf units) (lengthsOf units))) where
-  -- one of the eight
+  -- a dimension whose unit is one of the eight is a number with that unit's factor
   pub unit-known : i < length (wordsOf units) → (r : LengthAnswer)
       → r ≡ withUnit place n (getD (numbersOf (λ u. u .kind) units) i 0) (getD (numbersOf (λ u. u .factor) units) i 0) → r ≡ dimensionLength place n unit
   unfolding dimensionLength onFound

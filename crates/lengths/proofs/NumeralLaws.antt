@@ -111,7 +111,7 @@ module _ (negative : Bool) (u : List ℕ) (n : ℕ) (e : n ≡ digits u) (w : �
       let x = worth 0 (take n u) in
       parts [] (sym (drop-of-length-le u {i = n + 1} (omega arith))) 0 w refl (ew ∙ sym (capped-worth x []) ∙ ap capped (sym ew))
 
-  -- a byte follows them
+  -- where a point follows the digits, those behind it are its decimals
   pub point-numeral : (f : List ℕ) → f ≡ take (length u - (n + 1)) (drop (n + 1) u) → (v : ℕ) → v ≡ capped (worth w f)
       → _≡_ {A = Numeral} (record { negative = negative; decimals = length f; digits = v }) (unsignedNumeral negative u)
   point-numeral f ef v ev = parts f (ef ∙ rest u (n + 1)) (length f) v refl ev

@@ -140,7 +140,7 @@ module _ (s : List ℕ) where
   unfolding lengthOf numericToken onParsed behind
   length-ok i k e = rw e
 
-  -- what stands behind it
+  -- where a token reads, the value is its length where only white space follows, else none
   length-at : (i : ℕ) (k : Token) (a : LengthAnswer) → numericOf rest-of ≡ ok i k → tokenLength (skipWhitespace s) k ≡ a
       → pick (onlyWhitespace (drop i rest-of)) a NoLength ≡ lengthOf s
   length-at i k a e ea =

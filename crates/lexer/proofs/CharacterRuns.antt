@@ -104,7 +104,7 @@ module _ (s st₀ : List ℕ) (fill : ℕ) (st : List ℕ) (f i n : ℕ) (w : Ch
       writing-more _ _ _ _ _ _ _ _ _ w k m z g (takes (drop i s) _ e) (c .within-text) (λ q. omega (arith, c .some))
       (em ∙ ap length (sym t)) (ez ∙ ap (emits _) (sym t)) lz
 
-  -- no character is there
+  -- the return where no character is left: what was taken and written is all of it
   pub chars-stop : (x : Scalar) → x ≡ nmcharOf (take (length s - i) (drop i s)) → x ≡ NoScalar → Emitted s st₀ fill st i n
   unfolding takenOf
   chars-stop x ex h =

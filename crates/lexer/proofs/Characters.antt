@@ -141,7 +141,7 @@ unfolding utf8 pick
 replacement-three = omega arith
 
 module _ (s : List ℕ) (h : getD s 0 0 ≡ reverseSolidus) where
-  -- the backslash is there
+  -- the backslash stands before the end of the text
   backslash : 1 ≤ length s
   backslash = inside s 0 0x5b h
 
@@ -187,13 +187,13 @@ module _ (s : List ℕ) (h : getD s 0 0 ≡ reverseSolidus) where
       pick-holds (Fine s) _ _ _ (λ e. end-fits (is-true _ _ e))
       (λ _. pick-holds (Fine s) _ _ _ hex-fits (λ _. next-char (scalarOf (drop 1 s)) refl))
 
--- an escape, or none
+-- an escape that reads keeps to the bounds
 escape-fine : (s : List ℕ) → Fine s (identEscapeOf s)
 unfolding identEscapeOf
 escape-fine s = pick-holds (Fine s) _ _ _ (λ e. escaped-fine s (is-true _ _ e)) (λ _. tt)
 
 -- ---- either of both
--- the first that reads
+-- where both alternatives keep to the bounds, so does the first that reads
 either-fine : (s : List ℕ) (a b : Scalar) → Fine s a → Fine s b → Fine s (either a b)
 unfolding either
 either-fine s (Value n v) b p q = p

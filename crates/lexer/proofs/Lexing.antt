@@ -72,7 +72,7 @@ mark-lexes c n st fill k e = (ap (Took n) e, sym (ap (sets st fill) (mark-text c
 
 -- ---- `token_at`: by the character at the start, if there is one
 module _ (t st : List ℕ) (fill : ℕ) (x : Scalar) (ex : x ≡ scalarOf t) where
-  -- a character is there
+  -- the return where a character is there: the token by what it starts
   pub at-char : (n c : ℕ) → x ≡ Value n c → (r : TokenAnswer) (z : List ℕ) → Lexes (tokenBy (startOf c) n c t) st fill r z
       → Lexes (tokenAt t (scalarOf t)) st fill r z
   unfolding tokenAt

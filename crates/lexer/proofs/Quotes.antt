@@ -74,7 +74,7 @@ Turned q s st f k m z g =
     ((k ≡ quotedTaken q s) × (m ≡ length (quotedText q s))) × (record { bytes = z; fill = g } ≡ emits (record { bytes = st; fill = f }) (quotedText q s))
 
 module _ (q : ℕ) (s : List ℕ) (c : Quoted) (e : c ≡ quotedOf q s) (st : List ℕ) (f : ℕ) where
-  -- a byte of text
+  -- the return where a byte of text was read: it is emitted
   pub turn-byte : (n x : ℕ) → c ≡ Byte n x → (z : List ℕ) (g : ℕ) → record { bytes = z; fill = g } ≡ emits (record { bytes = st; fill = f }) (x ∷ [])
       → Turned q s st f n 1 z g
   unfolding quotedTaken quotedText takenOf textOf
@@ -167,7 +167,7 @@ module _ (q : ℕ) (s st₀ : List ℕ) (fill : ℕ) (st : List ℕ) (f i n : �
       let o = onward in
       writing-more _ _ _ _ _ _ _ _ _ w k m z g (sym (o .0 .0)) (omega (arith, o .0 .0, quoted-le q (drop i s))) d (o .0 .1) (o .1) l
 
-  -- the string ends here
+  -- a turn that takes nothing ends the string: what was taken and written is all of it
   pub string-stop : k ≡ 0 → Ended q s st₀ fill z i n
   string-stop h =
       let o = onward in

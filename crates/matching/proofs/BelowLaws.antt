@@ -50,13 +50,13 @@ module _ (store components nodes attributes text : List ℕ) where
       pub right : RightTop nodes attributes text before at top
       pub finds : lastMatched nodes attributes text before (ancestorsOf nodes at) found ≡ topmost nodes attributes text before row
 
-    -- nothing is found yet
+    -- before the parent is asked nothing is found, and the whole search is left
     pub seek-begin : Rooted nodes row → RightTop nodes attributes text before row top → Seeking row row
     unfolding topmost
     seek-begin r g = record { rooted = r; right = g; finds = refl }
 
     module _ (found at : ℕ) (s : Seeking found at) where
-      -- no ancestor is left
+      -- at the document no ancestor is left, and what is found is the topmost
       pub seek-end : at ≡ 0 → found ≡ topmost nodes attributes text before row
       seek-end e =
           sym (last-document nodes attributes text before found) ∙ ap (λ (r : ℕ). lastMatched nodes attributes text before (ancestorsOf nodes r) found) (sym e) ∙ s .finds

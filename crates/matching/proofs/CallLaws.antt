@@ -39,7 +39,7 @@ by-combinator P (attributeEqual n v) p q r = r
 no-complete : {A : Type 0} → FailsCompletely ≡ FailsLocally → A
 no-complete e = absurd (let z : _≡_ {A = ℕ} 0 1 = cc in omega arith)
 
--- nor is to match
+-- to match is not to fail locally
 no-match : {A : Type 0} → Matches ≡ FailsLocally → A
 no-match e = absurd (let z : _≡_ {A = ℕ} 0 1 = cc in omega arith)
 

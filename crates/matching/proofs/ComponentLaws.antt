@@ -51,7 +51,7 @@ module _ {A : Type 0} (u : List ℕ → Read A) where
   read-more zero t = refl
   read-more (suc k) t = ap (λ (l : List A). u t .value ∷ l) (read-more k (u t .rest))
 
--- where k components end
+-- reading k components ends k rows further on
 read-rest : (store : List ℕ) (k : ℕ) (t : List ℕ) → readMany (readComponent store) k t .rest ≡ drop (k * componentWidth) t
 unfolding readMany readComponent
 read-rest store zero t = refl

@@ -56,7 +56,7 @@ module _ (store components nodes attributes text : List ℕ) where
   climb-opened n row = rw (components-more store components n, components-length store components n) refl
 
   module _ (left row : ℕ) where
-    -- no component is left
+    -- with no component left the climb ends, and the selector matches
     pub match-end : left ≡ 0 → Ended Matches ≡ Climb left row
     unfolding climbOf
     match-end e = rw (e, components-none store components) refl

@@ -109,7 +109,7 @@ module _ (nodes attributes text : List ℕ) where
       pick-holds (NotBehind nodes row) (is row 0) _ _ (λ _. tt)
       (λ e. let z = is-false row 0 e in not-behind-on (nodeAt nodes row .parent) row (omega (arith, parent-before nodes row r z _ refl)) (Climb cs (nodeAt nodes row .parent)) (up z))
 
-  -- a climb goes up
+  -- a climb leads to no row behind the one it starts from
   climbs-up : (cs : List Component) (row : ℕ) → Rooted nodes row → NotBehind nodes row (Climb cs row)
   unfolding climbOf NotBehind
   climbs-up [] row r = tt
@@ -226,14 +226,14 @@ module _ (nodes attributes text : List ℕ) where
           ∙ alone nodes Top row (Climb cs at) (not-behind-on at row (line-before nodes row at r w) (Climb cs at) (climbs-up cs at (line-rooted nodes row at r w))) (matches cs (pathOf nodes attributes text at))
           (right-top nodes attributes text row r cs .decides at w)
 
-      -- and on all rows
+      -- where one row alone reaches a descendant combinator, that number decides on all rows of the path
       one-says : Second ≡ 0 → (at : ℕ) → Line nodes row at → (b : Bool) → is at 0 ≡ b → Says Sole at
       one-says f at w true e = unasked _ at w true e (λ z. absurd (z (is-true at 0 e)))
       one-says f at w false e =
           ⊎-elim (λ (q : at ≡ First row). on-first at w q) (λ (q : reaches (Climb cs at) ≡ false). unasked _ at w false e (λ z. q))
           (one-reaches (First row) f row r refl at w (is-false at 0 e))
 
-      -- so it is right
+      -- so that number is right, where one row alone reaches a descendant combinator
       right-one : Second ≡ 0 → Right Sole
       right-one f = record { decides = λ at w. one-says f at w (is at 0) refl }
 
@@ -244,7 +244,7 @@ module _ (nodes attributes text : List ℕ) where
           pick-holds Right (is (First row) 0) _ _ (λ e. right-none (is-true _ _ e))
           (λ e. pick-holds Right (is Second 0) _ _ (λ f. right-one (is-true _ _ f)) (λ f. right-top nodes attributes text row r cs))
 
-      -- and any does without
+      -- without a descendant combinator any number is right
       right-other : hasDescendant cs ≡ false → (top : ℕ) → Right top
       right-other e top = record { decides = λ at w. unasked top at w (is at 0) refl (λ z. unreached cs e at) }
 
@@ -291,7 +291,7 @@ module _ (nodes attributes text : List ℕ) where
         number-none z = pick-true _ _ _ _ (is-yes _ _ (sym ef ∙ z)) refl
 
         module _ (z : ¬ (first ≡ 0)) (p : ℕ) (ep : p ≡ nodeAt nodes first .parent) where
-          -- so is its parent
+          -- from the parent, too, parents lead to the document
           pub above-rooted : Rooted nodes p
           above-rooted = parent-rooted nodes first first-is-rooted z p ep
 
@@ -304,7 +304,7 @@ module _ (nodes attributes text : List ℕ) where
             no-first : ¬ (First row ≡ 0)
             no-first e = z (ef ∙ e)
 
-            -- more than one does
+            -- the return where more than one row reaches a descendant combinator: the number is the selector's topmost row
             pub number-more : ¬ (second ≡ 0) → (t : ℕ) → t ≡ Top → t ≡ reachedNumber nodes attributes text row cs
             unfolding reachedNumber
             number-more y t et = pick-false _ _ _ _ (is-no _ _ no-first) (pick-false _ _ _ _ (is-no _ _ (λ e. y (second-is ∙ e))) et)
@@ -367,7 +367,7 @@ module _ (nodes attributes text : List ℕ) where
     reach-begin row r = record { rooted = r; same-first = refl }
 
     module _ (row at : ℕ) (g : Reaching row at) where
-      -- no element is left
+      -- with no element left, no row reaches a descendant combinator
       pub reach-end : at ≡ 0 → 0 ≡ First row
       reach-end e = sym (g .same-first ∙ ap First e ∙ first-document nodes attributes text cs)
 
@@ -408,7 +408,7 @@ module _ (components : List ℕ) where
           let e : n ≡ suc (n - 1) = omega arith in
           ap (Has store) e ∙ ap hasDescendant (components-more store components (n - 1))
 
-      -- the last is one
+      -- where the last component is a descendant combinator, there is one
       pub look-found : k ≡ descendantKind → (store : List ℕ) → true ≡ Has store left
       unfolding componentAt byCombinator
       look-found e store =

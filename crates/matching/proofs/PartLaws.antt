@@ -43,7 +43,7 @@ module _ (text : List ℕ) (start n : ℕ) (t : List ℕ) where
     unfolding part
     long = em (drop start text) (ap length (sym (rest text start)))
 
-    -- as many as t
+    -- a part as long as t is t exactly if the text there begins with t
     pub part-starts : m ≡ length t → (r : Bool) → r ≡ startsWith t (take (length text - start) (drop start text)) → r ≡ sameText (part text start n) t
     unfolding part
     part-starts e r p =

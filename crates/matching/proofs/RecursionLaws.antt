@@ -95,7 +95,7 @@ module _ (f : Path → Bool) (s : Path → SelectorMatch) (holds : (p : Path) �
   unfolding matches step pick
   at-star p = holds p
 
-  -- any other simple selector
+  -- what holds of the result of what is left holds of any other simple selector's
   at-simple : (c : Component) (u : Element → Bool) → ((q : Path) → and (here u q) true ≡ matches (c ∷ []) q) → (p : Path)
       → ResultHolds (λ q. and (here u q) (f q)) p (pick (matches (c ∷ []) p) (s p) FailsLocally)
   at-simple c u e p =

@@ -195,7 +195,7 @@ module _ (nodes attributes text : List ℕ) (row : ℕ) (r : Rooted nodes row) w
   top-decides (attribute c ∷ cs) at w = test-decides _ _ _ _ (top-decides cs at w)
   top-decides (attributeEqual c v ∷ cs) at w = test-decides _ _ _ _ (top-decides cs at w)
 
-  -- so it is right
+  -- so the topmost row of a selector is the right number for the row
   pub right-top : (cs : List Component) → RightTop nodes attributes text cs row (selectorTop nodes attributes text row cs)
   right-top cs = record { decides = top-decides cs }
 

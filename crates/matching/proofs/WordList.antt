@@ -29,7 +29,7 @@ use Rattle.matching.proofs.Selectors.{Exactly, or-yes}
 
 -- ---- two things that each follow from the other
 
--- one behind the other
+-- where P holds exactly if Q does, and Q exactly if R does, P holds exactly if R does
 pub exactly-then : (P Q R : Type 0) → Exactly P Q → Exactly Q R → Exactly P R
 exactly-then P Q R f g = ((λ p. g .0 (f .0 p)), (λ r. f .1 (g .1 r)))
 
@@ -120,7 +120,7 @@ module _ (f : ℕ → Bool) (u : List ℕ → ℕ) (takes : Takes f u) where
 unfoldable isWordCharacter : ℕ → Bool
 isWordCharacter v = no (isWhiteSpace v)
 
--- both readers are such
+-- the reader of a word takes the bytes of one character, unless that is White_Space
 word-takes : Takes isWhiteSpace wordTaken
 unfolding wordTaken wordOf
 word-takes v t s =
@@ -250,7 +250,7 @@ module _ (w : List ℕ) (k : ℕ) (vs : List ℕ) (h : Scalars vs) where
   opened =
       rw (trimmed, taken isWhiteSpace wordTaken word-takes text text-scalars, left isWhiteSpace wordTaken word-takes text text-scalars, repeated isWhiteSpace wordTaken word-takes text text-scalars)
 
-  -- no word is left
+  -- where no word is left, the test finds none, and there is none
   at-end : front isWhiteSpace text ≡ [] → Right w (suc k) vs
   at-end e = ((λ p. never (fails ∙ p)), (λ q. absurd (subst (Found w) none-there q)))
     where

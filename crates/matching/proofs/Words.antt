@@ -75,7 +75,7 @@ module _ (w s : List ℕ) (i : ℕ) (v : Splitting w s i) (inside : i < length s
     pub split-found : r ≡ true → true ≡ hasWord w s
     split-found e = sym (or-left _ _ (compared ∙ e)) ∙ pick-false _ _ _ (is n 0) (is-no n 0 some) refl ∙ turned
 
-    -- it is not w
+    -- a word that is not the one sought is passed over, and those behind it are left
     pub split-more : r ≡ false → i + a + n ≤ length s → Splitting w s (i + a + n)
     unfolding or
     split-more e h =

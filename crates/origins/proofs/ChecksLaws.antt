@@ -37,7 +37,7 @@ module _ (a u w : ℕ) where
     unfolding anyTooLong
     author-long k = or-gives _ _ (ltb sheetLimit w) (le-ltb sheetLimit a h) (or-gives _ _ (ltb sheetLimit w) (le-ltb sheetLimit u k) refl)
 
-  -- none is too long
+  -- where none of the three is too long, each is within the limit
   pub none-long : anyTooLong a u w ≡ false → (a ≤ sheetLimit) × (u ≤ sheetLimit) × (w ≤ sheetLimit)
   unfolding anyTooLong
   none-long e =

@@ -9,7 +9,7 @@ use lib.Seq.{sets}
 use Rattle.combinators.specs.Store.{wiped, Zeros}
 use Rattle.combinators.proofs.Lists.{rest}
 
--- behind a first number
+-- storing behind a first number leaves that number, and stores in those behind it
 sets-second : (x : ℕ) (l : List ℕ) (i : ℕ) (vs : List ℕ) → sets (x ∷ l) (suc i) vs ≡ x ∷ sets l i vs
 sets-second x l i [] = refl
 sets-second x l i (v ∷ vs) = sets-second x (set l i v) (suc i) vs

@@ -48,7 +48,7 @@ module _ (rows : List ℕ) (at d place count : ℕ) (e : (texts : List ℕ) → 
   unfolding readRule selectorsRead declarationsAt
   declared-is texts = rw (lent-is texts, count-is)
 
-  -- what is asked for
+  -- a store with room for the rule has room for the styles of its declarations
   pub room : (tokens : List ℕ) → RuleRoom (drop at rows) (length tokens) → StylesRoom lent count tokens
   room tokens o = record { for-declarations = rw (lent-is (o .texts), count-is) (o .declared); for-styles = rw count-is (o .styled) }
 

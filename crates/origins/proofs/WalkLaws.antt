@@ -22,7 +22,7 @@ module _ {A : Type 0} (u : List ℕ → Read A) where
 
   -- values whose rows all have one width
   module _ (w : ℕ) (h : (t : List ℕ) → u t .rest ≡ drop w t) where
-    -- what stands behind them
+    -- behind k values lies what is k widths further
     pub many-rest : (k : ℕ) (t : List ℕ) → readMany u k t .rest ≡ drop (w * k) t
     unfolding readMany
     many-rest zero t = rw (mul-zero w)
@@ -30,7 +30,7 @@ module _ {A : Type 0} (u : List ℕ → Read A) where
         let e : w + w * k ≡ w * suc k = omega (arith, mul-suc w k) in
         many-rest k (u t .rest) ∙ ap (drop (w * k)) (h t) ∙ drop-drop (w * k) w t ∙ ap (λ n. drop n t) e
 
-    -- the last of them
+    -- k + 1 values are the first k, and the one that is read k widths further
     pub many-next : (k : ℕ) (t : List ℕ) → readMany u (k + 1) t .value ≡ readMany u k t .value ++ (u (drop (w * k) t) .value ∷ [])
     unfolding readMany
     many-next k t =
@@ -101,10 +101,10 @@ module _ {A : Type 0} (u : List ℕ → List ℕ → Read A) (rows : List ℕ) (
   none-behind texts (suc k) place h = absurd (omega arith)
 
   module _ (left place : ℕ) (c : Passing left place) where
-    -- one is passed over
+    -- with one value passed over, the others are left from behind it
     pub passing-more : 0 < left → (next : ℕ) → ((texts : List ℕ) → drop next rows ≡ u texts (drop place rows) .rest) → Passing (left - 1) next
     passing-more h next e texts = one-behind texts left place next h (e texts) ∙ c texts
 
-    -- all are passed over
+    -- with none left, what lies here is what lies behind all of them
     pub passing-done : left ≤ 0 → (texts : List ℕ) → drop place rows ≡ readMany (u texts) count (drop at rows) .rest
     passing-done h texts = none-behind texts left place h ∙ c texts

@@ -56,7 +56,7 @@ module _ (nodes : List ℕ) (p rows : ℕ) where
 
 -- ---- `place_among`: which element child of its parent a row is
 module _ (nodes : List ℕ) (row p r : ℕ) (e : p ≡ nodeAt nodes row .parent) where
-  -- the row is there
+  -- the element children of the parent up to the row are the row's place
   pub place-there : r ≡ elementChildren nodes p (row + 1) → r ≡ placeOf nodes row
   unfolding placeOf
   place-there h = rw (← e) h

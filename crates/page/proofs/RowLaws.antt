@@ -120,7 +120,7 @@ module _ (attributes : List ℕ) (n : NodeRow) (first start s : ℕ) (es : s ≡
         unfolding elementAnswer elementFollows attributesAnswer
         element-breaks e = pick-false _ _ _ _ (and-right _ _ (and-right _ _ (broken _ _ (sym e ∙ follows)))) refl
 
-        -- all is in place
+        -- the return where name and attributes lie in place: the totals go on behind them
         pub element-ends : s ≡ start → f ≡ first → first + k ≤ m → (end : ℕ) → r ≡ End end → Behind (first + k) end ≡ elementAnswer attributes n first start
         unfolding elementAnswer elementFollows attributesAnswer behind textsEnd
         element-ends ys yf h end e =
@@ -133,12 +133,12 @@ module _ (attributes : List ℕ) (n : NodeRow) (first start s : ℕ) (es : s ≡
 
 -- ---- `check_kind`: other content, or an element, from where the rows before leave off
 module _ (attributes : List ℕ) (n : NodeRow) (first start : ℕ) (z : endsInZeros n ≡ true) where
-  -- it has no name
+  -- a row that ends in zeros has no name
   no-name : n .nameLength ≡ 0
   unfolding endsInZeros
   no-name = is-true _ _ (and-true _ _ (and-true _ _ z .0) .1)
 
-  -- it has no attributes
+  -- a row that ends in zeros has no attributes
   no-attributes : n .attributeCount ≡ 0
   unfolding endsInZeros
   no-attributes = is-true _ _ (and-true _ _ (and-true _ _ z .1) .1)

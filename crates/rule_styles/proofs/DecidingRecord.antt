@@ -144,7 +144,7 @@ module _ {A : Type 0} (u : Slot A → Styled A → Slot A) where
   unfolding mergedInto
   merged-in p d h = sym (pick-true _ _ _ _ (lt-ltb (d .slot) slotCount h) refl)
 
-  -- one without changes nothing
+  -- a style of a slot that there is not changes nothing in the record
   merged-out : (p : Record A) (d : Styled A) → slotCount ≤ d .slot → mergedInto u p d ≡ p
   unfolding mergedInto
   merged-out p d h = sym (pick-false _ _ _ _ (le-ltb (d .slot) slotCount h) refl)

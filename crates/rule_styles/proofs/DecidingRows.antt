@@ -127,7 +127,7 @@ pub found-written : (rows left : List ℕ) (at : ℕ) (t : Bool) (x : StyleNumbe
 unfolding textsMany listed onFound foundIn pick styledRow inNumbers rowOfNumbers valueNumbers
 found-written rows left at t x e f = rw e (f, (refl, omega arith))
 
--- one that is not
+-- a style that is not there writes nothing
 pub missing-written : (rows : List ℕ) (at : ℕ) (t : Bool) (x : StyleNumbers) → t ≡ false → Written rows rows at 0 1 (listed (foundIn t x))
 unfolding textsMany listed onFound foundIn pick
 missing-written rows at t x e = rw e (refl, (refl, omega arith))
@@ -146,7 +146,7 @@ both-written rows one left at n m xs ys p q =
 
 -- the order of the two kinds
 module _ (rows left : List ℕ) (at n : ℕ) (s : code.Sifted) where
-  -- the important one behind
+  -- where it lies behind, the important style is written behind the normal one
   pub sifted-behind : s .behind ≡ true → Written rows left at n 2 (listed (foundIn (s .«has_normal») (s .normal)) ++ listed (foundIn (s .«has_important») (s .important)))
       → Written rows left at n 2 (siftedStyles (siftedIn s))
   unfolding siftedStyles siftedIn

@@ -54,7 +54,7 @@ styled-back (x ∷ xs) t =
     let others = textsMany rowOfNumbers xs ++ t in
     rw (append-assoc (rowOfNumbers x) (textsMany rowOfNumbers xs) t, row-numbers-back x others, row-numbers-rest x others, styled-back xs t)
 
--- as many are placed
+-- as many styles are placed as there were
 pub placed-long : (text : List ℕ) (xs : List StyleNumbers) (f : ℕ) → length (placedAll text f xs) ≡ length xs
 unfolding placedAll
 placed-long text [] f = refl

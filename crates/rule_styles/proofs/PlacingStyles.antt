@@ -19,7 +19,7 @@ use Rattle.rule_styles.proofs.PlacingCopies.{sheet-text-kept}
 
 -- ---- one style, whose content is placed at the fill
 module _ (text : List ℕ) (fill : ℕ) (x : StyleNumbers) where
-  -- a content: its text
+  -- the content of a style of the content slot is the text that its numbers name
   content-is : x .slot ≡ contentSlot → part text (x .value .number) (x .value .second) ≡ contentOf text x
   unfolding contentOf
   content-is h = pick-true _ _ _ _ (is-yes _ _ h) refl
@@ -140,7 +140,7 @@ module _ (tokens₀ : List ℕ) (at count : ℕ) (texts₀ : List ℕ) (from end
     pub text-length : length texts ≡ length texts₀
 
   module _ (s : StyleRowsRoom tokens₀ at count) (r : ContentsRoom texts₀ from end fill (contentsFrom tokens₀ at count)) where
-    -- none is placed yet
+    -- before the first style none is placed, and all are left
     pub placing-begin : Placing tokens₀ texts₀ fill at count
     placing-begin = record { rows-left = refl; texts-left = refl; fill-left = refl; same = refl; row-room = s .room; row-length = refl; text-length = refl }
 
@@ -149,7 +149,7 @@ module _ (tokens₀ : List ℕ) (at count : ℕ) (texts₀ : List ℕ) (from end
       abbrev x : StyleNumbers
       x = numbersAt (drop place tokens)
 
-      -- room for the next
+      -- there is room for the next style's row, and for its content
       next-room : (k : ℕ) → Placing tokens texts f place (suc k) → StyleRowRoom tokens place × ContentsRoom texts from end f (contentOf (sheetText texts from end) x)
       next-room k c =
           let e = ap length (one-content sheet k (drop place tokens)) ∙ length-append (contentOf sheet x) (contentsOf sheet (numbersOf k (drop styleWidth (drop place tokens)))) in
@@ -190,7 +190,7 @@ module _ (tokens₀ : List ℕ) (at count : ℕ) (texts₀ : List ℕ) (from end
       placing-room zero c h = absurd (omega arith)
       placing-room (suc k) c h = next-room k c
 
-      -- the next is placed
+      -- a turn: the next style is placed, with its content, and the styles behind it are left
       pub placing-more : (n : ℕ) → Placing tokens texts f place n → 0 < n → (t z : List ℕ) (g : ℕ)
           → t ≡ sets tokens place (rowOfNumbers (placedNumbers (sheetText texts from end) f x)) → z ≡ sets texts (end + f) (contentOf (sheetText texts from end) x)
           → g ≡ f + length (contentOf (sheetText texts from end) x) → Placing t z g (place + styleWidth) (n - 1)

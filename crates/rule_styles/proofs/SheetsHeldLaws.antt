@@ -64,7 +64,7 @@ module _ {s : SheetsRules} {rows tokens texts : List ℕ} (h : SheetsHeld s rows
   unfolding sheetsFrom
   sheets-are = rw (agent-back (h .lent) m er et, user-back (h .lent) m er et, author-back (h .lent) m er et) refl
 
-  -- where their texts end
+  -- the texts end where those of agent, user and author together do
   pub end-is : s .end ≡ length (ruleTexts a) + length (ruleTexts u) + length (ruleTexts w)
   unfolding sheetsRules
   end-is = ap (λ (v : SheetsRules). v .end) (m .lie)
@@ -171,7 +171,7 @@ module _ {s : SheetsRules} {rows tokens texts : List ℕ} (h : SheetsHeld s rows
           fit = author-keeps (h .lent) m .fit;
         })
 
-  -- where they were read
+  -- the agent's sheet lies in the stores as they were left
   pub agent-lies : SheetLies rows texts (s .end) (s .agent) a
   agent-lies = agent-lies-in (zr (h .lent) m er et) (zt (h .lent) m er et) (rows-are (h .lent) m er et) (texts-are (h .lent) m er et)
 

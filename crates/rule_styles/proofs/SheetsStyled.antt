@@ -93,7 +93,7 @@ module _ {rows texts : List ℕ} {end : ℕ} {x : SheetRules} {rs : List RuleSet
   abbrev its : List ℕ
   its = sheetText texts (x .from) end
 
-  -- room for its styles
+  -- where the store is zero from a place on and long enough, it has room for what is kept of the sheet
   pub sheet-room : (tokens : List ℕ) (place : ℕ) → Zeros tokens place → place + length (ruleRows 0 rs) + 64 ≤ length tokens → RulesKeptRoom its (x .count) (drop (x .place) rows) tokens place
   sheet-room tokens place z h = rw (l .counted, l .rows-at) (written-room its rs 0 (l .behind) (l .fit) (l .held) tokens place z (omega arith))
 

@@ -38,7 +38,7 @@ numbers-append : (xs ys : List StyleNumbers) → map inNumbers (xs ++ ys) ≡ ma
 numbers-append [] ys = refl
 numbers-append (x ∷ xs) ys = rw (numbers-append xs ys)
 
--- rows are read back
+-- styles in numbers are read back from their rows
 pub numbers-back : (xs : List StyleNumbers) (t : List ℕ) → numbersOf (length xs) (textsMany rowOfNumbers xs ++ t) ≡ xs
 unfolding numbersOf readNumbers readMany textsMany
 numbers-back [] t = refl

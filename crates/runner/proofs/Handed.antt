@@ -24,7 +24,7 @@ module _ (nodes : List ℕ) (i : ℕ) where
   abbrev own : List ℕ
   own = part nodes (i * nodeWidth) nodeWidth
 
-  -- a number of it
+  -- a number of the node row that is handed is that of the page's row
   pub node-number : (column : ℕ) → column < nodeWidth → nodeNumber own 0 column ≡ nodeNumber nodes i column
   unfolding nodeNumber
   node-number column h =

@@ -276,7 +276,7 @@ module _ (code : List ℕ) (settings : Settings) (g : Page) where
       let k′ : runFrom code settings g (suc (n - (i + 1))) i x ≡ z = ap (λ (m : ℕ). runFrom code settings g m i x) (sym a) ∙ k in
       ap (λ (j : ℕ). runFrom code settings g (n - (i + 1)) j y) b ∙ ap (runFrom code settings g (n - (i + 1)) (suc i)) e ∙ k′
 
-  -- no row is left
+  -- with no row left, what the loop has is the whole run
   pub run-done : (i : ℕ) (x z : Running) → nodeCount (g .nodes) ≤ i → runFrom code settings g (nodeCount (g .nodes) - i) i x ≡ z → x ≡ z
   unfolding runFrom
   run-done i x z h k =
@@ -284,7 +284,7 @@ module _ (code : List ℕ) (settings : Settings) (g : Page) where
       let k′ : runFrom code settings g 0 i x ≡ z = ap (λ (m : ℕ). runFrom code settings g m i x) (sym a) ∙ k in
       k′
 
-  -- all rows are left
+  -- before the first row the whole run is left
   pub run-begins : (rows state texts : List ℕ) → runFrom code settings g (nodeCount (g .nodes) - 0) 0 (record { rows = rows; state = state; texts = take 0 texts }) ≡ runOf code settings g rows state
   unfolding runOf
   run-begins rows state texts =
@@ -327,7 +327,7 @@ pub record Looping (code : List ℕ) (settings : Settings) (g : Page) (rows₀ s
   pub brackets-long : length brackets ≡ length brackets₀
   pub texts-long : length texts ≡ length texts₀
 
--- before the first row
+-- before the first row nothing is filled, and the whole run is left
 pub begins : (code : List ℕ) (settings : Settings) (g : Page) (rows state rules₀ tokens brackets texts : List ℕ)
     → Looping code settings g rows state rules₀ tokens brackets texts rows state rules₀ tokens brackets texts 0 0
 begins code settings g rows state rules₀ tokens brackets texts =
@@ -373,6 +373,6 @@ module _ {code : List ℕ} {settings : Settings} {g : Page} {rows₀ state₀ ru
         texts-long = ex ∙ v .texts-long;
       }
 
-  -- behind the last row
+  -- behind the last row what the loop has is the whole run
   pub ends : (count : ℕ) → count ≡ nodeCount (g .nodes) → count ≤ i → record { rows = rows₁; state = state₁; texts = take fill texts₁ } ≡ runOf code settings g rows₀ state₀
   ends count ec h = run-done code settings g i (record { rows = rows₁; state = state₁; texts = take fill texts₁ }) (runOf code settings g rows₀ state₀) (omega (arith, ec, h)) (v .left)

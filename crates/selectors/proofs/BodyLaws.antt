@@ -124,7 +124,7 @@ or-fails : {A : Type 0} (o p : Outcome A) → o ≡ fails → orElse o p ≡ p
 unfolding orElse
 or-fails o p e = rw e
 
--- one component or more
+-- components with a first one are some components
 some-more : (n : ℕ) (o : Outcome (List Component)) (c : Component) → someOf (behind n o (λ cs. c ∷ cs)) ≡ behind n o (λ cs. c ∷ cs)
 unfolding someOf behind onOutcome pick
 some-more n (reads m cs) c = rw (is-no (suc (length cs)) 0 (λ e. absurd (omega arith)))
@@ -194,7 +194,7 @@ first-other : (t : List ℕ) → identOf t ≡ err → firstOf t ≡ componentOf
 unfolding firstOf parsed orElse
 first-other t e = rw e
 
--- behind a type selector
+-- a selector that begins with a type selector is it and the components behind it
 with-name : (t : List ℕ) (n : ℕ) (name : List ℕ) → identOf t ≡ ok n name → withElementOf t ≡ behind n (componentsFrom (drop n t)) (λ cs. element name ∷ cs)
 unfolding withElementOf onParsed
 with-name t n name e = rw e

@@ -207,7 +207,7 @@ module _ {s rules₀ : List ℕ} {place : ℕ} {store₀ : List ℕ} {fill : ℕ
   abbrev lent : List ℕ
   lent = take (length s - taken) (drop taken s)
 
-  -- room for the next
+  -- the store has room for the next component, behind the texts so far
   pub next-room : Clean (length lent) (fill + text) store
   next-room =
       rw (rest s taken)
@@ -310,7 +310,7 @@ module _ {s rules₀ : List ℕ} {place : ℕ} {store₀ : List ℕ} {fill : ℕ
       pub taken-more : taken < taken + n
       taken-more = omega (arith, keeps .0 .some)
 
-      -- the texts stay short
+      -- the texts so far are at most two bytes longer than what was taken
       pub text-short : text + textLength k f g ≤ taken + n + 2
       text-short = omega (arith, bound-two (keeps .0 .bound), i .sharp (omega (arith, taken-more, taken-within)), text-is)
 

@@ -15,7 +15,7 @@ use Rattle.selectors.specs.declared.readings.ManyReading.the-variants as
 use Rattle.selectors.proofs.ReadingLaws.{Left, LeftMany, left-reads, left-many, left-panics, left-many-panics}
 use Rattle.combinators.proofs.ZeroLaws.{zeros-behind, zeros-back}
 
--- a list without items
+-- a list of length 0 is empty
 no-items : {A : Type 0} (l : List A) → length l ≤ 0 → l ≡ []
 no-items [] h = refl
 no-items (a ∷ l) h = absurd (omega arith)
@@ -130,12 +130,12 @@ module _ {A : Type 0} {w : ℕ → A → List ℕ} {x : A → List ℕ} {whole :
       → Gathered w x whole rest rules₀ place store₀ fill k′ rules store count′ numbers′ text′
   gathered-as p q r s = rw (← p, ← q, ← r, ← s) g
 
-  -- nothing more is read
+  -- where nothing more is read, the whole is what was gathered
   end-is : (n : ℕ) → rest ≡ reads n [] → whole ≡ reads (k + n) (g .done)
   unfolding behind onOutcome
   end-is n e = g .whole-is ∙ rw (e, append-nil (g .done))
 
-  -- what is left then
+  -- the return where nothing more is read: what was gathered is left
   pub all-read : (n m : ℕ) → rest ≡ reads n [] → m ≡ k + n
       → Left length (rowsMany w x fill) (textsMany x) whole rules₀ place store₀ fill (Reads m count numbers text) rules store
   all-read n m e h = left-reads length (rowsMany w x fill) (textsMany x) whole rules₀ place store₀ fill (end-is n e ∙ rw h) (g .count-is) (g .numbers-are) (g .text-is) (g .rules-are) (g .store-is)

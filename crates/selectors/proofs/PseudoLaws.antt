@@ -182,7 +182,7 @@ module _ (u : List ℕ) (k : ℕ) where
   unfolding nthChildArgs behind onOutcome
   args-panic p e = rw (e, zero-add p)
 
--- the answer of numbers
+-- nth with its two numbers is answered with both as numbers of 32 bits
 answer-nth : (o : Outcome syntax.Component) (n : ℕ) (x : selector.Nth) → o ≡ reads n (syntax.nth (x .a) (x .b)) → (a b : ℕ) → a ≡ signedNumber (x .a) → b ≡ signedNumber (x .b)
     → answer.Component n nthKind a b ≡ componentAnswer o
 unfolding componentAnswer onOutcome componentKind componentFirst componentSecond

@@ -199,7 +199,7 @@ two-more a b e = omega arith
 
 -- ---- what is left
 module _ {s rules₀ : List ℕ} {place : ℕ} {store₀ : List ℕ} {fill : ℕ} (r : RowRoom selectorHead s rules₀ place) (q : TextRoom 4 s store₀ fill) where
-  -- room for the components
+  -- the rows have room for the components behind the selector's head
   pub body-rows : RowRoom 0 s rules₀ (place + selectorHead)
   body-rows =
       record { zeros = zeros-later rules₀ place (r .zeros) selectorHead; for-rows = omega (arith, r .for-rows); bits = omega (arith, r .bits) }

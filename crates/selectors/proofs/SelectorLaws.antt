@@ -55,7 +55,7 @@ put-one kept row rules rules′ place n e = e ∙ ap (sets rules place) (pick-fa
 
 -- ---- `drop_blank`: a blank at the end is dropped
 module _ (rules : List ℕ) (place count : ℕ) where
-  -- there is no component
+  -- with no component, none is a blank at the end
   none-last : count ≡ 0 → blankLast rules place count ≡ false
   unfolding blankLast
   none-last e = sym (pick-true _ _ _ _ (is-yes count 0 e) refl)

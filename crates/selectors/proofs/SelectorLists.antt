@@ -149,7 +149,7 @@ module _ {s rules₀ : List ℕ} {place : ℕ} {store₀ : List ℕ} {fill : ℕ
   lent-long : length lent ≡ length s - next
   lent-long = ap length lent-is ∙ length-drop next s
 
-  -- room for the next
+  -- the rows have room for the rest, behind those so far
   pub next-rows : RowRoom selectorHead lent rules (place + numbers)
   next-rows =
       record {

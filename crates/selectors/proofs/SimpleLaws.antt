@@ -68,7 +68,7 @@ module _ (s st : List ℕ) (fill : ℕ) (r : ComponentAnswer) (z : List ℕ) (w 
     pub same-class : z ≡ st
     same-class = tried _ st fill r z w h .1
 
-    -- what stands behind it
+    -- where no class reads, the alternatives behind it decide
     no-class : (x : ComponentAnswer) (y : List ℕ) → Left (orElse (attrOf s) (orElse (hashOf s) (orElse (parsed 0 (identOf s) element) (pseudoClassOf s)))) st fill x y → Left (namedOf s) st fill x y
     unfolding namedOf
     no-class x y v = left-second _ _ st fill (tried _ st fill r z w h .0) x y v
@@ -88,7 +88,7 @@ module _ (s st : List ℕ) (fill : ℕ) (r : ComponentAnswer) (z : List ℕ) (w 
         pub same-attr : z₂ ≡ st
         same-attr = tried _ st fill r₂ z₂ from-attr h₂ .1
 
-        -- what stands behind it
+        -- where no attribute reads either, the alternatives behind it decide
         no-attr : (x : ComponentAnswer) (y : List ℕ) → Left (orElse (hashOf s) (orElse (parsed 0 (identOf s) element) (pseudoClassOf s))) st fill x y → Left (namedOf s) st fill x y
         no-attr x y v = no-class x y (left-second _ _ st fill (tried _ st fill r₂ z₂ from-attr h₂ .0) x y v)
 
@@ -107,7 +107,7 @@ module _ (s st : List ℕ) (fill : ℕ) (r : ComponentAnswer) (z : List ℕ) (w 
             same-hash : z₃ ≡ st
             same-hash = tried _ st fill r₃ z₃ from-hash h₃ .1
 
-            -- what stands behind it
+            -- where no hash reads either, the alternatives behind it decide
             no-hash : (x : ComponentAnswer) (y : List ℕ) → Left (orElse (parsed 0 (identOf s) element) (pseudoClassOf s)) st fill x y → Left (namedOf s) st fill x y
             no-hash x y v = no-attr x y (left-second _ _ st fill (tried _ st fill r₃ z₃ from-hash h₃ .0) x y v)
 

@@ -163,7 +163,7 @@ pub declarations-written : (ds : List Declaration) (rows : List ℕ) (p : ℕ) (
 declarations-written ds rows p store f u h k =
     rw (sets-drop rows p (declarationRows f ds) h) (declarations-back (sets store f (declarationTexts ds)) ds f _ u (sets-held store f (declarationTexts ds) k))
 
--- and so are styles
+-- styles written into lent rows from p on, and their texts into a lent store from f on, are read back
 pub styles-written : (ds : List StyleDecl) (rows : List ℕ) (p : ℕ) (store : List ℕ) (f : ℕ) → StylesFit ds → p + length (styleRows f ds) ≤ length rows
     → f + length (styleTexts ds) ≤ length store
     → stylesAt (drop p (sets rows p (styleRows f ds))) (sets store f (styleTexts ds)) (length ds) ≡ ds

@@ -128,7 +128,7 @@ no-text include cs closeRound never = refl
 no-text include cs openBrace never = refl
 no-text include cs closeBrace never = refl
 
--- and leaves the brackets
+-- such a token leaves the store of brackets as it is
 pub unpushed : (include : Bool) (cs : List ℕ) (x : Bracket) (b : List ℕ) (d : ℕ) → ((ds : List ℕ) → ¬ (stepOf include x cs ≡ next ds)) → pushed x b d ≡ b
 unfolding stepOf pushed
 unpushed include cs (opens c) b d never = absurd (never _ refl)
@@ -163,7 +163,7 @@ abbrev pub Closed : ℕ → List ℕ → ℕ → declared-step.Step → Type 0
 Closed c b d r = (stepTo r b ≡ closing c (awaited b d)) × (deep r (d - 1) ≡ d - 1)
 
 module _ (c : ℕ) (b : List ℕ) where
-  -- where none is awaited
+  -- where none is awaited, a '}' ends the statement before itself
   pub closed-before : (d : ℕ) → d ≡ 0 → c ≡ rightCurlyBracket → Closed c b d Before
   unfolding closing awaited stepTo deep
   closed-before zero z e = (pick-true _ _ _ _ (is-yes _ _ e) refl, refl)
@@ -175,7 +175,7 @@ module _ (c : ℕ) (b : List ℕ) where
   closed-none zero z e = (pick-false _ _ _ _ (is-no _ _ e) refl, refl)
   closed-none (suc d) z e = absurd (omega arith)
 
-  -- where another is awaited
+  -- where another bracket is awaited, this one is wrong
   pub closed-wrong : (d : ℕ) → ¬ (d ≡ 0) → ¬ (getD b (d - 1) 0 ≡ c) → Closed c b d Wrong
   unfolding closing awaited stepTo deep
   closed-wrong zero z e = absurd (z refl)

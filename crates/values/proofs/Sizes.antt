@@ -52,7 +52,7 @@ module _ (s : List ℕ) (at n : ℕ) (t : Placed) (f : Fits s n (textOf (t .toke
         sharp = λ l. omega (arith, length-append (textOf (t .token)) (textsOf (r .tokens)), text-sharp l (f .bound));
       }
 
--- from any place on
+-- what is read of a statement from any place on, with any brackets awaited, is within its bounds
 scan-sized : (l : ℕ) (include : Bool) (s : List ℕ) (at : ℕ) (cs : List ℕ) → Sized s at (scan l include s at cs)
 unfolding scan
 scan-sized zero include s at cs = stop-sized s at true

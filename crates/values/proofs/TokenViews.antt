@@ -165,7 +165,7 @@ module _ (rows store : List ℕ) (p : ℕ) where
   unfolding secondText unitOf firstOf columnsOf coded textOf tokenWith tokenFrom pick is
   here-unit e = ap unitOf (here-as dimensionKind e) ∙ drop-append-seam (part store start first) (part store (start + first) second)
 
-  -- a delimiter's scalar value
+  -- the scalar value of a delimiter is the number in its row
   pub here-delim : is kind delimKind ≡ true → firstOf (tokenHere rows store p) ≡ first
   unfolding firstOf columnsOf coded tokenWith tokenFrom pick is
   here-delim e = ap firstOf (here-as delimKind e)

@@ -104,7 +104,7 @@ wiped-inner l f n m xs h =
     in
     wiped-add f n m _ ∙ ap (wiped (f + n) m) p ∙ wiped-over (wiped f n l) (f + n) m xs h ∙ sym (wiped-add f n m l)
 
--- the name itself stays
+-- what is stored from j on leaves all that lies before it
 take-apart : (l : List ℕ) (n : ℕ) (xs : List ℕ) (j : ℕ) → n ≤ j → take n (sets l j xs) ≡ take n l
 take-apart l n [] j h = refl
 take-apart l n (x ∷ xs) j h = take-apart (set l j x) n xs (suc j) (omega arith) ∙ take-set-le n l j x h

@@ -115,6 +115,6 @@ module _ (include : Bool) (s rows brackets store : List ℕ) (fill : ℕ) (room 
       pub value-left : {i : Bool} → i ≡ isImportant (tokensAt x z k) → record { answer = value.Value n k m i; rows = x; brackets = b; store = z } ≡ valueLeft r rows brackets store fill
       value-left {i} ei = left-as _ (value-whole r n k m numbers i (ei ∙ ap isImportant back))
 
-    -- a bracket was wrong
+    -- the return where a bracket was wrong: no value
     pub no-value-left : {n k m : ℕ} → a ≡ answer.Unbalanced n k m → record { answer = value.NoValue k m; rows = x; brackets = b; store = z } ≡ valueLeft r rows brackets store fill
     no-value-left {n} {k} {m} ea = left-as _ (value-broken r k m (broken (r .balanced) _ _ _ n k m (sym ea ∙ said)))

@@ -147,7 +147,7 @@ step-holds P before b a w f p q r g = p
 step-holds P behind b a w f p q r g = q
 step-holds P wrong b a w f p q r g = r
 
--- from any place on
+-- tokens that are read from any place on have small numbers
 scan-small : (l : ℕ) (include : Bool) (s : List ℕ) (at : ℕ) (cs : List ℕ) → AllSmall (scan l include s at cs .tokens)
 unfolding scan stop cons
 scan-small zero include s at cs = tt
