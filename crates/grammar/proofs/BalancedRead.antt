@@ -57,7 +57,7 @@ opening round = grammar.round
 opening square = grammar.square
 opening curly = grammar.brace
 
--- with the same bytes
+-- an opening bracket is written as in the tokens
 opening-opens : (b : Bracket) → grammar.writtenOpening (opening b) ≡ opens b ∷ []
 unfolding opening opens grammar.writtenOpening
 opening-opens round = refl
@@ -105,48 +105,48 @@ unfoldable AllClear : Bool → Balanced → List Frame → Type 0
 AllClear calm v [] = Clear v × CalmIf calm v
 AllClear calm v (f ∷ fs) = (Clear v × CalmIf calm v) × AllClear calm (f .behind) fs
 
--- so is the innermost
+-- where all texts are clear, the innermost is, and has no '!' where none may stand
 all-first : (calm : Bool) (v : Balanced) (fs : List Frame) → AllClear calm v fs → Clear v × CalmIf calm v
 unfolding AllClear
 all-first calm v [] c = c
 all-first calm v (f ∷ fs) c = c .0
 
--- which may be another
+-- with another innermost text that is clear, all are clear still
 all-other : (calm : Bool) (v r : Balanced) (fs : List Frame) → AllClear calm v fs → Clear r × CalmIf calm r → AllClear calm r fs
 unfolding AllClear
 all-other calm v r [] c k = k
 all-other calm v r (f ∷ fs) c k = (k, c .1)
 
--- and has a block more around it
+-- with a clear text in a block more, and a clear one behind the block, all are clear still
 all-inside : (calm : Bool) (b : Bracket) (v w r : Balanced) (fs : List Frame) → AllClear calm v fs → Clear w × CalmIf calm w → Clear r × CalmIf calm r
     → AllClear calm w (record { bracket = b; behind = r } ∷ fs)
 unfolding AllClear
 all-inside calm b v w r [] c k j = (k, j)
 all-inside calm b v w r (f ∷ fs) c k j = (k, (j, c .1))
 
--- its text is clear
+-- where all texts are clear, the innermost is, whether a '!' may stand in it or not
 first-clear : (calm : Bool) (v : Balanced) (fs : List Frame) → AllClear calm v fs → Clear v
 first-clear calm v fs c = all-first calm v fs c .0
 
--- what is left of a text
+-- what is left of a text has no semicolon and no brace block where the text may have none
 left-level : (base : List ℕ) (v r : Balanced) → Leaves v r → Level base v → Level base r
 unfolding Level
 left-level [] v r l s = leaves-outside l s
 left-level (c ∷ cs) v r l s = tt
 
--- what is left of the innermost
+-- with what is left of the innermost text, the outermost is as it must be still
 left-sound : (base : List ℕ) (v r : Balanced) (fs : List Frame) → Leaves v r → Sound base v fs → Sound base r fs
 unfolding Sound
 left-sound base v r [] l s = (left-level base v r l (s .0), leaves-tight l (s .1))
 left-sound base v r (f ∷ fs) l s = s
 
--- and of all texts
+-- what is left of a text has no '!' where the text may have none
 left-calm : (calm : Bool) (v r : Balanced) → Leaves v r → CalmIf calm v → CalmIf calm r
 unfolding CalmIf
 left-calm true v r l c = leaves-calm l c
 left-calm false v r l c = tt
 
--- clear as they were
+-- with what is left of the innermost text, all are clear still
 left-clear : (calm : Bool) (v r : Balanced) (fs : List Frame) → Leaves v r → AllClear calm v fs → AllClear calm r fs
 left-clear calm v r fs l c =
     let k = all-first calm v fs c in
@@ -281,14 +281,14 @@ module _ (include : Bool) where
   block-goes base square v fs = refl
   block-goes base curly v fs = refl
 
-  -- a closing one inside another
+  -- a closing bracket inside another is passed, and the others are awaited still
   close-one : (b : Bracket) (c : ℕ) (cs : List ℕ) → stepOf include (bracketOf (grammar.meansCloser (opening b))) (closes b ∷ c ∷ cs) ≡ values.next (c ∷ cs)
   unfolding stepOf bracketOf bracketBy coded grammar.meansCloser opening closes values.closing pick is
   close-one round c cs = refl
   close-one square c cs = refl
   close-one curly c cs = refl
 
-  -- a closing one outside
+  -- a closing bracket that is the last awaited, and no brace, is passed, and none is awaited
   close-last : (b : Bracket) → Closable [] b [] → stepOf include (bracketOf (grammar.meansCloser (opening b))) (closes b ∷ []) ≡ values.next []
   unfolding stepOf bracketOf bracketBy coded grammar.meansCloser opening closes values.closing pick is Closable
   close-last round h = refl
@@ -371,7 +371,7 @@ void-tight (semicolon v) o m t = o
 void-tight (bang v) o m t = o
 void-tight (block b w v) o m t = o
 
--- so it is empty
+-- a text of white space and comments alone, which may not end in any, is empty
 void-empty : (v : Balanced) → Void v → Tight v → writtenBalanced v ≡ []
 void-empty end o t = unfold writtenBalanced in refl
 void-empty (space x w v) o t = absurd (void-tight (space x w v) o (unfold More in tt) t)
@@ -382,12 +382,12 @@ void-empty (semicolon v) o t = absurd (unfold Void in o)
 void-empty (bang v) o t = absurd (unfold Void in o)
 void-empty (block b w v) o t = absurd (unfold Void in o)
 
--- a string, with t behind it
+-- a string with t behind it is its quote, its characters, its quote and what follows
 quoted-onto : (q : Quoted) (v : Balanced) (t : List ℕ) → writtenBalanced (quoted q v) ++ t ≡ q .quote ∷ (q .bytes ++ (q .quote ∷ (writtenBalanced v ++ t)))
 unfolding writtenBalanced
 quoted-onto q v t = ap (λ (l : List ℕ). q .quote ∷ l) (append-assoc (q .bytes) (q .quote ∷ writtenBalanced v) t)
 
--- what stands behind it
+-- behind the quote, the characters and the quote stands what follows
 string-drop : (q : ℕ) (b t : List ℕ) → drop (1 + length b + 1) (q ∷ (b ++ (q ∷ t))) ≡ t
 string-drop q b t =
     let i : 1 + length b + 1 ≡ 1 + (length b + 1) = omega arith in

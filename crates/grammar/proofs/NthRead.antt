@@ -78,7 +78,7 @@ unsignedByte x = or (isDigit x) (is x ascii.smallN)
 unfoldable numericByte : ℕ → Bool
 numericByte x = or (unsignedByte x) (or (is x ascii.plusSign) (is x ascii.hyphenMinus))
 
--- the marks are none
+-- neither sign begins what stands behind a sign
 unsigned-others : (unsignedByte ascii.plusSign ≡ false) × (unsignedByte ascii.hyphenMinus ≡ false)
 unfolding unsignedByte isDigit or and within is
 unsigned-others = (refl, refl)
@@ -143,7 +143,7 @@ module _ (t : List ℕ) (i n w m : ℕ) (minus₁ : Bool) (hi : signTaken t ≡ 
   unfolding justA pick is
   a-by b = rw (hi, hn, b, hm)
 
-  -- no `n` at all
+  -- without `n` behind the digits there is no an
   a-none : is (getD t (i + n) 0) ascii.smallN ≡ false → justA t ≡ fails
   unfolding justA pick
   a-none b = rw (hi, hn, b)
@@ -164,12 +164,12 @@ module _ (c : Blanks) (r : List ℕ) where
   unfolding isDigit and within
   no-digit = record { of-space = refl; of-tab = refl; of-line-feed = refl; of-carriage-return = refl; of-form-feed = refl; of-solidus = refl }
 
-  -- and with no `n`
+  -- white space and comments begin with no `n`
   no-n : Unblank (λ x. is x ascii.smallN)
   unfolding is
   no-n = record { of-space = refl; of-tab = refl; of-line-feed = refl; of-carriage-return = refl; of-form-feed = refl; of-solidus = refl }
 
-  -- nor does the bracket
+  -- the closing bracket is no digit
   round-digit : isDigit ascii.rightParenthesis ≡ false
   unfolding isDigit and within
   round-digit = refl
@@ -328,7 +328,7 @@ numeric-unblank = record { of-space = refl; of-tab = refl; of-line-feed = refl; 
 numeric-item : (t : List ℕ) {i : ℕ} {m : Bool} → Starts t i m → whitespaceItem t ≡ 0
 numeric-item t g = unblank-item numericByte numeric-unblank t (g .numeric)
 
--- nor do the words
+-- neither word begins with white space
 word-items : (l : List ℕ) → (whitespaceItem (text "even" ++ l) ≡ 0) × (whitespaceItem (text "odd" ++ l) ≡ 0)
 unfolding whitespaceItem isWhitespace commentOf text utf8 continuation pick or is
 word-items l = (refl, refl)

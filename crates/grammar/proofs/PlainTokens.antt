@@ -122,7 +122,7 @@ leaves-on {q = q} (past-space x w v r h) k = past-space x w v q (leaves-on h k)
 leaves-on {q = q} (past-remark c w v r h) k = past-remark c w v q (leaves-on h k)
 leaves-on {q = q} (past-plain x e v r h) k = past-plain x e v q (leaves-on h k)
 
--- it is as clear
+-- what is left of a clear text is clear
 pub leaves-clear : {v r : Balanced} → Leaves v r → Clear v → Clear r
 unfolding Clear
 leaves-clear (here v) c = c
@@ -173,7 +173,7 @@ eaten-on {v} {t} {n} {m} k j =
       onto = sym (drop-drop m n (writtenBalanced v ++ t)) ∙ ap (drop m) (k .onto) ∙ j .onto;
     }
 
--- behind one byte more
+-- without n + 1 bytes, a list is its rest without n
 pub drop-one : (n x : ℕ) (l : List ℕ) → drop (1 + n) (x ∷ l) ≡ drop n l
 drop-one n x l = let i : 1 + n ≡ suc n = omega arith in ap (λ (m : ℕ). drop m (x ∷ l)) i
 
@@ -257,7 +257,7 @@ escapeless =
     close-escapeless square = unfold closes is in refl
     close-escapeless curly = unfold closes is in refl
 
--- no backslash begins it
+-- no text in which brackets match begins with a backslash
 no-escape-first : (v : Balanced) (t : List ℕ) → Halts t → is (getD (writtenBalanced v ++ t) 0 0) ascii.reverseSolidus ≡ false
 unfolding Otherwise
 no-escape-first (plain x e v) t h = unfold writtenBalanced in plain-byte x e .no-escape
@@ -404,7 +404,7 @@ eat-digits v t h = eat-many oneDigit isDigit digits-plainly (λ s e. unfold oneD
 eaten-first : {v : Balanced} {t : List ℕ} {n : ℕ} → (k : Eaten v t n) → getD (writtenBalanced v ++ t) n 0 ≡ getD (writtenBalanced (k .rest) ++ t) 0 0
 eaten-first {v} {t} {n} k = sym (first (writtenBalanced v ++ t) n) ∙ ap (λ (l : List ℕ). getD l 0 0) (k .onto)
 
--- what a choice takes
+-- what either arm of a choice takes, the choice takes
 eaten-pick : {v : Balanced} {t : List ℕ} (b : Bool) (n m : ℕ) → (b ≡ true → Eaten v t n) → (b ≡ false → Eaten v t m) → Eaten v t (pick b n m)
 eaten-pick {v} {t} b n m f g = pick-holds (Eaten v t) b n m f g
 
@@ -431,7 +431,7 @@ module _ (t : List ℕ) (h : Halts t) where
   unfolding numbers.unsigned
   eat-unsigned v = eaten-pick (is (digits (writtenBalanced v ++ t)) 0) _ _ (λ e. eat-decimal v) (λ e. eat-digits v t h)
 
-  -- a sign or none
+  -- a sign takes a plain character, and no sign takes nothing
   eat-sign : (v : Balanced) → Eaten v t (numbers.sign (writtenBalanced v ++ t))
   unfolding numbers.sign
   eat-sign v =
@@ -513,7 +513,7 @@ pub data Skipped (t : List ℕ) (v : Balanced) : Type 0 where
   solid : (rest : Balanced) (b : Blanks) → Solid rest → writtenBalanced v ≡ b .bytes ++ writtenBalanced rest → Leaves v rest → whitespaceItem (writtenBalanced rest ++ t) ≡ 0 → Skipped t v
   empty : (b : Blanks) → Void v → writtenBalanced v ≡ b .bytes → Skipped t v
 
--- one more before them
+-- one white space more in front is skipped with what is skipped
 space-skipped : (t : List ℕ) (x : ℕ) (w : White x) (v : Balanced) → Skipped t v → Skipped t (space x w v)
 unfolding writtenBalanced
 space-skipped t x w v (solid rest b o e l i) =
@@ -538,7 +538,7 @@ mark-items : (l : List ℕ) → (whitespaceItem (ascii.semicolon ∷ l) ≡ 0) �
 unfolding whitespaceItem isWhitespace commentOf pick or is
 mark-items l = (refl, refl, refl, refl)
 
--- of an opening bracket
+-- an opening bracket begins no white space and no comment
 bracket-item : (b : Bracket) (l : List ℕ) → whitespaceItem (opens b ∷ l) ≡ 0
 unfolding opens whitespaceItem isWhitespace commentOf pick or is
 bracket-item round l = refl
@@ -574,7 +574,7 @@ module _ (v rest : Balanced) (b : Blanks) (e : writtenBalanced v ≡ b .bytes ++
   skipped-drop : drop (length (b .bytes)) (writtenBalanced v ++ t) ≡ writtenBalanced rest ++ t
   skipped-drop = ap (drop (length (b .bytes))) skipped-onto ∙ drop-append-seam (b .bytes) (writtenBalanced rest ++ t)
 
-  -- how much is skipped
+  -- as many bytes are skipped as the white space has
   skipped-length : whitespaceItem (writtenBalanced rest ++ t) ≡ 0 → skipWhitespace (writtenBalanced v ++ t) ≡ length (b .bytes)
   skipped-length i = ap skipWhitespace skipped-onto ∙ skips-blank (b .bytes) (writtenBalanced rest ++ t) (b .blank) i
 
@@ -630,7 +630,7 @@ module _ (f : List ℕ → Parsed (List ℕ)) (t : List ℕ) (h : Halts t) (i : 
   abbrev reader : List ℕ → Parsed (List ℕ)
   reader s = parser.behind (skipWhitespace s) (f (drop (skipWhitespace s) s))
 
-  -- where something stands there
+  -- what a reader takes behind what was taken before it, it takes of the whole text
   behind-solid : (v : Balanced) {n : ℕ} (k : Eaten v t n) (p : Parsed (List ℕ)) → NameIn (k .rest) t p → NameIn v t (parser.behind n p)
   unfolding parser.behind
   behind-solid v k _ unnamed = unnamed
@@ -743,7 +743,7 @@ unrounded : Unblank (λ x. is x ascii.leftParenthesis)
 unfolding is
 unrounded = record { of-space = refl; of-tab = refl; of-line-feed = refl; of-carriage-return = refl; of-form-feed = refl; of-solidus = refl }
 
--- what closes does not
+-- what closes begins with no opening round bracket
 closes-unrounded : {c : List ℕ} → Closes c → is (getD c 0 0) ascii.leftParenthesis ≡ false
 unfolding grammar.closer is
 closes-unrounded nothing = refl
@@ -808,7 +808,7 @@ module _ (t : List ℕ) (h : Halts t) where
           pick-holds (TokenIn v t) (is (getD (writtenBalanced v ++ t) n 0) ascii.leftParenthesis) (ok (n + 1) (tokens.function b)) (ok n (tokens.ident b)) (λ e. call-in v n b k e)
           (λ e. token n (tokens.ident b) k (harmless-number b .3))
 
-  -- the first of two
+  -- what either of two alternatives takes, the first that reads takes
   else-in : (v : Balanced) (p q : Parsed Token) → TokenIn v t p → TokenIn v t q → TokenIn v t (orElse p q)
   unfolding orElse
   else-in v _ q tokenless j = j
@@ -961,11 +961,11 @@ unfolding orElse
 else-some (ok m j) n k e = some-read m j e
 else-some err n k e = some-read n k e
 
--- both of a choice
+-- where both arms of a choice read, the choice reads
 pick-some : (b : Bool) (p q : Parsed Token) → ¬ (p ≡ err) → ¬ (q ≡ err) → ¬ (pick b p q ≡ err)
 pick-some b p q f g = pick-holds (λ (r : Parsed Token). ¬ (r ≡ err)) b p q (λ _. f) (λ _. g)
 
--- a name or none
+-- where both what a name makes and what none makes read, one of them reads
 name-some-read : (p : Parsed (List ℕ)) (f : ℕ → List ℕ → Parsed Token) (q : Parsed Token) → ((n : ℕ) (b : List ℕ) → ¬ (f n b ≡ err)) → ¬ (q ≡ err) → ¬ (onParsed p f q ≡ err)
 unfolding onParsed
 name-some-read (ok n b) f q g h = g n b
@@ -993,7 +993,7 @@ letter-named x l i d n = skips (skips-blank [] (x ∷ l) none i) (name-some (x �
     skips : skipWhitespace (x ∷ l) ≡ 0 → nameOf (x ∷ l) ≡ ok (charsEnd (x ∷ l)) (charsText (x ∷ l)) → identOf (x ∷ l) ≡ ok (0 + charsEnd (x ∷ l)) (charsText (x ∷ l))
     skips z q = unfold identOf parser.behind in rw (z, q)
 
--- so it is read
+-- where a name reads, a name or a function reads
 letter-some : (x : ℕ) (l : List ℕ) (n : ℕ) (b : List ℕ) → identOf (x ∷ l) ≡ ok n b → ¬ (identLikeOf (x ∷ l) ≡ err)
 unfolding identLikeOf onParsed
 letter-some x l n b e = rw e (pick-some (is (getD (x ∷ l) n 0) ascii.leftParenthesis) _ _ (some-read _ _) (some-read _ _))

@@ -44,7 +44,7 @@ unfolding componentsOf onOutcome
 stops s zero e = refl
 stops s (suc l) e = rw e
 
--- so there are none
+-- where no component reads, no components come
 comes-stop : (s : List ℕ) → componentOf s ≡ fails → Comes s 0 []
 comes-stop s e = record { comes = λ l h. stops s l e }
 
@@ -96,7 +96,7 @@ code-point-begins : (x : ℕ) (l : List ℕ) → identCodePoint x ≡ true → B
 code-point-begins x l e =
     record { item = code-point-item x l e; no-greater = differs identCodePoint x ascii.greaterThanSign e (marks .0); no-star = differs identCodePoint x ascii.asterisk e (marks .1) }
 
--- so does a name
+-- with a name no white space, no `>` and no `*` begins
 name-begins : (n : Name) (s : List ℕ) → Begins (n .bytes ++ s)
 name-begins n s = by-start (n .bytes) (n .sequence)
   where
@@ -111,7 +111,7 @@ newline-ended l line-feed = record { no-character = refl; no-escape = λ q. omeg
 newline-ended l carriage-return = record { no-character = refl; no-escape = λ q. omega arith; no-round = refl }
 newline-ended l form-feed = record { no-character = refl; no-escape = λ q. omega arith; no-round = refl }
 
--- of all white space
+-- a name ends before white space
 white-ended : {x : ℕ} (l : List ℕ) → White x → Ended (x ∷ l)
 unfolding identCodePoint identStart letter or and within is
 white-ended l (newline n) = newline-ended l n
@@ -293,7 +293,7 @@ data Stops : List ℕ → Type 0 where
   ends : {t : List ℕ} → Ends t → Stops t
   colons : (t : List ℕ) → Stops (ascii.colon ∷ ascii.colon ∷ t)
 
--- no component begins there
+-- where a selector stops, no component begins
 end-fails : {t : List ℕ} → Stops t → componentOf t ≡ fails
 unfolding componentOf marked blankOf classOf attrOf hashOf pseudoClassOf orElse parsed onParsed identOf nameOf nameFrom dash nmstartOf either nmstartCharOf foldedChar identEscapeOf isNmstart parser.behind skipWhitespace many took whitespaceItem isWhitespace commentOf pick or and within is
 end-fails (ends text-ends) = refl
@@ -316,7 +316,7 @@ end-pseudo text-ends = refl
 end-pseudo (block t) = refl
 end-pseudo (another t) = refl
 
--- and a name ends
+-- where a selector stops, a name ends
 end-ended : {t : List ℕ} → Stops t → Ended t
 unfolding identCodePoint identStart letter or and within is
 end-ended (ends text-ends) = record { no-character = refl; no-escape = λ q. omega arith; no-round = refl }
@@ -458,14 +458,14 @@ comes-of {s} {n} e h = subst (λ (r : List Component). Comes s n r) e h
 
 -- `*`, `>` and a selector
 module _ (x y : Blanks) (g : Complex) where
-  -- how they are written
+  -- star, white space, `>`, white space and what follows are written in that order
   star-onto : (s : List ℕ) → (ascii.asterisk ∷ x .bytes) ++ (ascii.greaterThanSign ∷ (y .bytes ++ (written g ++ s))) ≡ written (joined (universal []) (child x y) g) ++ s
   unfolding writtenCompound writtenSimples writtenCombinator
   star-onto s =
       ap (λ (l : List ℕ). ascii.asterisk ∷ l) (sym (append-assoc (x .bytes) (ascii.greaterThanSign ∷ y .bytes) (written g ++ s)))
       ∙ sym (joined-onto (universal []) (child x y) g s)
 
-  -- how long they are
+  -- the lengths of these parts add up to that of the whole
   star-length : (m : ℕ) → length (ascii.asterisk ∷ x .bytes) + (length (ascii.greaterThanSign ∷ y .bytes) + (length (written g) + m))
       ≡ length (written (joined (universal []) (child x y) g)) + m
   unfolding writtenCompound writtenSimples writtenCombinator
@@ -563,7 +563,7 @@ body-unnamed : (s : List ℕ) (n : ℕ) (c : Component) (cs : List Component) �
 unfolding bodyOf withElementOf withoutElementOf componentsFrom someOf orElse onParsed onOutcome pick
 body-unnamed s n c cs e q = rw (e, q .comes (length s) (omega arith), is-no (length (c ∷ cs)) 0 (λ z. omega arith))
 
--- no name begins there
+-- no name begins with an asterisk
 star-unnamed : (l : List ℕ) → identOf (ascii.asterisk ∷ l) ≡ err
 unfolding identOf nameOf nameFrom dash nmstartOf either nmstartCharOf foldedChar identEscapeOf isNmstart parser.behind skipWhitespace many took whitespaceItem isWhitespace commentOf pick or and within is
 star-unnamed l = refl

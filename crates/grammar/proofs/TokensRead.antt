@@ -162,7 +162,7 @@ pub record NameEnds (t : List ℕ) : Type 0 where
   pub no-character : identCodePoint (getD t 0 0) ≡ false
   pub no-escape : ¬ (getD t 0 0 ≡ ascii.reverseSolidus)
 
--- by the grammar's test
+-- where the grammar's test says so, a name ends
 name-ends : (t : List ℕ) → endsName (getD t 0 0) ≡ true → NameEnds t
 unfolding endsName
 name-ends t e =
@@ -335,12 +335,12 @@ unsigned-first true ds u h l = unfold writtenStop unsignedFirst isDigit or and w
 unsigned-first false _ u none l = absurd (omega arith)
 unsigned-first false _ u (more e es) l = unfold writtenStop unsignedFirst or in rw e
 
--- neither begins white space
+-- neither a digit nor a full stop begins white space
 first-unblank : Unblank unsignedFirst
 unfolding unsignedFirst isDigit or and within is
 first-unblank = record { of-space = refl; of-tab = refl; of-line-feed = refl; of-carriage-return = refl; of-form-feed = refl; of-solidus = refl }
 
--- neither is a sign
+-- neither sign is a digit or a full stop
 pub first-signs : (unsignedFirst ascii.plusSign ≡ false) × (unsignedFirst ascii.hyphenMinus ≡ false)
 unfolding unsignedFirst isDigit or and within is
 first-signs = (refl, refl)
@@ -357,7 +357,7 @@ unsigned-signed v n e p l =
       zero-add n,
     )
 
--- and behind a '-'
+-- behind a '-' a number without a sign takes one byte more
 minus-signed : (v : List ℕ) (n : ℕ) → numbers.unsigned v ≡ n → 1 ≤ n → numbers.signed (ascii.hyphenMinus ∷ v) ≡ 1 + n
 unfolding numbers.signed numbers.sign pick or is
 minus-signed v n p l = rw (p, is-no n 0 (λ z. omega arith))
@@ -564,7 +564,7 @@ record NumberEnds (t : List ℕ) : Type 0 where
   no-percent : is (getD t 0 0) ascii.percentSign ≡ false
   no-name-behind : beginsName (getD t (skipWhitespace t) 0) (getD t (skipWhitespace t + 1) 0) ≡ false
 
--- by the grammar's test
+-- where the grammar says that a number ends, it does
 number-ends : (n : Numeral) (t : List ℕ) → EndsBefore (number n) t → NumberEnds t
 unfolding mayFollow
 number-ends n t e =
@@ -691,7 +691,7 @@ unfoldable Every : (ℕ → Type 0) → List ℕ → Type 0
 Every P [] = Unit
 Every P (k ∷ ks) = P k × Every P ks
 
--- holds of its members
+-- what holds of every member of a list holds of one that is found in it
 every : (P : ℕ → Type 0) (c : ℕ) (ks : List ℕ) → Every P ks → member c ks ≡ true → P c
 unfolding Every member
 every P c [] h e = never e
@@ -743,7 +743,7 @@ hyphen-unnamed t h = rw (name-at (ascii.hyphenMinus ∷ t) (skips-blank [] (asci
     unnamed : (t : List ℕ) → NameEnds t → nameOf (ascii.hyphenMinus ∷ t) ≡ err
     unnamed t h = name-none (ascii.hyphenMinus ∷ t) (unfold dash pick is in no-start t (no-first (getD t 0 0) (h .no-character)) (is-no _ _ (h .no-escape)))
 
--- nor the mark `-->`
+-- a hyphen before which no name goes on is not the mark `-->`
 hyphen-unmarked : (t : List ℕ) → NameEnds t → startsWith tokens.cdcMark (ascii.hyphenMinus ∷ t) ≡ false
 hyphen-unmarked t h = unfold startsWith and is in starts-not ascii.hyphenMinus (ascii.greaterThanSign ∷ []) t (is-no _ _ (λ q. never (sym (h .no-character) ∙ ap identCodePoint q ∙ hyphen-code-point)))
 
@@ -762,7 +762,7 @@ unsigned-none : (s : List ℕ) → numbers.unsigned s ≡ 0 → is (getD s 0 0) 
 unfolding numbers.signed numbers.sign pick or is
 unsigned-none s u m p = rw (m, p, u)
 
--- as where none begins
+-- where no number begins, none is read
 signed-none : (s : List ℕ) → beginsNumber (getD s 0 0) ≡ false → numbers.signed s ≡ 0
 unfolding beginsNumber
 signed-none s e =
@@ -838,7 +838,7 @@ module _ (b : Blanks) where
   pub opening-read : (o : Opening) (t : List ℕ) → tokenOf (b .bytes ++ (writtenOpening o ++ t)) ≡ ok (length (b .bytes) + length (writtenOpening o)) (meansOpening o)
   opening-read o t = token-read b (writtenOpening o ++ t) _ _ (opening-begins o t)
 
-  -- and what closes it
+  -- a closing bracket is read as its token, behind white space or none
   pub closer-read : (o : Opening) (t : List ℕ) → tokenOf (b .bytes ++ (closer o ∷ t)) ≡ ok (length (b .bytes) + 1) (meansCloser o)
   closer-read o t = token-read b (closer o ∷ t) _ _ (closer-token o t)
 

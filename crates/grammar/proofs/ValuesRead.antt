@@ -101,7 +101,7 @@ module _ {include : Bool} where
         goes = λ l. let m : 1 + l ≡ suc l = omega arith in ap (λ (i : ℕ). scan i include s at cs) m ∙ one-turn include l s t at n k cs ds e d p;
       }
 
-  -- and more behind them
+  -- tokens that pass, and others that pass behind them, pass together
   pub passes-on : {s t u : List ℕ} {at : ℕ} {cs ds es : List ℕ} {ks js : List Token} → (p : Passes include s t at cs ds ks) → Passes include t u (at + p .taken) ds es js
       → Passes include s u at cs es (ks ++ js)
   passes-on {s} {t} {u} {at} {cs} {ds} {es} {ks} {js} p q =
@@ -430,7 +430,7 @@ marked-is (a ∷ []) = marked-is []
 marked-is (a ∷ b ∷ []) = marked-is (b ∷ [])
 marked-is (a ∷ b ∷ c ∷ ks) = marked-is (b ∷ c ∷ ks)
 
--- which is taken off
+-- the mark behind tokens is taken off, and the tokens are left
 marked-without : (ks : List Token) → withoutMark (ks ++ markTokens) ≡ ks
 unfolding withoutMark
 marked-without [] = unfold isMark isDelim isWord isKind kindOf firstOf textOf columnsOf coded sameText and is text utf8 pick in refl
@@ -503,7 +503,7 @@ none-scan (suc l) t at e = rw e
 blank-skipped : (b : Blanks) → skipWhitespace (b .bytes) ≡ length (b .bytes)
 blank-skipped b = ap skipWhitespace (sym (append-nil (b .bytes))) ∙ skips-blank (b .bytes) [] (b .blank) (closes-first nothing .3)
 
--- and has no token
+-- white space alone has no token
 blank-token : (b : Blanks) → tokenOf (b .bytes) ≡ err
 unfolding tokenOf parser.behind tokenAt scalarOf scalarBy is pick
 blank-token b = rw (blank-skipped b, drop-of-length-le (b .bytes) {i = length (b .bytes)} (omega arith))
