@@ -71,22 +71,27 @@ pub record OneText (n : ℕ) : Type 0 where
   pub kind : Kind n
   pub text : (store : List ℕ) (s a b : ℕ) → textOf (tokenWith store s (tokenFrom n a b)) ≡ part store s a
 
+-- a name has its kind and one text, its characters
 abbrev pub ident-text : OneText identKind
 unfolding tokenFrom columnsOf tokenWith textOf pick is
 ident-text = record { kind = record { other = λ e. omega arith; same = λ a b. refl }; text = λ store s a b. refl }
 
+-- a function has its kind and one text, its name
 abbrev pub function-text : OneText functionKind
 unfolding tokenFrom columnsOf tokenWith textOf pick is
 function-text = record { kind = record { other = λ e. omega arith; same = λ a b. refl }; text = λ store s a b. refl }
 
+-- a hash has its kind and one text, what stands behind the '#'
 abbrev pub hash-text : OneText hashKind
 unfolding tokenFrom columnsOf tokenWith textOf pick is
 hash-text = record { kind = record { other = λ e. omega arith; same = λ a b. refl }; text = λ store s a b. refl }
 
+-- a string has its kind and one text, its characters
 abbrev pub string-text : OneText stringKind
 unfolding tokenFrom columnsOf tokenWith textOf pick is
 string-text = record { kind = record { other = λ e. omega arith; same = λ a b. refl }; text = λ store s a b. refl }
 
+-- a number has its kind and one text, as it is written
 abbrev pub number-text : OneText numberKind
 unfolding tokenFrom columnsOf tokenWith textOf pick is
 number-text = record { kind = record { other = λ e. omega arith; same = λ a b. refl }; text = λ store s a b. refl }
