@@ -102,7 +102,7 @@ module _ (s ts : List ℕ) (i d t : ℕ)
       ∙ at-most-first d (digits (drop (i + 1) s)) (drop i ts)
       ∙ rw (first ts i, k, drop-drop 1 i ts)
 
-  -- the less digit decides
+  -- at the first place that differs the lesser digit decides: the number is below
   pub at-most-below : d < t → true ≡ atMost (digits s) ts
   at-most-below l = pick-true _ _ _ _ (lt-ltb d t l) refl ∙ sym at-most-from
 

@@ -31,7 +31,7 @@ drop-set (suc a) [] j b = refl
 drop-set (suc a) (x ∷ xs) j b = let e : suc a + j ≡ suc (a + j) = omega arith in rw e (drop-set a xs j b)
 
 module _ (state : List ℕ) (own width j b : ℕ) where
-  -- the own part
+  -- the own part has the byte, if it is within its width
   own-set : part (partSet state own width j b) own width ≡ set (part state own width) j b
   unfolding part partSet
   own-set =
@@ -44,7 +44,7 @@ module _ (state : List ℕ) (own width j b : ℕ) where
   unfolding partSet
   front-set = pick-holds (λ (x : List ℕ). take own x ≡ take own state) (ltb j width) _ _ (λ _. take-set-le own state (own + j) b (omega arith)) (λ _. refl)
 
-  -- and behind it
+  -- what lies behind the part stays as it was
   behind-set : drop (own + width) (partSet state own width j b) ≡ drop (own + width) state
   unfolding partSet
   behind-set =
@@ -52,7 +52,7 @@ module _ (state : List ℕ) (own width j b : ℕ) where
       (λ e. drop-set-lt (own + width) state (own + j) b (let h = ltb-true j width e in omega arith)) (λ _. refl)
 
 -- ---- bytes
--- the own part
+-- the own part has the bytes, as far as it goes
 pub own-sets : (bs state : List ℕ) (own width j : ℕ) → part (partSets state own width j bs) own width ≡ sets (part state own width) j bs
 unfolding partSets
 own-sets [] state own width j = refl
@@ -68,7 +68,7 @@ unfolding partSets
 front-sets [] state own width j = refl
 front-sets (b ∷ bs) state own width j = front-sets bs (partSet state own width j b) own width (j + 1) ∙ front-set state own width j b
 
--- and behind it
+-- what lies behind the part stays as it was
 pub behind-sets : (bs state : List ℕ) (own width j : ℕ) → drop (own + width) (partSets state own width j bs) ≡ drop (own + width) state
 unfolding partSets
 behind-sets [] state own width j = refl

@@ -23,7 +23,7 @@ testsBy code row t (met.Child n) = false
 testsBy code row t (met.Descendant n) = false
 testsBy code row t met.Fault = false
 
--- one test
+-- so many tests pass as the first component that is met says, and those behind it
 tests-step : (code : List ℕ) (row : Path) (t i : ℕ) → testsPass code row (suc t) i ≡ testsBy code row t (metAt code row true i)
 unfolding testsPass testsBy metAt metOf onDecoded onPiece and
 tests-step code row t i = go (pieceAt code i)
@@ -85,7 +85,7 @@ abbrev pub Testing : List ℕ → Path → ℕ → ℕ → ℕ → ℕ → Type 
 Testing code row count at i left = testsPass code row left i ≡ testsPass code row count at
 
 module _ (code : List ℕ) (row : Path) (count at i left : ℕ) (v : Testing code row count at i left) where
-  -- none is left
+  -- where no test is left, all passed
   pub tests-end : left ≤ 0 → true ≡ testsPass code row count at
   tests-end h =
       let d : left ≡ 0 = omega arith in
@@ -93,6 +93,7 @@ module _ (code : List ℕ) (row : Path) (count at i left : ℕ) (v : Testing cod
       e ∙ ap (λ (m : ℕ). testsPass code row m i) (sym d) ∙ v
 
   module _ (h : 0 < left) (q : Met) (eq : q ≡ metAt code row true i) where
+    -- what the tests that are left say by the next component is what all of them say
     from-test : (p : Met) → q ≡ p → testsBy code row (left - 1) p ≡ testsPass code row count at
     from-test p e =
         let d : left ≡ suc (left - 1) = omega arith in
@@ -122,7 +123,7 @@ module _ (code : List ℕ) (row : Path) (count at i left : ℕ) (v : Testing cod
     unfolding testsBy
     tests-descendant n e = from-test (met.Descendant n) e
 
-    -- nor a fault
+    -- nor is a component that does not read a test: the tests do not pass
     pub tests-fault : q ≡ met.Fault → false ≡ testsPass code row count at
     unfolding testsBy
     tests-fault e = from-test met.Fault e
@@ -132,7 +133,7 @@ abbrev pub Ending : List ℕ → Path → ℕ → Bool → ℕ → ℕ → ℕ �
 Ending code row limit may at i left ok = compoundAt code row left ok i ≡ compoundAt code row limit may at
 
 module _ (code : List ℕ) (row : Path) (limit : ℕ) (may : Bool) (at i left : ℕ) (ok : Bool) (v : Ending code row limit may at i left ok) where
-  -- none is left
+  -- where no component may be read any more, the compound does not end here
   pub compound-end : left ≤ 0 → record { ends = false; place = i } ≡ compoundAt code row limit may at
   compound-end h =
       let d : left ≡ 0 = omega arith in
@@ -140,12 +141,13 @@ module _ (code : List ℕ) (row : Path) (limit : ℕ) (may : Bool) (at i left : 
       e ∙ ap (λ (m : ℕ). compoundAt code row m ok i) (sym d) ∙ v
 
   module _ (h : 0 < left) (q : Met) (eq : q ≡ metAt code row ok i) where
+    -- what the compound comes to by the next component is what the whole comes to
     from-component : (p : Met) → q ≡ p → compoundBy code row (left - 1) ok i p ≡ compoundAt code row limit may at
     from-component p e =
         let d : left ≡ suc (left - 1) = omega arith in
         ap (compoundBy code row (left - 1) ok i) (sym e ∙ eq) ∙ sym (compound-step code row (left - 1) ok i) ∙ ap (λ (m : ℕ). compoundAt code row m ok i) (sym d) ∙ v
 
-    -- a test
+    -- behind a test the loop goes on, with whether the compound so far may end here
     pub compound-test : (n : ℕ) (p : Bool) → q ≡ met.Test n p → Ending code row limit may at n (left - 1) p
     unfolding compoundBy
     compound-test n p e = from-component (met.Test n p) e
@@ -171,21 +173,21 @@ pub record Seeking (code : List ℕ) (stop count first i left start steps tests 
   pub few-steps : steps + left ≤ count
   pub few-tests : tests + left ≤ count
 
--- at the first component
+-- at the first component no step and no test is counted, and all are left
 pub seek-begin : (code : List ℕ) (stop count first : ℕ) → Seeking code stop count first first count first 0 0
 unfolding beginning
 seek-begin code stop count first = record { whole = refl; few-steps = omega arith; few-tests = omega arith }
 
 module _ (code : List ℕ) (stop count first i left start steps tests : ℕ) (v : Seeking code stop count first i left start steps tests) where
-  -- what is returned
+  -- what is returned: the segment that was counted is the one before the place that is asked for
   abbrev Found : Type 0
   Found = record { start = start; steps = steps; tests = tests } ≡ segmentBefore code stop count (beginning first) first
 
-  -- by its parts
+  -- what is returned, with the numbers of the segment given one by one
   pub seek-parts : Found → (a b c : ℕ) → a ≡ start → b ≡ steps → c ≡ tests → record { start = a; steps = b; tests = c } ≡ segmentBefore code stop count (beginning first) first
   seek-parts f a b c ea eb ec = rw (ea, eb, ec) f
 
-  -- none is left
+  -- where no component is left, the segment that was counted so far is returned
   pub seek-end : left ≤ 0 → Found
   seek-end h =
       let s : Segment = record { start = start; steps = steps; tests = tests } in
@@ -194,13 +196,14 @@ module _ (code : List ℕ) (stop count first i left start steps tests : ℕ) (v 
       e ∙ ap (λ (m : ℕ). segmentBefore code stop m s i) (sym d) ∙ v .whole
 
   module _ (h : 0 < left) (q : Met) (eq : q ≡ metAt code [] false i) where
+    -- what the segment comes to by the next component is what the whole search comes to
     from-segment : (p : Met) → q ≡ p → segmentBy code stop (left - 1) (record { start = start; steps = steps; tests = tests }) p ≡ segmentBefore code stop count (beginning first) first
     from-segment p e =
         let s : Segment = record { start = start; steps = steps; tests = tests } in
         let d : left ≡ suc (left - 1) = omega arith in
         ap (segmentBy code stop (left - 1) s) (sym e ∙ eq) ∙ sym (segment-step code stop (left - 1) s i) ∙ ap (λ (m : ℕ). segmentBefore code stop m s i) (sym d) ∙ v .whole
 
-    -- a test
+    -- a test is counted, and the loop goes on behind it
     pub seek-test : (n : ℕ) (p : Bool) → q ≡ met.Test n p → Seeking code stop count first n (left - 1) start steps (tests + 1)
     unfolding segmentBy
     seek-test n p e =
@@ -211,7 +214,7 @@ module _ (code : List ℕ) (stop count first i left start steps tests : ℕ) (v 
           few-tests = omega (arith, v .few-tests);
         }
 
-    -- a child step
+    -- a child step is counted, and the tests begin anew behind it
     pub seek-child : (n : ℕ) → q ≡ met.Child n → Seeking code stop count first n (left - 1) start (steps + 1) 0
     unfolding segmentBy
     seek-child n e =
@@ -229,7 +232,7 @@ module _ (code : List ℕ) (stop count first i left start steps tests : ℕ) (v 
         there : (n stop : ℕ) → n ≡ stop → record { start = start; steps = steps; tests = tests } ≡ segmentBy code stop (left - 1) (record { start = start; steps = steps; tests = tests }) (met.Descendant n)
         there n stop t = unfold segmentBy pick in rw (is-yes n stop t)
 
-    -- another one
+    -- behind a descendant step that is not the place asked for, another segment begins
     pub seek-next : (n : ℕ) → q ≡ met.Descendant n → ¬ (n ≡ stop) → Seeking code stop count first n (left - 1) n 0 0
     unfolding beginning
     seek-next n e t = record { whole = next n t ∙ from-segment (met.Descendant n) e; few-steps = omega (arith, v .few-steps); few-tests = omega (arith, v .few-tests) }
@@ -237,7 +240,7 @@ module _ (code : List ℕ) (stop count first i left start steps tests : ℕ) (v 
         next : (n : ℕ) → ¬ (n ≡ stop) → segmentBefore code stop (left - 1) (beginning n) n ≡ segmentBy code stop (left - 1) (record { start = start; steps = steps; tests = tests }) (met.Descendant n)
         next n t = unfold segmentBy pick in rw (is-no n stop t)
 
-    -- a fault
+    -- where no component reads, the segment that was counted so far is returned
     pub seek-fault : q ≡ met.Fault → Found
     unfolding segmentBy
     seek-fault e = from-segment met.Fault e

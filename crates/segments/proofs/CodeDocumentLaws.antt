@@ -23,7 +23,7 @@ module _ (code s₀ : List ℕ) (own width p next : ℕ) (r : HeadAnswer) (er : 
   stored-as : (v : Visited) → leftmostAt code p ≡ v → (s : List ℕ) → s ≡ blockStored s₀ own width v next p → s ≡ blockStored s₀ own width (leftmostAt code p) next p
   stored-as v e s t = t ∙ ap (λ (x : Visited). blockStored s₀ own width x next p) (sym e)
 
-  -- of a selector
+  -- a selector whose head reads: what is stored awaits its leftmost segment
   pub leftmost-read : (first origin pseudo count : ℕ) → r ≡ head.Head first origin pseudo count
       → s₁ ≡ blockStored s₀ own width (awaits (segmentBefore code noPlace count (beginning first) first)) next p → s₁ ≡ blockStored s₀ own width (leftmostAt code p) next p
   leftmost-read first origin pseudo count q t = stored-as _ there s₁ t
@@ -31,7 +31,7 @@ module _ (code s₀ : List ℕ) (own width p next : ℕ) (r : HeadAnswer) (er : 
       there : leftmostAt code p ≡ awaits (segmentBefore code noPlace count (beginning first) first)
       there = unfold leftmostAt onDecoded in rw (head-read (headAt code agentOrigin p) r er first origin pseudo count q)
 
-  -- of none
+  -- where no head reads, what is stored awaits no place
   pub leftmost-fault : (f : ℕ) → r ≡ head.Fault f → s₁ ≡ partSets s₀ own width (p + toNext) (pairBytes next ++ pairBytes noPlace)
       → (s₂ : List ℕ) → s₂ ≡ partSets s₁ own width (p + toFlags) (freshBytes (record { start = noPlace; steps = 0; tests = 0 })) → s₂ ≡ blockStored s₀ own width (leftmostAt code p) next p
   leftmost-fault f q e s₂ t = stored-as _ none s₂ (awaits-stored s₀ s₁ s₂ own width p next (beginning noPlace) noPlace 0 0 (unfold beginning in refl) e t)

@@ -50,14 +50,17 @@ element-named : Named elementKind
 unfolding bodyAt isMark pick or is
 element-named code n = refl
 
+-- of a class: one text is read behind its kind
 class-named : Named classKind
 unfolding bodyAt isMark pick or is
 class-named code n = refl
 
+-- of an id: one text is read behind its kind
 hash-named : Named hashKind
 unfolding bodyAt isMark pick or is
 hash-named code n = refl
 
+-- of an attribute: one text is read behind its kind
 attribute-named : Named attributeKind
 unfolding bodyAt isMark pick or is
 attribute-named code n = refl
@@ -68,6 +71,7 @@ module _ (kind : ℕ) where
   kind-is : (k : ℕ) → Named k → k ≤ attributeKind → is kind k ≡ true → Named kind × (kind ≤ attributeKind)
   kind-is k n l e = subst (λ (m : ℕ). Named m × (m ≤ attributeKind)) (sym (is-true kind k e)) (n, l)
 
+  -- a kind of one text is read as such, and is no greater than that of attributes
   pub name-kind : isName kind ≡ true → Named kind × (kind ≤ attributeKind)
   unfolding isName
   name-kind e =

@@ -17,7 +17,7 @@ use Rattle.segments.specs.Parts.{partSet, partSets, Apart, flagsLimit}
 
 -- ---- the returns of `marked_tests`
 module _ (part : List ℕ) (j b : ℕ) (e : b ≡ getD part j 0) where
-  -- no test
+  -- a mark that says so has no test
   pub tests-none : b ≡ withoutTests → 0 ≡ markedTests part j
   unfolding markedTests pick
   tests-none p = rw (is-yes-of b (getD part j 0) withoutTests e p)
@@ -29,12 +29,12 @@ module _ (part : List ℕ) (j b : ℕ) (e : b ≡ getD part j 0) where
 
 -- ---- the returns of `put_byte`
 module _ (state : List ℕ) (own width j b : ℕ) where
-  -- in the part
+  -- a byte of the part is stored at its place in the state
   pub set-there : j < width → set state (own + j) b ≡ partSet state own width j b
   unfolding partSet pick
   set-there h = rw (lt-ltb j width h)
 
-  -- behind it
+  -- a byte behind the part is not stored: the state stays
   pub set-past : width ≤ j → state ≡ partSet state own width j b
   unfolding partSet pick
   set-past h = rw (le-ltb j width h)
@@ -69,11 +69,13 @@ stored-within (b ∷ bs) state own width j h =
     ∙ stored-within bs (partSet state own width j b) own width (j + 1) (omega arith)
 
 -- ---- the return of `put_pair_there`
+-- the low byte and then the high byte of a number, stored in turn, are its pair
 pub pair-there : (s : List ℕ) (at n : ℕ) → set (set s at (n % byteValues)) (at + 1) (n / byteValues % byteValues) ≡ sets s at (pairBytes n)
 unfolding pairBytes
 pair-there s at n = let e : at + 1 ≡ suc at = omega arith in ap (λ (i : ℕ). set (set s at (n % byteValues)) i (n / byteValues % byteValues)) e
 
 -- ---- the return of `put_mark_there`
+-- the mark, then the low and the high byte of its tests, stored in turn, are the mark with its pair
 pub mark-there : (s : List ℕ) (at n : ℕ) → set (set (set s at withTests) (at + 1) (n % byteValues)) (at + 2) (n / byteValues % byteValues) ≡ sets s at (withTests ∷ pairBytes n)
 unfolding pairBytes
 mark-there s at n =
@@ -89,7 +91,7 @@ pair-within s₀ s₁ own width at n h e =
     e ∙ stored-within (pairBytes n) s₀ own width at (omega (arith, l, h))
 
 module _ (s₀ s₁ s₂ : List ℕ) (own width at : ℕ) where
-  -- two bytes
+  -- a number is stored as two bytes, the lower first
   pub pair-stored : (n : ℕ) → s₁ ≡ partSet s₀ own width at (n % byteValues) → s₂ ≡ partSet s₁ own width (at + 1) (n / byteValues % byteValues)
       → s₂ ≡ partSets s₀ own width at (pairBytes n)
   unfolding partSets pairBytes
@@ -126,7 +128,7 @@ pub record Zeroing (state₀ : List ℕ) (own width at count : ℕ) (state : Lis
   pub few : j + left < flagsLimit
 
 module _ (state₀ : List ℕ) (own width at count : ℕ) (state : List ℕ) (j left : ℕ) (v : Zeroing state₀ own width at count state j left) where
-  -- one more
+  -- a zero is stored, and the loop goes on behind it with one fewer left
   pub zero-more : 0 < left → (s₁ : List ℕ) → s₁ ≡ partSet state own width j 0 → Zeroing state₀ own width at count s₁ (j + 1) (left - 1)
   zero-more h s₁ e =
       let d : suc (left - 1) ≡ left = omega arith in
@@ -142,7 +144,7 @@ module _ (state₀ : List ℕ) (own width at count : ℕ) (state : List ℕ) (j 
         few = omega (arith, v .few);
       }
 
-  -- none is left
+  -- where none is left, all zeros are stored
   pub zero-end : left ≤ 0 → state ≡ partSets state₀ own width at (replicate count 0)
   zero-end h =
       let d : 0 ≡ left = omega arith in
@@ -173,7 +175,7 @@ part-above state above own width j b h =
     pick-holds (λ (x : List ℕ). take width (drop above x) ≡ take width (drop above state)) (ltb j width) _ _
     (λ e. set-outside above own width state j b (ltb-true j width e) h) (λ _. refl)
 
--- after bytes too
+-- the parent's part stays as it was after many bytes, too
 pub part-above-all : (bs state : List ℕ) (above own width j : ℕ) → Apart above own width → part (partSets state own width j bs) above width ≡ part state above width
 unfolding partSets
 part-above-all [] state above own width j h = refl

@@ -20,7 +20,7 @@ use Rattle.segments.specs.Passing.{nextFrom, visitStored, passStored}
 use Rattle.segments.proofs.StoreLaws.{SameOutside, outside-same, outside-then, outside-either, outside-whole}
 use Rattle.segments.proofs.CodeBlockLaws.{block-own, block-above, length-block, block-outside}
 
--- ---- one selector
+-- ---- the visit of one selector in a state
 module _ (code : List ℕ) (row : Path) (above own width p : ℕ) (state : List ℕ) where
   -- the state stays as long
   pub length-visit : length (visitStored code row above own width p state) ≡ length state
@@ -29,7 +29,7 @@ module _ (code : List ℕ) (row : Path) (above own width p : ℕ) (state : List 
 
 -- ---- one of several
 module _ (code : List ℕ) (row : Path) (above own width : ℕ) (state : List ℕ) (p left : ℕ) (h : 0 < left) where
-  -- the first, then the others
+  -- a pass with visits left is the visit of the first, then the pass over the others
   pass-step : pick (is p noPlace) state (passStored code row above own width (left - 1) (nextFrom state above width p) (visitStored code row above own width p state))
       ≡ passStored code row above own width left p state
   pass-step =
@@ -38,7 +38,7 @@ module _ (code : List ℕ) (row : Path) (above own width : ℕ) (state : List �
       ≡ passStored code row above own width (suc (left - 1)) p state = unfold passStored in refl in
       e ∙ ap (λ (n : ℕ). passStored code row above own width n p state) d
 
-  -- behind the first, the others
+  -- from the state with the block of the first, the pass over the others leaves what the whole leaves
   pub pass-turn : ¬ (p ≡ noPlace) → (next : ℕ) → next ≡ pairAt (part state above width) (p + toNext)
       → (s₁ : List ℕ) → s₁ ≡ blockStored state own width (visitAt code row (part state above width) p) (pairAt (part state above width) (p + toNext)) p
       → passStored code row above own width (left - 1) next s₁ ≡ passStored code row above own width left p state
@@ -60,7 +60,7 @@ pub record Passing (code : List ℕ) (row : Path) (state₀ : List ℕ) (above o
 
 module _ (code : List ℕ) (row : Path) (state₀ : List ℕ) (above own width first count place : ℕ) (state : List ℕ) (p left : ℕ)
     (v : Passing code row state₀ above own width first count place state p left) where
-  -- none is left
+  -- where none is left to visit, the state is that behind the whole pass
   pub pass-end : left ≤ 0 → state ≡ passStored code row above own width count first state₀
   pass-end h =
       let d : 0 ≡ left = omega arith in
@@ -75,7 +75,7 @@ module _ (code : List ℕ) (row : Path) (state₀ : List ℕ) (above own width f
         unfold pick in rw (is-yes p noPlace z) in
         e ∙ pass-step code row above own width state p left h ∙ v .whole
 
-    -- the next one
+    -- the block of the selector is stored, and the loop goes on at the next one, with one fewer left
     pub pass-more : ¬ (p ≡ noPlace) → (next : ℕ) → next ≡ pairAt (part state above width) (p + toNext) → next < pairLimit
         → (s₁ : List ℕ) → s₁ ≡ blockStored state own width (visitAt code row (part state above width) p) (pairAt (part state above width) (p + toNext)) p
         → Passing code row state₀ above own width first count place s₁ next (left - 1)
@@ -95,7 +95,7 @@ by-place true own width x y a b e f = e
 by-place false own width x y a b e f = f
 
 module _ (code : List ℕ) (row : Path) (above own width : ℕ) (h : Apart above own width) where
-  -- behind one selector
+  -- what is left to pass is the same from the state behind a visit as from the part with its block
   visit-moved : (k p : ℕ) (state : List ℕ)
       → passFrom code row (part (visitStored code row above own width p state) above width) k (nextFrom state above width p) (part (visitStored code row above own width p state) own width) .part
       ≡ passFrom code row (part state above width) k (pairAt (part state above width) (p + toNext))
@@ -108,7 +108,7 @@ module _ (code : List ℕ) (row : Path) (above own width : ℕ) (h : Apart above
       ap (λ (x : List ℕ). passFrom code row x k n (part (blockStored state own width v n p) own width) .part) (block-above state own width v n p above h)
       ∙ ap (λ (x : List ℕ). passFrom code row q k n x .part) (block-own state own width v n p)
 
-  -- all of them
+  -- after all visits the own part is that of the pass by definition
   pub pass-own : (k p : ℕ) (state : List ℕ) → part (passStored code row above own width k p state) own width ≡ passFrom code row (part state above width) k p (part state own width) .part
   unfolding passStored passFrom
   pass-own zero p state = refl

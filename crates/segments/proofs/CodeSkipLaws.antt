@@ -37,6 +37,7 @@ module _ (code : List ℕ) (h : Hint) (above own width : ℕ) (state₀ : List �
   pub skip-none : (e : Element) → Fits h e → Skips code (e ∷ []) above own width state₀ first count state₀ first count
   skip-none e fit = record { stored = refl; matched = refl }
 
+  -- before the first selector the state is as it was lent, and all are left
   pub skip-begin : SkipLent code state₀ above own width first → above + width ≤ length state₀ → Skipping code h above own width state₀ first count state₀ first count
   skip-begin l w = record { skips = skip-none; long = refl; lent = l; held = w; fewer = omega arith }
 
@@ -44,7 +45,7 @@ module _ (code : List ℕ) (h : Hint) (above own width : ℕ) (state₀ : List �
       (n : ℕ) (en : n ≡ pairAt (part state above width) (p + toNext)) (small : n < pairLimit) (s₁ : List ℕ) (l : length s₁ ≡ length state)
       (visited : (e : Element) → Fits h e → (false ≡ visitAt code (e ∷ []) (part state above width) p .matched)
       × (s₁ ≡ blockStored state own width (visitAt code (e ∷ []) (part state above width) p) (pairAt (part state above width) (p + toNext)) p)) where
-    -- at an element
+    -- at an element that the hint fits, the selector fails and its block is stored
     module _ (e : Element) (fit : Fits h e) where
       abbrev flagsAbove : List ℕ
       flagsAbove = part state above width
@@ -59,7 +60,7 @@ module _ (code : List ℕ) (h : Hint) (above own width : ℕ) (state₀ : List �
       stored-on : passStored code (e ∷ []) above own width (left - 1) n s₁ ≡ passStored code (e ∷ []) above own width left p state
       stored-on = pass-turn code (e ∷ []) above own width state p left more (λ q. omega arith) n en s₁ (visited e fit .1)
 
-      -- and match as before
+      -- and the pass over them is the same from the state as from the parts
       others-are : passFrom code (e ∷ []) (part s₁ above width) (left - 1) n (part s₁ own width)
           ≡ passFrom code (e ∷ []) flagsAbove (left - 1) following (blockSet seen following p (part state own width))
       others-are =
@@ -67,10 +68,12 @@ module _ (code : List ℕ) (h : Hint) (above own width : ℕ) (state₀ : List �
           let o : part s₁ own width ≡ blockSet seen following p (part state own width) = ap (λ (x : List ℕ). part x own width) (visited e fit .1) ∙ block-own state own width seen following p in
           rw (a, o, en)
 
+      -- so no place is collected for the selector that surely fails
       none-here : matchedHere seen p ≡ []
       unfolding matchedHere pick
       none-here = rw (← visited e fit .0)
 
+      -- the selectors that match among the others are those that match among all
       matched-on : passFrom code (e ∷ []) (part s₁ above width) (left - 1) n (part s₁ own width) .matched ≡ passFrom code (e ∷ []) flagsAbove left p (part state own width) .matched
       matched-on =
           let d : suc (left - 1) ≡ left = omega arith in
@@ -81,7 +84,7 @@ module _ (code : List ℕ) (h : Hint) (above own width : ℕ) (state₀ : List �
           ∙ ap (λ (r : Passed). r .matched) (sym s)
           ∙ ap (λ (k : ℕ). passFrom code (e ∷ []) flagsAbove k p (part state own width) .matched) d
 
-    -- one more
+    -- the selector is passed over, and the loop goes on at the next one with one fewer left
     skip-on : Skipping code h above own width state₀ first count s₁ n (left - 1)
     skip-on =
         record {

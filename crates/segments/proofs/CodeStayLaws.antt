@@ -20,7 +20,7 @@ use Rattle.segments.proofs.CodeVisitLaws.{marked-stays, visit-mark}
 
 -- ---- bytes of a part, by their places in the state
 module _ (state : List ℕ) (above width : ℕ) where
-  -- one
+  -- a byte of a part is the byte of the state at the part's place and its own
   byte-in : (j : ℕ) → j < width → getD (part state above width) j 0 ≡ getD state (above + j) 0
   unfolding part
   byte-in j h = getD-take width (drop above state) j 0 h ∙ getD-drop above state j 0
@@ -29,7 +29,7 @@ module _ (state : List ℕ) (above width : ℕ) where
   pub byte-of : (p k : ℕ) → p + k < width → getD (part state above width) (p + k) 0 ≡ getD state (above + p + k) 0
   byte-of p k h = let e : above + (p + k) ≡ above + p + k = omega arith in byte-in (p + k) h ∙ ap (λ (i : ℕ). getD state i 0) e
 
-  -- a number of it
+  -- a number of the block of a selector is the same in the state and in the part
   pub pair-of : (p k : ℕ) → p + k + 1 < width → pairAt state (above + p + k) ≡ pairAt (part state above width) (p + k)
   unfolding pairAt
   pair-of p k h =
@@ -39,17 +39,19 @@ module _ (state : List ℕ) (above width : ℕ) where
       rw (a, b)
 
 -- ---- the return of `block_stays`
+-- a block with a mark, within the part, whose tests the hint says to fail, stays
 pub stays : (code state : List ℕ) (above width p : ℕ) (h : Hint) → ¬ (p ≡ noPlace) → p + toEnd ≤ width → getD state (above + p + toFlags) 0 ≡ withTests
     → (awaited : ℕ) → awaited ≡ pairAt state (above + p + toAwaited) → (tests : ℕ) → tests ≡ pairAt state (above + p + toTests) → TestsFail code awaited tests h
     → BlockStays code state above width p h
 stays code state above width p h z w m awaited ea tests et f = record { some = omega arith; inside = w; mark = m; fails = rw (ea, et) at f }
 
 -- ---- the return of `copy_block`
+-- the block that was stored is that of equal numbers
 pub block-copied : (s₀ s₁ : List ℕ) (at next awaited tests n a t : ℕ) → next ≡ n → awaited ≡ a → tests ≡ t → s₁ ≡ sets s₀ at (blockBytes next awaited (withTests ∷ pairBytes tests))
     → s₁ ≡ sets s₀ at (blockBytes n a (withTests ∷ pairBytes t))
 block-copied s₀ s₁ at next awaited tests n a t p q r e = e ∙ rw (p, q, r)
 
--- ---- one selector
+-- ---- one selector whose block stays
 module _ (code : List ℕ) (h : Hint) (state : List ℕ) (above own width p : ℕ) (b : BlockStays code state above width p h) where
   -- what its block says
   abbrev next : ℕ
@@ -65,7 +67,7 @@ module _ (code : List ℕ) (h : Hint) (state : List ℕ) (above own width p : �
   abbrev pub copied : List ℕ
   copied = sets state (own + p + toNext) (blockBytes next awaited (withTests ∷ pairBytes tests))
 
-  -- by the parent's part
+  -- the next selector is the one that the parent's part says
   pub next-in : next ≡ pairAt (part state above width) (p + toNext)
   next-in = pair-of state above width p toNext (let w = b .inside in omega arith)
 

@@ -87,17 +87,18 @@ module _ (code : List ℕ) where
 
   -- ---- the returns of `tests_fail`
   module _ (h : Hint) (at tests : ℕ) where
-    -- the first fails
+    -- where the first test fails, the tests do not all pass
     pub by-first : 0 < tests → TestFails code at h → TestsFail code at tests h
     by-first s f =
         let d : tests ≡ suc (tests - 1) = omega arith in
         record { there = f .there; fails = λ e fit. ap (λ (n : ℕ). testsPass code (e ∷ []) n at) d ∙ f .fails e fit (tests - 1) }
 
-    -- behind a test, the second
+    -- where the tests behind the first do not pass, the tests do not all pass
     second-fails : (row : Path) (n t : ℕ) (c : Component) → pieceAt code at ≡ read n (test c) → testsPass code row t n ≡ false → testsPass code row (suc t) at ≡ false
     unfolding testsPass onDecoded onPiece
     second-fails row n t c e f = rw (e, f) (and-right (tested row c) false refl)
 
+    -- where the second test fails, the tests do not all pass
     pub by-second : 1 < tests → (size : ℕ) → TestThere code at size → TestFails code (at + size) h → TestsFail code at tests h
     by-second s size t f =
         let d : tests ≡ suc (suc (tests - 2)) = omega arith in
@@ -107,12 +108,13 @@ module _ (code : List ℕ) where
         }
 
   -- ---- the return of `behind_child`
+  -- a byte of the child combinator's kind is read as a child step
   pub child-there : (at : ℕ) → at < length code → getD code at 0 ≡ childKind → pieceAt code at ≡ read (at + 1) direct
   unfolding pieceAt componentAt writtenAt rangedAt andThen bodyAt isMark componentIn markOf piece mapped pick or is
   child-there at l e = rw (number-one code at childKind l e (omega arith), within-yes childKind starKind attributeEqualKind (omega arith) (omega arith))
 
   -- ---- a compound that may not end here
-  -- a test changes nothing
+  -- a test in a compound that may not end here changes nothing
   compound-test : (row : Path) (k i n : ℕ) (c : Component) → pieceAt code i ≡ read n (test c) → compoundAt code row (suc k) false i ≡ compoundAt code row k false n
   unfolding compoundAt onDecoded onPiece and
   compound-test row k i n c e = rw e
@@ -128,7 +130,7 @@ module _ (code : List ℕ) where
     pub near : i ≤ compiledLimit
 
   module _ (first i left : ℕ) (v : Stepping first i left) (more : 0 < left) where
-    -- behind a test
+    -- behind a test the compound goes on, and may not end here as before
     pub step-test : length code ≤ compiledLimit → (size : ℕ) → TestThere code i size → Stepping first (i + size) (left - 1)
     step-test few size t =
         let d : suc (left - 1) ≡ left = omega arith in
@@ -137,24 +139,27 @@ module _ (code : List ℕ) where
           near = omega (arith, few, t .inside);
         }
 
-    -- behind the step
+    -- behind the child step the compound is passed: it does not end here, and its left neighbour begins there
     pub step-child : (r : ℕ) → pieceAt code i ≡ read r direct → (row : Path) → compoundAt code row (length code) false first ≡ record { ends = false; place = r }
     step-child r e row =
         let d : left ≡ suc (left - 1) = omega arith in
         sym (v .whole row) ∙ ap (λ (k : ℕ). compoundAt code row k false i) d ∙ compound-child row (left - 1) i r e
 
 -- ---- the return of `step_fails`
+-- a step fails where the compound does not end here and the tests of the one behind it fail by the hint
 pub step-fails : (code : List ℕ) (at tests : ℕ) (h : Hint) (place : ℕ) → 0 < place
     → ((row : Path) → compoundAt code row (length code) false at ≡ record { ends = false; place = place }) → TestsFail code place tests h → StepFails code at tests h
 step-fails code at tests h place f b t = record { place = place; far = f; behind = b; fails = t }
 
 -- ---- the return of `step_stays`
+-- a block with a flag of 0 and a mark behind it, whose step fails by the hint, stays
 pub step-stays : (code state : List ℕ) (above width p : ℕ) (h : Hint) → ¬ (p ≡ noPlace) → p + toStepEnd ≤ width → getD state (above + p + toFlags) 0 ≡ 0
     → getD state (above + p + toStepMark) 0 ≡ withTests → (awaited : ℕ) → awaited ≡ pairAt state (above + p + toAwaited) → (tests : ℕ) → tests ≡ pairAt state (above + p + toStepTests)
     → StepFails code awaited tests h → StepStays code state above width p h
 step-stays code state above width p h z w f m awaited ea tests et s = record { some = omega arith; inside = w; flag = f; mark = m; fails = rw (ea, et) at s }
 
 -- ---- the return of `put_step`
+-- next, awaited, the flag of 0 and the mark, stored in turn, are the block
 pub step-stored : (s₀ s₁ s₂ s₃ s₄ : List ℕ) (at next awaited tests : ℕ) → s₁ ≡ sets s₀ (at + toNext) (pairBytes next) → s₂ ≡ sets s₁ (at + toAwaited) (pairBytes awaited)
     → s₃ ≡ sets s₂ (at + toFlags) (0 ∷ []) → s₄ ≡ sets s₃ (at + toStepMark) (withTests ∷ pairBytes tests)
     → s₄ ≡ sets s₀ (at + toNext) (blockBytes next awaited (0 ∷ withTests ∷ pairBytes tests))
@@ -166,6 +171,7 @@ step-stored s₀ s₁ s₂ s₃ s₄ at next awaited tests e₁ e₂ e₃ e₄ =
     e₄ ∙ rw (e₃, e₂, e₁, a, f, m)
 
 -- ---- the return of `copy_step`
+-- the block of a step that was stored is that of equal numbers
 pub step-copied : (s₀ s₁ : List ℕ) (at next awaited tests n a t : ℕ) → next ≡ n → awaited ≡ a → tests ≡ t → s₁ ≡ sets s₀ at (blockBytes next awaited (0 ∷ withTests ∷ pairBytes tests))
     → s₁ ≡ sets s₀ at (blockBytes n a (0 ∷ withTests ∷ pairBytes t))
 step-copied s₀ s₁ at next awaited tests n a t p q r e = e ∙ rw (p, q, r)
@@ -189,12 +195,12 @@ step-sweep code row flags j i place tests k l f m et c fail =
     let b′ : flag (left .ends) ∷ sweptBehind code row flags k (j + 1) left ≡ 0 ∷ markBytes tests = unfold flag sweptBehind pick in refl in
     ap (λ (x : ℕ). sweepAt code row flags x j i) l ∙ a ∙ a′ ∙ ap (λ (x : List ℕ). 0 ∷ x) (b ∙ b′ ∙ ap (λ (x : List ℕ). 0 ∷ x) (sym (some-tests code row tests place fail)))
 
--- so nothing changes
+-- where the first flag is 0, the selector does not match and awaits the same segment
 decided-stays : (code : List ℕ) (p awaited : ℕ) (flags : List ℕ) → decided code p awaited (0 ∷ flags) ≡ record { matched = false; awaited = awaited; flags = flags }
 unfolding decided flagOf is pick
 decided-stays code p awaited flags = refl
 
--- ---- one selector
+-- ---- one selector whose block stays, of two compounds
 module _ (code : List ℕ) (h : Hint) (state : List ℕ) (above own width p : ℕ) (b : StepStays code state above width p h) where
   -- what its block says
   abbrev next : ℕ
@@ -206,7 +212,7 @@ module _ (code : List ℕ) (h : Hint) (state : List ℕ) (above own width p : �
   abbrev tests : ℕ
   tests = pairAt state (above + p + toStepTests)
 
-  -- its flags
+  -- its flags: the right compound may not end here, and the mark of the left one with its tests
   abbrev staying : List ℕ
   staying = 0 ∷ withTests ∷ pairBytes tests
 
@@ -214,10 +220,11 @@ module _ (code : List ℕ) (h : Hint) (state : List ℕ) (above own width p : �
   abbrev pub copiedStep : List ℕ
   copiedStep = sets state (own + p + toNext) (blockBytes next awaited staying)
 
-  -- by the parent's part
+  -- the next selector is the one that the parent's part says
   pub step-next : next ≡ pairAt (part state above width) (p + toNext)
   step-next = pair-of state above width p toNext (let w = b .inside in omega arith)
 
+  -- the segment that is awaited is the one that the parent's part says
   step-awaited : awaited ≡ pairAt (part state above width) (p + toAwaited)
   step-awaited = pair-of state above width p toAwaited (let w = b .inside in omega arith)
 

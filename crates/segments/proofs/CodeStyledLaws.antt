@@ -27,7 +27,7 @@ use Rattle.segments.specs.Document.{styledFrom, styleCountAt, firstStyle
 use Rattle.segments.proofs.SheetLaws.{selector-lower, first-styled}
 
 -- ---- the returns of `style_count`
--- a fault
+-- where the reading fails, the answer is that fault
 faulty : (d : Decoded ℕ) (f : ℕ) → d ≡ fault f → number.Fault f ≡ numberAnswer d
 unfolding numberAnswer
 faulty d f e = ap numberAnswer (sym e)
@@ -50,13 +50,14 @@ module _ (code : List ℕ) (at : ℕ) (r : HeadAnswer) (er : r ≡ headAnswer (h
         let w = place-read (counted (componentAt code) count n) p ep m h in
         e ∙ ap numberAnswer (sym (count-behind ∙ then-read (counted (componentAt code) count n) (λ k _. numberAt code k) m (w .0) (w .1)))
 
-    -- a fault in a component
+    -- where a component does not read, the answer is that fault
     pub count-fault : (f : ℕ) → p ≡ place.Fault f → number.Fault f ≡ numberAnswer (styleCountAt code at)
     count-fault f h =
         faulty (styleCountAt code at) f
         (count-behind ∙ then-fault (counted (componentAt code) count n) (λ k _. numberAt code k) f (place-fault (counted (componentAt code) count n) p ep f h))
 
 -- ---- where a selector stands whose styles are counted
+-- head, components and the count of styles take at least four bytes, and end within the bytes
 count-reaches : (code : List ℕ) (i : ℕ) → Reaches 4 (length code) i (styleCountAt code i)
 unfolding styleCountAt
 count-reaches code i =
@@ -69,7 +70,7 @@ abbrev pub Finding : List ℕ → ℕ → ℕ → ℕ → ℕ → Type 0
 Finding code count at left i = firstStyled code left i ≡ firstStyled code count at
 
 module _ (code : List ℕ) (count at left i : ℕ) (v : Finding code count at left i) where
-  -- what is answered
+  -- what is answered: the place of the first selector that has a style, which is within the bytes
   abbrev Found : ℕ → Type 0
   Found p = (p ≡ styledFrom code count at) × (p ≤ length code)
 
@@ -77,7 +78,7 @@ module _ (code : List ℕ) (count at left i : ℕ) (v : Finding code count at le
   found-as : SelectorsRead code count at → (p : ℕ) → p ≡ firstStyled code left i → p ≤ length code → Found p
   found-as s p e l = (e ∙ v ∙ first-styled code count (s .least) at (s .end) (s .selectors) (s .origin) (s .told), l)
 
-  -- none is left
+  -- where no selector is left, the answer is no place
   pub find-end : SelectorsRead code count at → left ≤ 0 → Found noPlace
   find-end s h =
       let d : 0 ≡ left = omega arith in
@@ -85,7 +86,7 @@ module _ (code : List ℕ) (count at left i : ℕ) (v : Finding code count at le
       found-as s noPlace (e ∙ ap (λ (k : ℕ). firstStyled code k i) d) (omega arith)
 
   module _ (h : 0 < left) (r : NumberAnswer) (er : r ≡ numberAnswer (styleCountAt code i)) where
-    -- one of them
+    -- the first of those that are left is by the styles of this one: it, or the first behind it
     find-step : onDecoded (styleCountAt code i) (λ n styles. pick (is styles 0) (firstStyled code (left - 1) n) i) (λ _. noPlace) ≡ firstStyled code left i
     find-step =
         let d : suc (left - 1) ≡ left = omega arith in
@@ -93,7 +94,7 @@ module _ (code : List ℕ) (count at left i : ℕ) (v : Finding code count at le
         unfold firstStyled in refl in
         e ∙ ap (λ (k : ℕ). firstStyled code k i) d
 
-    -- there is none
+    -- where no count of styles reads, the answer is no place
     pub find-fault : SelectorsRead code count at → (f : ℕ) → r ≡ number.Fault f → Found noPlace
     find-fault s f q =
         let e : noPlace ≡ onDecoded (styleCountAt code i) (λ n styles. pick (is styles 0) (firstStyled code (left - 1) n) i) (λ _. noPlace) =
@@ -109,7 +110,7 @@ module _ (code : List ℕ) (count at left i : ℕ) (v : Finding code count at le
           unfold onDecoded in rw (number-read (styleCountAt code i) r er n styles q) in
           e ∙ find-step
 
-      -- one or more
+      -- a selector of one style or more is the first
       pub find-styled : SelectorsRead code count at → 0 < styles → Found i
       find-styled s p =
           let e : i ≡ pick (is styles 0) (firstStyled code (left - 1) n) i = unfold pick in rw (is-no styles 0 (λ z. omega arith)) in
@@ -125,6 +126,7 @@ module _ (code : List ℕ) (count at left i : ℕ) (v : Finding code count at le
           e ∙ find-count ∙ v
 
 -- ---- the selectors of a sheet are read behind their count
+-- where a sheet is decoded, its selectors are read from behind the count, as many as it says
 pub sheet-selectors : (code : List ℕ) (m : ℕ) (ss : List CompiledSelector) → decode code ≡ read m ss → (n k : ℕ) → numberAt code 0 ≡ read n k → SelectorsRead code k n
 sheet-selectors code m ss e n k q =
     let w = sheet-steps code m ss e in

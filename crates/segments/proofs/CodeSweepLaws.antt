@@ -19,11 +19,12 @@ use Rattle.segments.specs.declared.sweeping.Swept.{Swept}
 use Rattle.segments.proofs.CodePartLaws.{length-part-set, stored-first, part-above}
 
 -- ---- the returns of `flag_byte`
+-- what is true has the flag 1
 pub flag-yes : (b : Bool) → b ≡ true → 1 ≡ flag b
 unfolding flag
 flag-yes b e = rw e
 
--- and the other
+-- what is false has the flag 0
 pub flag-no : (b : Bool) → b ≡ false → 0 ≡ flag b
 unfolding flag
 flag-no b e = rw e
@@ -36,13 +37,14 @@ module _ (code : List ℕ) (row : Path) (part : List ℕ) (j i b : ℕ) (eb : b 
   unfolding sweptOne pick flagOf is
   one-compound h e p ec = rw (← eb, lt-leb withoutTests b h, ← ec)
 
-  -- the leftmost
+  -- where the byte is a mark, the compound is the leftmost, and ends here if its tests pass
   pub one-mark : withoutTests ≤ b → (n : ℕ) → n ≡ markedTests part j → (e : Bool) → e ≡ testsPass code row n i
       → record { marked = true; ends = e; tests = n; place = i } ≡ sweptOne code row part j i
   unfolding sweptOne pick
   one-mark h n en e ee = rw (← eb, le-leb withoutTests b h, ← en, ee)
 
 -- ---- one compound, then those behind it
+-- by whether the compound is marked: its flag, and its mark or what stands behind it, are those of what was swept
 by-mark : (t e : Bool) (n i : ℕ) (c : Ended) (behind : ℕ → List ℕ)
     → pick t (flag e ∷ markBytes n) (flag (c .ends) ∷ behind (c .place))
     ≡ (let s : Swept = pick t (record { marked = true; ends = e; tests = n; place = i }) (record { marked = false; ends = c .ends; tests = 0; place = c .place }) in
@@ -70,7 +72,7 @@ pub record Sweeping (code : List ℕ) (row : Path) (state₀ : List ℕ) (above 
   pub few-flags : to + left < flagsLimit
   pub few : place ≤ placeLimit
 
--- before the first
+-- before the first compound the state is as it was lent
 pub sweep-begin : (code : List ℕ) (row : Path) (state : List ℕ) (above own width at first limit place : ℕ) → SweepLent state above own width at limit place
     → Sweeping code row state above own width at first limit place state at first limit
 sweep-begin code row state above own width at first limit place l =
@@ -82,7 +84,7 @@ module _ (code : List ℕ) (row : Path) (state₀ : List ℕ) (above own width a
   abbrev Left : List ℕ → Type 0
   Left s = s ≡ partSets state₀ own width at (sweepAt code row (part state₀ above width) limit (at + 1) first)
 
-  -- none is left
+  -- where no compound is left, the flags of all are stored
   pub sweep-end : left ≤ 0 → Left state
   sweep-end h =
       let d : 0 ≡ left = omega arith in
@@ -91,7 +93,7 @@ module _ (code : List ℕ) (row : Path) (state₀ : List ℕ) (above own width a
 
   module _ (h : 0 < left) (flags : List ℕ) (ep : flags ≡ part state above width) (s : Swept) (es : s ≡ sweptOne code row flags (to + 1) i)
       (b : ℕ) (eb : b ≡ flag (s .ends)) (s₁ : List ℕ) (e₁ : s₁ ≡ partSet state own width to b) where
-    -- one compound
+    -- one flag stored, and what is swept behind it, come to the whole
     swept : Left (partSets s₁ own width (to + 1) (sweptBehind code row (part state₀ above width) (left - 1) (to + 1) s))
     swept =
         let q = part state₀ above width in
@@ -110,7 +112,7 @@ module _ (code : List ℕ) (row : Path) (state₀ : List ℕ) (above own width a
         let w : markBytes (s .tests) ≡ sweptBehind code row (part state₀ above width) (left - 1) (to + 1) s = unfold sweptBehind pick in rw m in
         e₂ ∙ ap (partSets s₁ own width (to + 1)) w ∙ swept
 
-    -- there are others
+    -- behind a compound that is not the leftmost the loop goes on, at its left neighbour
     pub sweep-more : s .marked ≡ false → Sweeping code row state₀ above own width at first limit place s₁ (to + 1) (s .place) (left - 1)
     sweep-more m =
         let w : sweepAt code row (part state₀ above width) (left - 1) (to + 1 + 1) (s .place) ≡ sweptBehind code row (part state₀ above width) (left - 1) (to + 1) s = unfold sweptBehind pick in rw m in

@@ -37,28 +37,28 @@ some zero = pick-true _ _ _ _ (is-yes 0 0 refl) refl
 some (suc n) = pick-false _ _ _ _ (is-no (suc n) 0 (λ e. omega arith)) (lt-ltb 0 (suc n) (omega arith))
 
 module _ (code : List ℕ) (at : ℕ) (r : NumberAnswer) (er : r ≡ numberAnswer (styleCountAt code at)) where
-  -- by the count
+  -- a selector has a style exactly if the count that was read is above 0
   pub styled-count : (n styles : ℕ) → r ≡ number.Number n styles → ltb 0 styles ≡ hasStyleAt code at
   unfolding hasStyleAt onDecoded
   styled-count n styles q = rw (number-read (styleCountAt code at) r er n styles q) (some styles)
 
-  -- of none
+  -- where no count reads, it has none
   pub styled-fault : (f : ℕ) → r ≡ number.Fault f → false ≡ hasStyleAt code at
   unfolding hasStyleAt onDecoded
   styled-fault f q = rw (number-fault (styleCountAt code at) r er f q)
 
 -- ---- the returns of `put_styled`
 module _ (code s₀ : List ℕ) (own width p behind left : ℕ) (b : Bool) (eb : b ≡ hasStyleAt code p) where
-  -- what is left
+  -- what is left: the block of the selector if it has a style, else the state as it was
   abbrev Styled : List ℕ → Type 0
   Styled s = s ≡ pick (hasStyleAt code p) (blockStored s₀ own width (leftmostAt code p) (styledFrom code left behind) p) s₀
 
-  -- a block
+  -- a selector that has a style gets its block, with the place of the next that has one
   pub styled-put : b ≡ true → (next : ℕ) → next ≡ styledFrom code left behind → (s₁ : List ℕ) → s₁ ≡ blockStored s₀ own width (leftmostAt code p) next p → Styled s₁
   unfolding pick
   styled-put t next en s₁ e = rw (← eb, t, ← en) e
 
-  -- nothing
+  -- a selector without a style gets no block: the state stays
   pub styled-bare : b ≡ false → Styled s₀
   unfolding pick
   styled-bare t = rw (← eb, t)
@@ -75,7 +75,7 @@ unfolding hasStyleAt onDecoded
 has-style-at code i n s e = let c = style-count code i n s e in rw (c .told) (sym (has-style (s .styles)))
 
 module _ (code state₀ : List ℕ) (own width count at : ℕ) (state : List ℕ) (left i : ℕ) (v : Telling code state₀ own width count at state left i) where
-  -- none is left
+  -- where no selector is left, the document is told of all
   pub tell-end : left ≤ 0 → state ≡ freshStored code own width count at state₀
   tell-end h =
       let d : 0 ≡ left = omega arith in
@@ -87,7 +87,7 @@ module _ (code state₀ : List ℕ) (own width count at : ℕ) (state : List ℕ
     others : ℕ → CompiledSelector → List ℕ
     others n s = freshStored code own width (left - 1) n (pick (hasStyle (s .styles)) (blockStored state own width (leftmostAt code i) (styledFrom code (left - 1) n) i) state)
 
-    -- one of them
+    -- what the selectors that are left come to, by the first of them
     tell-step : onDecoded (selectorAt code agentOrigin i) others (λ _. state) ≡ freshStored code own width count at state₀
     unfolding others
     tell-step =
@@ -95,7 +95,7 @@ module _ (code state₀ : List ℕ) (own width count at : ℕ) (state : List ℕ
         let e : onDecoded (selectorAt code agentOrigin i) others (λ _. state) ≡ freshStored code own width (suc (left - 1)) i state = unfold freshStored in refl in
         e ∙ ap (λ (k : ℕ). freshStored code own width k i state) d ∙ v .whole
 
-    -- there is none
+    -- where no selector reads, the rest is told nothing and the state is as it has to be
     pub tell-fault : (f : ℕ) → r ≡ selector.Fault f → state ≡ freshStored code own width count at state₀
     tell-fault f q =
         let e : state ≡ onDecoded (selectorAt code agentOrigin i) others (λ _. state) = unfold onDecoded in rw (selector-fault (selectorAt code agentOrigin i) r er f q) in
@@ -121,7 +121,7 @@ module _ (code state₀ : List ℕ) (own width count at : ℕ) (state : List ℕ
             omega (arith, l .0, l .1, v .lent .few-bytes),
           )
 
-      -- the next one
+      -- a selector is told, and the loop goes on behind it with one fewer left
       pub tell-more : (s₁ : List ℕ) → s₁ ≡ pick (hasStyleAt code i) (blockStored state own width (leftmostAt code i) (styledFrom code (left - 1) n) i) state
           → Telling code state₀ own width count at s₁ (left - 1) n
       tell-more s₁ e₁ =
@@ -152,7 +152,7 @@ module _ (code : List ℕ) (own width : ℕ) where
   part-read (read n s) f g state h = h n s
   part-read (fault p) f g state h = refl
 
-  -- all of them
+  -- for all selectors together, the own part is as it is by definition
   pub fresh-own : (k i : ℕ) (state : List ℕ) → part (freshStored code own width k i state) own width ≡ freshFrom code k i (part state own width)
   unfolding freshStored freshFrom
   fresh-own zero i state = refl

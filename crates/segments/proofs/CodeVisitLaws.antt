@@ -35,13 +35,14 @@ length-pair : (n : ℕ) → length (pairBytes n) ≡ 2
 unfolding pairBytes
 length-pair n = refl
 
--- two take four
+-- two numbers, those of the next selector and of the awaited segment, take four bytes
 length-places : (a b : ℕ) → length (pairBytes a ++ pairBytes b) ≡ 4
 unfolding pairBytes
 length-places a b = refl
 
 module _ (s₀ s₁ s₂ : List ℕ) (own width p next awaited : ℕ) where
   -- ---- the return of `put_places`
+  -- the place of the next selector and the awaited place, stored in turn, are both of them stored at once
   pub places-stored : s₁ ≡ partSets s₀ own width (p + toNext) (pairBytes next) → s₂ ≡ partSets s₁ own width (p + toAwaited) (pairBytes awaited)
       → s₂ ≡ partSets s₀ own width (p + toNext) (pairBytes next ++ pairBytes awaited)
   places-stored e f =
@@ -50,7 +51,7 @@ module _ (s₀ s₁ s₂ : List ℕ) (own width p next awaited : ℕ) where
       ∙ ap (λ (n : ℕ). partSets (partSets s₀ own width (p + toNext) (pairBytes next)) own width n (pairBytes awaited)) d
       ∙ sym (stored-then (pairBytes next) (pairBytes awaited) s₀ own width (p + toNext))
 
-  -- the places, then the flags
+  -- both places stored, then the flags behind them, are the block stored whole
   pub block-stored : (flags : List ℕ) → s₁ ≡ partSets s₀ own width (p + toNext) (pairBytes next ++ pairBytes awaited) → s₂ ≡ partSets s₁ own width (p + toFlags) flags
       → s₂ ≡ partSets s₀ own width (p + toNext) (blockBytes next awaited flags)
   unfolding blockBytes
@@ -63,6 +64,7 @@ module _ (s₀ s₁ s₂ : List ℕ) (own width p next awaited : ℕ) where
       ∙ ap (partSets s₀ own width (p + toNext)) (append-assoc (pairBytes next) (pairBytes awaited) flags)
 
 -- ---- the return of `put_marked`
+-- next, awaited and the mark with its tests, stored in turn, are the block
 pub marked-stored : (s₀ s₁ s₂ s₃ : List ℕ) (at next awaited tests : ℕ) → s₁ ≡ sets s₀ (at + toNext) (pairBytes next) → s₂ ≡ sets s₁ (at + toAwaited) (pairBytes awaited)
     → s₃ ≡ sets s₂ (at + toFlags) (withTests ∷ pairBytes tests) → s₃ ≡ sets s₀ (at + toNext) (blockBytes next awaited (withTests ∷ pairBytes tests))
 unfolding pairBytes blockBytes
@@ -72,6 +74,7 @@ marked-stored s₀ s₁ s₂ s₃ at next awaited tests e₁ e₂ e₃ =
     e₃ ∙ rw (e₂, e₁, a, f)
 
 -- ---- the return of `put_awaits`
+-- both places and the flags of a segment that is awaited from its start, stored in turn, are its block
 pub awaits-stored : (s₀ s₁ s₂ : List ℕ) (own width p next : ℕ) (s : Segment) (start steps tests : ℕ) → record { start = start; steps = steps; tests = tests } ≡ s
     → s₁ ≡ partSets s₀ own width (p + toNext) (pairBytes next ++ pairBytes start)
     → s₂ ≡ partSets s₁ own width (p + toFlags) (freshBytes (record { start = start; steps = steps; tests = tests }))
@@ -85,17 +88,17 @@ awaits-stored s₀ s₁ s₂ own width p next s start steps tests e f g =
 -- ---- the returns of `put_stays`
 module _ (code : List ℕ) (row : Path) (s₀ s₁ s₂ : List ℕ) (above own width p next awaited : ℕ) (one : Swept)
     (e : s₁ ≡ partSets s₀ own width (p + toNext) (pairBytes next ++ pairBytes awaited)) where
-  -- what is stored
+  -- what is stored: both places and the flags behind the first compound
   abbrev Stays : Type 0
   Stays = s₂ ≡ partSets s₀ own width (p + toNext) (blockBytes next awaited (behindFirst code row (part s₀ above width) p one))
 
-  -- the mark of the leftmost
+  -- where the first compound is the leftmost, its mark is what is stored
   pub stays-marked : one .marked ≡ true → s₂ ≡ partSets s₁ own width (p + toFlags) (markBytes (one .tests)) → Stays
   stays-marked m f =
       let w : markBytes (one .tests) ≡ behindFirst code row (part s₀ above width) p one = unfold behindFirst sweptBehind pick in rw m in
       block-stored s₀ s₁ s₂ own width p next awaited _ e (f ∙ ap (partSets s₁ own width (p + toFlags)) w)
 
-  -- the flags of the others
+  -- where it is not the leftmost, the flags of the compounds left of it are stored
   pub stays-others : Apart above own width → one .marked ≡ false
       → s₂ ≡ partSets s₁ own width (p + toFlags) (sweepAt code row (part s₁ above width) (length code - 1) (p + toFlags + 1) (one .place)) → Stays
   stays-others h m f =
@@ -136,12 +139,12 @@ module _ (code : List ℕ) (p awaited : ℕ) (ends : Bool) where
     awaited-fault f q = rw (t, head-fault (headAt code agentOrigin p) r er f q)
 
     module _ (first origin pseudo count : ℕ) (q : r ≡ head.Head first origin pseudo count) where
-      -- the last one
+      -- where the segment that ends here is the last, the selector matches
       pub awaited-last : awaited ≡ first → segment.Same true ≡ nextAwaited code p awaited ends
       unfolding nextAwaited onDecoded pick
       awaited-last e = rw (t, head-read (headAt code agentOrigin p) r er first origin pseudo count q, is-yes awaited first e)
 
-      -- another
+      -- where it is not the last, the one before it in the bytes is awaited
       pub awaited-before : ¬ (awaited ≡ first) → segment.Before count first ≡ nextAwaited code p awaited ends
       unfolding nextAwaited onDecoded pick
       awaited-before e = rw (t, head-read (headAt code agentOrigin p) r er first origin pseudo count q, is-no awaited first e)
@@ -156,7 +159,7 @@ module _ (code flags : List ℕ) (p awaited : ℕ) where
   by-last true first count = refl
   by-last false first count = refl
 
-  -- by its head
+  -- for a selector by its head: what ends here is the whole selector, or the next segment is awaited
   by-head : (d : Decoded Head)
       → onDecoded d (λ first h. endedBy code awaited flags first (h .count)) (λ _. record { matched = false; awaited = awaited; flags = flags })
       ≡ awaitedVisit code awaited flags (onDecoded d (λ first h. pick (is awaited first) (segment.Same true) (segment.Before (h .count) first)) (λ _. segment.Same false))
@@ -171,7 +174,7 @@ module _ (code flags : List ℕ) (p awaited : ℕ) where
   decided-next false = unfold awaitedVisit in refl
 
 module _ (code : List ℕ) (row : Path) (s₀ : List ℕ) (above own width p next awaited : ℕ) (one : Swept) (r : Awaited) (er : r ≡ nextAwaited code p awaited (one .ends)) (s₁ : List ℕ) where
-  -- what is told
+  -- what is told: whether the selector matches, and the state with its block
   abbrev Sweeps : Bool → Type 0
   Sweeps b = Told s₀ own width next p (sweptVisit code row (part s₀ above width) p awaited one) b s₁
 
@@ -182,13 +185,13 @@ module _ (code : List ℕ) (row : Path) (s₀ : List ℕ) (above own width p nex
       let flags = behindFirst code row (part s₀ above width) p one in
       told-as s₀ own width next p _ w (decided-next code flags p awaited (one .ends) ∙ ap (awaitedVisit code awaited flags) (sym er) ∙ e) b s₁ t
 
-  -- the same segment
+  -- where the same segment is awaited on, its flags are stored
   pub swept-same : (b : Bool) → r ≡ segment.Same b → s₁ ≡ partSets s₀ own width (p + toNext) (blockBytes next awaited (behindFirst code row (part s₀ above width) p one)) → Sweeps b
   swept-same b q s =
       let flags = behindFirst code row (part s₀ above width) p one in
       sweeps-as (record { matched = b; awaited = awaited; flags = flags }) (unfold awaitedVisit in rw q) b (told-stays s₀ own width next p b awaited flags s₁ s)
 
-  -- the one before it
+  -- where the segment before it is awaited, its fresh flags are stored
   pub swept-before : (count first : ℕ) → r ≡ segment.Before count first
       → s₁ ≡ blockStored s₀ own width (awaits (segmentBefore code awaited count (beginning first) first)) next p → Sweeps false
   swept-before count first q s = sweeps-as (awaits (segmentBefore code awaited count (beginning first) first)) (unfold awaitedVisit in rw q) false (unfold awaits in refl, s)
@@ -201,11 +204,11 @@ some-tests code row zero i e = never (sym e)
 some-tests code row (suc t) i e = refl
 
 module _ (code : List ℕ) (row : Path) (s₀ : List ℕ) (above own width p next awaited tests : ℕ) (ends : Bool) (ee : ends ≡ testsPass code row tests awaited) (s₁ : List ℕ) where
-  -- what is told
+  -- what is told of a segment of one compound with its mark: whether the selector matches, and the state with its block
   abbrev Marked : Bool → Type 0
   Marked b = Told s₀ own width next p (sweptVisit code row (part s₀ above width) p awaited (sweptMark code row tests awaited)) b s₁
 
-  -- they pass
+  -- what is told where the tests were run is told of the mark
   pub marked-ends : (b : Bool) → Told s₀ own width next p (sweptVisit code row (part s₀ above width) p awaited (record { marked = true; ends = ends; tests = tests; place = awaited })) b s₁ → Marked b
   marked-ends b t = rw (← ee) t
 
@@ -251,7 +254,7 @@ module _ (code : List ℕ) (row : Path) (s₀ : List ℕ) (above own width p : �
       (t .0, t .1 ∙ ap (λ (x : ℕ). blockStored s₀ own width w x p) n) in
       (told .0, (told .1, (n, en .1)))
 
-  -- of no bytes
+  -- where there are no bytes, no selector matches and no flag is stored
   pub visit-none : length code ≤ 0 → s₁ ≡ partSets s₀ own width (p + toNext) (pairBytes next ++ pairBytes awaited) → Visits false
   visit-none h e =
       let d : length code ≡ 0 = omega arith in
@@ -261,7 +264,7 @@ module _ (code : List ℕ) (row : Path) (s₀ : List ℕ) (above own width p : �
       (told-stays s₀ own width next p false awaited [] s₁ (block-stored s₀ s₁ s₁ own width p next awaited [] e (unfold partSets in refl)))
 
   module _ (h : 0 < length code) (one : Swept) (eo : one ≡ sweptOne code row flags (p + toFlags) awaited) where
-    -- by its first compound
+    -- the visit by the sweep of the whole segment is the visit by its first compound and those behind it
     visit-first : decided code p awaited (sweepAt code row flags (length code) (p + toFlags) awaited) ≡ sweptVisit code row (part s₀ above width) p awaited one
     unfolding sweptVisit behindFirst
     visit-first =

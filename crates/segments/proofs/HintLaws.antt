@@ -43,17 +43,17 @@ module _ (e : Element) (x : List ℕ) where
   unfolding nameIs
   name-is t = same-is (e .name) x t
 
-  -- a class
+  -- a class asks whether an attribute has it
   class-tested : tested (e ∷ []) (namedOf classKind x) ≡ anyAttribute (isClass x) (e .attributes)
   unfolding tested namedOf step here hasClass pick is
   class-tested = and-yes _
 
-  -- an id
+  -- an id asks whether an attribute is it
   id-tested : tested (e ∷ []) (namedOf hashKind x) ≡ anyAttribute (isId x) (e .attributes)
   unfolding tested namedOf step here hasId pick is
   id-tested = and-yes _
 
-  -- an attribute
+  -- an attribute asks whether one has that name
   attribute-tested : tested (e ∷ []) (namedOf attributeKind x) ≡ anyAttribute (isNamed x) (e .attributes)
   unfolding tested namedOf step here hasAttribute pick is
   attribute-tested = and-yes _
@@ -69,6 +69,7 @@ id-named x (a ∷ others) t =
 abbrev pub idStart : ℕ
 idStart = 0x69
 
+-- the name `id` begins with that byte
 id-start : getD (text "id") 0 0 ≡ idStart
 unfolding text utf8 pick
 id-start = refl
@@ -78,14 +79,17 @@ pub element-is-name : isName elementKind ≡ true
 unfolding isName or is
 element-is-name = refl
 
+-- a class is a kind of one text
 pub class-is-name : isName classKind ≡ true
 unfolding isName or is
 class-is-name = refl
 
+-- an id is a kind of one text
 pub hash-is-name : isName hashKind ≡ true
 unfolding isName or is
 hash-is-name = refl
 
+-- an attribute is a kind of one text
 pub attribute-is-name : isName attributeKind ≡ true
 unfolding isName or is
 attribute-is-name = refl
@@ -97,7 +101,7 @@ cannot false h = refl
 
 -- ---- the returns of `name_fails`
 module _ (h : Hint) (kind size byte : ℕ) where
-  -- by the kind
+  -- where no text of that size and first byte passes for a kind of one text, the component fails
   by-kind : (k : ℕ) → kind ≡ k → isName k ≡ true
       → ((e : Element) → Fits h e → (x : List ℕ) → length x ≡ size → getD x 0 0 ≡ byte → tested (e ∷ []) (namedOf k x) ≡ true → ⊥) → NameFails h kind size byte
   by-kind k q n f =
@@ -106,7 +110,7 @@ module _ (h : Hint) (kind size byte : ℕ) where
         fails = λ e fit x l b. cannot _ (λ t. f e fit x l b (sym (ap (λ (m : ℕ). tested (e ∷ []) (namedOf m x)) q) ∙ t));
       }
 
-  -- a name of another length
+  -- an element's name of another length than the hint's fails
   pub length-fails : kind ≡ elementKind → ¬ (size ≡ h .size) → NameFails h kind size byte
   length-fails k d =
       by-kind elementKind k element-is-name
@@ -148,6 +152,7 @@ pub none-begin : (attributes : List ℕ) → length attributes < attributeWidth 
 none-begin attributes few s = ((λ text c t. never (sym (no-attribute (isClass c) attributes text few) ∙ t)), (λ text n t. never (sym (no-attribute (isNamed n) attributes text few) ∙ t)))
 
 -- ---- the return of `hint_of`
+-- the length of a name, its first byte, and what classes and attribute names begin with fit the element
 pub hint-fits : (name attributes text : List ℕ) (first : ℕ) → first ≡ getD name 0 0 → (classes names : Starts)
     → ClassesBegin classes (attributesFrom attributes text (attributeRows attributes) 0) → NamesBegin names (attributesFrom attributes text (attributeRows attributes) 0)
     → (place : ℕ) → Fits (record { size = length name; first = first; classes = classes; names = names }) (handedElement name attributes text place)

@@ -34,22 +34,22 @@ module _ (s : Starts) (b : ℕ) where
   unfolding mayBegin
   may-none e = or-left _ _ (is-yes _ _ e)
 
-  -- any
+  -- where any byte may be the first, this one may
   pub may-any : s .one ≡ anyByte → mayBegin s b ≡ true
   unfolding mayBegin
   may-any e = or-second _ _ (or-left _ _ (is-yes _ _ e))
 
-  -- the one
+  -- the first byte that is kept may be the first
   may-one : s .one ≡ b → mayBegin s b ≡ true
   unfolding mayBegin
   may-one e = or-second _ _ (or-second _ _ (or-left _ _ (is-yes _ _ e)))
 
-  -- the other
+  -- the second byte that is kept may be the first
   may-two : s .two ≡ b → mayBegin s b ≡ true
   unfolding mayBegin
   may-two e = or-second _ _ (or-second _ _ (or-second _ _ (is-yes _ _ e)))
 
-  -- and no else
+  -- a byte that may be the first is one of these cases
   may-by : (P : Type 0) → mayBegin s b ≡ true → (b ≡ noByte → P) → (s .one ≡ anyByte → P) → (s .one ≡ b → P) → (s .two ≡ b → P) → P
   unfolding mayBegin
   may-by P t f g h k =
@@ -57,27 +57,27 @@ module _ (s : Starts) (b : ℕ) where
 
 -- ---- the returns of `with_start`
 module _ (s : Starts) (byte : ℕ) where
-  -- what is told
+  -- what is told: all bytes that might be the first still may, and this one may
   abbrev With : Starts → Type 0
   With r = Keeps s r × (mayBegin r byte ≡ true)
 
-  -- the first byte
+  -- where no byte is kept, it becomes the first that is kept
   pub with-first : s .one ≡ noByte → With (record { one = byte; two = s .two })
   with-first e = ((λ b t. may-by s b _ t (may-none _ b) (λ x. absurd (omega (arith, e, x))) (λ x. may-none _ b (sym x ∙ e)) (may-two _ b)), may-one _ byte refl)
 
-  -- which is there
+  -- where it is the first that is kept, nothing changes
   pub with-one : s .one ≡ byte → With s
   with-one e = ((λ b t. t), may-one s byte e)
 
-  -- the second
+  -- where one place is free, it becomes the second that is kept
   pub with-second : s .two ≡ noByte → With (record { one = s .one; two = byte })
   with-second e = ((λ b t. may-by s b _ t (may-none _ b) (may-any _ b) (may-one _ b) (λ x. may-none _ b (sym x ∙ e))), may-two _ byte refl)
 
-  -- which is there
+  -- where it is the second that is kept, nothing changes
   pub with-two : s .two ≡ byte → With s
   with-two e = ((λ b t. t), may-two s byte e)
 
-  -- a third
+  -- a third byte is not kept: any byte may be the first then
   pub with-any : With (record { one = anyByte; two = noByte })
   with-any = ((λ b t. may-any _ b refl), may-any _ byte refl)
 
@@ -96,7 +96,7 @@ pub words-begin : (s : List ℕ) (begun : Starts) → Wording s begun begun 0
 words-begin s begun = record { keeps = λ b t. t; within-text = omega arith; left = λ w. inr (split-begin w s) }
 
 module _ (s : List ℕ) (begun starts : Starts) (i : ℕ) (v : Wording s begun starts i) where
-  -- the text ends
+  -- where the text ends, every word of it begins with a byte that is kept
   pub words-end : length s ≤ i → WordsBegin s begun starts
   words-end h = (v .keeps, (λ w t. ⊎-elim (λ m. m) (λ (x : Splitting w s i). never (split-end w s i x h ∙ t)) (v .left w)))
 
@@ -107,7 +107,7 @@ module _ (s : List ℕ) (begun starts : Starts) (i : ℕ) (v : Wording s begun s
     words-none e = (v .keeps, (λ w t. ⊎-elim (λ m. m) (λ (x : Splitting w s i). never (split-none w s i x inside a white n word e ∙ t)) (v .left w)))
 
     module _ (some : ¬ (n ≡ 0)) (byte : ℕ) (eb : byte ≡ getD s (i + a) 0) (r : Starts) (keep : Keeps starts r) (m : mayBegin r byte ≡ true) (h : i + a + n ≤ length s) where
-      -- the word
+      -- the word that was met, as bytes of the text
       abbrev found : List ℕ
       found = take (i + a + n - (i + a)) (drop (i + a) s)
 
@@ -122,7 +122,7 @@ module _ (s : List ℕ) (begun starts : Starts) (i : ℕ) (v : Wording s begun s
       sought w x true e = inl (ap (mayBegin r) (sym (found-first w e)) ∙ m)
       sought w x false e = inr (split-more w s i x inside a white n word some false (sym e) refl h)
 
-      -- the next word
+      -- the word's first byte is kept, and the loop goes on behind the word
       pub words-more : Wording s begun r (i + a + n)
       words-more =
           record {
@@ -134,11 +134,11 @@ module _ (s : List ℕ) (begun starts : Starts) (i : ℕ) (v : Wording s begun s
 -- ---- the returns of `with_classes`
 module _ (attributes names : List ℕ) (row start size : ℕ) (es : start ≡ attributeAt attributes row .nameStart) (en : size ≡ attributeAt attributes row .nameLength)
     (t : Bool) (et : t ≡ sameText (part names start size) (0x63 ∷ 0x6c ∷ 0x61 ∷ 0x73 ∷ 0x73 ∷ [])) (starts : Starts) where
-  -- what is told
+  -- what is told: bytes stay kept, and every class of this attribute begins with one
   abbrev Classes : Starts → Type 0
   Classes r = Keeps starts r × ((c : List ℕ) → isClass c (attributeOf attributes names row) ≡ true → mayBegin r (getD c 0 0) ≡ true)
 
-  -- by its name
+  -- whether the attribute is a `class`, by its name
   is-class : t ≡ isNamed (0x63 ∷ 0x6c ∷ 0x61 ∷ 0x73 ∷ 0x73 ∷ []) (attributeOf attributes names row)
   is-class = named attributes names row (0x63 ∷ 0x6c ∷ 0x61 ∷ 0x73 ∷ 0x73 ∷ []) start size es en t et
 
@@ -146,7 +146,7 @@ module _ (attributes names : List ℕ) (row start size : ℕ) (es : start ≡ at
   pub classes-met : t ≡ true → (v : List ℕ) → v ≡ attributeValue attributes names row → (r : Starts) → WordsBegin v starts r → Classes r
   classes-met h v ev r w = (w .0, (λ c x. w .1 c (class-named attributes names row c t is-class h v ev (hasWord c v) refl ∙ x)))
 
-  -- it is none
+  -- an attribute that is no `class` has no classes, and nothing changes
   pub classes-none : t ≡ false → Classes starts
   classes-none h = ((λ b x. x), (λ c x. never (class-other attributes names row c t is-class h ∙ x)))
 
@@ -161,7 +161,7 @@ module _ (f : List ℕ → Attribute → Bool) (attributes names : List ℕ) (co
   gather-begin starts = record { within-count = omega arith; left = λ x. inr (look-begin (anyAttribute (f x)) attributes names 0 count) }
 
   module _ (starts : Starts) (i : ℕ) (v : Gathering f attributes names count starts i) where
-    -- all are met
+    -- where all attributes are met, each text that one passes begins with a byte that is kept
     pub gather-end : count ≤ i → (x : List ℕ) → anyAttribute (f x) (attributesFrom attributes names count 0) ≡ true → mayBegin starts (getD x 0 0) ≡ true
     gather-end h x t = ⊎-elim (λ m. m) (λ (l : Looking (anyAttribute (f x)) attributes names 0 count i). never (any-end (f x) attributes names 0 count i l h ∙ t)) (v .left x)
 
@@ -172,7 +172,7 @@ module _ (f : List ℕ → Attribute → Bool) (attributes names : List ℕ) (co
       asked x l true e = let z : i ≡ 0 + i = omega arith in inl (told x (ap (λ (k : ℕ). f x (attributeOf attributes names k)) z ∙ e))
       asked x l false e = inr (any-more (f x) attributes names 0 count i l h false (sym e) refl)
 
-      -- the next one
+      -- the attribute's bytes are kept, and the loop goes on at the next attribute
       pub gather-more : Gathering f attributes names count r (i + 1)
       gather-more =
           record {

@@ -45,6 +45,7 @@ use Rattle.styling.specs.declared.tops.ReadySheets.{ReadySheets}
 use Rattle.styling.proofs.TopsLaws.{right-parent}
 
 -- ---- an element begins with what it inherits, and the rules of agent and user
+-- inherited, then two lists of declarations merged in turn, are both lists merged into what is inherited
 pub begun : (c : Cascade) (xs a b ys : List ℕ) (ds es : List (Declared Value)) → Inherited c xs a → b ≡ mergedRow c a ds → ys ≡ mergedRow c b es
     → ys ≡ mergedRow c (inheritedRow c xs) (ds ++ es)
 begun c xs a b ys ds es h e k = rw (merged-append c (inheritedRow c xs) ds es) (k ∙ ap (λ (r : List ℕ). mergedRow c r es) (e ∙ ap (λ (r : List ℕ). mergedRow c r ds) (h .numbers)))
@@ -71,6 +72,7 @@ module _ (l : List ℕ) (a : ℕ) (h : a ≤ length l) where
       ∙ sym (append-assoc (take a l) (take m (drop a l)) more)
       ∙ ap (λ (r : List ℕ). r ++ more) (sym (take-add a m l))
 
+  -- where the first m numbers of the lent part come back as they were, so do those of the whole up to there
   pub part-same : (m : ℕ) (ys : List ℕ) → take m ys ≡ take m (lentPart l a h) → take (a + m) (putMid a (length l - a) l ys) ≡ take (a + m) l
   part-same m ys e = part-filled m m ys [] (e ∙ sym (append-nil (take m (lentPart l a h)))) ∙ append-nil (take (a + m) l)
 
@@ -81,35 +83,41 @@ module _ (c : Cascade) (settings : Settings) (e : Element) where
   unfolding countedAttributes pick
   counted-on h = rw h
 
+  -- on: the contents of the element are those of all its attributes
   pub contents-on : settings .«document_styles» ≡ true → inlineContents settings e ≡ attributesContents (e .attributes)
   unfolding inlineContents
   contents-on h = ap attributesContents (counted-on h)
 
-  -- off: none does
+  -- off: no attribute of the element counts
   counted-off : settings .«document_styles» ≡ false → countedAttributes settings e ≡ []
   unfolding countedAttributes pick
   counted-off h = rw h
 
+  -- off: the element has no contents
   pub contents-off : settings .«document_styles» ≡ false → inlineContents settings e ≡ []
   unfolding inlineContents attributesContents textsMany
   contents-off h = rw (counted-off h)
 
+  -- off: its attributes add nothing before the author's rules
   pub early-off : settings .«document_styles» ≡ false → (row : List ℕ) (f : ℕ) → row ≡ mergedRow c row (earlyDeclared c (placedAttributes f (countedAttributes settings e)))
   unfolding placedAttributes
   early-off h row f = rw (counted-off h, early-none {A = Value} c) (sym (merged-none c row))
 
+  -- off: its attributes add nothing behind the author's rules
   pub late-off : settings .«document_styles» ≡ false → (row : List ℕ) (f : ℕ) → row ≡ mergedRow c row (lateDeclared c (placedAttributes f (countedAttributes settings e)))
   unfolding placedAttributes
   late-off h row f = rw (counted-off h, late-none {A = Value} c) (sym (merged-none c row))
 
 -- ---- the attributes of a row of a page
 module _ (nodes attributes text : List ℕ) (row n at : ℕ) (en : n ≡ nodeAt nodes row .attributeCount) (ea : at ≡ nodeAt nodes row .firstAttribute) where
+  -- the attribute rows that the node row names are the attributes of its element
   pub attributes-are : attributesFrom attributes text n at ≡ elementAt nodes attributes text row .attributes
   unfolding elementAt
   attributes-are = rw (en, ea)
 
 -- ---- the room that they ask for, in the parts that are lent
 module _ (s : ReadySheets) (e : Element) (fill : ℕ) (xs : List Attribute) (ex : xs ≡ e .attributes) where
+  -- there is room for the colours that come before the author's rules
   pub early-room : (tokens brackets texts : List ℕ) → EarlyRoom s e fill tokens brackets texts → (h : s .behind ≤ length tokens) (k : s .end ≤ length texts)
       → InlineRoom xs 0 fill (lentPart tokens (s .behind) h) (lentPart tokens (s .behind) h) brackets (lentPart texts (s .end) k)
   early-room tokens brackets texts r h k =
@@ -123,6 +131,7 @@ module _ (s : ReadySheets) (e : Element) (fill : ℕ) (xs : List Attribute) (ex 
         bits = omega (arith, r .bits);
       })
 
+  -- there is room for the attributes that come behind the author's rules
   pub late-room : (rows tokens brackets texts : List ℕ) → ElementRoom s e fill rows tokens brackets texts → (j : s .rows ≤ length rows) (h : s .behind ≤ length tokens) (k : s .end ≤ length texts)
       → InlineRoom xs 0 fill (lentPart rows (s .rows) j) (lentPart tokens (s .behind) h) brackets (lentPart texts (s .end) k)
   late-room rows tokens brackets texts r j h k =
@@ -139,22 +148,27 @@ module _ (s : ReadySheets) (e : Element) (fill : ℕ) (xs : List Attribute) (ex 
 
 -- ---- what they say, where document styles are on
 module _ (c : Cascade) (settings : Settings) (e : Element) (on : settings .«document_styles» ≡ true) (xs : List Attribute) (ex : xs ≡ e .attributes) where
+  -- all attributes of the element count
   counted : xs ≡ countedAttributes settings e
   counted = ex ∙ sym (counted-on c settings e on)
 
+  -- what all of them merge before the author's rules is what those that count merge
   pub early-on : (row ys : List ℕ) → ((f : ℕ) → ys ≡ mergedRow c row (earlyDeclared c (placedAttributes f xs))) → (f : ℕ)
       → ys ≡ mergedRow c row (earlyDeclared c (placedAttributes f (countedAttributes settings e)))
   early-on row ys h f = h f ∙ ap (λ (l : List Attribute). mergedRow c row (earlyDeclared c (placedAttributes f l))) counted
 
+  -- what all of them merge behind the author's rules is what those that count merge
   pub late-on : (row ys : List ℕ) (f : ℕ) → ys ≡ mergedRow c row (lateDeclared c (placedAttributes (0 + f) xs)) → ys ≡ mergedRow c row (lateDeclared c (placedAttributes f (countedAttributes settings e)))
   late-on row ys f h = let z : 0 + f ≡ f = omega arith in h ∙ ap (λ (n : ℕ). mergedRow c row (lateDeclared c (placedAttributes n xs))) z ∙ ap (λ (l : List Attribute). mergedRow c row (lateDeclared c (placedAttributes f l))) counted
 
+  -- the contents of all of them are those of the element
   pub contents-counted : attributesContents xs ≡ inlineContents settings e
   unfolding inlineContents
   contents-counted = ap attributesContents counted
 
 -- ---- what a call on attributes leaves: the row, the fill, the texts up to it, and what is kept
 module _ (c : Cascade) (s : ReadySheets) (fill r : ℕ) (texts ys xs more : List ℕ) where
+  -- the fill goes up by the contents, which stand behind the texts up to the old fill
   pub texts-left : xs ≡ more → r ≡ fill + length xs → (h : s .end ≤ length texts) → take r ys ≡ take fill (lentPart texts (s .end) h) ++ xs
       → (r ≡ fill + length more) × (take (s .end + r) (putMid (s .end) (length texts - s .end) texts ys) ≡ take (s .end + fill) texts ++ more)
   texts-left e k h t = (k ∙ ap (λ (l : List ℕ). fill + length l) e, part-filled texts (s .end) h r fill ys more (t ∙ ap (λ (l : List ℕ). take fill (lentPart texts (s .end) h) ++ l) e))
@@ -188,6 +202,7 @@ module _ (s : ReadySheets) where
   steady-on e x t = record { begins = t .begins; ends = omega (arith, e, t .ends) }
 
   module _ {nodes attributes text : List ℕ} {row : ℕ} {rows tokens texts : List ℕ} (h : Steady s nodes attributes text row rows tokens texts) where
+    -- what lies in the stores stays so in stores that are the same up to what is kept
     pub steady-still : {rows₁ tokens₁ texts₁ : List ℕ} → SameKept s rows tokens texts rows₁ tokens₁ texts₁ → length texts₁ ≡ length texts → Steady s nodes attributes text row rows₁ tokens₁ texts₁
     steady-still {rows₁} {tokens₁} {texts₁} k e =
         record {
@@ -230,6 +245,7 @@ module _ (c : Cascade) (rules : Rules (StyledRule Value)) (inline : List (Attrib
   abbrev said : Sources Value
   said = sourcesFrom rules inline p
 
+  -- inherited, then agent and user, early attributes, author and late attributes merged in turn, is all that is said of the element
   pub element-row : (xs a b d z : List ℕ)
       → a ≡ mergedRow c (inheritedRow c xs) (map (fromRule agentOrigin) (rulesSay p (rules .agent)) ++ map (fromRule userOrigin) (rulesSay p (rules .user)))
       → b ≡ mergedRow c a (earlyDeclared c inline)
@@ -249,6 +265,7 @@ module _ (c : Cascade) (rules : Rules (StyledRule Value)) (inline : List (Attrib
       (ez ∙ ap (λ (r : List ℕ). mergedRow c r L) (d′ ∙ ap (λ (r : List ℕ). mergedRow c r W) (eb ∙ ap (λ (r : List ℕ). mergedRow c r E) (ea ∙ merged-append c i A U))))
 
 -- ---- what an element leaves: the texts up to the new fill, and what is kept
+-- the texts up to the new fill are the old ones and the contents added, and what is kept of the sheets is the same
 pub element-kept : (s : ReadySheets) (fill r : ℕ) (rows tokens texts tokens₁ texts₁ rows₂ tokens₂ texts₂ more : List ℕ) → s .end + fill ≤ length texts₁ → r ≡ fill + length more
     → take (s .behind) tokens₁ ≡ take (s .behind) tokens → take (s .end + fill) texts₁ ≡ take (s .end + fill) texts
     → take (s .rows) rows₂ ≡ take (s .rows) rows → take (s .behind) tokens₂ ≡ take (s .behind) tokens₁ → take (s .end + r) texts₂ ≡ take (s .end + fill) texts₁ ++ more
@@ -274,6 +291,7 @@ author-still s fill rows tokens texts tokens₁ texts₁ h t x =
 pub early-of : (s : ReadySheets) (e : Element) (fill : ℕ) (rows tokens brackets texts : List ℕ) → ElementRoom s e fill rows tokens brackets texts → EarlyRoom s e fill tokens brackets texts
 early-of s e fill rows tokens brackets texts r = record { for-tokens = r .for-tokens; for-brackets = r .for-brackets; for-texts = r .for-texts; bits = r .bits }
 
+-- in stores as long as before there is the same room
 pub room-again : (s : ReadySheets) (e : Element) (fill : ℕ) (rows tokens brackets texts tokens₁ brackets₁ texts₁ : List ℕ) → ElementRoom s e fill rows tokens brackets texts
     → length tokens₁ ≡ length tokens → length brackets₁ ≡ length brackets → length texts₁ ≡ length texts → ElementRoom s e fill rows tokens₁ brackets₁ texts₁
 room-again s e fill rows tokens brackets texts tokens₁ brackets₁ texts₁ r t b x =
@@ -288,16 +306,19 @@ room-again s e fill rows tokens brackets texts tokens₁ brackets₁ texts₁ r 
 -- ---- a path
 -- by row: the document's is empty, an element's is the element and its parent's path
 module _ (nodes attributes text : List ℕ) (row : ℕ) (h : Rooted nodes row) where
+  -- the document's path is empty
   pub path-top : row ≡ 0 → pathOf nodes attributes text row ≡ []
   path-top e = top-path nodes attributes text row h e
 
+  -- an element's path is the element, and its parent's path
   pub path-by : ¬ (row ≡ 0) → (p : ℕ) → p ≡ nodeAt nodes row .parent → pathOf nodes attributes text row ≡ elementAt nodes attributes text row ∷ pathOf nodes attributes text p
   path-by z p e = rw e (other-path nodes attributes text row h z)
 
--- a store written over throughout
+-- a store written over throughout is what was written
 sets-all : (l vs : List ℕ) → length vs ≡ length l → sets l 0 vs ≡ vs
 sets-all l vs e = sets-eq vs l 0 (omega (arith, e)) ∙ ap (λ (r : List ℕ). vs ++ r) (drop-of-length-le l {i = 0 + length vs} (omega (arith, e))) ∙ append-nil vs
 
+-- what is inherited of a formed style is formed, in either cascade
 pub inherit-formed-by : (c : Cascade) (x : ComputedStyle Value) → Formed x → Formed (inheritBy c x)
 unfolding inheritBy
 inherit-formed-by Crate x h = inherit-formed x h
@@ -329,11 +350,13 @@ module _ (c : Cascade) (s : ReadySheets) (settings : Settings) (kept : Rules (St
 
 -- the contents of a path: those above, then its own
 module _ (s : ReadySheets) (settings : Settings) where
+  -- the fill behind an element counts the contents of its whole path
   pub below-fill : (p : Path) (e : Element) (up : Path) (fill r : ℕ) → p ≡ e ∷ up → fill ≡ s .fill + length (pathContents settings up) → r ≡ fill + length (inlineContents settings e)
       → r ≡ s .fill + length (pathContents settings p)
   unfolding pathContents
   below-fill p e up fill r n f k = rw n (omega (arith, f, k, length-append (pathContents settings up) (inlineContents settings e)))
 
+  -- the texts up to that fill are those before the path, then the contents of the whole path
   pub below-texts : (p : Path) (e : Element) (up : Path) (fill r : ℕ) (texts texts₁ texts₂ : List ℕ) → p ≡ e ∷ up
       → take (s .end + fill) texts₁ ≡ take (s .end + s .fill) texts ++ pathContents settings up → take (s .end + r) texts₂ ≡ take (s .end + fill) texts₁ ++ inlineContents settings e
       → take (s .end + r) texts₂ ≡ take (s .end + s .fill) texts ++ pathContents settings p
@@ -341,19 +364,23 @@ module _ (s : ReadySheets) (settings : Settings) where
   below-texts p e up fill r texts texts₁ texts₂ n t₁ t₂ =
       rw n (t₂ ∙ ap (λ (l : List ℕ). l ++ inlineContents settings e) t₁ ∙ append-assoc (take (s .end + s .fill) texts) (pathContents settings up) (inlineContents settings e))
 
+  -- for the document's path the fill stays
   pub top-fill : (p : Path) → p ≡ [] → s .fill ≡ s .fill + length (pathContents settings p)
   unfolding pathContents
   top-fill p n = rw n (omega arith)
 
+  -- for the document's path the texts stay
   pub top-texts : (p : Path) (texts : List ℕ) → p ≡ [] → take (s .end + s .fill) texts ≡ take (s .end + s .fill) texts ++ pathContents settings p
   unfolding pathContents
   top-texts p texts n = rw n (sym (append-nil (take (s .end + s .fill) texts)))
 
 -- the room of a path is room for the path above, and for its element behind the contents of that
 module _ (s : ReadySheets) (p : Path) (e : Element) (up : Path) (n : p ≡ e ∷ up) (rows tokens brackets texts : List ℕ) (r : PathRoom s p rows tokens brackets texts) where
+  -- the room, with the path as an element and those above it
   whole : PathRoom s (e ∷ up) rows tokens brackets texts
   whole = rw n at r
 
+  -- what has room for the path has room for the path above
   pub room-above : PathRoom s up rows tokens brackets texts
   unfolding valuesAlong attributesAlong
   room-above =
@@ -365,6 +392,7 @@ module _ (s : ReadySheets) (p : Path) (e : Element) (up : Path) (n : p ≡ e ∷
         bits = omega (arith, whole .bits);
       }
 
+  -- and for the attributes of its element, in stores as long as before
   pub room-here : (settings : Settings) (fill : ℕ) (rows₁ tokens₁ brackets₁ texts₁ : List ℕ) → fill ≡ s .fill + length (pathContents settings up)
       → length rows₁ ≡ length rows → length tokens₁ ≡ length tokens → length brackets₁ ≡ length brackets → length texts₁ ≡ length texts → ElementRoom s e fill rows₁ tokens₁ brackets₁ texts₁
   unfolding valuesAlong attributesAlong
@@ -382,5 +410,6 @@ module _ (s : ReadySheets) (p : Path) (e : Element) (up : Path) (n : p ≡ e ∷
 pub same-already : (s : ReadySheets) (rows tokens texts : List ℕ) → SameKept s rows tokens texts rows tokens texts
 same-already s rows tokens texts = record { same-rows = refl; same-tokens = refl; same-texts = refl }
 
+-- a buffer as long as one row has room for a row
 pub one-row-room : (out : List ℕ) → OneRow out → RowRoom out
 one-row-room out o = record { room = omega (arith, o .long) }

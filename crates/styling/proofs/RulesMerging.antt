@@ -52,7 +52,7 @@ module _ (c : Cascade) (row₀ : List ℕ) (all : List (Declared Value)) where
   merging-begin r = record { left = refl; long = refl; room = r }
 
   module _ (row : List ℕ) (others : List (Declared Value)) (m : Merging row others) where
-    -- some are merged
+    -- some of the others are merged: what stands behind them is left to merge
     pub merging-more : (ds behind : List (Declared Value)) → others ≡ ds ++ behind → (z : List ℕ) → z ≡ mergedRow c row ds → Merging z behind
     merging-more ds behind e z ez =
         record {
@@ -61,7 +61,7 @@ module _ (c : Cascade) (row₀ : List ℕ) (all : List (Declared Value)) where
           room = room-merged c row z ds ez (m .room);
         }
 
-    -- all are merged
+    -- where none is left, the row is the first one with all merged
     pub merging-done : others ≡ [] → row ≡ mergedRow c row₀ all
     merging-done e = sym (merged-none c row) ∙ sym (ap (mergedRow c row) e) ∙ m .left
 
@@ -106,13 +106,13 @@ module _ (c : Cascade) (pseudo origin : ℕ) (spec : Specificity) (styles : List
   one-declared zero place next h e = absurd (omega arith)
   one-declared (suc k) place next h e = let q : suc k - 1 ≡ k = omega arith in rw (q, e, drop-drop styleWidth place styles)
 
-  -- none is left
+  -- no styles from a place on declare nothing
   none-declared : (n place : ℕ) → n ≤ 0 → stylesDeclared n place ≡ []
   unfolding readMany
   none-declared zero place h = refl
   none-declared (suc k) place h = absurd (omega arith)
 
-  -- one style
+  -- merging the numbers of the style at a place leaves the row with what that style declares
   style-merged : (place : ℕ) (row z : List ℕ) (s : StyleNumbers) → s ≡ numbersAt (drop place styles)
       → Merged c row z (record { pseudo = pseudo; slot = s .slot; candidate = record { weight = record { important = s .important; origin = origin; spec = spec }; value = s .value } })
       → z ≡ mergedRow c row (styleDeclared place ∷ [])
@@ -129,13 +129,13 @@ module _ (c : Cascade) (pseudo origin : ℕ) (spec : Specificity) (styles : List
           merging = merging-more c row₀ _ row _ (m .merging) (styleDeclared place ∷ []) (stylesDeclared (n - 1) next) (one-declared n place next h p) z (style-merged place row z s e d);
         }
 
-    -- all are merged
+    -- when none is left, all styles are merged into the row
     pub styles-done : n ≤ 0 → row ≡ mergedRow c row₀ (stylesDeclared count at)
     styles-done h = merging-done c row₀ _ row _ (m .merging) (none-declared n place h)
 
 -- ---- the styles that are kept for a rule
 module _ (styles : List ℕ) (at n : ℕ) (e : n ≡ getD styles (at + keptCount) 0) where
-  -- there are none
+  -- where their count is 0, no styles are kept
   pub kept-none : n ≡ 0 → readKept (drop at styles) .value ≡ []
   unfolding readKept readMany
   kept-none z = rw (getD-drop at styles keptCount 0, ← e, z)
@@ -145,7 +145,7 @@ module _ (styles : List ℕ) (at n : ℕ) (e : n ≡ getD styles (at + keptCount
   unfolding readKept
   kept-rows first p = rw (e, p, getD-drop at styles keptCount 0, drop-drop keptHead at styles)
 
-  -- the place behind them
+  -- the place behind their rows is where the styles of the next rule are kept
   pub behind-kept : (place : ℕ) → drop place styles ≡ drop (at + (keptHead + styleWidth * n)) styles → drop place styles ≡ readKept (drop at styles) .rest
   unfolding readKept readStyled
   behind-kept place p =
@@ -172,7 +172,7 @@ module _ (c : Cascade) (origin : ℕ) (p : Path) (ds : List (Styled Value)) (tex
     selector-fails h row =
         sym (ap (λ (xs : List (RuleStyle Value)). mergedRow c row (map (fromRule origin) xs)) (sym (pick-false _ _ _ _ (sym matched ∙ h) refl)) ∙ merged-none c row)
 
-    -- it matches
+    -- it matches: what is merged for its pseudo element and specificity is what it declares
     pub selector-holds : m ≡ true → (number pseudo : ℕ) → number ≡ getD rows (at + selectorPseudo) 0 → pseudo ≡ pseudoNumber (pseudoFrom number)
         → (spec : Specificity) → ((store : List ℕ) → spec ≡ specificity (componentsAt store (lent texts rows at n behind en eb) n)) → (row z : List ℕ)
         → z ≡ mergedRow c row (map (fromRule origin) (map (ruleStyle pseudo spec) ds)) → z ≡ mergedRow c row selectorDeclared
@@ -209,7 +209,7 @@ module _ (c : Cascade) (origin : ℕ) (p : Path) (ds : List (Styled Value)) (tex
       let s = readSelector texts (drop place rows) in
       rw (q, e) (map-append (fromRule origin) (selectorSays p ds (s .value)) (selectorsSay p ds (readMany (readSelector texts) k (s .rest) .value)))
 
-  -- none is left
+  -- no selectors from a place on declare nothing
   none-selected : (n place : ℕ) → n ≤ 0 → selectorsDeclared n place ≡ []
   unfolding readMany selectorsSay
   none-selected zero place h = refl
@@ -225,12 +225,12 @@ module _ (c : Cascade) (origin : ℕ) (p : Path) (ds : List (Styled Value)) (tex
           passing = passing-more readSelector rows count at n place (m .passing) h next e;
         }
 
-    -- all are merged
+    -- when none is left, all selectors are merged, and the place is behind them
     pub selectors-done : n ≤ 0 → (row ≡ mergedRow c row₀ (selectorsDeclared count at)) × (drop place rows ≡ readMany (readSelector texts) count (drop at rows) .rest)
     selectors-done h = (merging-done c row₀ _ row _ (m .merging) (none-selected n place h), passing-done readSelector rows count at n place (m .passing) h texts)
 
 -- ---- returns of `merge_rule`
--- nothing, or nothing
+-- a choice between nothing and nothing is nothing
 nothing-picked : (b : Bool) → pick {A = List (RuleStyle Value)} b [] [] ≡ []
 unfolding pick
 nothing-picked true = refl
@@ -261,7 +261,7 @@ module _ (c : Cascade) (origin : ℕ) (p : Path) (texts rows : List ℕ) (at : �
       → z ≡ mergedRow c row ruleDeclared
   rule-merged kept ek selectors start es ep row z ez = ez ∙ rw (kept-rows styles first n en kept ek, rule-selectors texts rows at selectors start es ep)
 
--- the numbers of its selectors
+-- numbers that decide for the selectors of a rule decide for them as they are lent
 pub lent-tops : (nodes attributes text : List ℕ) (row : ℕ) (texts rows : List ℕ) (at selectors start : ℕ) → selectors ≡ getD rows (at + ruleSelectors) 0 → drop start rows ≡ drop (at + ruleHead) rows
     → (t : List ℕ) → RightTops nodes attributes text row (readRule texts (drop at rows) .value .selectors) t → RightTops nodes attributes text row (readMany (readSelector texts) selectors (drop start rows) .value) t
 lent-tops nodes attributes text row texts rows at selectors start es ep t r = rw (rule-selectors texts rows at selectors start es ep) r
@@ -303,7 +303,7 @@ module _ (c : Cascade) (origin : ℕ) (p : Path) (texts rows : List ℕ) (count 
       let s = readKept (drop kept styles) in
       rw (q, e, f) (map-append (fromRule origin) (selectorsSay p (s .value) (r .value .selectors)) (rulesSay p (rulesKept texts k (r .rest) (s .rest))))
 
-  -- none is left
+  -- no rules from a place on declare nothing
   no-rule : (n place kept : ℕ) → n ≤ 0 → rulesDeclared n place kept ≡ []
   unfolding rulesKept rulesSay
   no-rule zero place kept h = refl
@@ -318,6 +318,6 @@ module _ (c : Cascade) (origin : ℕ) (p : Path) (texts rows : List ℕ) (count 
     rules-more h z ez next e later f =
         record { merging = merging-more c row₀ _ row _ (m .merging) _ (rulesDeclared (n - 1) next later) (one-rule n place kept next later h e f) z ez }
 
-    -- all are merged
+    -- when none is left, all rules are merged into the row
     pub rules-done : n ≤ 0 → row ≡ mergedRow c row₀ (rulesDeclared count at first)
     rules-done h = merging-done c row₀ _ row _ (m .merging) (no-rule n place kept h)

@@ -29,7 +29,7 @@ module _ (texts rows : List ℕ) (at n behind : ℕ) (en : n ≡ getD rows (at +
   abbrev pub lent : List ℕ
   lent = take (length rows - behind) (drop behind rows)
 
-  -- are its components
+  -- the lent numbers, read as components, are those of the selector
   pub lent-components : componentsAt texts lent n ≡ readSelector texts (drop at rows) .value .components
   unfolding componentsAt readSelector
   lent-components = rw (rest rows behind, eb, en, getD-drop at rows selectorComponents 0, drop-drop selectorHead at rows)
@@ -40,12 +40,13 @@ module _ (texts rows : List ℕ) (at n behind : ℕ) (en : n ≡ getD rows (at +
   lent-top nodes attributes text row top r = rw lent-components r
 
 -- ---- the selectors of a rule, from the place and the count that its head says
+-- the selectors that are read from there, as many, are those of the rule
 pub rule-selectors : (texts rows : List ℕ) (at k first : ℕ) → k ≡ getD rows (at + ruleSelectors) 0 → drop first rows ≡ drop (at + ruleHead) rows
     → readMany (readSelector texts) k (drop first rows) .value ≡ readRule texts (drop at rows) .value .selectors
 unfolding readRule
 rule-selectors texts rows at k first ek ef = rw (ek, ef, getD-drop at rows ruleSelectors 0, drop-drop ruleHead at rows)
 
--- so many
+-- a rule has as many selectors as its head says
 rule-counts : (texts rows : List ℕ) (at k : ℕ) → k ≡ getD rows (at + ruleSelectors) 0 → length (readRule texts (drop at rows) .value .selectors) ≡ k
 unfolding readRule
 rule-counts texts rows at k ek = many-length (readSelector texts) _ _ ∙ getD-drop at rows ruleSelectors 0 ∙ sym ek
@@ -64,12 +65,13 @@ unfolding readMany
 selectors-opened texts t zero h = absurd (omega arith)
 selectors-opened texts t (suc n) h = let q : suc n - 1 ≡ n = omega arith in rw q
 
--- none is left
+-- no selectors from a place on are none
 no-selectors : (texts rows : List ℕ) (n at : ℕ) → n ≤ 0 → readMany (readSelector texts) n (drop at rows) .value ≡ []
 unfolding readMany
 no-selectors texts rows zero at h = refl
 no-selectors texts rows (suc n) at h = absurd (omega arith)
 
+-- no rules from a place on have no selectors
 no-rules : (texts rows : List ℕ) (n at : ℕ) → n ≤ 0 → rulesSelectors (readMany (readRule texts) n (drop at rows) .value) ≡ []
 unfolding readMany rulesSelectors
 no-rules texts rows zero at h = refl
@@ -115,14 +117,16 @@ module _ (nodes attributes text : List ℕ) (row : ℕ) where
 
     -- the first selector of some
     module _ (n place tops : ℕ) (r : SelectorsRight n place tops) (h : 0 < n) where
+      -- the numbers decide for the first selector and for the others
       selector-parts : Right (readSelector texts (drop place rows) .value ∷ readMany (readSelector texts) (n - 1) (readSelector texts (drop place rows) .rest) .value) (drop tops styles)
       selector-parts = rw (selectors-opened texts (drop place rows) n h) at (r .right)
 
+      -- the first number decides for the first selector
       pub first-top : (top : ℕ) → top ≡ getD (drop tops styles) 0 0 → RightNumber nodes attributes text (readSelector texts (drop place rows) .value .components) row top
       unfolding RightTops
       first-top top e = rw e (selector-parts .0)
 
-      -- and the others
+      -- and the numbers behind it decide for the others
       pub next-tops : (place′ : ℕ) → ((texts : List ℕ) → drop place′ rows ≡ readSelector texts (drop place rows) .rest) → (tops′ : ℕ) → drop tops′ styles ≡ drop (tops + topWidth) styles
           → SelectorsRight (n - 1) place′ tops′
       unfolding RightTops
@@ -133,13 +137,15 @@ module _ (nodes attributes text : List ℕ) (row : ℕ) where
       abbrev First : List Selector
       First = readRule texts (drop place rows) .value .selectors
 
+      -- the numbers decide for the selectors of the first rule, and those behind them for the other rules
       rule-parts : Right First (drop tops styles) × Right (rulesSelectors (readMany (readRule texts) (n - 1) (readRule texts (drop place rows) .rest) .value)) (drop (length First) (drop tops styles))
       rule-parts = right-split First _ (drop tops styles) (rw (rules-opened texts (drop place rows) n h) at (r .right))
 
+      -- the first numbers decide for the selectors of the first rule
       pub rule-tops : Right First (drop tops styles)
       rule-tops = rule-parts .0
 
-      -- and the others
+      -- and the numbers behind those of its selectors decide for the other rules
       pub later-tops : (k : ℕ) → k ≡ getD rows (place + ruleSelectors) 0 → (next : ℕ) → drop next rows ≡ readRule texts (drop place rows) .rest
           → (tops′ : ℕ) → drop tops′ styles ≡ drop (tops + topWidth * k) styles → RulesRight (n - 1) next tops′
       later-tops k ek next e tops′ f =
@@ -148,11 +154,13 @@ module _ (nodes attributes text : List ℕ) (row : ℕ) where
           record { right = rw (e, ← g) (rule-parts .1) }
 
   -- ---- numbers that are found
+  -- there is one number for each selector
   pub tops-long : (ss : List Selector) → length (Tops ss) ≡ length ss
   unfolding selectorsTops
   tops-long [] = refl
   tops-long (s ∷ ss) = ap suc (tops-long ss)
 
+  -- the numbers of two lists of selectors joined are those of the first, then those of the second
   pub tops-append : (xs ys : List Selector) → Tops (xs ++ ys) ≡ Tops xs ++ Tops ys
   unfolding selectorsTops
   tops-append [] ys = refl
@@ -179,7 +187,7 @@ module _ (nodes attributes text : List ℕ) (row : ℕ) where
     store-begin r = record { stores = refl; long = refl; room = r .room }
 
     module _ (n from to : ℕ) (l : List ℕ) (s : SelectorsStored n from to l) where
-      -- one number more
+      -- the number of the first selector that is left is stored, and the others go behind it
       pub store-more : 0 < n → (top : ℕ) → top ≡ selectorNumber nodes attributes text row (readSelector texts (drop from rows) .value .components)
           → (next : ℕ) → ((texts : List ℕ) → drop next rows ≡ readSelector texts (drop from rows) .rest) → SelectorsStored (n - 1) next (to + topWidth) (set l to top)
       unfolding selectorsTops
@@ -197,7 +205,7 @@ module _ (nodes attributes text : List ℕ) (row : ℕ) where
             room = omega (arith, length-set l to top, s .room);
           }
 
-      -- all are stored
+      -- when none is left, the numbers of all selectors are stored, one behind the other
       pub store-done : n ≤ 0 → l ≡ sets tokens place (Tops (Selected count at))
       unfolding selectorsTops
       store-done h = (rw (no-selectors texts rows n from h) at (s .stores))
@@ -219,6 +227,7 @@ module _ (nodes attributes text : List ℕ) (row : ℕ) where
 
     module _ (n from to : ℕ) (l : List ℕ) (s : RulesStored n from to l) where
       module _ (h : 0 < n) (k : ℕ) (ek : k ≡ getD rows (from + ruleSelectors) 0) where
+        -- the selectors of the rules that are left are those of the first, then those of the others
         opened : (next : ℕ) → drop next rows ≡ readRule texts (drop from rows) .rest → Ruled n from ≡ readRule texts (drop from rows) .value .selectors ++ Ruled (n - 1) next
         opened next f = rw f (rules-opened texts (drop from rows) n h)
 
@@ -248,7 +257,7 @@ module _ (nodes attributes text : List ℕ) (row : ℕ) where
               room = omega (arith, o, p, s .room, m);
             }
 
-      -- all are stored
+      -- when none is left, the numbers of all selectors of the rules are stored, and the place is behind them
       pub rules-done : n ≤ 0 → (l ≡ sets tokens place (Tops (Ruled count at))) × (to ≡ place + length (Ruled count at))
       unfolding selectorsTops
       rules-done h = (rw (no-rules texts rows n from h) at (s .stores), omega (arith, s .ends, ap length (no-rules texts rows n from h)))
@@ -264,32 +273,40 @@ module _ (nodes attributes text : List ℕ) (row : ℕ) where
     abbrev W : List Selector
     W = sheetSelectors rows texts (v .end) (v .author .rules)
 
+    -- there is room for the numbers of all three sheets behind the kept styles
     all-long : v .behind + (length A + (length U + length W)) ≤ length tokens
     unfolding sheetsSelectors
     all-long = omega (arith, r .room, length-append A (U ++ W), length-append U W)
 
+    -- there is room for those of the agent's selectors
     pub agent-room : TopsRoom tokens (v .behind) (length A)
     agent-room = record { room = omega (arith, all-long) }
 
     module _ (t₁ : List ℕ) (p₁ : ℕ) (e₁ : t₁ ≡ sets tokens (v .behind) (Tops A)) (q₁ : p₁ ≡ v .behind + length A) where
+      -- the store is as long as it was, those of the agent stored
       long₁ : length t₁ ≡ length tokens
       long₁ = ap length e₁ ∙ length-sets tokens (v .behind) (Tops A)
 
+      -- there is room for those of the user's selectors behind them
       pub user-room : TopsRoom t₁ p₁ (length U)
       user-room = record { room = omega (arith, all-long, long₁, q₁) }
 
       module _ (t₂ : List ℕ) (p₂ : ℕ) (e₂ : t₂ ≡ sets t₁ p₁ (Tops U)) (q₂ : p₂ ≡ p₁ + length U) where
+        -- the store is as long as it was, those of the user stored
         long₂ : length t₂ ≡ length t₁
         long₂ = ap length e₂ ∙ length-sets t₁ p₁ (Tops U)
 
+        -- there is room for those of the author's selectors behind them
         pub author-room : TopsRoom t₂ p₂ (length W)
         author-room = record { room = omega (arith, all-long, long₁, long₂, q₁, q₂) }
 
+        -- the three stored in turn are the numbers of all selectors stored at once
         pub tops-stored : (t₃ : List ℕ) → t₃ ≡ sets t₂ p₂ (Tops W) → t₃ ≡ sets tokens (v .behind) (Tops (sheetsSelectors rows texts v))
         unfolding sheetsSelectors
         tops-stored t₃ e₃ =
             e₃ ∙ ap (λ (l : List ℕ). sets l p₂ (Tops W)) e₂ ∙ stored-both t₁ p₁ U W p₂ q₂ ∙ ap (λ (l : List ℕ). sets l p₁ (Tops (U ++ W))) e₁ ∙ stored-both tokens (v .behind) A (U ++ W) p₁ q₁
 
+        -- the places that are counted up are those of the sheets with a number for each selector
         pub places-ready : (p₃ : ℕ) → p₃ ≡ p₂ + length W → (s : ReadySheets) → s ≡ readyPlaces v p₁ p₂ p₃ → s ≡ readySheets rows texts v
         unfolding readySheets readyCounts
         places-ready p₃ q₃ s e =
