@@ -216,7 +216,8 @@ fn behind_step(compiled: &[u8], first: usize) -> usize
     0
 }
 
-// Whether the left one of two compounds surely fails, where the right one is at `at`, and `tests` is the count of the left one.
+// Whether the left one of two compounds surely fails by its first test, where the right one is at `at`, and `tests` is the count of the left one. (The second is not asked: a
+// call of `tests_fail` here keeps the compiler from making it a part of the loop in `skip_failing`, by a tenth of a run's time.)
 fn step_fails(compiled: &[u8], at: usize, tests: usize, hint: Hint) -> bool
     requires { ⌜ length (now compiled) ≤ compiledLimit ⌝ }
     requires { ⌜ at ≤ compiledLimit ⌝ }
@@ -224,7 +225,9 @@ fn step_fails(compiled: &[u8], at: usize, tests: usize, hint: Hint) -> bool
 {
     let place = behind_step(compiled, at);
     if place > 0 {
-        return tests_fail(compiled, place, tests, hint);
+        if tests > 0 {
+            return test_fails(compiled, place, hint);
+        }
     }
     false
 }
