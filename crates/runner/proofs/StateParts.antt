@@ -10,7 +10,7 @@ use Rattle.combinators.specs.Choice.{pick}
 use Rattle.combinators.specs.Part.{part}
 use Rattle.segments.specs.Parts.{partSet, partSets}
 use Rattle.segments.specs.Sweep.{pairAt, pairBytes}
-use Rattle.segments.proofs.CodeBlockLaws.{own-sets, behind-sets}
+use Rattle.segments.proofs.PartSetLaws.{own-sets, behind-sets}
 use Rattle.segments.proofs.DownLaws.{blocksBegin}
 use Rattle.runner.specs.State.{raised, opened}
 

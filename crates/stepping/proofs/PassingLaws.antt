@@ -30,20 +30,20 @@ use Rattle.compiled.proofs.Walking.{sheet-steps}
 use Rattle.segments.specs.Before.{noPlace}
 use Rattle.segments.specs.Document.{styledFrom, freshFrom, SelectorsRead}
 use Rattle.segments.specs.Down.{passAt, freshIn, readIn}
-use Rattle.segments.specs.Met.{rowAlone}
+use Rattle.sweeps.specs.Met.{rowAlone}
 use Rattle.segments.specs.Parts.{pairLimit}
 use Rattle.segments.specs.Pass.{Passed, matchedHere, blockSet, passFrom}
-use Rattle.segments.specs.Passing.{nextFrom, visitStored, passStored}
-use Rattle.segments.specs.Skipping.{Skips}
+use Rattle.visits.specs.Passing.{nextFrom, visitStored, passStored}
+use Rattle.hints.specs.Skipping.{Skips}
 use Rattle.segments.specs.Sweep.{pairAt}
-use Rattle.segments.specs.Telling.{freshStored, TellLent}
-use Rattle.segments.specs.Visiting.{VisitLent, blockStored}
+use Rattle.visits.specs.Telling.{freshStored, TellLent}
+use Rattle.visits.specs.Visiting.{VisitLent, blockStored}
 use Rattle.segments.specs.Visits.{toNext, Visited, visitAt}
-use Rattle.segments.proofs.CodeBlockLaws.{block-own, block-above}
-use Rattle.segments.proofs.CodePassLaws as stored
-use Rattle.segments.proofs.CodePassLaws.{Passing, pass-whole}
-use Rattle.segments.proofs.CodeStyledLaws.{sheet-selectors}
-use Rattle.segments.proofs.CodeTellLaws.{fresh-own, fresh-outside, fresh-whole}
+use Rattle.visits.proofs.CodeBlockLaws.{block-own, block-above}
+use Rattle.visits.proofs.CodePassLaws as stored
+use Rattle.visits.proofs.CodePassLaws.{Passing, pass-whole}
+use Rattle.visits.proofs.CodeStyledLaws.{sheet-selectors}
+use Rattle.visits.proofs.CodeTellLaws.{fresh-own, fresh-outside, fresh-whole}
 use Rattle.segments.proofs.PassLaws.{pass-none, pass-more}
 use Rattle.runner.specs.PageRows.{selectorsDeclare}
 use Rattle.runner.specs.Run.{foundAt}

@@ -25,11 +25,11 @@ use Rattle.styles.specs.Said.{countedAttributes}
 use Rattle.styles.specs.StyleCall.{attributesContents, inlineContents, placedAttributes}
 use Rattle.styles.proofs.Merging.{merged-none, merged-long, late-none}
 use Rattle.segments.specs.Down.{passAt}
-use Rattle.segments.specs.Met.{handedElement}
+use Rattle.sweeps.specs.Met.{handedElement}
 use Rattle.segments.specs.Parts.{partSets, flagsLimit, pairLimit}
 use Rattle.segments.specs.Pass.{Passed}
 use Rattle.segments.specs.Sweep.{pairAt, pairBytes}
-use Rattle.segments.proofs.CodeBlockLaws.{length-sets-own}
+use Rattle.segments.proofs.PartSetLaws.{length-sets-own}
 use Rattle.runner.specs.PageRows.{noStyle, selectorsDeclare}
 use Rattle.runner.specs.Run.{Handed, Stepped, handedFrom, rowBelow, foundAt, documentStep, elementStep, openStep, stepOn}
 use Rattle.runner.specs.State.{depths, partPlace, partOf, raised, opened}

@@ -20,7 +20,7 @@ use Rattle.styles.proofs.Merging.{declared-parts}
 use Rattle.rule_styles.specs.Deciding.{decidingRule}
 use Rattle.rule_styles.proofs.DecidingSame.{rules-same}
 use Rattle.rule_styles.proofs.DecidingSlot.{fold-append}
-use Rattle.styling.proofs.PathLaws.{inherit-formed-by}
+use Rattle.path_styles.proofs.PathLaws.{inherit-formed-by}
 
 -- three sheets, by the styles that decide
 abbrev pub decided : Rules (StyledRule Value) → Rules (StyledRule Value)

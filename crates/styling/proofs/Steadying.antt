@@ -19,13 +19,13 @@ use Rattle.styles.specs.Said.{Rules, StyledRule}
 use Rattle.styles.specs.StyleCall.{rulesContents, sheetsContents, placedRules, placedSheets}
 use Rattle.rule_styles.specs.Deciding.{decidingRule}
 use Rattle.rule_styles.specs.Placing.{sheetText, rulesSelectors, keptRules, rulesKept}
-use Rattle.styling.specs.Path.{keptSheet, keptSheets, SameKept, SheetsTops, Steady, PathRoom}
-use Rattle.styling.specs.Tops.{selectorsTops, sheetSelectors, sheetsSelectors, TextsIn, SheetsTopsRoom, readyPlaces, readyCounts, readySheets}
-use Rattle.styling.specs.declared.tops.ReadySheets.{ReadySheets}
+use Rattle.path_styles.specs.Path.{keptSheet, keptSheets, SameKept, SheetsTops, Steady, PathRoom}
+use Rattle.path_styles.specs.Tops.{selectorsTops, sheetSelectors, sheetsSelectors, TextsIn, SheetsTopsRoom, readyPlaces, readyCounts, readySheets}
+use Rattle.path_styles.specs.declared.tops.ReadySheets.{ReadySheets}
 use Rattle.rule_styles.specs.Held.{SheetsHeld, PathHeld, sheetsKept, styledPlaces}
 use Rattle.rule_styles.specs.declared.styled.StyledSheets.{StyledSheets}
 use Rattle.styling.proofs.DecidedCascade.{decided}
-use Rattle.styling.proofs.TopsLaws.{right-stored, tops-long, tops-append}
+use Rattle.path_styles.proofs.TopsLaws.{right-stored, tops-long, tops-append}
 use Rattle.rule_styles.proofs.KeptBack.{rules-kept}
 use Rattle.rule_styles.proofs.SheetsStyled.{SheetLies, sheet-rules}
 use Rattle.rule_styles.proofs.SheetsHeldLaws as held

@@ -31,11 +31,11 @@ use Rattle.styles.specs.StyleCall.{sheetsContents, pathContents, placedSheets, 
 use Rattle.styles.proofs.Room.{path-short}
 use Rattle.rule_styles.specs.Held.{sheetsFrom, SheetsHeld, PathHeld, sheetsKept, styledPlaces}
 use Rattle.rule_styles.specs.Placing.{rulesSelectors}
-use Rattle.styling.specs.Tops.{selectorsTops, sheetsSelectors, SheetsTopsRoom, readyPlaces, readyCounts, readySheets}
-use Rattle.styling.specs.Path.{keptSheets, Steady, PathRoom}
+use Rattle.path_styles.specs.Tops.{selectorsTops, sheetsSelectors, SheetsTopsRoom, readyPlaces, readyCounts, readySheets}
+use Rattle.path_styles.specs.Path.{keptSheets, Steady, PathRoom}
 use Rattle.styling.specs.StyleAnswer.{isElement}
 use Rattle.rule_styles.specs.declared.styled.StyledSheets.{StyledSheets}
-use Rattle.styling.specs.declared.tops.ReadySheets.{ReadySheets}
+use Rattle.path_styles.specs.declared.tops.ReadySheets.{ReadySheets}
 use Rattle.styling.proofs.DecidedCascade.{decided, path-decided}
 use Rattle.rule_styles.proofs.SheetsHeldLaws as held
 use Rattle.styling.proofs.Steadying as still
