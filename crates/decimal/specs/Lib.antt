@@ -1,3 +1,4 @@
 pub mod Decimal
 pub mod Places
 pub mod Rounded
+pub mod Looked
