@@ -1,6 +1,5 @@
--- The zero test looks at no digit too few and at none too many: "Whatever digits follow those, its answer is the same (unless it looked at all);
--- after any fewer it would still depend on them" (request S-4).
-use Prim.Native.Nat.{ℕ, zero, suc, _+_, _<_, _≤_}
+-- The zero test looks at no digit too few and at none too many: what specs/Decided.antt claims, of whole numbers and of decimals.
+use Prim.Native.Nat.{ℕ, zero, suc, _+_, _<_}
 use mathlib.Core.Path.{_≡_, refl, sym, ap, _∙_}
 use mathlib.Core.Bool.{Bool, true, false}
 use mathlib.Core.Logic.{_⊎_, inl, inr, ⊎-elim}
@@ -16,34 +15,11 @@ use Rattle.combinators.proofs.Rules.{never, pick-true, within-yes, is-true, is-
 use Rattle.decimal.specs.Decimal.{digit, digits, roundsToZero}
 use Rattle.decimal.specs.Places.{places, allZero, atMost}
 use Rattle.decimal.specs.Looked.{lookedAt, digitsTest, zeroTest, written}
+use Rattle.decimal.specs.Decided.{IsDigit, Depends, Decided}
 use Rattle.decimal.specs.declared.ZeroTest.{ZeroTest}
 use Rattle.decimal.proofs.Table.{BelowTen, places-below-ten, digits-length}
 use Rattle.decimal.proofs.Steps.{at-most-same, at-most-other, looked-same, looked-other}
 use Rattle.decimal.proofs.Parts.{looked-within, whole-test, decimals-test}
-
--- ---- what is claimed, of a test of digits
--- the byte is a digit
-abbrev pub IsDigit : ℕ → Type 0
-IsDigit x = (digitZero ≤ x) × (x ≤ digitNine)
-
--- "it would still depend on them": there are digits behind p with which the answers differ
-pub record Depends (test : List ℕ → ZeroTest) (p : List ℕ) : Type 0 where
-  one : List ℕ
-  other : List ℕ
-  digits-one : All IsDigit one
-  digits-other : All IsDigit other
-  differ : ¬ (test (p ++ one) .zero ≡ test (p ++ other) .zero)
-
--- the test of d ends at the digit that decides it; `answer` is what document 01 says of digits
-pub record Decided (answer : List ℕ → Bool) (test : List ℕ → ZeroTest) (d : List ℕ) : Type 0 where
-  -- "No other result or contract changes": the answer is that of document 01
-  answered : test d .zero ≡ answer d
-  -- "how many it looked at": no more than there are
-  counted : test d .looked ≤ length d
-  -- "Whatever digits follow those, its answer is the same (unless it looked at all)"
-  settled : test d .looked < length d → (e : List ℕ) → test (take (test d .looked) d ++ e) .zero ≡ test d .zero
-  -- "after any fewer it would still depend on them"
-  needed : (j : ℕ) → j < test d .looked → Depends test (take j d)
 
 -- ---- digits ds against the table ts
 -- a digit is the table's or another
