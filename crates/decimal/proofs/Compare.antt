@@ -1,7 +1,7 @@
 -- The comparison of digits with the places of 2^-150 is the comparison of the numbers.
 use Prim.Native.Nat.{ℕ, zero, suc, _+_, _*_, _^_, _≤_, _<_}
 use mathlib.Core.Path.{_≡_, refl, sym, ap, _∙_}
-use mathlib.Core.Bool.{Bool, true, false}
+use mathlib.Core.Bool.{true, false}
 use mathlib.Core.Logic.{⊎-elim}
 use mathlib.Core.List.{List, [], _∷_}
 use native.Mathlib.Nat.{pow-suc, add-mul, mul-assoc, mul-comm, suc-mul, zero-mul, zero-add, mul-le-mul-left, mul-le-mul-right, mul-lt-mul-of-pos-right, eq-or-lt-of-le, le-of-mul-le-mul-right}
@@ -10,7 +10,7 @@ use borrow.Author.Tests.{lt-ltb, le-ltb, le-leb, lt-leb, leb-true}
 use lib.Dec.{ltb, leb, lit<}
 use lib.ListN.{length}
 use Rattle.combinators.specs.Choice.{pick, and, is}
-use Rattle.combinators.proofs.Rules.{lt-or-ge, same-test, pick-true, pick-false, is-yes, is-no, is-true, and-true, and-both, and-gives, and-gives-false, told}
+use Rattle.combinators.proofs.Rules.{lt-or-ge, same-test, pick-true, pick-false, is-yes, is-no, is-true, and-true, and-both, and-gives, and-gives-false}
 use Rattle.decimal.specs.Decimal.{number, digits, numerator, denominator, roundsToZero}
 use Rattle.decimal.specs.Places.{places, allZero, atMost}
 use Rattle.decimal.proofs.Table.{BelowTen, places-rule, places-count, places-below-ten, digits-below-ten, digits-length}
@@ -158,13 +158,3 @@ unfolding roundsToZero numerator denominator
 rounds-to-zero-digits i f =
     whole-and-rest (number (digits i)) (10 ^ length f) (number (digits f)) (2 ^ 150) (ten-pos (length f)) (lit< tt)
     ∙ rw (all-zero-number (digits i), at-most-places f)
-
--- ---- the test a of the digits before the point, and the test b of those behind it
-module _ (i f : List ℕ) (a : Bool) (e : a ≡ allZero (digits i)) where
-  -- zeros leave it to those behind the point
-  pub zero-before : (b : Bool) → b ≡ atMost (digits f) places → a ≡ true → b ≡ roundsToZero i f
-  zero-before b k p = and-gives _ _ b (told _ _ _ e p) k ∙ sym (rounds-to-zero-digits i f)
-
-  -- a digit before the point that is not 0 makes a number that does not round to zero
-  pub not-zero-before : a ≡ false → false ≡ roundsToZero i f
-  not-zero-before p = and-gives-false _ _ (told _ _ _ e p) ∙ sym (rounds-to-zero-digits i f)

@@ -1,4 +1,6 @@
 pub mod Table
 pub mod Compare
 pub mod Steps
+pub mod Parts
+pub mod Deciding
 pub mod Float

@@ -1,9 +1,10 @@
 -- What the code finds at a byte, and at an index of the digits, says what the definitions say.
-use Prim.Native.Nat.{ℕ, _+_, _-_, _<_, _≤_}
+use Prim.Native.Nat.{ℕ, suc, _+_, _-_, _<_, _≤_}
 use mathlib.Core.Path.{_≡_, refl, sym, ap, _∙_}
 use mathlib.Core.Bool.{Bool, true, false}
 use mathlib.Core.Logic.{⊎-elim}
 use mathlib.Core.List.{List, [], _∷_}
+use native.Mathlib.Nat.{zero-add, add-zero}
 use native.Mathlib.Numerals.{add-one}
 use native.Mathlib.Omega.{arith}
 use borrow.Author.Tests.{lt-ltb, le-ltb}
@@ -16,6 +17,7 @@ use Rattle.combinators.proofs.Lists.{first}
 use Rattle.combinators.proofs.Rules.{lt-or-ge, pick-true, pick-false, is-yes, is-no, and-gives, and-gives-false, told, within-true}
 use Rattle.decimal.specs.Decimal.{digit, digits}
 use Rattle.decimal.specs.Places.{allZero, atMost}
+use Rattle.decimal.specs.Looked.{lookedAt, digitsTest}
 
 -- ---- a byte x, and the test whether it is a digit
 module _ (x : ℕ) (r : Bool) (e : r ≡ within x digitZero digitNine) where
@@ -56,29 +58,13 @@ module _ (d : ℕ) (ds : List ℕ) where
   unfolding allZero
   zero-passes p = and-gives _ _ _ (is-yes d 0 p) refl
 
--- the digits from i on say what the whole says; d is the first of them
-module _ (s : List ℕ) (i d : ℕ) (h : i < length s) (e : d ≡ digit (getD s i 0)) (v : allZero (digits s) ≡ allZero (digits (drop i s))) where
-  -- a digit that is not 0: they are not all 0
-  pub nonzero-digit : ¬ (d ≡ 0) → false ≡ allZero (digits s)
-  nonzero-digit p = nonzero-decides _ _ p ∙ sym (v ∙ ap allZero (digits-from s i d h e))
-
-  -- a 0: the digits behind it say it
-  pub zero-digit : d ≡ 0 → allZero (digits s) ≡ allZero (digits (drop (i + 1) s))
-  zero-digit p = v ∙ ap allZero (digits-from s i d h e) ∙ sym (zero-passes _ _ p)
-
--- none is left: they are all 0
-pub no-digit-left : (s : List ℕ) (i : ℕ) → length s ≤ i → allZero (digits s) ≡ allZero (digits (drop i s)) → true ≡ allZero (digits s)
-unfolding allZero
-no-digit-left s i h v = sym (v ∙ ap allZero (digits-end s i h))
-
--- ---- whether digits are at most those of ts
 -- none but zeros are at most no digits
-at-most-none : (ds : List ℕ) → allZero ds ≡ atMost ds []
+pub at-most-none : (ds : List ℕ) → allZero ds ≡ atMost ds []
 unfolding atMost allZero
 at-most-none [] = refl
 at-most-none (d ∷ ds) = refl
 
--- the first decides unless it is equal; at its end ts goes on with zeros
+-- ---- digits compared with those of ts, which go on with zeros: the first decides unless it is equal
 at-most-first : (d : ℕ) (ds ts : List ℕ)
     → atMost (d ∷ ds) ts ≡ pick (ltb d (getD ts 0 0)) true (pick (ltb (getD ts 0 0) d) false (atMost ds (drop 1 ts)))
 unfolding atMost
@@ -90,33 +76,87 @@ at-most-first d ds [] =
     (λ (h : d ≤ 0). pick-false _ _ _ _ (le-ltb 0 d h) (sym (zero-passes d ds (omega arith)) ∙ at-most-none ds))
     (lt-or-ge 0 d))
 
--- the digits from i on say what the whole says; d is the first of them, and t that of ts
-module _ (s ts : List ℕ) (i d t : ℕ)
-    (h : i < length s) (e : d ≡ digit (getD s i 0)) (k : t ≡ getD ts i 0)
-    (v : atMost (digits s) ts ≡ atMost (digits (drop i s)) (drop i ts)) where
-  -- the comparison, from i on
-  at-most-from : atMost (digits s) ts ≡ pick (ltb d t) true (pick (ltb t d) false (atMost (digits (drop (i + 1) s)) (drop (i + 1) ts)))
-  at-most-from =
-      v
-      ∙ ap (λ ds. atMost ds (drop i ts)) (digits-from s i d h e)
-      ∙ at-most-first d (digits (drop (i + 1) s)) (drop i ts)
-      ∙ rw (first ts i, k, drop-drop 1 i ts)
-
-  -- at the first place that differs the lesser digit decides: the number is below
-  pub at-most-below : d < t → true ≡ atMost (digits s) ts
-  at-most-below l = pick-true _ _ _ _ (lt-ltb d t l) refl ∙ sym at-most-from
-
-  -- at the first place that differs the greater digit decides: the number is above
-  pub at-most-above : t < d → false ≡ atMost (digits s) ts
-  at-most-above l = pick-false _ _ _ _ (le-ltb d t (omega arith)) (pick-true _ _ _ _ (lt-ltb t d l) refl) ∙ sym at-most-from
+-- d stands before the digits ds, and the first of ts is t
+module _ (d : ℕ) (ds ts : List ℕ) (t : ℕ) (k : t ≡ getD ts 0 0) where
+  -- the first digits decide unless they are equal
+  first-digits : atMost (d ∷ ds) ts ≡ pick (ltb d t) true (pick (ltb t d) false (atMost ds (drop 1 ts)))
+  first-digits = at-most-first d ds ts ∙ rw k
 
   -- equal ones leave it to those behind them
-  pub at-most-equal : t ≤ d → d ≤ t → atMost (digits s) ts ≡ atMost (digits (drop (i + 1) s)) (drop (i + 1) ts)
-  at-most-equal l m = at-most-from ∙ sym (pick-false _ _ _ _ (le-ltb d t l) (pick-false _ _ _ _ (le-ltb t d m) refl))
+  pub at-most-same : d ≡ t → atMost (d ∷ ds) ts ≡ atMost ds (drop 1 ts)
+  at-most-same e =
+      first-digits ∙ sym (pick-false _ _ _ _ (le-ltb d t (omega arith)) (pick-false _ _ _ _ (le-ltb t d (omega arith)) refl))
+
+  -- others decide: the less digit is that of the less number
+  pub at-most-other : ¬ (d ≡ t) → ltb d t ≡ atMost (d ∷ ds) ts
+  at-most-other n =
+      ⊎-elim
+      (λ (h : d < t). lt-ltb d t h ∙ pick-true _ _ _ _ (lt-ltb d t h) refl)
+      (λ (h : t ≤ d). le-ltb d t h ∙ pick-false _ _ _ _ (le-ltb d t h) (pick-true _ _ _ _ (lt-ltb t d (above h)) refl))
+      (lt-or-ge d t)
+      ∙ sym first-digits
+    where
+      above : t ≤ d → t < d
+      above h = ⊎-elim (λ (l : t < d). l) (λ (l : d ≤ t). absurd (n (omega arith))) (lt-or-ge t d)
+
+  -- behind equal ones it is looked on
+  pub looked-same : d ≡ t → lookedAt (d ∷ ds) ts ≡ suc (lookedAt ds (drop 1 ts))
+  unfolding lookedAt
+  looked-same e = ap suc (sym (pick-true _ _ _ _ (is-yes d _ (e ∙ k)) refl))
+
+  -- behind others it is not
+  pub looked-other : ¬ (d ≡ t) → lookedAt (d ∷ ds) ts ≡ 1
+  unfolding lookedAt
+  looked-other n = ap suc (sym (pick-false _ _ _ _ (is-no d _ (λ e. n (e ∙ sym k))) refl))
+
+-- ---- the test of the digits of s, of which the first i are those of ts
+pub record Compared (s ts : List ℕ) (i : ℕ) : Type 0 where
+  -- those that are left have the answer of all,
+  same : atMost (digits s) ts ≡ atMost (digits (drop i s)) (drop i ts)
+  -- and the first i were looked at
+  counted : lookedAt (digits s) ts ≡ i + lookedAt (digits (drop i s)) (drop i ts)
+
+-- before the first digit
+pub compared-none : (s ts : List ℕ) → Compared s ts 0
+compared-none s ts = record { same = refl; counted = sym (zero-add _) }
+
+-- d is the digit at i, and t that of ts
+module _ (s ts : List ℕ) (i d t : ℕ) (h : i < length s) (e : d ≡ digit (getD s i 0)) (k : t ≡ getD ts i 0) (v : Compared s ts i) where
+  -- t is the first of what is left of ts
+  place : t ≡ getD (drop i ts) 0 0
+  place = k ∙ sym (first ts i)
+
+  -- they differ: the test is decided
+  pub digit-differs : ¬ (d ≡ t) → record { zero = ltb d t; looked = i + 1 } ≡ digitsTest ts s
+  unfolding digitsTest
+  digit-differs n =
+      let a = v .same ∙ ap (λ ds. atMost ds (drop i ts)) (digits-from s i d h e) ∙ sym (at-most-other d _ (drop i ts) t place n) in
+      let l = v .counted ∙ ap (λ ds. i + lookedAt ds (drop i ts)) (digits-from s i d h e) ∙ ap (λ m. i + m) (looked-other d _ (drop i ts) t place n) in
+      rw (a, l)
+
+  -- they are equal: one more is looked at
+  pub digit-equal : d ≡ t → Compared s ts (i + 1)
+  digit-equal q =
+      record {
+        same =
+            v .same
+            ∙ ap (λ ds. atMost ds (drop i ts)) (digits-from s i d h e)
+            ∙ at-most-same d _ (drop i ts) t place q
+            ∙ rw (drop-drop 1 i ts);
+        counted =
+            v .counted
+            ∙ ap (λ ds. i + lookedAt ds (drop i ts)) (digits-from s i d h e)
+            ∙ ap (λ m. i + m) (looked-same d _ (drop i ts) t place q)
+            ∙ rw (drop-drop 1 i ts) (one-more i _);
+      }
+    where
+      one-more : (i m : ℕ) → i + suc m ≡ i + 1 + m
+      one-more i m = omega arith
 
 -- no digit is left, and none differed
-pub at-most-end : (s ts : List ℕ) (i : ℕ) → length s ≤ i
-    → atMost (digits s) ts ≡ atMost (digits (drop i s)) (drop i ts)
-    → true ≡ atMost (digits s) ts
-unfolding atMost
-at-most-end s ts i h v = sym (v ∙ ap (λ ds. atMost ds (drop i ts)) (digits-end s i h))
+pub digits-equal : (s ts : List ℕ) (i : ℕ) → length s ≤ i → Compared s ts i → record { zero = true; looked = i } ≡ digitsTest ts s
+unfolding digitsTest atMost lookedAt
+digits-equal s ts i h v =
+    let a : atMost (digits s) ts ≡ true = v .same ∙ ap (λ ds. atMost ds (drop i ts)) (digits-end s i h) in
+    let l : lookedAt (digits s) ts ≡ i = v .counted ∙ ap (λ ds. i + lookedAt ds (drop i ts)) (digits-end s i h) ∙ add-zero i in
+    rw (a, l)

@@ -1,3 +1,5 @@
 pub mod Decimal
 pub mod Places
 pub mod Rounded
+pub mod Looked
+pub mod Decided

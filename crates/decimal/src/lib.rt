@@ -1,10 +1,10 @@
 // Whether a decimal rounds to zero as an f32 (IEEE 754 binary32, ties to even): "it is zero exactly if, sign aside, it is at most
-// 2^-150". Its digits stand as ASCII, as many as there are, before and behind the point.
+// 2^-150". Its digits stand as ASCII, as many as there are, before and behind the point; none is looked at behind the one that decides.
 use combinators::bytes::between;
+use combinators::bytes::peek;
 ghost use mathlib.Core.Path.{_≡_};
-ghost use lib.ListN.{getD};
-ghost use Rattle.decimal.specs.Decimal.{digit, digits, roundsToZero};
-ghost use Rattle.decimal.specs.Places.{places, allZero, atMost};
+ghost use Rattle.decimal.specs.Decimal.{digit, roundsToZero};
+ghost use Rattle.decimal.specs.Looked.{digitsTest, zeroTest};
 
 // The decimal places of 2^-150, all of them: read as one number they are 5^150.
 const PLACES: [u8; 150] = [
@@ -160,14 +160,13 @@ const PLACES: [u8; 150] = [
     5,
 ];
 
-// The decimal place of 2^-150 at `i`, counted from 0: 0 past the last.
-fn place(i: usize) -> u8
-    ensures { λ r. ⌜ r ≡ getD places i 0 ⌝ }
-{
-    if i < PLACES.len() {
-        return PLACES[i];
-    }
-    0
+// Before the point stand no places: whatever digit is not 0 is above the table.
+const NO_PLACES: [u8; 0] = [];
+
+// What the zero test answers, and how many digits it looked at.
+pub struct ZeroTest {
+    pub zero: bool,
+    pub looked: usize,
 }
 
 // What a digit is worth; any other byte counts as 0.
@@ -180,46 +179,49 @@ fn digit_of(b: u8) -> u8
     0
 }
 
-// Whether every digit is 0.
-fn all_zero(integer: &[u8]) -> bool
-    ensures { λ r. ⌜ r ≡ allZero (digits (now (integer .entry))) ⌝ }
+// Whether digits are at most those of `table`, behind which stand zeros. The first that differ decide, and none behind them is looked
+// at.
+fn test_digits(s: &[u8], table: &[u8]) -> ZeroTest
+    ensures { λ r. ⌜ r ≡ digitsTest (now (table .entry)) (now (s .entry)) ⌝ }
 {
     let mut i = 0;
-    while i < integer.len() {
-        if digit_of(integer[i]) != 0 {
-            return false;
+    while i < s.len() {
+        let d = digit_of(s[i]);
+        let t = peek(table, i);
+        if d != t {
+            return ZeroTest {
+                zero: d < t,
+                looked: i + 1,
+            };
         }
         i += 1;
     }
-    true
-}
-
-// Whether the digits behind the point are at most those of 2^-150: the first that differ decide.
-fn at_most_places(fraction: &[u8]) -> bool
-    ensures { λ r. ⌜ r ≡ atMost (digits (now (fraction .entry))) places ⌝ }
-{
-    let mut i = 0;
-    while i < fraction.len() {
-        let d = digit_of(fraction[i]);
-        let t = place(i);
-        if d < t {
-            return true;
-        }
-        if t < d {
-            return false;
-        }
-        i += 1;
+    ZeroTest {
+        zero: true, // a tie goes to the even number, which 0 is
+        looked: i,
     }
-    true // a tie goes to the even number, which 0 is
 }
 
-// Whether the decimal is at most 2^-150, so that the nearest f32 is zero. `integer` has the digits before the point, and
-// `fraction` those behind it.
+// Whether the decimal is at most 2^-150, so that the nearest f32 is zero, and how many digits had to be looked at to tell. `integer`
+// has the digits before the point, and `fraction` those behind it.
+pub fn zero_test(integer: &[u8], fraction: &[u8]) -> ZeroTest
+    ensures { λ r. ⌜ r ≡ zeroTest (now (integer .entry)) (now (fraction .entry)) ⌝ }
+{
+    let whole = test_digits(integer, &NO_PLACES);
+    if whole.zero {
+        let rest = test_digits(fraction, &PLACES);
+        let looked = integer.len() + rest.looked;
+        return ZeroTest {
+            zero: rest.zero,
+            looked,
+        };
+    }
+    whole
+}
+
+// The answer alone, for who does not ask how many digits it took.
 pub fn rounds_to_zero(integer: &[u8], fraction: &[u8]) -> bool
     ensures { λ r. ⌜ r ≡ roundsToZero (now (integer .entry)) (now (fraction .entry)) ⌝ }
 {
-    if all_zero(integer) {
-        return at_most_places(fraction);
-    }
-    false
+    zero_test(integer, fraction).zero
 }

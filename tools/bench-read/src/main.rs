@@ -22,6 +22,17 @@ const COMMENTS: &str = "/* The colours of the first channel, as they are printed
 const STRINGS: &str = "a::before{content:\"the reading of the first channel: \"}\n[title=\"a longer title, with blanks\"]{content:'x' \"y\" 'zz'}\n";
 const ESCAPES: &str = ".\\00003123\\:a{c\\00006flor:r\\000065d}\n#\\000041bc\\{{color:\\000072ed;\\00007az:\\01f600x}\n\\64iv\\.k > \\0000e9{\\7a:\\\\}\n";
 
+// Decimals of a height, as drawing programs export them; and the power of two that is the largest zero, whose digits all have to be looked at.
+const DECIMALS: usize = 300;
+const LARGEST_ZERO: i32 = -150;
+
+// Heights of so many decimals: zeros; zeros behind a `0`, which are two tokens; and the largest zero.
+fn heights() -> String {
+    let zeros = "0".repeat(DECIMALS);
+    let largest = format!("{:.DECIMALS$}", 2f64.powi(LARGEST_ZERO));
+    format!("p{{height:.{zeros}px}}\n.k{{height:0.{zeros}px}}\n#top{{max-height:{}px}}\n", largest.trim_start_matches('0'))
+}
+
 // Copies of the rules, as many as fit.
 fn repeated(rules: &str, length: usize) -> String {
     rules.repeat(length / rules.len())
@@ -80,7 +91,10 @@ fn measure(sheet: &str, turns: usize, turn_bytes: usize) -> Measured {
 
 fn table_of_ratios() {
     println!("| sheet | bytes | this, ns a byte | html2text, ns a byte | ratio |\n|---|---|---|---|---|");
-    for (name, rules) in [("plain rules", PLAIN), ("comments", COMMENTS), ("strings", STRINGS), ("escapes", ESCAPES)] {
+    let heights = heights();
+    for (name, rules) in
+        [("plain rules", PLAIN), ("comments", COMMENTS), ("strings", STRINGS), ("escapes", ESCAPES), ("heights of hundreds of decimals", &heights)]
+    {
         for length in LENGTHS {
             let sheet = repeated(rules, length);
             assert_eq!(Stores::new(sheet.len(), 0).read_sheet(sheet.as_bytes()).stop, sheet.len(), "{name} are read whole");
@@ -116,12 +130,14 @@ fn clearing() {
     }
 }
 
-// One side alone, again and again, for a profiler: `bench-read profile this|html2text plain|comments|strings|escapes`.
+// One side alone, again and again, for a profiler: `bench-read profile this|html2text plain|comments|strings|escapes|heights`.
 fn profile(side: &str, kind: &str) {
+    let heights = heights();
     let rules = match kind {
         "comments" => COMMENTS,
         "strings" => STRINGS,
         "escapes" => ESCAPES,
+        "heights" => &heights,
         _ => PLAIN,
     };
     let sheet = repeated(rules, 4 * KILOBYTE);
