@@ -166,7 +166,7 @@ module _ (s : SheetTexts) (g : Page) (settings : Settings) (code : List ℕ) (c 
   unfolding ran
   leaves-long = (padded-fits (pageRows code settings g) (length (b .rows)) rows-fit, padded-fits contents (length (b .texts)) texts-fit)
 
--- the claim
+-- where compiling and a style call refuse nothing and the run is lent enough, the run agrees with every style call of the page
 pub demand3 : Demand3
 demand3 =
     record {
@@ -178,8 +178,8 @@ demand3 =
           subst (Agreement settings s g code) (sym (run-leaves code settings g w t)) (leaves-agree s g settings code c w t);
     }
 
--- ---- beside it
--- sheets that compile
+-- ---- beside it: what else holds of sheets that compile, and of runs
+-- three sheets that were compiled without a refusal
 module _ (s : SheetTexts) (b : CompileBuffers) (compiles : compileWith s b .answer .refusal ≡ noRefusal) where
   -- every element of an accepted page is styled, by every style call that is lent enough: so the rows that `agrees` speaks of are those of all elements
   pub elements-styled : (settings : Settings) (g : Page) → pageRefusal (g .nodes) (g .attributes) (g .text) ≡ noRefusal

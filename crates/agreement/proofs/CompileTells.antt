@@ -84,7 +84,7 @@ module _ (s : SheetTexts) (b : CompileBuffers) where
         (λ _. zeroing noRoom 0 0 (omega arith))
     by-sheets (panicked which p) read = zeroing panic which p (omega arith)
 
-  -- a call that refuses nothing
+  -- where a call refuses nothing, its bytes are the compiled form of the three sheets that it read
   pub compile-tells : compileWith s b .answer .refusal ≡ noRefusal → Compiled s (codeOf (compileWith s b))
   unfolding compileOf
   compile-tells =

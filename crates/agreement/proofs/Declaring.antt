@@ -26,6 +26,7 @@ use Rattle.runner.specs.PageRows.{selectorsDeclare}
 use Rattle.runner.proofs.FoundLaws.{declared-append}
 
 -- ---- selectors one after the other: which of them match
+-- of selectors one after the other, those that match are those of the first that do, then those of the second
 matching-append : {A : Type 0} (p : Path) (a b : List (WalkedSelector A)) → matchingAt p (a ++ b) ≡ matchingAt p a ++ matchingAt p b
 unfolding matchingBy
 matching-append p [] b = refl
@@ -39,6 +40,7 @@ module _ {A B : Type 0} (R : A → B → Type 0) where
     pub components-same : x .components ≡ y .components
     pub styles-same : Each (SameStyled R) (x .styles) (y .styles)
 
+  -- styles that are the same, of selectors with the same origin, pseudo element and specificity, are declared the same
   style-declared : (o o′ n n′ : ℕ) (c c′ : Specificity) → o ≡ o′ → n ≡ n′ → c ≡ c′ → (x : Styled A) (y : Styled B) → SameStyled R x y
       → SameDeclared R (fromRule o (ruleStyle n c x)) (fromRule o′ (ruleStyle n′ c′ y))
   style-declared o o′ n n′ c c′ e f g x y h = rw (e, f, g) (rule-declared R o′ (ruleStyle n′ c′ x) (ruleStyle n′ c′ y) (rule-style-same R n′ c′ x y h))
@@ -54,7 +56,7 @@ module _ {A B : Type 0} (R : A → B → Type 0) where
       (h .styles-same))
       (declared-alike hs)
 
-  -- and match alike
+  -- of two such lists, the selectors that match a path are again the same one by one
   pub matching-alike : (p : Path) {xs : List (WalkedSelector A)} {ys : List (WalkedSelector B)} → Each SameSelector xs ys → Each SameSelector (matchingAt p xs) (matchingAt p ys)
   unfolding matchingBy
   matching-alike p none = none
@@ -69,7 +71,7 @@ module _ (p : Path) where
   abbrev said : List CompiledSelector → List (Declared Style)
   said ss = selectorsDeclare (matchingAt p (map meantSelector ss))
 
-  -- of two lists
+  -- what two lists of selectors say when joined is what the first says, then what the second says
   said-append : (a b : List CompiledSelector) → said (a ++ b) ≡ said a ++ said b
   said-append a b =
       rw (map-append meantSelector a b, matching-append p (map meantSelector a) (map meantSelector b), declared-append (matchingAt p (map meantSelector a)) (matchingAt p (map meantSelector b)))
@@ -87,7 +89,7 @@ module _ (p : Path) where
   first-said o ds s =
       ap selectorsDeclare (append-nil (pick (matches (s .components) p) (meantSelector (compiledSelector o ds s) ∷ []) [])) ∙ one-said (matches (s .components) p) o ds s
 
-  -- the selectors of a rule
+  -- the selectors of a rule with these styles, compiled, say what the rule's selectors say
   selectors-said : (o : ℕ) (ds : List StyleDecl) (ss : List Selector) → said (map (compiledSelector o ds) ss) ≡ map (fromRule o) (selectorsSay p (map meant ds) ss)
   unfolding selectorsSay
   selectors-said o ds [] = unfold matchingBy selectorsDeclare in refl
@@ -102,7 +104,7 @@ module _ (p : Path) where
   nothing-one true a b e f = e
   nothing-one false a b e f = f
 
-  -- whatever its selectors
+  -- a rule without styles says nothing, whatever its selectors
   nothing-said : (ss : List Selector) → selectorsSay {A = Style} p [] ss ≡ []
   unfolding selectorsSay selectorSays
   nothing-said [] = refl
@@ -114,7 +116,7 @@ module _ (p : Path) where
   styled-said o [] ss = unfold matchingBy selectorsDeclare in rw (nothing-said ss)
   styled-said o (d ∷ ds) ss = selectors-said o (d ∷ ds) ss
 
-  -- the rules of a sheet
+  -- the compiled selectors of a sheet say what its rules say
   sheet-said : (o : ℕ) (rs : List RuleSet) → said (sheetSelectors o rs) ≡ map (fromRule o) (rulesSay p (map meantRule rs))
   unfolding sheetSelectors ruleSelectors rulesSay meantRule ruleStyles
   sheet-said o [] = unfold matchingBy selectorsDeclare in refl
@@ -123,7 +125,7 @@ module _ (p : Path) where
       ∙ ap₂ _++_ (styled-said o (stylesOf (r .declarations)) (r .selectors)) (sheet-said o rs)
       ∙ sym (map-append (fromRule o) (selectorsSay p (map meant (ruleStyles r)) (r .selectors)) (rulesSay p (map meantRule rs)))
 
-  -- the three sheets
+  -- what the matching selectors of three sheets declare is what the agent's rules say, then the user's, then the author's
   pub selectors-declare : (agent user author : List RuleSet) → selectorsDeclare (matchingAt p (map meantSelector (selectorsOf agent user author)))
       ≡ map (fromRule agentOrigin) (rulesSay p (map meantRule agent)) ++ (map (fromRule userOrigin) (rulesSay p (map meantRule user)) ++ map (fromRule authorOrigin) (rulesSay p (map meantRule author)))
   unfolding selectorsOf

@@ -37,7 +37,7 @@ OwnAttribute x = OwnStyled (x .style)
 abbrev OwnDeclared : Declared Style → Type 0
 OwnDeclared d = styleSlotOf (d .candidate .value) ≡ d .slot
 
--- each by a function
+-- what holds of each of a list holds of each behind a function that keeps it
 all-map : {A B : Type 0} (P : A → Type 0) (Q : B → Type 0) (f : A → B) → ((a : A) → P a → Q (f a)) → (xs : List A) → All P xs → All Q (map f xs)
 all-map P Q f h [] p = tt
 all-map P Q f h (x ∷ xs) p = (h x (p .0), all-map P Q f h xs (p .1))
@@ -49,7 +49,7 @@ meant-own [] = tt
 meant-own (d ∷ ds) = (refl, meant-own ds)
 
 module _ (p : Path) (ds : List (Styled Style)) (own : All OwnStyled ds) where
-  -- by a selector
+  -- where each style is of its own slot, so is each that a selector says
   selector-own : (s : Selector) → All OwnRule (selectorSays p ds s)
   unfolding selectorSays ruleStyle
   selector-own s = pick-holds (All OwnRule) (matches (s .components) p) _ [] (λ _. all-map OwnStyled OwnRule _ (λ x h. h) ds own) (λ _. tt)
@@ -68,12 +68,12 @@ rules-own p (r ∷ rs) =
     all-append OwnRule (selectorsSay p (map meant (ruleStyles r)) (r .selectors)) (rulesSay p (map meantRule rs))
     (selectors-own p (map meant (ruleStyles r)) (meant-own (ruleStyles r)) (r .selectors)) (rules-own p rs)
 
--- by an attribute
+-- each style that an attribute says is of its own slot
 attribute-own : (a : Attribute) → All OwnAttribute (attributeSays (map meant) a)
 unfolding attributeSays attributeStyle
 attribute-own a = all-map OwnStyled OwnAttribute (attributeStyle (isNamed (text "style") a)) (λ x h. h) (map meant (attributeStyles a)) (meant-own (attributeStyles a))
 
--- by attributes
+-- so is each style that a list of attributes says
 attributes-own : (xs : List Attribute) → All OwnAttribute (attributesSay xs)
 unfolding attributesSay
 attributes-own [] = tt
@@ -84,7 +84,7 @@ sheet-own : (o : ℕ) (p : Path) (rs : List RuleSet) → All OwnDeclared (map (f
 unfolding fromRule
 sheet-own o p rs = all-map OwnRule OwnDeclared (fromRule o) (λ x h. h) (rulesSay p (map meantRule rs)) (rules-own p rs)
 
--- and in all
+-- so is each style that the three sheets and the attributes declare of an element together
 declared-own : (rules : Rules RuleSet) (xs : List Attribute) (p : Path) → All OwnDeclared (crateDeclared (sourcesFrom (meantRules rules) (attributesSay xs) p))
 unfolding crateDeclared sourcesFrom meantRules fromAttribute
 declared-own rules xs p =
@@ -97,7 +97,7 @@ declared-own rules xs p =
     (all-append OwnDeclared W I (sheet-own authorOrigin p (rules .author))
     (all-map OwnAttribute OwnDeclared (fromAttribute false inlineSpecificity) (λ x h. h) (attributesSay xs) (attributes-own xs))))
 
--- ---- slots
+-- ---- slots hold only styles of their kind
 module _ (k : ℕ) where
   -- a slot holds nothing, or a style of its kind
   abbrev pub Own : Slot Style → Type 0
@@ -107,13 +107,13 @@ module _ (k : ℕ) where
   abbrev OwnCandidate : Candidate Style → Type 0
   OwnCandidate c = styleSlotOf (c .value) ≡ k
 
-  -- after an update
+  -- an update by a candidate of the slot's kind leaves a style of that kind, whichever of the two stays
   update-own : (s : Slot Style) (c : Candidate Style) → Own s → OwnCandidate c → Own (maybeUpdate s c)
   unfolding maybeUpdate
   update-own empty c h l = l
   update-own (held d) c h l = pick-holds Own (heldAgainst (d .weight) (c .weight)) (held d) (held c) (λ _. h) (λ _. l)
 
-  -- and many
+  -- updates by many candidates of the slot's kind, one after the other, leave a style of that kind
   updates-own : (cs : List (Candidate Style)) (s : Slot Style) → Own s → All OwnCandidate cs → Own (foldl maybeUpdate s cs)
   updates-own [] s h l = h
   updates-own (c ∷ cs) s h l = updates-own cs (maybeUpdate s c) (update-own s c h (l .0)) (l .1)
@@ -127,7 +127,7 @@ module _ (k : ℕ) where
       (pick-holds (All OwnCandidate) (and (is (d .pseudo) r) (is (d .slot) k)) (d .candidate ∷ []) [] (λ e. (h .0 ∙ is-true (d .slot) k (and-true _ _ e .1), tt)) (λ _. tt))
       (candidates-own r ds (h .1))
 
--- ---- styles
+-- ---- in a style, each slot of each record holds nothing or a style of its kind
 abbrev pub OwnSlots : ComputedStyle Style → Type 0
 OwnSlots s = (r k : ℕ) → r < recordCount → k < slotCount → Own k (slotIn s r k)
 
@@ -137,7 +137,7 @@ own-none k zero j = tt
 own-none k (suc n) zero = tt
 own-none k (suc n) (suc j) = own-none k n j
 
--- in each of its records
+-- the style in which nothing is declared holds nothing in each slot of each record
 empty-own : OwnSlots emptyStyle
 unfolding slotIn slotOf recordIn emptyStyle emptyRecord pick
 empty-own r k h l = go (is r 0) (is r 1)
@@ -147,7 +147,7 @@ empty-own r k h l = go (is r 0) (is r 1)
     go false true = own-none k slotCount k
     go false false = own-none k slotCount k
 
--- of an element
+-- in the computed style of an element each slot holds nothing or a style of its kind
 pub computed-own : (rules : Rules RuleSet) (settings : Settings) (p : Path) → OwnSlots (computedStyle Crate rules settings p)
 unfolding computedStyle sourcesAlong cascaded
 computed-own rules settings [] r k h l = empty-own r k h l

@@ -59,14 +59,14 @@ module _ (rules : Rules RuleSet) (fits : SheetFits (sheetsSelectors rules)) (set
   unfolding contentsBefore
   styled-next n s path h = styled-further rules settings (contentsBefore settings g n) (rowContents settings g n) s path h
 
-  -- and of k rows more
+  -- it stays so with the contents of k rows more
   styled-later : (k n : ℕ) (s : ComputedStyle Value) (path : Path) → SaysAt n s path → SaysAt (k + n) s path
   styled-later zero n s path h = let e : 0 + n ≡ n = omega arith in rw e h
   styled-later (suc k) n s path h =
       let e : suc k + n ≡ suc (k + n) = omega arith in
       rw e (styled-next (k + n) s path (styled-later k n s path h))
 
-  -- before a later row
+  -- so it stays so before every later row
   styled-until : (n m : ℕ) (s : ComputedStyle Value) (path : Path) → n ≤ m → SaysAt n s path → SaysAt m s path
   styled-until n m s path l h = let e : (m - n) + n ≡ m = omega arith in rw e at (styled-later (m - n) n s path h)
 
@@ -113,7 +113,7 @@ module _ (rules : Rules RuleSet) (fits : SheetFits (sheetsSelectors rules)) (set
   row-right zero there before k = absurd (omega (arith, k, document-kind (g .nodes) (g .attributes) (g .text) ok))
   row-right (suc i) there before k = element-right i there before k
 
-  -- the first n
+  -- so every row of the page is right, by the number n of rows up to it
   rows-right : (n i : ℕ) → i < n → i < count → RightAt i
   rows-right zero i l there = absurd (not-suc-le-zero l)
   rows-right (suc n) i l there = row-right i there (λ (j : ℕ) (h : j < i). rows-right n j (omega arith) (omega arith))

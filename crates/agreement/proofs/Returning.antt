@@ -36,10 +36,12 @@ module _ (s : SheetTexts) (b : CompileBuffers) where
   unfolding unchanged
   none-left r = omega arith
 
+  -- where the buffers are zeroed for a refusal, no bytes are counted, so they lie within
   none-zeroed : (r : Refusal) → Within (zeroed (b .compiled) (b .texts) (b .rules) (b .tokens) (b .brackets) r)
   unfolding zeroed
   none-zeroed r = omega arith
 
+  -- the bytes that are answered lie within the buffer, which is filled up behind them
   some-answered : (bytes ts : List ℕ) → Within (answered (b .compiled) (b .texts) (b .rules) (b .tokens) (b .brackets) bytes ts)
   unfolding answered
   some-answered bytes ts = padded-long bytes (length (b .compiled))
@@ -63,7 +65,7 @@ module _ (s : SheetTexts) (b : CompileBuffers) where
       (λ _. none-left (refused notUtf8)))
       (λ _. none-left (refused shortStore)))
 
-  -- the answer in numbers
+  -- the answer in numbers leaves the same, and counts no more bytes than the buffer has
   pub compiled-within : {n m : CompileNumbers} {k t y x z : List ℕ} → record { answer = m; compiled = k; texts = t; rules = y; tokens = x; brackets = z } ≡ compileWith s b → n ≡ m
       → (record { answer = n; compiled = k; texts = t; rules = y; tokens = x; brackets = z } ≡ compileWith s b) × (n .bytes ≤ length k)
   compiled-within {n} {m} {k} {t} {y} {x} {z} e f =
@@ -71,7 +73,7 @@ module _ (s : SheetTexts) (b : CompileBuffers) where
       ap (λ (q : CompileNumbers). record { answer = q; compiled = k; texts = t; rules = y; tokens = x; brackets = z }) f ∙ e in
       (g, subst Within (sym g) bytes-within)
 
--- the three calls
+-- what the three calls leave, each as its contract says, agrees: the run's row is the style call's
 pub calls-agree : (s : SheetTexts) (g : Page) (settings : Settings) (b : CompileBuffers) (w : RunBuffers) (row : ℕ) (v : StyleBuffers) {c : CompileLeft} {r : RunLeft} {l : StyleLeft}
     → c ≡ compileWith s b → r ≡ runWith (codeOf c) settings g w → l ≡ styleWith settings s g row v → Agreed c r l row
 calls-agree s g settings b w row v {c} {r} {l} e f h =

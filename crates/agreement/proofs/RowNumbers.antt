@@ -15,6 +15,7 @@ use Rattle.cascade.specs.Row.{slotWidth, recordWidth, recordPlace, slotPlace, s
 use Rattle.cascade.proofs.RowLaws.{slot-width}
 
 -- ---- of slots one behind the other
+-- the numbers of slots one behind the other are a slot's width each
 slots-long : (ss : List (Slot Value)) → length (slotsNumbers ss) ≡ length ss * slotWidth
 unfolding slotsNumbers
 slots-long [] = refl
@@ -34,6 +35,7 @@ slots-number (s ∷ ss) (suc k) n h l =
     ∙ slots-number ss k n h (omega arith)
 
 -- ---- of a record
+-- the numbers of a record with all its slots are a record's width
 record-long : (p : Record Value) → length (p .slots) ≡ slotCount → length (recordNumbers p) ≡ recordWidth
 unfolding recordNumbers
 record-long p h = omega (arith, slots-long (p .slots))
@@ -44,7 +46,7 @@ record-number : (p : Record Value) (k n : ℕ) → length (p .slots) ≡ slotCou
 unfolding recordNumbers slotOf
 record-number p k n f h l = slots-number (p .slots) k n l (omega (arith, f))
 
--- its first number
+-- the first number of a record says whether it is present
 record-presence : (p : Record Value) → getD (recordNumbers p) 0 0 ≡ flag (p .present)
 unfolding recordNumbers
 record-presence p = refl
@@ -68,7 +70,7 @@ module _ (s : ComputedStyle Value) (f : Formed s) where
   whole (suc (suc zero)) h = f .after
   whole (suc (suc (suc r))) h = absurd (omega arith)
 
-  -- a number of a record
+  -- a number of the row, at the place of a record, is a number of that record
   in-record : (r o : ℕ) → r < recordCount → o < recordWidth → getD (rowOf s) (recordPlace r + o) 0 ≡ getD (recordNumbers (recordIn s r)) o 0
   unfolding rowOf recordIn pick is
   in-record zero o h l =
@@ -88,14 +90,14 @@ module _ (s : ComputedStyle Value) (f : Formed s) where
       let z : recordPlace r ≡ recordPlace r + 0 = omega arith in
       ap (λ (j : ℕ). getD (rowOf s) j 0) z ∙ in-record r 0 h (omega arith) ∙ record-presence (recordIn s r)
 
-  -- a number of a slot
+  -- a number of the row, at the place of a slot, is a number of that slot
   pub slot-number : (r k n : ℕ) → r < recordCount → k < slotCount → n < slotWidth → getD (rowOf s) (slotPlace r k + n) 0 ≡ getD (slotNumbers (slotIn s r k)) n 0
   unfolding slotIn
   slot-number r k n h l m =
       let z : slotPlace r k + n ≡ recordPlace r + suc (k * slotWidth + n) = omega arith in
       ap (λ (j : ℕ). getD (rowOf s) j 0) z ∙ in-record r (suc (k * slotWidth + n)) h (omega arith) ∙ record-number (recordIn s r) k n (whole r h) l m
 
-  -- the first of them
+  -- the number at the place of a slot is the slot's first, its flag
   pub slot-flag : (r k : ℕ) → r < recordCount → k < slotCount → getD (rowOf s) (slotPlace r k) 0 ≡ getD (slotNumbers (slotIn s r k)) 0 0
   slot-flag r k h l =
       let z : slotPlace r k ≡ slotPlace r k + 0 = omega arith in

@@ -25,7 +25,7 @@ use Rattle.running.specs.RunAnswer.{RunLeft, unchanged, ran, runSuffices, runBy
 use Rattle.agreement.specs.Calls.{RunBuffers, runWith, SameLengths}
 
 -- ---- bytes that are a sheet
--- of a reading
+-- bytes that are refused with the number 0, by what reading them says, are not refused
 quiet-bytes : (d : Decoded (List CompiledSelector)) → onDecoded d (λ _ _. noRefusal) (λ p. refusedAt badBytes p) .number ≡ 0 → onDecoded d (λ _ _. noRefusal) (λ p. refusedAt badBytes p) ≡ noRefusal
 unfolding onDecoded
 quiet-bytes (read n ss) e = refl
@@ -77,7 +77,7 @@ module _ (code : List ℕ) (settings : Settings) (g : Page) (b : RunBuffers) whe
   takes f e p q =
       record { few = f; suffices = e; page = quiet (g .nodes) (g .attributes) (g .text) (is-true _ _ p); bytes = quiet-bytes (decode code) (is-true _ _ q) }
 
-  -- a call that refuses nothing
+  -- a run that refuses nothing has bytes, page and buffers as a run asks for
   pub run-tells : runWith code settings g b .answer .refusal ≡ noRefusal → RunTakes code g b
   unfolding runCall runBy
   run-tells =
@@ -90,6 +90,7 @@ module _ (code : List ℕ) (settings : Settings) (g : Page) (b : RunBuffers) whe
       (λ _. refusing (refused shortStore) (λ e. omega (arith, e))))
 
   -- ---- what it leaves there
+  -- where the bytes, the page and the buffers are as a run asks for, the call leaves what a run that refuses nothing leaves
   pub run-leaves : RunTakes code g b → runWith code settings g b ≡ leaves
   unfolding runCall runBy
   run-leaves t =
@@ -121,12 +122,12 @@ module _ (code : List ℕ) (settings : Settings) (g : Page) (b : RunBuffers) whe
       Other : RunLeft → Type 0
       Other l = l .answer .refusal .number ≡ badBytes → ⊥
 
-  -- rows and state of the least lengths
+  -- where the lengths suffice, rows and state have their least lengths
   pub run-lent : enough ≡ true → RunLent code g (b .rows) (b .state)
   unfolding runSuffices
   run-lent e = let t = and-true _ _ e in let u = and-true _ _ (t .1) in record { for-rows = leb-true _ _ (t .0); for-state = leb-true _ _ (u .0) }
 
-  -- and a text store
+  -- where they suffice, the text store has its least length, too
   pub run-texts-lent : enough ≡ true → textLeast (runTextBytes g) ≤ length (b .texts)
   unfolding runSuffices
   run-texts-lent e = let t = and-true _ _ e in let u = and-true _ _ (t .1) in least {t = storesSuffice (runTextBytes g) (length (b .rules)) (length (b .tokens)) (length (b .brackets)) (length (b .texts))} refl (u .1) .for-texts

@@ -34,7 +34,7 @@ pub record SameText (t u : List ℕ) (v w : Value) : Type 0 where
 abbrev Agree : List ℕ → List ℕ → ℕ → Value → Value → Type 0
 Agree t u k v w = (¬ (k ≡ contentSlot) → v ≡ w) × (k ≡ contentSlot → SameText t u v w)
 
--- by the kind of style
+-- two values that say one style are the same, or for a content name the same text
 values-agree : (t u : List ℕ) (k : ℕ) (s : Style) (v w : Value) → styleSlotOf s ≡ k → Says t v s → Says u w s → Agree t u k v w
 unfolding Says styleSlotOf
 values-agree t u k (style.colour c) v w o p q = (λ _. p ∙ sym q, λ e. absurd (omega (arith, o, e)))
@@ -43,7 +43,7 @@ values-agree t u k style.displayNone v w o p q = (λ _. p ∙ sym q, λ e. absur
 values-agree t u k (style.whiteSpace x) v w o p q = (λ _. p ∙ sym q, λ e. absurd (omega (arith, o, e)))
 values-agree t u k (style.content x) v w o p q = (λ n. absurd (n (sym o)), λ _. record { within-t = p .within; within-u = q .within; same = p .named ∙ sym (q .named) })
 
--- ---- two slots
+-- ---- two slots for one style: both empty, or both held, of one weight and with values that agree
 pub data Alike (t u : List ℕ) (k : ℕ) : Slot Value → Slot Value → Type 0 where
   neither : Alike t u k empty empty
   both : {a b : Candidate Value} → a .weight ≡ b .weight → Agree t u k (a .value) (b .value) → Alike t u k (held a) (held b)
@@ -71,13 +71,13 @@ slot-numbers-same t u k n (held a) (held b) (both w v) (inl h) = held-front a n 
 slot-numbers-same t u k n (held a) (held b) (both w v) (inr h) =
     ap₂ (λ (x : Weight) (y : Value). getD (slotNumbers (held (record { weight = x; value = y }))) n 0) w (v .0 h)
 
--- the flag of a slot
+-- the flag of a slot is 0 or 1
 flag-small : (a : Slot Value) → getD (slotNumbers a) 0 0 ≤ filledFlag
 unfolding slotNumbers
 flag-small empty = omega arith
 flag-small (held c) = omega arith
 
--- a slot without one
+-- of two such slots, where the flag of one is 0, all numbers of both are 0
 zeros-same : (t u : List ℕ) (k n : ℕ) (a b : Slot Value) → Alike t u k a b → getD (slotNumbers a) 0 0 ≡ 0 → n < slotWidth → (getD (slotNumbers a) n 0 ≡ 0) × (getD (slotNumbers b) n 0 ≡ 0)
 unfolding slotNumbers
 zeros-same t u k n empty empty neither e h = (getD-replicate slotWidth n 0 0 h, getD-replicate slotWidth n 0 0 h)
@@ -127,7 +127,7 @@ module _ {A B : Type 0} (R : A → B → Type 0) (x : ComputedStyle A) (y : Comp
       pick-same (SameRecord R) (is r mainRecord) (is r mainRecord) _ _ _ _ refl (q .main)
       (pick-same (SameRecord R) (is r beforeRecord) (is r beforeRecord) _ _ _ _ refl (q .before) (q .after))
 
-  -- and slots
+  -- at each record and place they have the same slots
   slots-same : (r k : ℕ) → SameSlot R (slotIn x r k) (slotIn y r k)
   unfolding slotIn slotOf
   slots-same r k = each-get (SameSlot R) k empty empty both-empty (records-same r .all)
@@ -143,7 +143,7 @@ module _ (t u : List ℕ) (x y : ComputedStyle Value) (m : ComputedStyle Style) 
   presence-same r h =
       presence-number x f r h ∙ ap flag (records-same (Says t) x m p r .presence ∙ sym (records-same (Says u) y m q r .presence)) ∙ sym (presence-number y g r h)
 
-  -- a number of a slot
+  -- a number of a slot is the same in both rows, unless it names a content
   number-same : (r k n : ℕ) → r < recordCount → k < slotCount → n < slotWidth → namesContent (slotPlace r k + n) ≡ false
       → getD (rowOf x) (slotPlace r k + n) 0 ≡ getD (rowOf y) (slotPlace r k + n) 0
   number-same r k n h l i e =
@@ -175,7 +175,7 @@ module _ (t u : List ℕ) (x y : ComputedStyle Value) (m : ComputedStyle Style) 
         same = ap₂ (part t) xs xl ∙ s .same ∙ sym (ap₂ (part u) ys yl);
       }
 
-  -- all of it
+  -- two rows that say one style are the same row: numbers, flags, contents by their texts, zeros where a slot is not filled
   pub rows-same : SameRow t u (rowOf x) (rowOf y)
   rows-same =
       record {

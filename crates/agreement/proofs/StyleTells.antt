@@ -55,7 +55,7 @@ module _ (settings : Settings) (s : SheetTexts) (g : Page) (row : ℕ) (v : Styl
       let t = and-true _ _ e in
       record { page = quiet (g .nodes) (g .attributes) (g .text) (is-true _ _ p); there = ltb-true _ _ (t .0); element = is-true _ _ (t .1) }
 
-  -- a call that refuses nothing
+  -- where a style call refuses nothing, the page is accepted and the row is one of its elements
   pub style-tells : styleWith settings s g row v .answer .refusal ≡ noRefusal → Asked g row
   unfolding styleOf askedLeft
   style-tells =

@@ -38,7 +38,7 @@ module _ (n : ℕ) (rules tokens brackets texts : List ℕ) (enough : storesSuff
   fewer : (m : ℕ) → m ≤ n → Least m (length rules) (length tokens) (length brackets) (length texts)
   fewer m h = least-fewer n m (length rules) (length tokens) (length brackets) (length texts) h (least refl enough)
 
-  -- three sheets
+  -- the reading of three sheets has the lengths that it asks for
   sheets-lent : (s : SheetTexts) → NoneLong s → sheetsBytes s ≤ n → Lent (s .agent) (s .user) (s .author) rules tokens brackets texts
   sheets-lent s short h =
       let w = none-long (length (s .agent)) (length (s .user)) (length (s .author)) short in
@@ -53,7 +53,7 @@ module _ (n : ℕ) (rules tokens brackets texts : List ℕ) (enough : storesSuff
         for-texts = l .for-texts;
       }
 
-  -- a style call
+  -- a style call has the lengths that it asks for
   call-asked : (s : SheetTexts) (g : Page) (out : List ℕ) → NoneLong s → styleRowWidth ≤ length out → callBytes s g ≤ n → AskedLent s g out rules tokens brackets texts
   call-asked s g out short row h =
       let w = none-long (length (s .agent)) (length (s .user)) (length (s .author)) short in
@@ -73,7 +73,7 @@ module _ (n : ℕ) (rules tokens brackets texts : List ℕ) (enough : storesSuff
         filled = filled;
       }
 
-  -- all of them
+  -- sheets, style calls, each row of a run and its texts all have room in these stores
   room-for : RoomFor n rules tokens brackets texts
   room-for =
       record {
@@ -85,6 +85,6 @@ module _ (n : ℕ) (rules tokens brackets texts : List ℕ) (enough : storesSuff
         run-texts = λ settings g page h. omega (arith, contents-short settings g page, h, fewer n (omega arith) .for-texts);
       }
 
--- for every n
+-- for every n, stores of the least lengths for n bytes have room for all that takes at most n bytes
 pub least-suffice : LeastSuffice
 least-suffice = record { room = room-for }

@@ -45,10 +45,12 @@ module _ (t : List ℕ) where
   Behind n x s =
       n + length (styleBody s) ≤ length t → Held t (n + length (numberBytes (length (styleTextOf s)))) (styleTextOf s) → Lies t (n + length (numberBytes (length (styleTextOf s)))) x
 
+  -- of a content it is the text itself: it lies behind its length, within the bytes
   content-behind : (n : ℕ) (x : List ℕ) → Behind n x (style.content x)
   unfolding styleBody styleTextOf
   content-behind n x w h = record { within = omega (arith, w, text-length x); there = h }
 
+  -- so the text of a content lies where the pass says its place is
   content-lies : (d : StyleDecl) (i : ℕ) (h : Held t i (styleBytes d)) (x : List ℕ) → d .style ≡ style.content x → Lies t (place t d i h) x
   unfolding styleText styleBytes
   content-lies d i h x e =
@@ -58,7 +60,7 @@ module _ (t : List ℕ) where
       subst (Behind (i + length a + length b) x) (sym e) (content-behind (i + length a + length b) x)
       (omega (arith, held-within t i (a ++ (b ++ c)) h (style-some d), length-append a (b ++ c), length-append b c)) (text-there t d i h)
 
-  -- a style
+  -- where the bytes of a style lie, the pass reads it whole, with the same slot and importance, and its value says the style's
   style-walked : (d : StyleDecl) (i : ℕ) → StyleFits d → Held t i (styleBytes d)
       → Reads (mapped inNumbers (styleNumbersAt t i)) (i + length (styleBytes d)) (λ u x. SameStyled (Says u) x (meant d))
   style-walked d i f h = (
@@ -85,7 +87,7 @@ module _ (t : List ℕ) where
         λ more. next (one .2 more) (rest .2 more),
       )
 
-  -- with their count
+  -- the same with their count before them: where the bytes of a list of styles lie, they are read whole and say those styles
   counted-walked : (ds : List StyleDecl) (i : ℕ) → length ds < numberLimit → All StyleFits ds → Held t i (stylesBytes ds)
       → Reads (walkedStylesAt t i) (i + length (stylesBytes ds)) (λ u xs. Each (SameStyled (Says u)) xs (map meant ds))
   unfolding walkedStylesAt stylesBytes

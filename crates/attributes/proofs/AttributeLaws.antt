@@ -42,17 +42,17 @@ module _ (a : Attribute) (h : isNamed (text "style") a ≡ true) where
   unfolding attributeStyles
   styles-are = sym (pick-true _ _ _ _ h refl)
 
-  -- it says its styles
+  -- a `style` attribute says the styles of its value, placed from f on
   style-says : (f : ℕ) → attributeSays (placedStyles f) a ≡ map (attributeStyle true) (placedStyles f (styleAttribute (a .value)))
   unfolding attributeSays
   style-says f = rw (h, styles-are)
 
-  -- and has their contents
+  -- a `style` attribute has the contents of its value's styles
   style-contents : attributeContents a ≡ styleTexts (styleAttribute (a .value))
   unfolding attributeContents
   style-contents = ap styleTexts styles-are
 
-  -- it names no colour
+  -- a `style` attribute names no colour
   style-colourless : attributeColours a ≡ []
   unfolding attributeColours isNamed sameText text utf8 pick and is
   style-colourless =
@@ -81,7 +81,7 @@ by-names g true u x y z x′ y′ z′ p q r = p
 by-names g false true x y z x′ y′ z′ p q r = q
 by-names g false false x y z x′ y′ z′ p q r = r
 
--- by none of them
+-- where nothing is said by either of two names, nothing is said
 either-none : {A : Type 0} (t u : Bool) → pick {A = List A} t [] (pick u [] []) ≡ []
 unfolding pick
 either-none true u = refl
@@ -95,7 +95,7 @@ module _ (a : Attribute) (h : isNamed (text "style") a ≡ false) where
   unfolding attributeStyles
   other-styles = sym (pick-false _ _ _ _ h refl)
 
-  -- it says its colour
+  -- any other attribute says the colour that it names, if any
   other-says : (f : ℕ) → attributeSays (placedStyles f) a ≡ attributeColours a
   unfolding attributeSays attributeColours colourSays placedStyles styleSlotOf valueFrom
   other-says f =
@@ -105,7 +105,7 @@ module _ (a : Attribute) (h : isNamed (text "style") a ≡ false) where
       (colour-said style.background backgroundSlot f (colourAttribute (a .value)) (λ x. refl) (λ x. refl))
       refl)
 
-  -- and has no contents
+  -- any other attribute has no contents
   other-contents : attributeContents a ≡ []
   unfolding attributeContents styleTextOf
   other-contents =
@@ -139,7 +139,7 @@ colours-not-late a =
     (colour-not-late colourSlot (a .value)) (colour-not-late backgroundSlot (a .value)) none
     ∙ either-none (isNamed (text "color") a) (isNamed (text "bgcolor") a)
   where
-    -- where nothing is said
+    -- no attributes have no `style` declarations
     none : styleAttributes {A = Value} [] ≡ []
     none = unfold styleAttributes in refl
 
@@ -163,7 +163,7 @@ colours-early a =
     by-names colourAttributes t u _ _ _ _ _ _ (colour-early colourSlot (a .value)) (colour-early backgroundSlot (a .value)) none
     ∙ sym (by-names (map (fromAttribute false noSpecificity)) t u _ _ _ _ _ _ refl refl refl)
   where
-    -- where nothing is said
+    -- no attributes declare no colours
     none : colourAttributes {A = Value} [] ≡ map (fromAttribute false noSpecificity) []
     none = unfold colourAttributes in refl
 
@@ -184,7 +184,7 @@ early-colours f a = go (isNamed (text "style") a) refl
 -- ---- `merge_late`
 -- what is asked to read a value that is told otherwise
 module _ (base fill : ℕ) (value v rules tokens brackets texts : List ℕ) (e : value ≡ v) (o : ValueRoom (length v) base fill rules tokens brackets texts) where
-  -- as a `style` attribute
+  -- there is room to read the value as a `style` attribute
   pub style-room : ValueRoom (length value) base fill rules tokens brackets texts
   style-room = rw e o
 

@@ -35,7 +35,7 @@ use Rattle.styles.proofs.Merging.{merged-none, merged-more}
 use Rattle.attributes.specs.Merging.{colourSays, attributeColours}
 use Rattle.attributes.proofs.Fronts.{front-wiped}
 
--- ---- a value
+-- ---- what the value of a colour attribute declares
 module _ (spec : Specificity) (slot : ℕ) where
   -- what a colour's number declares
   abbrev pub numberDeclared : ℕ → Declared Value
@@ -60,7 +60,7 @@ module _ (spec : Specificity) (slot : ℕ) where
   said-none (found x) e = absurd (let z : _≡_ {A = ℕ} 0 1 = cc in omega arith)
   said-none missing e = refl
 
--- what `parse_color_attribute` left
+-- what `parse_color_attribute` left: its answer, and zeros where it used the stores
 module _ (s tokens brackets texts : List ℕ) (fill : ℕ) {r : ColourAnswer} {x b z : List ℕ}
     (e : record { answer = r; tokens = x; brackets = b; store = z } ≡ colourLeft s tokens brackets texts fill) where
   -- the reader's answer is the colour that the value names
@@ -76,7 +76,7 @@ module _ (s tokens brackets texts : List ℕ) (fill : ℕ) {r : ColourAnswer} {x
       ap (λ (l : ColourLeft). take fill (l .store)) e ∙ front-wiped texts fill u
 
   module _ (c : Cascade) (spec : Specificity) (slot : ℕ) (out : List ℕ) where
-    -- a colour is merged
+    -- the return where a colour was found: merged into the row, it is what the attribute declares
     pub colour-merged : (n : ℕ) (out′ : List ℕ) → r ≡ answer.Colour n → Merged c out out′ (numberDeclared spec slot n) → out′ ≡ mergedRow c out (map (fromAttribute false spec) (colourSays slot s))
     unfolding colourSays said
     colour-merged n out′ q m =
@@ -114,7 +114,7 @@ module _ (name value : List ℕ) (c : Cascade) (spec : Specificity) (out : List 
   colour-named h out′ p = p ∙ ap (λ l. mergedRow c out (map (fromAttribute false spec) l)) (pick-true _ _ _ _ (color-test ∙ h) refl)
 
   module _ (h : t ≡ false) (u : Bool) (q : u ≡ sameText name (0x62 ∷ 0x67 ∷ 0x63 ∷ 0x6f ∷ 0x6c ∷ 0x6f ∷ 0x72 ∷ [])) where
-    -- whether it is `bgcolor`
+    -- the code's test for the name `bgcolor` is the definition's
     bgcolor-test : isNamed (text "bgcolor") (record { name = name; value = value }) ≡ u
     unfolding isNamed
     bgcolor-test = ap (sameText name) bgcolor-name ∙ sym q

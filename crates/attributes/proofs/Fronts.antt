@@ -12,7 +12,7 @@ front-kept : (l : List ℕ) (n : ℕ) (xs : List ℕ) (i : ℕ) → n ≤ i → 
 front-kept l n [] i h = refl
 front-kept l n (x ∷ xs) i h = front-kept (set l i x) n xs (suc i) (omega arith) ∙ take-set-le n l i x h
 
--- zeros behind change nothing
+-- zeros written from n on leave the first n numbers
 pub front-wiped : (l : List ℕ) (n k : ℕ) → take n (wiped n k l) ≡ take n l
 unfolding wiped
 front-wiped l n k = front-kept l n (replicate k 0) n (omega arith)

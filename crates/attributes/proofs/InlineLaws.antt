@@ -42,7 +42,7 @@ use Rattle.styles.proofs.Room.{style-short}
 use Rattle.attributes.specs.Merging.{inlineImportant, shifted, inlineStyle, inlineDeclared, Shiftable, numbersIn, rowsDeclared, InlineRows, ValueRoom}
 use Rattle.attributes.proofs.Fronts.{front-wiped, text-stored}
 
--- ---- one style
+-- ---- one style, merged with the start of its content moved
 module _ (base : ℕ) (x : StyleNumbers) where
   -- a content starts `base` further
   pub shifted-content : x .slot ≡ contentSlot → record { number = x .value .number + base; second = x .value .second } ≡ shifted base x
@@ -51,7 +51,7 @@ module _ (base : ℕ) (x : StyleNumbers) where
       let q : x .value .number + base ≡ base + x .value .number = omega arith in
       pick-true _ _ _ _ (is-yes (x .slot) contentSlot e) (rw q)
 
-  -- any other value stays
+  -- a value other than a content's is not shifted
   pub shifted-other : ¬ (x .slot ≡ contentSlot) → x .value ≡ shifted base x
   unfolding shifted
   shifted-other d = pick-false _ _ _ _ (is-no (x .slot) contentSlot d) refl
@@ -131,7 +131,7 @@ module _ (base : ℕ) where
   value-shifted f (style.whiteSpace w) i = refl
   value-shifted f (style.content x) i = refl
 
-  -- it can be counted
+  -- the place of a content, counted from the base, fits 32 bits
   start-fits : (f : ℕ) (s : Style) → base + f < 2 ^ 32 → styleSlotOf s ≡ contentSlot → base + valueFrom f s .number < 2 ^ 32
   unfolding styleSlotOf valueFrom
   start-fits f (style.colour c) h e = absurd (omega arith)
@@ -202,7 +202,7 @@ styles-count s = omega (arith, styles-few (declarationsOf s .declarations), decl
 
 module _ (base fill : ℕ) (s rules tokens brackets texts : List ℕ) (o : ValueRoom (length s) base fill rules tokens brackets texts) {r : StylesRead} {y x b z : List ℕ}
     (e : record { answer = r; rules = y; tokens = x; brackets = b; store = z } ≡ styleLeft s rules tokens brackets texts fill) where
-  -- the count of styles
+  -- the count that is answered is that of the attribute's styles
   count-is : r .count ≡ length (styleAttribute s)
   unfolding styleLeft stylesAnswer
   count-is = ap (λ (l : Leaves StylesRead). l .answer .count) e

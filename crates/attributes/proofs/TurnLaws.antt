@@ -34,7 +34,7 @@ unfolding valuesOf textsMany
 values-more a xs = length-append (a .value) (textsMany (λ (a : Attribute). a .value) xs)
 
 module _ (a : Attribute) (xs : List Attribute) (base fill : ℕ) (rules tokens brackets texts : List ℕ) (o : InlineRoom (a ∷ xs) base fill rules tokens brackets texts) where
-  -- for the first value
+  -- room for the attributes is room for the first one's value
   pub room-first : ValueRoom (length (a .value)) base fill rules tokens brackets texts
   room-first =
       let v = values-more a xs in
@@ -287,7 +287,7 @@ module _ (attributes names : List ℕ) (at count : ℕ) (c : Cascade) (fill : �
           let e = ap length ev in
           record { for-tokens = omega (arith, o .for-tokens); for-brackets = omega (arith, o .for-brackets); for-texts = omega (arith, o .for-texts); bits = omega (arith, o .bits) }
 
-      -- its colour is merged
+      -- with the colour of the next attribute merged, those behind it are left
       pub colours-next : (out′ tokens′ brackets′ texts′ : List ℕ)
           → out′ ≡ mergedRow c out (map (fromAttribute false noSpecificity) (attributeColours (record { name = name; value = value })))
           → take fill texts′ ≡ take fill texts → length out′ ≡ length out → length tokens′ ≡ length tokens → length brackets′ ≡ length brackets → length texts′ ≡ length texts

@@ -44,32 +44,39 @@ rank-important o l h =
     (λ f. let c = is-false o agentOrigin e in let d = is-false o userOrigin f in omega arith))
 
 module _ (w : Weight) (k : KnownOrigin w) where
+  -- the rank of a normal declaration is one less than its origin's number
   normal-rank : w .important ≡ false → rankOf w + 1 ≡ w .origin
   unfolding rankOf
   normal-rank e = ap (λ i. rank (w .origin) i + 1) e ∙ rank-normal (w .origin) (k .least) (k .most)
 
+  -- the rank of an important declaration and its origin's number add up to those of an important agent one
   important-rank : w .important ≡ true → rankOf w + w .origin ≡ importantAgent + agentOrigin
   unfolding rankOf
   important-rank e = ap (λ i. rank (w .origin) i + w .origin) e ∙ rank-important (w .origin) (k .least) (k .most)
 
 -- ---- what the crate's tests say of x in the slot and y new
 module _ (x y : Weight) where
+  -- an important value stays against a normal one
   by-importance : y .important ≡ false → x .important ≡ true → heldAgainst x y ≡ true
   unfolding heldAgainst heldByImportance
   by-importance e f = or-left _ _ (sym (pick-false _ _ _ _ e (sym f)))
 
+  -- a value stays against an important one of a later origin
   by-later-origin : y .important ≡ true → x .origin < y .origin → heldAgainst x y ≡ true
   unfolding heldAgainst heldByOrigin
   by-later-origin e h = or-second _ _ (or-left _ _ (sym (pick-true _ _ _ _ e (sym (lt-ltb (x .origin) (y .origin) h)))))
 
+  -- a value stays against a normal one of an earlier origin
   by-earlier-origin : y .important ≡ false → y .origin < x .origin → heldAgainst x y ≡ true
   unfolding heldAgainst heldByOrigin
   by-earlier-origin e h = or-second _ _ (or-left _ _ (sym (pick-false _ _ _ _ e (sym (lt-ltb (y .origin) (x .origin) h)))))
 
+  -- a value stays against a less specific one
   by-less : LessSpecific (y .spec) (x .spec) → heldAgainst x y ≡ true
   unfolding heldAgainst
   by-less l = or-second _ _ (or-second _ _ (less-said (y .spec) (x .spec) l))
 
+  -- what is not less specific is not so by the test either
   not-less : ¬ (LessSpecific (y .spec) (x .spec)) → less (y .spec) (x .spec) ≡ false
   not-less n = go (less (y .spec) (x .spec)) refl
     where
@@ -109,6 +116,7 @@ module _ (x y : Weight) (kx : KnownOrigin x) (ky : KnownOrigin y) where
   unfolding heldInBook weaker
   lower h = sym (then-lower (rankOf y) (rankOf x) _ h)
 
+  -- the book order takes a y of higher rank
   higher : rankOf x < rankOf y → heldInBook x y ≡ false
   unfolding heldInBook weaker
   higher h = sym (then-higher (rankOf y) (rankOf x) _ h)
@@ -165,6 +173,7 @@ not-itself s (by-id i h) = absurd (omega arith)
 not-itself s (by-class i d h) = absurd (omega arith)
 not-itself s (by-type i d c h) = absurd (omega arith)
 
+-- nothing is less specific than a selector that names nothing
 not-below-none : (s : Specificity) → ¬ (LessSpecific s noSpecificity)
 unfolding noSpecificity specificityOf
 not-below-none s (by-inline e f) = never f
@@ -172,6 +181,7 @@ not-below-none s (by-id i h) = absurd (omega arith)
 not-below-none s (by-class i d h) = absurd (omega arith)
 not-below-none s (by-type i d c h) = absurd (omega arith)
 
+-- what is inherited ranks as a normal author declaration
 inherited-rank : rankOf inheritedWeight ≡ normalAuthor
 unfolding rankOf inheritedWeight rank pick is
 inherited-rank = refl
@@ -182,16 +192,19 @@ module _ (c y : Weight) (ky : KnownOrigin y) where
   unfolding heldInBook weaker
   book-replaces-important i = sym (then-higher (rankOf y) (rankOf inheritedWeight) _ (omega (arith, inherited-rank, important-rank y ky i, ky .most)))
 
+  -- the book order takes a normal author value against what is inherited
   book-replaces-author : y .important ≡ false → authorOrigin ≤ y .origin → heldInBook inheritedWeight y ≡ false
   unfolding heldInBook weaker inheritedWeight
   book-replaces-author i h =
       sym (then-equal (rankOf y) (rankOf inheritedWeight) _ false (omega (arith, inherited-rank, normal-rank y ky i, ky .most)) (sym (not-less (record { important = false; origin = authorOrigin; spec = noSpecificity }) y (not-below-none (y .spec)))))
 
+  -- the book order keeps what is inherited against a normal agent or user value
   book-keeps-inherited : y .important ≡ false → y .origin < authorOrigin → heldInBook inheritedWeight y ≡ true
   unfolding heldInBook weaker
   book-keeps-inherited i h = sym (then-lower (rankOf y) (rankOf inheritedWeight) _ (omega (arith, inherited-rank, normal-rank y ky i)))
 
   module _ (kc : KnownOrigin c) where
+    -- where the condition holds of c and y, the crate keeps c against y exactly where the book order keeps what is inherited
     inherited-alike : InheritedAlike c y → heldAgainst c y ≡ heldInBook inheritedWeight y
     inherited-alike (by-author i o j n) =
         not-held c y (λ w. never (sym j ∙ w .1)) (λ w. never (sym i ∙ w .0)) (λ w. let h = w .1 in absurd (omega (arith, kc .most))) n ∙ sym (book-replaces-author i (omega arith))
@@ -239,6 +252,7 @@ module _ {A : Type 0} where
   abbrev Known : Candidate A → Type 0
   Known x = KnownOrigin (x .weight)
 
+  -- whichever of two values is picked first, both cascades leave the same, where they do from each
   chosen : (t : Bool) (x y : Candidate A) (ys : List (Candidate A)) → foldl maybeUpdate (held x) ys ≡ foldl bookUpdate (held x) ys → foldl maybeUpdate (held y) ys ≡ foldl bookUpdate (held y) ys
       → foldl maybeUpdate (pick t (held x) (held y)) ys ≡ foldl bookUpdate (pick t (held x) (held y)) ys
   chosen t x y ys p q = pick-holds (λ s. foldl maybeUpdate s ys ≡ foldl bookUpdate s ys) t (held x) (held y) (λ _. p) (λ _. q)
@@ -255,6 +269,7 @@ module _ {A : Type 0} where
       shut : foldl bookUpdate (pick (heldAgainst (x .weight) (y .weight)) (held x) (held y)) ys ≡ foldl bookUpdate (bookUpdate (held x) y) ys
       shut = ap (λ (s : Slot A). foldl bookUpdate s ys) (ap (λ t. pick t (held x) (held y)) e ∙ (unfold bookUpdate in refl))
 
+  -- from one value on, both cascades leave the same, where it and all behind it are decided alike
   from-held : (xs : List (Candidate A)) (x : Candidate A) → Known x → All Known xs → All (λ y. DecidedAlike (x .weight) (y .weight)) xs → AllDecidedAlike xs
       → foldl maybeUpdate (held x) xs ≡ foldl bookUpdate (held x) xs
   from-held [] x kx ks a p = refl
@@ -296,6 +311,7 @@ module _ {A : Type 0} where
 
   -- ---- what is inherited, c in the crate's cascade and d in the book order
   module _ (c d : Candidate A) (kc : Known c) (w : d .weight ≡ inheritedWeight) (v : c .value ≡ d .value) where
+    -- whichever of the inherited and a new value is picked, both cascades leave the same, or what is inherited
     inherited-chosen : (t : Bool) (y : Candidate A) (ys : List (Candidate A)) → SameOrInherited (foldl maybeUpdate (held c) ys) (foldl bookUpdate (held d) ys)
         → foldl maybeUpdate (held y) ys ≡ foldl bookUpdate (held y) ys
         → SameOrInherited (foldl maybeUpdate (pick t (held c) (held y)) ys) (foldl bookUpdate (pick t (held d) (held y)) ys)
@@ -303,6 +319,7 @@ module _ {A : Type 0} where
     inherited-chosen true y ys p q = p
     inherited-chosen false y ys p q = same q
 
+    -- one new value: both cascades leave the same or what is inherited, where they decide alike on it
     inherited-updated : (y : Candidate A) (ys : List (Candidate A)) → heldAgainst (c .weight) (y .weight) ≡ heldInBook inheritedWeight (y .weight)
         → SameOrInherited (foldl maybeUpdate (held c) ys) (foldl bookUpdate (held d) ys) → foldl maybeUpdate (held y) ys ≡ foldl bookUpdate (held y) ys
         → SameOrInherited (foldl maybeUpdate (maybeUpdate (held c) y) ys) (foldl bookUpdate (bookUpdate (held d) y) ys)
@@ -311,6 +328,7 @@ module _ {A : Type 0} where
         subst (λ (b : Bool). SameOrInherited (foldl maybeUpdate (pick (heldAgainst (c .weight) (y .weight)) (held c) (held y)) ys) (foldl bookUpdate (pick b (held d) (held y)) ys)) (e ∙ ap (λ u. heldInBook u (y .weight)) (sym w))
         (inherited-chosen (heldAgainst (c .weight) (y .weight)) y ys p q)
 
+    -- all new values: both cascades leave the same or what is inherited, where each replaces what is inherited alike
     from-inherited : (xs : List (Candidate A)) → All Known xs → All (λ y. InheritedAlike (c .weight) (y .weight)) xs → AllDecidedAlike xs
         → SameOrInherited (foldl maybeUpdate (held c) xs) (foldl bookUpdate (held d) xs)
     from-inherited [] ks a p = inherited c d refl refl w v
@@ -338,14 +356,17 @@ module _ {A : Type 0} where
   valueOr a empty = a
   valueOr a (held c) = c .value
 
+  -- a slot that is empty in the crate's cascade alone is neither the same nor inherited
   one-empty : (d : Candidate A) → SameOrInherited empty (held d) → ⊥
   one-empty d (same e) = absurd (omega (arith, ap filled e))
   one-empty d (inherited c b e f w v) = absurd (omega (arith, ap filled e))
 
+  -- a slot that is empty in the book order alone is neither the same nor inherited
   other-empty : (c : Candidate A) → SameOrInherited (held c) empty → ⊥
   other-empty c (same e) = absurd (omega (arith, ap filled e))
   other-empty c (inherited a b e f w v) = absurd (omega (arith, ap filled f))
 
+  -- filled slots that are the same or inherited have one value
   one-value-of : (c d : Candidate A) → SameOrInherited (held c) (held d) → c .value ≡ d .value
   one-value-of c d (same e) = ap (valueOr (c .value)) e
   one-value-of c d (inherited a b e f w v) = ap (valueOr (c .value)) e ∙ v ∙ ap (valueOr (d .value)) (sym f)

@@ -30,6 +30,7 @@ not-below-type : ¬ (LessSpecific byType byType)
 unfolding less lessBySelector lessThen flag pick
 not-below-type = not-less-specific byType byType refl
 
+-- a class selector is not less specific than a type selector
 class-not-below-type : ¬ (LessSpecific byClass byType)
 unfolding less lessBySelector lessThen flag pick
 class-not-below-type = not-less-specific byClass byType refl
@@ -40,6 +41,6 @@ unfolding candidatesFor crateDeclared fromRule fromAttribute pick and is
 ordinary-author =
     (tt, (((refl, refl), ((refl, refl), tt)), ((((not-below-type, (class-not-below-type, tt)), tt), tt), (tt, (((refl, refl), tt), (tt, tt))))))
 
--- and they meet the condition
+-- so the condition under which both cascades show the same holds of them
 pub ordinary-agrees : AgreesDown mainRecord colourSlot (inner ∷ outer ∷ [])
 ordinary-agrees = author-agrees mainRecord colourSlot (inner ∷ outer ∷ []) ordinary-author

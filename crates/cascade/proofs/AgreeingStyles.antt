@@ -26,10 +26,11 @@ of-all P f [] = tt
 of-all P f (a ∷ l) = (f a, of-all P f l)
 
 module _ {A : Type 0} where
-  -- ---- origins
+  -- ---- declarations have one of the three origins
   abbrev KnownDeclared : Declared A → Type 0
   KnownDeclared d = KnownOrigin (d .candidate .weight)
 
+  -- styles of rules declare with the origin of their sheet
   rule-known : (o : ℕ) → agentOrigin ≤ o → o ≤ authorOrigin → (l : List _) → All KnownDeclared (map (fromRule o) l)
   unfolding fromRule
   rule-known o l h xs = all-map (λ _. Unit) KnownDeclared (fromRule o) (λ x _. record { least = l; most = h }) xs (of-all (λ _. Unit) (λ _. tt) xs)
@@ -50,11 +51,12 @@ module _ {A : Type 0} where
     all-for P [] h = tt
     all-for P (d ∷ ds) h = all-append P (pick (and (is (d .pseudo) r) (is (d .slot) k)) (d .candidate ∷ []) []) (candidatesFor r k ds) (pick-holds (All P) (and (is (d .pseudo) r) (is (d .slot) k)) (d .candidate ∷ []) [] (λ _. (h .0, tt)) (λ _. tt)) (all-for P ds (h .1))
 
-    -- so they are for a slot
+    -- the declarations for a slot are the agent's, the user's or the author's
     pub known-origins : (x : Sources A) → All (λ c. KnownOrigin (c .weight)) (candidatesFor r k (crateDeclared x))
     known-origins x = all-for (λ c. KnownOrigin (c .weight)) (crateDeclared x) (declared-known x)
 
     -- ---- the declarations for a slot that both count
+    -- of declarations behind declarations, those for a slot are those of the first, then those of the second
     pub candidates-append : (ds es : List (Declared A)) → candidatesFor r k (ds ++ es) ≡ candidatesFor r k ds ++ candidatesFor r k es
     unfolding candidatesFor
     candidates-append [] es = refl
@@ -72,9 +74,11 @@ module _ {A : Type 0} where
       unfolding candidatesFor fromAttribute
       not-for i p e = ap (λ l. l ++ []) (sym (pick-false _ _ _ _ e refl))
 
+      -- an attribute that is for the slot is so in the element's own record, with that slot
       for-says : isFor a ≡ true → (r ≡ mainRecord) × (a .style .slot ≡ k)
       for-says e = let w = and-true (is mainRecord r) (is (a .style .slot) k) e in (sym (is-true mainRecord r (w .0)), is-true (a .style .slot) k (w .1))
 
+      -- of no declarations none is for the slot
       no-declaration : candidatesFor {A = A} r k [] ≡ []
       unfolding candidatesFor
       no-declaration = refl
@@ -101,11 +105,13 @@ module _ {A : Type 0} where
             go false f =
                 pick-holds (λ l. candidatesFor r k l ≡ []) (a .isStyle) _ [] (λ _. not-for (a .style .important) inlineSpecificity f) (λ _. no-declaration) ∙ sym (not-for false inlineSpecificity f)
 
+    -- the colour attributes declare nothing for the slot, where all attributes count alike
     colours-none : (l : List (AttributeStyle A)) → All (CountedAlike r k) l → candidatesFor r k (colourAttributes l) ≡ []
     unfolding colourAttributes candidatesFor
     colours-none [] h = refl
     colours-none (a ∷ l) h = candidates-append (pick (a .isStyle) [] (fromAttribute false noSpecificity a ∷ [])) (colourAttributes l) ∙ ap₂ (λ x y. x ++ y) (colour-none a (h .0)) (colours-none l (h .1))
 
+    -- the `style` attributes declare the same for the slot as all attributes do without importance, where all count alike
     styles-same : (l : List (AttributeStyle A)) → All (CountedAlike r k) l → candidatesFor r k (styleAttributes l) ≡ candidatesFor r k (map (fromAttribute false inlineSpecificity) l)
     unfolding styleAttributes
     styles-same [] h = refl
@@ -169,6 +175,7 @@ module _ {A : Type 0} where
         present-after h u ds (mergeBy u s d) ∙ ap (λ b. or b (declares r ds)) (merge-present u s d r h)
         ∙ sym (or-assoc (recordIn s r .present) (and (isNamed (d .pseudo) (d .slot)) (is (d .pseudo) r)) (declares r ds))
 
+    -- some of two lists of declarations name the record exactly if some of either do
     declares-append : (ds es : List (Declared A)) → declares r (ds ++ es) ≡ or (declares r ds) (declares r es)
     unfolding declares or
     declares-append [] es = refl
@@ -177,14 +184,17 @@ module _ {A : Type 0} where
 
     -- attributes declare for the element's own record alone
     module _ (other : ¬ (r ≡ mainRecord)) where
+      -- an attribute in front adds no name of another record than the element's own
       own-record-only : (i : Bool) (p : Specificity) (a : AttributeStyle A) (ds : List (Declared A)) → declares r ds ≡ false → declares r (fromAttribute i p a ∷ ds) ≡ false
       unfolding declares fromAttribute
       own-record-only i p a ds e = or-none _ _ (and-right _ _ (is-no mainRecord r (λ z. other (sym z)))) e
 
+      -- attributes name no other record than the element's own
       all-none : (i : Bool) (p : Specificity) (l : List (AttributeStyle A)) → declares r (map (fromAttribute i p) l) ≡ false
       all-none i p [] = unfold declares in refl
       all-none i p (a ∷ l) = own-record-only i p a (map (fromAttribute i p) l) (all-none i p l)
 
+      -- colour attributes name no other record than the element's own
       colours-declare-none : (l : List (AttributeStyle A)) → declares r (colourAttributes l) ≡ false
       unfolding colourAttributes declares
       colours-declare-none [] = refl
@@ -192,6 +202,7 @@ module _ {A : Type 0} where
           declares-append (pick (a .isStyle) [] (fromAttribute false noSpecificity a ∷ [])) (colourAttributes l)
           ∙ or-none _ _ (pick-holds (λ ds. declares r ds ≡ false) (a .isStyle) [] _ (λ _. refl) (λ _. own-record-only false noSpecificity a [] refl)) (colours-declare-none l)
 
+      -- `style` attributes name no other record than the element's own
       styles-declare-none : (l : List (AttributeStyle A)) → declares r (styleAttributes l) ≡ false
       unfolding styleAttributes declares
       styles-declare-none [] = refl
@@ -222,6 +233,7 @@ module _ {A : Type 0} where
       unfolding recordIn
       pseudo-record s = sym (pick-false _ _ _ _ (is-no r mainRecord other) refl)
 
+      -- a child has exactly the pseudo records of its parent before anything is declared, in either cascade
       inherit-present : (c : Cascade) (s : ComputedStyle A) → recordIn (inheritBy c s) r .present ≡ recordIn s r .present
       unfolding inheritBy
       inherit-present Crate s = ap (λ (p : Record A). p .present) (pseudo-record (inherit s) ∙ both ∙ sym (pseudo-record s))
@@ -283,15 +295,17 @@ module _ {A : Type 0} where
             (all-append Normal (map (fromRule authorOrigin) (x .author)) _ (all-map (λ s. s .style .important ≡ false) Normal (fromRule authorOrigin) (λ s e. (refl, e)) (x .author) n)
             (all-map (λ _. Unit) Normal (fromAttribute false inlineSpecificity) (λ _ _. (refl, refl)) (x .attributes) (of-all (λ _. Unit) (λ _. tt) (x .attributes)))))
 
+    -- on sheets of the author alone, what every element down the path declares is the author's and normal
     author-above : (xs : List (Sources A)) → AuthorDown r k xs → All (λ z. All (NormalAuthor r k) (declaredFor r k z)) xs
     author-above [] h = tt
     author-above (x ∷ above) h = (h .1 .0, author-above above (h .1 .1 .1))
 
+    -- a normal author declaration replaces a normal author one above it, where it is not less specific
     replaced : (x : Sources A) (c : Candidate A) → All (NormalAuthor r k) (declaredFor r k x) → NormalAuthor r k c → NotLessSpecific r k x c → ReplacedAlike r k x c
     replaced x c a n l =
         all-both (NormalAuthor r k) (λ y. ¬ (LessSpecific (y .weight .spec) (c .weight .spec))) (λ y. InheritedAlike (c .weight) (y .weight)) (λ y p q. by-author (p .1) (p .0) (n .1) q) (declaredFor r k x) a l
 
-    -- they meet the condition
+    -- sheets of the author alone, without `!important`, meet the condition down a path, where specificities do not fall
     pub author-agrees : (xs : List (Sources A)) → AuthorDown r k xs → AgreesDown r k xs
     author-agrees [] h = tt
     author-agrees (x ∷ above) h = (

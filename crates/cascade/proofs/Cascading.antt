@@ -18,6 +18,7 @@ use Rattle.cascade.proofs.RowLaws.{Which, isMain, isBefore, isAfter, wh
 use Rattle.cascade.proofs.Merging.{named, named-says}
 use Rattle.cascade.proofs.Winners.{won, won-inherited}
 
+-- a test holds or it does not
 either-way : (t : Bool) → (t ≡ true) ⊎ (t ≡ false)
 either-way true = inl refl
 either-way false = inr refl
@@ -28,12 +29,14 @@ unfolding or
 or-second true b e = refl
 or-second false b e = e
 
+-- a fold over two lists in a row is that over the second, from where the first ends
 fold-append : {A B : Type 0} (f : B → A → B) (b : B) (xs ys : List A) → foldl f b (xs ++ ys) ≡ foldl f (foldl f b xs) ys
 fold-append f b [] ys = refl
 fold-append f b (x ∷ xs) ys = fold-append f (f b x) xs ys
 
 module _ {A : Type 0} where
   -- ---- nothing of no declarations
+  -- no declarations leave the style as it is
   pub no-declarations : (u : Slot A → Candidate A → Slot A) (s : ComputedStyle A) → foldl (mergeBy u) s [] ≡ s
   no-declarations u s = refl
 
@@ -48,25 +51,30 @@ module _ {A : Type 0} where
 
   -- ---- records by their numbers
   module _ (s : ComputedStyle A) (r : ℕ) where
+    -- the record of the element's own number is the main one
     in-main : r ≡ mainRecord → recordIn s r ≡ s .main
     unfolding recordIn
     in-main e = sym (pick-true _ _ _ _ (is-yes r mainRecord e) refl)
 
+    -- the record of the number of `::before` is that one
     in-before : r ≡ beforeRecord → recordIn s r ≡ s .before
     unfolding recordIn
     in-before e = sym (pick-false _ _ _ _ (is-no r mainRecord (λ z. omega arith)) (pick-true _ _ _ _ (is-yes r beforeRecord e) refl))
 
+    -- the record of the number of `::after` is that one
     in-after : r ≡ afterRecord → recordIn s r ≡ s .after
     unfolding recordIn
     in-after e = sym (pick-false _ _ _ _ (is-no r mainRecord (λ z. omega arith)) (pick-false _ _ _ _ (is-no r beforeRecord (λ z. omega arith)) refl))
 
   -- the updated record, and the others
   module _ (k : ℕ) (u : Slot A → Slot A) (s : ComputedStyle A) where
+    -- the record of an updated slot is that record with the slot updated
     own-record : (r : ℕ) → Which r → recordIn (updateStyle r k u s) r ≡ updateRecord k u (recordIn s r)
     own-record r (isMain e) = in-main (updateStyle r k u s) r e ∙ ap (λ (t : ComputedStyle A). t .main) (update-main r k u s e) ∙ ap (updateRecord k u) (sym (in-main s r e))
     own-record r (isBefore e) = in-before (updateStyle r k u s) r e ∙ ap (λ (t : ComputedStyle A). t .before) (update-before r k u s e) ∙ ap (updateRecord k u) (sym (in-before s r e))
     own-record r (isAfter e) = in-after (updateStyle r k u s) r e ∙ ap (λ (t : ComputedStyle A). t .after) (update-after r k u s e) ∙ ap (updateRecord k u) (sym (in-after s r e))
 
+    -- every other record of the style stays
     other-record : (q r : ℕ) → Which q → Which r → ¬ (q ≡ r) → recordIn (updateStyle q k u s) r ≡ recordIn s r
     other-record q r (isMain e) (isMain f) n = absurd (n (e ∙ sym f))
     other-record q r (isMain e) (isBefore f) n = in-before (updateStyle q k u s) r f ∙ ap (λ (t : ComputedStyle A). t .before) (update-main q k u s e) ∙ sym (in-before s r f)
@@ -80,18 +88,22 @@ module _ {A : Type 0} where
 
   -- the updated slot, and the others of its record
   module _ (k : ℕ) (u : Slot A → Slot A) (p : Record A) where
+    -- the slot that is updated is what the update makes of it
     own-slot : k < length (p .slots) → slotOf (updateRecord k u p) k ≡ u (slotOf p k)
     unfolding slotOf updateRecord
     own-slot h = getD-set-same (p .slots) k (u (getD (p .slots) k empty)) empty h
 
+    -- every other slot of the record stays
     other-slot : (j : ℕ) → ¬ (j ≡ k) → slotOf (updateRecord k u p) j ≡ slotOf p j
     unfolding slotOf updateRecord
     other-slot j n = getD-set-other (p .slots) k j (u (getD (p .slots) k empty)) empty n
 
+    -- the record has as many slots as before
     record-long : length (updateRecord k u p .slots) ≡ length (p .slots)
     unfolding updateRecord slotOf
     record-long = length-set (p .slots) k (u (getD (p .slots) k empty))
 
+    -- an updated record is present
     now-present : updateRecord k u p .present ≡ true
     unfolding updateRecord
     now-present = refl
@@ -101,10 +113,12 @@ module _ {A : Type 0} where
     abbrev v : Slot A → Slot A
     v x = u x (d .candidate)
 
+    -- a declaration that names a slot updates it
     merge-named : isNamed (d .pseudo) (d .slot) ≡ true → mergeBy u s d ≡ updateStyle (d .pseudo) (d .slot) v s
     unfolding mergeBy
     merge-named e = sym (pick-true _ _ _ _ e refl)
 
+    -- a declaration that names none leaves the style
     merge-unnamed : isNamed (d .pseudo) (d .slot) ≡ false → mergeBy u s d ≡ s
     unfolding mergeBy
     merge-unnamed e = sym (pick-false _ _ _ _ e refl)
@@ -188,6 +202,7 @@ module _ {A : Type 0} where
     stay-present (d ∷ ds) s e = stay-present ds (mergeBy u s d) (stays-present u s d r h e)
 
     module _ (k : ℕ) (l : k < slotCount) where
+      -- one declaration leaves a slot as it is, or updated where it names that slot
       one-candidate : (d : Declared A) (s : ComputedStyle A) → Whole s r
           → slotIn (mergeBy u s d) r k ≡ foldl u (slotIn s r k) (pick (and (is (d .pseudo) r) (is (d .slot) k)) (d .candidate ∷ []) [])
       one-candidate d s f = go (is (d .pseudo) r) (is (d .slot) k) refl refl
@@ -216,6 +231,7 @@ module _ {A : Type 0} where
       unnamed-slot ds s f e = slot-folds ds s f ∙ ap (foldl u (slotIn s r k)) e
 
   -- ---- what a child begins with
+  -- every record of a formed style has all its slots
   formed-record : (s : ComputedStyle A) (r : ℕ) → Formed s → r < recordCount → Whole s r
   formed-record s r f h = go (which r h)
     where
@@ -238,11 +254,13 @@ module _ {A : Type 0} where
     after = length-map (s .after .slots) inheritedSlot ∙ f .after;
   }
 
+  -- nothing is inherited of an empty slot
   empty-inherited : inheritedSlot {A = A} empty ≡ empty
   unfolding inheritedSlot
   empty-inherited = refl
 
   module _ (s : ComputedStyle A) (r k : ℕ) (h : r < recordCount) where
+    -- where the slots of a record are inherited one by one, so is each by its number
     mapped : (a b : Record A) → a .slots ≡ map inheritedSlot (b .slots) → slotOf a k ≡ inheritedSlot (slotOf b k)
     unfolding slotOf
     mapped a b e =
@@ -261,15 +279,18 @@ module _ {A : Type 0} where
         go (isAfter e) = rw (in-after (inheritInBookOrder s) r e, in-after s r e) (mapped _ (s .after) refl)
 
   -- ---- the update of a cascade, by its name
+  -- the crate's cascade, by its name, updates a slot with all its candidates as the crate does
   by-crate : (xs : List (Candidate A)) (s : Slot A) → foldl (updateBy Crate) s xs ≡ foldl maybeUpdate s xs
   by-crate [] s = refl
   by-crate (x ∷ xs) s = by-crate xs (updateBy Crate s x) ∙ ap (λ (t : Slot A). foldl maybeUpdate t xs) (unfold updateBy in refl)
 
+  -- the update of the book order, by the name of that cascade
   by-book : (xs : List (Candidate A)) (s : Slot A) → foldl (updateBy Book) s xs ≡ foldl bookUpdate s xs
   by-book [] s = refl
   by-book (x ∷ xs) s = by-book xs (updateBy Book s x) ∙ ap (λ (t : Slot A). foldl bookUpdate t xs) (unfold updateBy in refl)
 
   -- ---- the book order
+  -- from what is inherited on, a slot holds the winner among the inherited value and the candidates, or nothing where there are none
   decides : (s : Slot A) (xs : List (Candidate A)) → Decided (foldl bookUpdate (inheritedSlot s) xs) (inheritedCandidates s ++ xs)
   decides empty [] = unfold inheritedSlot in unfold inheritedCandidates in unset refl
   decides empty (x ∷ xs) = unfold inheritedSlot in unfold inheritedCandidates in decided (won x xs)
@@ -324,6 +345,7 @@ module _ {A : Type 0} where
   cascade-main-present Book parent x = main-present (updateBy Book) (declaredBy Book x) (inheritInBookOrder parent) refl
 
   -- ---- the crate's cascade is the fold: each slot is what its candidates make, one after the other, of the parent's
+  -- before its declarations a child has the slots of its parent, in the crate's cascade
   inherit-slot : (s : ComputedStyle A) (r k : ℕ) → r < recordCount → slotIn (inherit s) r k ≡ slotIn s r k
   unfolding slotIn inherit slotOf
   inherit-slot s r k h = go (which r h)

@@ -18,6 +18,7 @@ use Rattle.cascade.proofs.Rewriting.{present-view, rewrites-low, rewrit
 
 -- ---- the book order
 module _ (u : Slot Value → Slot Value) (r : ℕ) (xs : List ℕ) (h : r < recordCount) (f : RowFine xs) where
+  -- the rewritten record itself stays well formed
   fine-there : RecordFine xs (recordPlace r) → RecordFine (rewriteRecord u r xs) (recordPlace r)
   unfolding rewriteRecord
   fine-there g = record {
@@ -25,13 +26,16 @@ module _ (u : Slot Value → Slot Value) (r : ℕ) (xs : List ℕ) (h : r < reco
     all = subst AllFine (sym (rewrites-windows u slotCount (recordPlace r + 1) xs (omega (arith, f .long)))) (slots-fine (map u (map readSlot (windows xs (recordPlace r + 1) slotCount))));
   }
 
+  -- so does the record at b, where that is the rewritten one
   fine-here : (b : ℕ) → recordPlace r ≡ b → RecordFine xs b → RecordFine (rewriteRecord u r xs) b
   fine-here b e g = subst (RecordFine (rewriteRecord u r xs)) e (fine-there (subst (RecordFine xs) (sym e) g))
 
+  -- a record before the rewritten one stays well formed
   fine-before : (b : ℕ) → b + recordWidth ≤ recordPlace r → RecordFine xs b → RecordFine (rewriteRecord u r xs) b
   unfolding rewriteRecord
   fine-before b e = same-fine xs (rewrites u (recordPlace r + 1) slotCount xs) b (λ p m n. rewrites-low u slotCount (recordPlace r + 1) xs p (omega arith))
 
+  -- a record behind the rewritten one stays well formed
   fine-behind : (b : ℕ) → recordPlace r + recordWidth ≤ b → RecordFine xs b → RecordFine (rewriteRecord u r xs) b
   unfolding rewriteRecord
   fine-behind b e = same-fine xs (rewrites u (recordPlace r + 1) slotCount xs) b (λ p m n. rewrites-high u slotCount (recordPlace r + 1) xs p (omega arith))
@@ -45,6 +49,7 @@ module _ (u : Slot Value → Slot Value) (r : ℕ) (xs : List ℕ) (h : r < reco
       go (isBefore e) = record { long = rewritten-long u r xs ∙ f .long; main = fine-before 0 (omega arith) (f .main); before = fine-here recordWidth (omega arith) (f .before); after = fine-behind (2 * recordWidth) (omega arith) (f .after) }
       go (isAfter e) = record { long = rewritten-long u r xs ∙ f .long; main = fine-before 0 (omega arith) (f .main); before = fine-before recordWidth (omega arith) (f .before); after = fine-here (2 * recordWidth) (omega arith) (f .after) }
 
+-- marking the main record as present leaves a row well formed
 present-fine : (xs : List ℕ) → RowFine xs → RowFine (set xs 0 1)
 present-fine xs f = record {
   long = length-set xs 0 1 ∙ f .long;

@@ -42,11 +42,11 @@ module _ (r k : ℕ) where
 
 -- ---- what writing a slot leaves
 module _ (s : code.Slot) (xs ys : List ℕ) (i : ℕ) where
-  -- one that holds something
+  -- writing the numbers of what a filled slot holds is writing the slot
   pub wrote-held : s .filled ≡ true → ys ≡ sets xs i (slotNumbers (held (record { weight = s .weight; value = s .value }))) → ys ≡ sets xs i (slotNumbers (slotBy s))
   wrote-held f e = rw (filled-slot s f) e
 
-  -- one that holds nothing
+  -- wiping a slot's width is writing an empty slot
   pub wrote-empty : s .filled ≡ false → ys ≡ wiped i slotWidth xs → ys ≡ sets xs i (slotNumbers (slotBy s))
   unfolding wiped slotNumbers
   wrote-empty f e = rw (unfilled-slot s f) e
@@ -84,6 +84,7 @@ module _ (u : Slot Value → Candidate Value → Slot Value) (xs : List ℕ) (d 
 
 -- ---- by the update of a cascade
 module _ (c : Cascade) (xs ys : List ℕ) (d : Declared Value) (h : RowRoom xs) where
+  -- numbers that are those of the merged row are the merge, as its style is the merged one
   by-numbers : ys ≡ mergeRowBy (updateBy c) xs d → Merged c xs ys d
   by-numbers e = record { numbers = e; meaning = ap styleAt e ∙ merge-view (updateBy c) xs d (h .room) }
 

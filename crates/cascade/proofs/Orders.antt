@@ -64,7 +64,7 @@ module _ (a b : ℕ) (rest : Bool) where
 
 -- below carries over, where it does in what follows; and so does not below
 module _ (a b c : ℕ) (p q r : Bool) where
-  -- below what is below
+  -- what is below something is below what that is below
   pub then-trans : (p ≡ true → q ≡ true → r ≡ true) → lessThen a b p ≡ true → lessThen b c q ≡ true → lessThen a c r ≡ true
   then-trans f e₁ e₂ =
       ⊎-elim
@@ -101,6 +101,7 @@ module _ (a b c : Specificity) where
       (λ p q. le-ltb (a .typ) (c .typ) (omega (arith, ltb-false (a .typ) (b .typ) p, ltb-false (b .typ) (c .typ) q)))))
 
 -- ---- it is the order of Selectors Level 3
+-- a flag with the less number is not set, and the other is
 flags-differ : (p q : Bool) → flag p < flag q → (p ≡ false) × (q ≡ true)
 unfolding flag
 flags-differ true true h = absurd (omega arith)
@@ -108,6 +109,7 @@ flags-differ true false h = absurd (omega arith)
 flags-differ false true h = (refl, refl)
 flags-differ false false h = absurd (omega arith)
 
+-- flags with the same number are the same
 flags-agree : (p q : Bool) → flag p ≡ flag q → p ≡ q
 unfolding flag
 flags-agree true true h = refl
@@ -116,6 +118,7 @@ flags-agree false true h = absurd (omega arith)
 flags-agree false false h = refl
 
 module _ (a b : Specificity) where
+  -- where both are inline or neither is, what the test of the counts says is the order
   by-selector : a .inline ≡ b .inline → lessBySelector a b ≡ true → LessSpecific a b
   unfolding lessBySelector
   by-selector i e =

@@ -17,6 +17,7 @@ use Rattle.cascade.specs.Record.{slotCount, mainRecord, beforeRecord, Re
 use Rattle.cascade.specs.Related.{Each, none, next, SameCandidate, SameSlot, both-empty, both-held, SameRecord, SameStyle}
 
 -- ---- a choice between things that are related
+-- two choices by the same test are related, where their first arms are and their second arms are
 pub pick-same : {A B : Type 0} (P : A → B → Type 0) (t u : Bool) (a c : A) (b d : B) → t ≡ u → P a b → P c d → P (pick t a c) (pick u b d)
 unfolding pick
 pick-same P true true a c b d e p q = p
@@ -26,17 +27,17 @@ pick-same P false false a c b d e p q = q
 
 -- ---- lists, member by member
 module _ {A B : Type 0} (P : A → B → Type 0) where
-  -- one behind the other
+  -- lists that are related member by member stay so with related lists behind them
   pub each-append : {l us : List A} {m vs : List B} → Each P l m → Each P us vs → Each P (l ++ us) (m ++ vs)
   each-append none q = q
   each-append (next p ps) q = next p (each-append ps q)
 
-  -- each by a function
+  -- related members stay related when each is put through its function
   pub each-map : {C D : Type 0} (Q : C → D → Type 0) (f : A → C) (g : B → D) → ((a : A) (b : B) → P a b → Q (f a) (g b)) → {l : List A} {m : List B} → Each P l m → Each Q (map f l) (map g m)
   each-map Q f g h none = none
   each-map Q f g h (next {a} {b} p ps) = next (h a b p) (each-map Q f g h ps)
 
-  -- one of them changed
+  -- related lists stay so with one member of both replaced by related ones
   pub each-set : {l : List A} {m : List B} (k : ℕ) (a : A) (b : B) → P a b → Each P l m → Each P (set l k a) (set m k b)
   each-set k a b p none = none
   each-set zero a b p (next q qs) = next p qs
@@ -85,6 +86,7 @@ module _ {A B : Type 0} (R : A → B → Type 0) where
   tests-same : (f : Weight → Weight → Bool) (c x : Candidate A) (d y : Candidate B) → SameCandidate R c d → SameCandidate R x y → f (c .weight) (x .weight) ≡ f (d .weight) (y .weight)
   tests-same f c x d y p q = rw (p .weights, q .weights)
 
+  -- of two candidates and two that are the same, the same one is chosen
   chosen-same : (f : Weight → Weight → Bool) (c x : Candidate A) (d y : Candidate B) → SameCandidate R c d → SameCandidate R x y
       → SameSlot R (pick (f (c .weight) (x .weight)) (held c) (held x)) (pick (f (d .weight) (y .weight)) (held d) (held y))
   chosen-same f c x d y p q = pick-same (SameSlot R) _ _ (held c) (held x) (held d) (held y) (tests-same f c x d y p q) (both-held p) (both-held q)
@@ -98,11 +100,13 @@ module _ {A B : Type 0} (R : A → B → Type 0) where
   update-same Book (held c) (held d) x y (both-held p) q = chosen-same heldInBook c x d y p q
 
   module _ (k : Cascade) (x : Candidate A) (y : Candidate B) (c : SameCandidate R x y) where
+    -- records that are the same stay so when one slot of both is updated
     record-updated : (i : ℕ) (p : Record A) (q : Record B) → SameRecord R p q → SameRecord R (updateRecord i (λ s. updateBy k s x) p) (updateRecord i (λ s. updateBy k s y) q)
     unfolding updateRecord slotOf
     record-updated i p q h =
         record { presence = refl; all = each-set (SameSlot R) i _ _ (update-same k _ _ x y (each-get (SameSlot R) i empty empty both-empty (h .all)) c) (h .all) }
 
+    -- styles that are the same stay so when one slot of one record of both is updated
     style-updated : (r i : ℕ) (s : ComputedStyle A) (t : ComputedStyle B) → SameStyle R s t → SameStyle R (updateStyle r i (λ z. updateBy k z x) s) (updateStyle r i (λ z. updateBy k z y) t)
     unfolding updateStyle
     style-updated r i s t h =
@@ -129,11 +133,13 @@ module _ {A B : Type 0} (R : A → B → Type 0) where
   merges-same k (next {a = x} {b = y} d ds) s t h = merges-same k ds (mergeBy (updateBy k) s x) (mergeBy (updateBy k) t y) (merge-same k s t x y h d)
 
   -- ---- what a child begins with
+  -- slots that are the same are inherited as the same in the book order
   slot-inherited : (s : Slot A) (t : Slot B) → SameSlot R s t → SameSlot R (inheritedSlot s) (inheritedSlot t)
   unfolding inheritedSlot inheritedCandidate
   slot-inherited empty empty both-empty = both-empty
   slot-inherited (held c) (held d) (both-held p) = both-held (record { weights = refl; values = p .values })
 
+  -- records that are the same are inherited as the same in the book order
   record-inherited : (p : Record A) (q : Record B) → SameRecord R p q → SameRecord R (inheritRecord p) (inheritRecord q)
   unfolding inheritRecord
   record-inherited p q h = record { presence = h .presence; all = each-map (SameSlot R) (SameSlot R) inheritedSlot inheritedSlot slot-inherited (h .all) }
@@ -153,11 +159,13 @@ module _ {A B : Type 0} (R : A → B → Type 0) where
   unfolding emptyRecord
   empty-record-same = record { presence = refl; all = each-replicate (SameSlot R) slotCount empty empty both-empty }
 
+  -- the empty styles are the same, whatever form their values have
   pub empty-same : SameStyle R emptyStyle emptyStyle
   unfolding emptyStyle
   empty-same = record { main = empty-record-same; before = empty-record-same; after = empty-record-same }
 
   -- ---- all declarations of an element
+  -- weights of one origin with the same importance and the same specificity are the same
   weight-same : (a b : Bool) (o : ℕ) (p q : Specificity) → a ≡ b → p ≡ q → _≡_ {A = Weight} (record { important = a; origin = o; spec = p }) (record { important = b; origin = o; spec = q })
   weight-same a b o p q e f = rw (e, f)
 
@@ -171,21 +179,24 @@ module _ {A B : Type 0} (R : A → B → Type 0) where
         candidates = record { weights = weight-same (x .style .important) (y .style .important) o (x .spec) (y .spec) (h .styles .importances) (h .specs); values = h .styles .values };
       }
 
-  -- one of an attribute
+  -- styles of attributes that are the same are declared the same
   pub attribute-declared : (i j : Bool) (p : Specificity) (x : AttributeStyle A) (y : AttributeStyle B) → i ≡ j → SameAttribute x y → SameDeclared (fromAttribute i p x) (fromAttribute j p y)
   unfolding fromAttribute
   attribute-declared i j p x y e h =
       record { pseudos = refl; slots = h .styles .slots; candidates = record { weights = weight-same i j authorOrigin p p e refl; values = h .styles .values } }
 
+  -- styles of rules that are the same, of one origin, are declared the same
   rules-declared : (o : ℕ) {xs : List (RuleStyle A)} {ys : List (RuleStyle B)} → Each SameRule xs ys → Each SameDeclared (map (fromRule o) xs) (map (fromRule o) ys)
   rules-declared o h = each-map SameRule SameDeclared (fromRule o) (fromRule o) (rule-declared o) h
 
+  -- attributes that are the same declare the same colours
   colours-declared : {xs : List (AttributeStyle A)} {ys : List (AttributeStyle B)} → Each SameAttribute xs ys → Each SameDeclared (colourAttributes xs) (colourAttributes ys)
   unfolding colourAttributes
   colours-declared none = none
   colours-declared (next {a = x} {b = y} h hs) =
       each-append SameDeclared (pick-same (Each SameDeclared) (x .isStyle) (y .isStyle) [] _ [] _ (h .kinds) none (next (attribute-declared false false noSpecificity x y refl h) none)) (colours-declared hs)
 
+  -- attributes that are the same have the same `style` declarations
   styles-declared : {xs : List (AttributeStyle A)} {ys : List (AttributeStyle B)} → Each SameAttribute xs ys → Each SameDeclared (styleAttributes xs) (styleAttributes ys)
   unfolding styleAttributes
   styles-declared none = none

@@ -34,6 +34,7 @@ pub sets-first : (vs xs : List ℕ) (p : ℕ) → p < length vs → length vs �
 sets-first vs xs p h l = let e : 0 + p ≡ p = omega arith in rw e at (sets-there vs xs 0 p h (omega arith))
 
 -- ---- the parent's numbers, but for the presence of the main record, are the inherited style
+-- a row with a first number that says present, and the parent's numbers behind it, has the parent's main record, made present
 inherit-main : (zs parent : List ℕ) → ((p : ℕ) → 0 < p → p < styleRowWidth → getD zs p 0 ≡ getD parent p 0) → getD zs 0 0 ≡ presentFlag
     → recordAt zs 0 ≡ record { present = true; slots = recordAt parent 0 .slots }
 unfolding recordAt
@@ -77,12 +78,13 @@ module _ (xs : List ℕ) (from to : ℕ) (h : TwoRooms xs from to) where
   within-done ys i k = let z : styleRowWidth - i ≡ 0 = omega arith in rw z
 
 -- ---- slots rewritten one after the other
+-- rewriting slots leaves a row as long as it was
 pub rewrites-long : (u : Slot Value → Slot Value) (n i : ℕ) (xs : List ℕ) → length (rewrites u i n xs) ≡ length xs
 unfolding rewrites
 rewrites-long u zero i xs = refl
 rewrites-long u (suc n) i xs = rewrites-long u n (i + slotWidth) (sets xs i (slotNumbers (u (slotAt xs i)))) ∙ length-sets xs i (slotNumbers (u (slotAt xs i)))
 
--- numbers before them stay
+-- numbers before the rewritten slots stay
 pub rewrites-low : (u : Slot Value → Slot Value) (n i : ℕ) (xs : List ℕ) (p : ℕ) → p < i → getD (rewrites u i n xs) p 0 ≡ getD xs p 0
 unfolding rewrites
 rewrites-low u zero i xs p h = refl
@@ -90,7 +92,7 @@ rewrites-low u (suc n) i xs p h =
     let vs = slotNumbers (u (slotAt xs i)) in
     rewrites-low u n (i + slotWidth) (sets xs i vs) p (omega arith) ∙ sets-low vs xs i p h
 
--- and those behind them
+-- numbers behind the rewritten slots stay
 pub rewrites-high : (u : Slot Value → Slot Value) (n i : ℕ) (xs : List ℕ) (p : ℕ) → i + n * slotWidth ≤ p → getD (rewrites u i n xs) p 0 ≡ getD xs p 0
 unfolding rewrites
 rewrites-high u zero i xs p h = refl
@@ -130,14 +132,14 @@ module _ (u : Slot Value → Slot Value) (r : ℕ) (xs : List ℕ) where
   unfolding rewriteRecord
   rewritten-long = rewrites-long u slotCount (recordPlace r + 1) xs
 
-  -- its slots are rewritten
+  -- the record that is rewritten has each of its slots rewritten
   pub rewritten-here : recordPlace r + recordWidth ≤ length xs
       → recordAt (rewriteRecord u r xs) (recordPlace r) ≡ record { present = recordAt xs (recordPlace r) .present; slots = map u (recordAt xs (recordPlace r) .slots) }
   unfolding recordAt rewriteRecord
   rewritten-here h =
       record-same _ _ _ _ (ap flagOf (rewrites-low u slotCount (recordPlace r + 1) xs (recordPlace r) (omega arith))) (rewrites-slots u slotCount (recordPlace r + 1) xs (omega arith))
 
-  -- the other records stay
+  -- a record before the rewritten one stays
   pub rewritten-before : (b : ℕ) → b + recordWidth ≤ recordPlace r → recordAt (rewriteRecord u r xs) b ≡ recordAt xs b
   unfolding rewriteRecord
   rewritten-before b h = same-record (rewrites u (recordPlace r + 1) slotCount xs) xs b (λ p a c. rewrites-low u slotCount (recordPlace r + 1) xs p (omega arith))
@@ -167,7 +169,7 @@ rewrite-turn u i left xs ys w s n h e f g k =
 
 -- ---- the main record made present
 module _ (xs : List ℕ) (h : styleRowWidth ≤ length xs) where
-  -- the other numbers stay
+  -- marking the main record as present leaves every other number
   pub present-number : (p : ℕ) → 0 < p → getD (set xs 0 1) p 0 ≡ getD xs p 0
   present-number p a = getD-set-other xs 0 p 1 0 (λ e. omega arith)
 
@@ -196,30 +198,38 @@ module _ (xs : List ℕ) (h : styleRowWidth ≤ length xs) where
   abbrev three : List ℕ
   three = rewriteRecord u afterRecord two
 
+  -- with the main record rewritten, the row is as long as it was
   long-one : length one ≡ length xs
   long-one = rewritten-long u mainRecord xs
 
+  -- with `::before` rewritten too, the row is as long as it was
   long-two : length two ≡ length xs
   long-two = rewritten-long u beforeRecord one ∙ long-one
 
+  -- with all three rewritten, the row is as long as it was
   long-three : length three ≡ length xs
   long-three = rewritten-long u afterRecord two ∙ long-two
 
+  -- the main record of the rewritten row is what is inherited of the row's
   main-three : recordAt three 0 ≡ inheritRecord (recordAt xs 0)
   unfolding inheritRecord
   main-three = rewritten-before u afterRecord two 0 (omega arith) ∙ rewritten-before u beforeRecord one 0 (omega arith) ∙ rewritten-here u mainRecord xs (omega arith)
 
+  -- rewriting `::before` makes that record what is inherited of it
   before-one : recordAt two recordWidth ≡ inheritRecord (recordAt one recordWidth)
   unfolding inheritRecord
   before-one = rewritten-here u beforeRecord one (omega (arith, long-one))
 
+  -- the `::before` of the rewritten row is what is inherited of the row's
   before-three : recordAt three recordWidth ≡ inheritRecord (recordAt xs recordWidth)
   before-three = rewritten-before u afterRecord two recordWidth (omega arith) ∙ before-one ∙ ap inheritRecord (rewritten-behind u mainRecord xs recordWidth (omega arith))
 
+  -- rewriting `::after` makes that record what is inherited of it
   after-two : recordAt three (2 * recordWidth) ≡ inheritRecord (recordAt two (2 * recordWidth))
   unfolding inheritRecord
   after-two = rewritten-here u afterRecord two (omega (arith, long-two))
 
+  -- the `::after` of the rewritten row is what is inherited of the row's
   after-three : recordAt three (2 * recordWidth) ≡ inheritRecord (recordAt xs (2 * recordWidth))
   after-three = after-two ∙ ap inheritRecord (rewritten-behind u beforeRecord one (2 * recordWidth) (omega arith) ∙ rewritten-behind u mainRecord xs (2 * recordWidth) (omega arith))
 
@@ -236,6 +246,7 @@ module _ (xs : List ℕ) (h : styleRowWidth ≤ length xs) where
       main-slots = unfold inheritRecord in main-three
 
 -- ---- a row of zeros
+-- with n zeros written over the start of a list, each of its first n numbers is a zero
 zeros-number : (n : ℕ) (xs : List ℕ) (p : ℕ) → n ≤ length xs → p < n → getD (sets xs 0 (replicate n 0)) p 0 ≡ getD (replicate n 0) p 0
 zeros-number n xs p h l = let e : length (replicate {A = ℕ} n 0) ≡ n = length-replicate n 0 in sets-first (replicate n 0) xs p (omega (arith, e)) (omega (arith, e))
 
@@ -270,6 +281,6 @@ inherited-in-book-order k xs a b c ys i h e f g j =
     let n : ys ≡ inheritedRow Book xs = unfold inheritedRow in unfold presentRow in (j ∙ ap (λ (r : List ℕ). set r 0 1) (g ∙ ap (rewriteRecord inheritedSlot afterRecord) (f ∙ ap (rewriteRecord inheritedSlot beforeRecord) e))) in
     rw i (record { numbers = n; meaning = ap styleAt n ∙ (unfold inheritBy in inherit-book-view xs (h .room)) })
 
--- zeros over the row
+-- zeros written over a row leave the row of nothing declared
 pub emptied : (xs ys : List ℕ) → RowRoom xs → ys ≡ wiped 0 styleRowWidth xs → Emptied xs ys
 emptied xs ys h e = record { numbers = e; meaning = ap styleAt e ∙ empty-view xs (h .room) }

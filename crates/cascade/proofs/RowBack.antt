@@ -17,11 +17,13 @@ use Rattle.cascade.proofs.RowLaws.{cons-same, record-same, style-same, 
 use Rattle.cascade.proofs.Merging.{named-says, merge-long, merge-view}
 
 -- ---- written, then read
+-- written slots one behind the other are a slot's width each
 slots-width : (ss : List (Slot Value)) → length (slotsNumbers ss) ≡ length ss * slotWidth
 unfolding slotsNumbers
 slots-width [] = refl
 slots-width (s ∷ ss) = omega (arith, length-append (slotNumbers s) (slotsNumbers ss), slot-width s, slots-width ss)
 
+-- the windows over written slots, one width each, are the numbers of these slots
 windows-of : (ss : List (Slot Value)) (p q : List ℕ) (i : ℕ) → length p ≡ i → windows (p ++ (slotsNumbers ss ++ q)) i (length ss) ≡ map slotNumbers ss
 unfolding windows slotsNumbers
 windows-of [] p q i e = refl
@@ -33,11 +35,13 @@ windows-of (s ∷ ss) p q i e =
     (ap (λ (l : List ℕ). reads l i 0 slotWidth) y ∙ subst (λ (n : ℕ). reads (p ++ (slotNumbers s ++ (slotsNumbers ss ++ q))) i 0 n ≡ slotNumbers s) (slot-width s) (reads-at p (slotNumbers s) (slotsNumbers ss ++ q) i e))
     (ap (λ (l : List ℕ). windows l (i + slotWidth) (length ss)) z ∙ windows-of ss (p ++ slotNumbers s) q (i + slotWidth) (omega (arith, length-append p (slotNumbers s), slot-width s)))
 
+-- a written record with all its slots is as wide as a record
 record-width : (a : Record Value) → length (a .slots) ≡ slotCount → length (recordNumbers a) ≡ recordWidth
 unfolding recordNumbers
 record-width a h = omega (arith, slots-width (a .slots))
 
 module _ (p q : List ℕ) (a : Record Value) (b : ℕ) (e : length p ≡ b) (h : length (a .slots) ≡ slotCount) where
+  -- in a row, the windows behind a record's first number are its written slots
   slots-there : windows (p ++ (recordNumbers a ++ q)) (b + 1) slotCount ≡ map slotNumbers (a .slots)
   unfolding recordNumbers
   slots-there =
@@ -46,10 +50,12 @@ module _ (p q : List ℕ) (a : Record Value) (b : ℕ) (e : length p ≡ b) (h :
       ∙ subst (λ (n : ℕ). windows ((p ++ (flag (a .present) ∷ [])) ++ (slotsNumbers (a .slots) ++ q)) (b + 1) n ≡ map slotNumbers (a .slots)) h
       (windows-of (a .slots) (p ++ (flag (a .present) ∷ [])) q (b + 1) (omega (arith, length-append p (flag (a .present) ∷ []))))
 
+  -- its first number says whether it is present
   presence-there : getD (p ++ (recordNumbers a ++ q)) b 0 ≡ flag (a .present)
   unfolding recordNumbers
   presence-there = getD-at p (flag (a .present)) (slotsNumbers (a .slots) ++ q) 0 b e
 
+  -- a record that stands in a row is read back as it was written
   record-back : recordAt (p ++ (recordNumbers a ++ q)) b ≡ a
   unfolding recordAt
   record-back =
@@ -57,6 +63,7 @@ module _ (p q : List ℕ) (a : Record Value) (b : ℕ) (e : length p ≡ b) (h :
       (ap flagOf presence-there ∙ flag-back (a .present))
       (ap (map readSlot) slots-there ∙ slots-back (a .slots))
 
+  -- and it is well formed there
   record-fine : RecordFine (p ++ (recordNumbers a ++ q)) b
   record-fine = record { presence = rw presence-there (flag-small (a .present)); all = subst AllFine (sym slots-there) (slots-fine (a .slots)) }
 
@@ -71,9 +78,11 @@ module _ (s : ComputedStyle Value) (f : Formed s) where
   abbrev C : List ℕ
   C = recordNumbers (s .after)
 
+  -- the first two records together are two records wide
   two-records : length (A ++ B) ≡ 2 * recordWidth
   two-records = omega (arith, length-append A B, record-width (s .main) (f .main), record-width (s .before) (f .before))
 
+  -- what stands before the third record is the first two
   from-the-third : A ++ (B ++ C) ≡ (A ++ B) ++ (C ++ [])
   from-the-third = sym (append-assoc A B (C ++ []) ∙ ap (λ (l : List ℕ). A ++ (B ++ l)) (append-nil C))
 
@@ -102,6 +111,7 @@ module _ (s : ComputedStyle Value) (f : Formed s) where
   }
 
 -- ---- read, then written
+-- well-formed slots that are read and written again are the same numbers
 slots-forth : (n : ℕ) (xs : List ℕ) (i : ℕ) → i + n * slotWidth ≤ length xs → AllFine (windows xs i n) → slotsNumbers (map readSlot (windows xs i n)) ≡ take (n * slotWidth) (drop i xs)
 unfolding windows slotsNumbers
 slots-forth zero xs i h f = refl
@@ -113,6 +123,7 @@ slots-forth (suc n) xs i h f =
     ∙ ap (λ (y : List ℕ). take slotWidth (drop i xs) ++ y) (slots-forth n xs (i + slotWidth) (omega arith) (f .1) ∙ r)
     ∙ sym (ap (λ (m : ℕ). take m (drop i xs)) z ∙ take-add slotWidth (n * slotWidth) (drop i xs))
 
+-- a well-formed record that is read and written again is the same numbers
 record-forth : (xs : List ℕ) (b : ℕ) → b + recordWidth ≤ length xs → RecordFine xs b → recordNumbers (recordAt xs b) ≡ take recordWidth (drop b xs)
 unfolding recordAt recordNumbers
 record-forth xs b h f =
@@ -136,11 +147,13 @@ row-back xs f =
     ∙ take-append-drop recordWidth xs
 
 -- ---- the style in any row has all its slots
+-- as many windows are cut as were asked for
 windows-count : (n : ℕ) (xs : List ℕ) (i : ℕ) → length (windows xs i n) ≡ n
 unfolding windows
 windows-count zero xs i = refl
 windows-count (suc n) xs i = ap suc (windows-count n xs (i + slotWidth))
 
+-- so many windows as a record has slots read as that many slots
 slots-count : (xs : List ℕ) (i : ℕ) → length (map readSlot (windows xs i slotCount)) ≡ slotCount
 slots-count xs i = length-map (windows xs i slotCount) readSlot ∙ windows-count slotCount xs i
 
@@ -155,6 +168,7 @@ unfolding emptyStyle emptyRecord
 empty-formed = record { main = refl; before = refl; after = refl }
 
 -- ---- an update keeps a row well formed
+-- well-formed slots stay so with one of them replaced by a well-formed one
 all-set : (ws : List (List ℕ)) (k : ℕ) (v : List ℕ) → AllFine ws → SlotFine v → AllFine (set ws k v)
 all-set [] k v f g = f
 all-set (w ∷ ws) zero v f g = (g, f .1)
@@ -168,6 +182,7 @@ same-fine xs ys b f g = record {
 }
 
 module _ (r k : ℕ) (u : Slot Value → Slot Value) (xs : List ℕ) (long : styleRowWidth ≤ length xs) (h : r < recordCount) (l : k < slotCount) where
+  -- the record of the updated slot stays well formed
   fine-there : RecordFine xs (recordPlace r) → RecordFine (updateRow r k u xs) (recordPlace r)
   fine-there g =
       let s = u (slotAt xs (slotPlace r k)) in
@@ -176,12 +191,15 @@ module _ (r k : ℕ) (u : Slot Value → Slot Value) (xs : List ℕ) (long : sty
         all = subst AllFine (sym (update-windows r k u xs (omega arith) l)) (all-set (windows xs (recordPlace r + 1) slotCount) k (slotNumbers s) (g .all) (slot-fine s));
       }
 
+  -- so does the record at b, where that is the updated one
   fine-here : (b : ℕ) → recordPlace r ≡ b → RecordFine xs b → RecordFine (updateRow r k u xs) b
   fine-here b e g = subst (RecordFine (updateRow r k u xs)) e (fine-there (subst (RecordFine xs) (sym e) g))
 
+  -- a record before the updated one stays well formed
   fine-before : (b : ℕ) → b + recordWidth ≤ recordPlace r → RecordFine xs b → RecordFine (updateRow r k u xs) b
   fine-before b e = same-fine xs (updateRow r k u xs) b (λ p m n. update-low r k u xs (omega arith) l p (omega arith))
 
+  -- a record behind the updated one stays well formed
   fine-behind : (b : ℕ) → recordPlace r + recordWidth ≤ b → RecordFine xs b → RecordFine (updateRow r k u xs) b
   fine-behind b e = same-fine xs (updateRow r k u xs) b (λ p m n. update-high r k u xs (omega arith) l p (omega arith))
 

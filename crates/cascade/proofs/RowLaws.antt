@@ -17,6 +17,7 @@ use Rattle.cascade.specs.Row.{slotWidth, recordWidth, styleRowWidth, rec
 use Rattle.cascade.proofs.Windows.{reads-same, reads-sets, sets-low, sets-high}
 
 -- ---- pairs of equal things
+-- lists with equal first members and equal rests are equal
 pub cons-same : {A : Type 0} (a b : A) (l m : List A) → a ≡ b → l ≡ m → a ∷ l ≡ b ∷ m
 cons-same a b l m e f = rw (e, f)
 
@@ -36,6 +37,7 @@ map-set f (a ∷ l) zero v = refl
 map-set f (a ∷ l) (suc k) v = rw (map-set f l k v)
 
 -- ---- flags: written and read, read and written
+-- a flag is read back from its number
 pub flag-back : (b : Bool) → flagOf (flag b) ≡ b
 unfolding flagOf flag is
 flag-back true = refl
@@ -60,6 +62,7 @@ unfolding flagOf is
 flag-one = refl
 
 -- ---- one slot: its numbers, and back. These name the numbers of a slot
+-- the numbers of a slot are a slot's width
 pub slot-width : (s : Slot Value) → length (slotNumbers s) ≡ slotWidth
 unfolding slotNumbers valueNumbers
 slot-width empty = refl
@@ -70,6 +73,7 @@ candidate-back : (c : Candidate Value) → readCandidate (slotNumbers (held c)) 
 unfolding readCandidate slotNumbers valueNumbers
 candidate-back c = rw (flag-back (c .weight .spec .inline), flag-back (c .weight .important))
 
+-- a slot is read back from its numbers
 pub slot-back : (s : Slot Value) → readSlot (slotNumbers s) ≡ s
 slot-back empty = unfold readSlot in unfold slotNumbers in unfold flagOf in unfold is in unfold pick in refl
 slot-back (held c) = unfold readSlot in (filled ∙ ap held (candidate-back c))
@@ -97,6 +101,7 @@ unfolding readSlot flagOf is pick
 slot-empty = refl
 
 -- ---- the slots of a record, number by number
+-- where the numbers are the same, so are the windows over them
 pub same-windows : (n : ℕ) (xs ys : List ℕ) (i : ℕ) → ((p : ℕ) → i ≤ p → p < i + n * slotWidth → getD xs p 0 ≡ getD ys p 0) → windows xs i n ≡ windows ys i n
 unfolding windows
 same-windows zero xs ys i f = refl
@@ -130,6 +135,7 @@ get-windows (suc n) (suc k) xs i h =
     rw z (get-windows n k xs (i + slotWidth) (omega arith))
 
 -- ---- the view after an update of slot k of record r
+-- an update leaves a row as long as it was
 pub update-long : (r k : ℕ) (u : Slot Value → Slot Value) (xs : List ℕ) → length (updateRow r k u xs) ≡ length xs
 unfolding updateRow
 update-long r k u xs = simp (length-set, length-sets)
@@ -143,7 +149,7 @@ module _ (r k : ℕ) (u : Slot Value → Slot Value) (xs : List ℕ) (h : record
       let vs = slotNumbers (u (slotAt xs i)) in
       getD-set-other (sets xs i vs) (recordPlace r) p 1 0 (λ e. omega arith) ∙ sets-low vs xs i p (omega arith)
 
-  -- and those behind it
+  -- numbers behind the record stay
   pub update-high : (p : ℕ) → recordPlace r + recordWidth ≤ p → getD (updateRow r k u xs) p 0 ≡ getD xs p 0
   unfolding updateRow
   update-high p a =
@@ -151,7 +157,7 @@ module _ (r k : ℕ) (u : Slot Value → Slot Value) (xs : List ℕ) (h : record
       let vs = slotNumbers (u (slotAt xs i)) in
       getD-set-other (sets xs i vs) (recordPlace r) p 1 0 (λ e. omega arith) ∙ sets-high vs xs i p (omega (arith, slot-width (u (slotAt xs i))))
 
-  -- the record is present
+  -- the updated record is marked as present
   pub update-presence : getD (updateRow r k u xs) (recordPlace r) 0 ≡ 1
   unfolding updateRow
   update-presence =
@@ -229,12 +235,15 @@ module _ {A : Type 0} (r k : ℕ) (u : Slot A → Slot A) (s : ComputedStyle A) 
   update-after e = sym (pick-false _ _ _ _ (is-no r mainRecord (λ z. omega arith)) (pick-false _ _ _ _ (is-no r beforeRecord (λ z. omega arith)) refl))
 
 module _ (r k : ℕ) (u : Slot Value → Slot Value) (xs : List ℕ) (long : styleRowWidth ≤ length xs) (h : r < recordCount) (l : k < slotCount) where
+  -- the record at b, where its slot is updated, is the updated record
   record-here : (b : ℕ) → recordPlace r ≡ b → recordAt (updateRow r k u xs) b ≡ updateRecord k u (recordAt xs b)
   record-here b e = rw e at (record-updated r k u xs (omega arith) l)
 
+  -- a record before the updated one stays
   record-before : (b : ℕ) → b + recordWidth ≤ recordPlace r → recordAt (updateRow r k u xs) b ≡ recordAt xs b
   record-before b e = same-record (updateRow r k u xs) xs b (λ p m n. update-low r k u xs (omega arith) l p (omega arith))
 
+  -- a record behind the updated one stays
   record-behind : (b : ℕ) → recordPlace r + recordWidth ≤ b → recordAt (updateRow r k u xs) b ≡ recordAt xs b
   record-behind b e = same-record (updateRow r k u xs) xs b (λ p m n. update-high r k u xs (omega arith) l p (omega arith))
 

@@ -15,7 +15,7 @@ use Rattle.cascade.specs.Slot.{Candidate, Slot, empty, held, heldAgainst
 use Rattle.cascade.proofs.Orders.{then-lower, then-higher, then-same}
 
 -- ---- the slot that the code's value says
--- one that holds something
+-- a slot that the code has as filled holds its value with its weight
 pub filled-slot : (s : code.Slot) → s .filled ≡ true → slotBy s ≡ held (record { weight = s .weight; value = s .value })
 unfolding slotBy
 filled-slot s f = sym (pick-true _ _ _ _ f refl)
@@ -91,7 +91,7 @@ module _ (s : code.Slot) where
   unfolding inheritedSlot
   handed-on-empty f = rw (unfilled-slot s f) refl
 
--- ---- either cascade
+-- ---- a slot updated in the cascade that is asked for
 module _ (k : Cascade) (s n : Slot Value) (x : Candidate Value) where
   -- in the crate's cascade a slot is updated as the crate does
   pub by-crate : k ≡ Crate → n ≡ maybeUpdate s x → n ≡ updateBy k s x

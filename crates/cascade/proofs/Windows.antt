@@ -20,7 +20,7 @@ reads-is (suc n) xs i j h =
     let e : i + suc j ≡ suc (i + j) = omega arith in
     rw (drop-cons xs (i + j) 0 (omega arith), ← e, reads-is n xs i (suc j) (omega arith))
 
--- what was stored there
+-- numbers that were stored at a place are read back from there
 pub reads-sets : (vs xs : List ℕ) (i : ℕ) → i + length vs ≤ length xs → reads (sets xs i vs) i 0 (length vs) ≡ vs
 reads-sets vs xs i h =
     reads-is (length vs) (sets xs i vs) i 0 (omega (arith, length-sets xs i vs))

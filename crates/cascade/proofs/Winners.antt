@@ -15,7 +15,7 @@ use Rattle.cascade.proofs.Orders.{then-lower, then-equal, then-true, th
 
 -- ---- the test is the order
 module _ (x y : Weight) where
-  -- what the test says
+  -- where the test says weaker, the first loses to the second
   pub weaker-says : weaker x y ≡ true → Weaker x y
   unfolding weaker
   weaker-says e = ⊎-elim (λ h. by-rank h) (λ h. by-specificity (h .0) (less-says (x .spec) (y .spec) (h .1))) (then-true (rankOf x) (rankOf y) _ e)
@@ -26,7 +26,7 @@ module _ (x y : Weight) where
   weaker-said (by-rank h) = sym (then-lower (rankOf x) (rankOf y) _ h)
   weaker-said (by-specificity e l) = sym (then-equal (rankOf x) (rankOf y) _ true e (sym (less-said (x .spec) (y .spec) l)))
 
-  -- what its failing says
+  -- where the test fails, the first does not lose to the second
   pub weaker-denies : weaker x y ≡ false → ¬ (Weaker x y)
   weaker-denies e w = never (sym e ∙ weaker-said w)
 
@@ -59,6 +59,7 @@ module _ (x y z : Weight) where
   pub stays-unbeaten : ¬ (Weaker x y) → ¬ (Weaker y z) → ¬ (Weaker x z)
   stays-unbeaten n m = weaker-denies x z (weaker-trans-not x y z (weaker-denied x y n) (weaker-denied y z m))
 
+-- a test holds or it does not
 decide : (t : Bool) → (t ≡ true) ⊎ (t ≡ false)
 decide true = inl refl
 decide false = inr refl
@@ -71,7 +72,7 @@ module _ {A : Type 0} where
     unfolding bookUpdate heldInBook
     update-keeps e = sym (pick-true _ _ _ _ e refl)
 
-    -- any other takes it
+    -- a candidate that is not the weaker takes the slot
     pub update-takes : weaker (x .weight) (w .weight) ≡ false → bookUpdate (held w) x ≡ held x
     unfolding bookUpdate heldInBook
     update-takes e = sym (pick-false _ _ _ _ e refl)
@@ -127,6 +128,7 @@ module _ {A : Type 0} where
   won-inherited c xs = won-from (inheritedCandidate c) xs
 
   -- ---- there is one winner only
+  -- what holds of every member of a list holds of the one at any place in it
   all-at : (P : Candidate A → Type 0) (b : List (Candidate A)) (w : Candidate A) (a : List (Candidate A)) → All P (b ++ (w ∷ a)) → P w
   all-at P [] w a p = p .0
   all-at P (x ∷ b) w a p = all-at P b w a (p .1)

@@ -8,6 +8,7 @@ use lib.ListN.{length, take, set, replicate}
 use lib.Seq.{take-nil}
 use Rattle.combinators.specs.Store.{cleared}
 
+-- with a zero at i, clearing what follows i is clearing from i on
 step : (i : ℕ) (l : List ℕ) → i < length l → cleared (suc i) (set l i 0) ≡ cleared i l
 unfolding cleared
 step i [] h = absurd (omega arith)

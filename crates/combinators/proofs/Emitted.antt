@@ -38,10 +38,12 @@ pub sets-out : (vs l : List ℕ) (i : ℕ) → length l ≤ i → sets l i vs �
 sets-out [] l i h = refl
 sets-out (v ∷ vs) l i h = rw (set-out l i v h) (sets-out vs l (suc i) (omega arith))
 
+-- a byte within the store is stored at the fill, which goes on by one
 in-step : (l : List ℕ) (f x : ℕ) → f < length l → step (record { bytes = l; fill = f }) x ≡ record { bytes = set l f x; fill = f + 1 }
 unfolding step pick
 in-step l f x h = rw (lt-ltb f (length l) h)
 
+-- a byte past the end is not stored, and the fill stands one above the length
 out-step : (l : List ℕ) (f x : ℕ) → length l ≤ f → step (record { bytes = l; fill = f }) x ≡ record { bytes = l; fill = length l + 1 }
 unfolding step pick
 out-step l f x h = rw (le-ltb f (length l) h)
@@ -63,7 +65,7 @@ pub sets-onto : (l l₁ xs ys : List ℕ) (f f₁ : ℕ) → record { bytes = l�
 sets-onto l l₁ xs ys f f₁ e =
     sym (emits-bytes ys l₁ f₁) ∙ ap (λ (o : Store). o .bytes) (onto _ _ xs ys e) ∙ emits-bytes (xs ++ ys) l f
 
--- and the text alone
+-- the bytes that an emitted text leaves are the old ones with it stored at the fill
 pub sets-emitted : (l l₁ xs : List ℕ) (f f₁ : ℕ) → record { bytes = l₁; fill = f₁ } ≡ emits (record { bytes = l; fill = f }) xs → l₁ ≡ sets l f xs
 sets-emitted l l₁ xs f f₁ e = ap (λ (o : Store). o .bytes) e ∙ emits-bytes xs l f
 
@@ -97,12 +99,12 @@ pub record Copying (s : List ℕ) (n : ℕ) (st₀ : List ℕ) (fill : ℕ) (st 
   pub left : emits (record { bytes = st; fill = f }) (take (n - i) (drop i s)) ≡ emits (record { bytes = st₀; fill = fill }) (take n s)
   pub long : length st ≡ length st₀
 
--- nothing is emitted yet
+-- before the first byte nothing is emitted, and all of it is left
 pub copying-begin : (s : List ℕ) (n : ℕ) (st : List ℕ) (fill : ℕ) → Copying s n st fill st fill 0
 copying-begin s n st fill = let d : n - 0 ≡ n = omega arith in record { left = rw d; long = refl }
 
 module _ (s : List ℕ) (n : ℕ) (st₀ : List ℕ) (fill : ℕ) (st : List ℕ) (f i : ℕ) (c : Copying s n st₀ fill st f i) where
-  -- a byte is emitted
+  -- with one byte emitted, those behind it are left
   pub copying-more : i < n → i < length s → (z : List ℕ) (g : ℕ)
       → record { bytes = z; fill = g } ≡ emits (record { bytes = st; fill = f }) (getD s i 0 ∷ []) → length z ≡ length st → Copying s n st₀ fill z g (i + 1)
   copying-more h l z g e k =
@@ -110,10 +112,11 @@ module _ (s : List ℕ) (n : ℕ) (st₀ : List ℕ) (fill : ℕ) (st : List ℕ
       let p : take (n - i) (drop i s) ≡ (getD s i 0 ∷ []) ++ take (n - (i + 1)) (drop (i + 1) s) = rw (d, drop-cons s i 0 l, add-one i) in
       record { left = onto _ _ _ _ e ∙ sym (ap (emits _) p) ∙ c .left; long = k ∙ c .long }
 
+  -- with nothing left to emit, the store is what emitting all of it leaves
   done : take (n - i) (drop i s) ≡ [] → record { bytes = st; fill = f } ≡ emits (record { bytes = st₀; fill = fill }) (take n s)
   done p = sym (ap (emits _) p ∙ emits-none _) ∙ c .left
 
-  -- all n are emitted
+  -- with all n emitted, the store is what emitting the whole leaves
   pub copying-done : n ≤ i → record { bytes = st; fill = f } ≡ emits (record { bytes = st₀; fill = fill }) (take n s)
   copying-done h = let d : n - i ≡ 0 = omega arith in done (rw d)
 

@@ -9,8 +9,9 @@ use lib.Dec.{leb}
 use Rattle.combinators.specs.LeastLengths.{textLeast, bracketLeast, numberLeast, storesSuffice, Least}
 use Rattle.combinators.proofs.Rules.{same-test, and-gives, and-gives-false, and-true}
 
--- ---- `long_enough`
+-- ---- `long_enough`: a product compared without being formed
 module _ (long width count more : ℕ) where
+  -- a store shorter than what is asked beside the product is too short
   pub too-short : long < more → false ≡ leb (width * count + more) long
   too-short h = sym (lt-leb (width * count + more) long (omega arith))
 
@@ -22,22 +23,26 @@ module _ (long width count more : ℕ) where
       let l : count * width ≤ long - more = omega (arith, h, mul-comm width count) in
       le-leb count ((long - more) / width) (le-div-iff-mul-le w .1 l))
 
--- ---- `stores_suffice`
+-- ---- `stores_suffice`: the first store that is too short decides
 module _ (n rules tokens brackets texts : ℕ) {t : Bool} (et : t ≡ leb (textLeast n) texts) where
+  -- where the text store is too short, the stores do not suffice
   pub texts-short : t ≡ false → false ≡ storesSuffice n rules tokens brackets texts
   unfolding storesSuffice
   texts-short e = and-gives-false _ _ (sym et ∙ e)
 
   module _ (e : t ≡ true) where
+    -- where the store of brackets is too short, they do not suffice
     pub brackets-short : brackets < bracketLeast n → false ≡ storesSuffice n rules tokens brackets texts
     unfolding storesSuffice
     brackets-short h = and-gives _ _ false (sym et ∙ e) (and-gives-false _ _ (lt-leb (bracketLeast n) brackets h))
 
     module _ (b : bracketLeast n ≤ brackets) {r : Bool} (er : r ≡ leb (numberLeast n) rules) where
+      -- where the rules store is too short, they do not suffice
       pub rules-short : r ≡ false → false ≡ storesSuffice n rules tokens brackets texts
       unfolding storesSuffice
       rules-short f = and-gives _ _ false (sym et ∙ e) (and-gives _ _ false (le-leb (bracketLeast n) brackets b) (and-gives-false _ _ (sym er ∙ f)))
 
+      -- where the other three are long enough, the store of tokens decides
       pub by-tokens : r ≡ true → {k : Bool} → k ≡ leb (numberLeast n) tokens → k ≡ storesSuffice n rules tokens brackets texts
       unfolding storesSuffice
       by-tokens f {k} ek = and-gives _ _ k (sym et ∙ e) (and-gives _ _ k (le-leb (bracketLeast n) brackets b) (and-gives _ _ k (sym er ∙ f) ek))

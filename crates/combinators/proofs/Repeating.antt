@@ -31,7 +31,7 @@ pub bounded : (u : List ℕ → ℕ) → ((l : List ℕ) → u l ≤ length l) �
 bounded u le s n e = (e, omega (arith, le s))
 
 module _ (u : List ℕ → ℕ) (s : List ℕ) (i : ℕ) (c : Repeating u s i) where
-  -- u takes n bytes
+  -- where u takes n bytes, not 0, the repetition goes on behind them
   pub repeat-more : (n : ℕ) → u (drop i s) ≡ n → i + n ≤ length s → ¬ (n ≡ 0) → Repeating u s (i + n)
   repeat-more n e h d =
       record { within-text = h; left = sym (many-more u s i n (omega (arith, length-drop i s)) e d) ∙ c .left }

@@ -10,6 +10,7 @@ use Rattle.combinators.specs.Repeat.{many, texts, took}
 
 -- ---- where the repetition stops
 module _ (u : List ℕ → ℕ) where
+  -- k bytes that are passed over are counted, and the repetition goes on behind them
   many-pass : (s : List ℕ) (i k : ℕ) → k ≤ length s → many u i k s ≡ many u (i + k) 0 (drop k s)
   unfolding many took
   many-pass [] i zero h = sym (add-zero i)
@@ -29,7 +30,7 @@ module _ (u : List ℕ → ℕ) where
       → many u i 0 (drop i s) ≡ many u (i + n) 0 (drop (i + n) s)
   many-more s i n h e d = many-took (drop i s) i n h e d ∙ ap (λ l. many u (i + n) 0 l) (drop-drop n i s)
 
-  -- the reader takes none
+  -- where the reader takes none, the repetition stops there
   pub many-stop : (l : List ℕ) (i : ℕ) → u l ≡ 0 → many u i 0 l ≡ i
   unfolding many took
   many-stop [] i e = refl
@@ -40,11 +41,13 @@ module _ (u : List ℕ → ℕ) where
   unfolding many took
   many-end s j i h = rw (drop-of-length-le s h)
 
+-- what a reader took is at most m, whether it took none or some, where both are
 took-le : (n i m : ℕ) (f : ℕ → ℕ) → i ≤ m → ((k : ℕ) → f k ≤ m) → took n i f ≤ m
 unfolding took
 took-le zero i m f h g = h
 took-le (suc n) i m f h g = g n
 
+-- what a reader took is at least i, where all that follows is
 took-ge : (n i : ℕ) (f : ℕ → ℕ) → ((k : ℕ) → i ≤ f k) → i ≤ took n i f
 unfolding took
 took-ge zero i f g = omega arith
@@ -104,6 +107,7 @@ many-stopped u (x ∷ r) (suc k) h = stopped-more u x r k (many-stopped u r k) h
 
 -- ---- the text that it stands for
 module _ (u : List ℕ → ℕ) (b : List ℕ → List ℕ) where
+  -- the text behind k bytes that are passed over is that of what follows them
   texts-pass : (s : List ℕ) (k : ℕ) → k ≤ length s → texts u b k s ≡ texts u b 0 (drop k s)
   unfolding texts
   texts-pass [] zero h = refl
@@ -123,7 +127,7 @@ module _ (u : List ℕ → ℕ) (b : List ℕ → List ℕ) where
       → texts u b 0 (drop i s) ≡ b (drop i s) ++ texts u b 0 (drop (i + n) s)
   texts-more s i n h e d = texts-took (drop i s) n h e d ∙ ap (λ t. b (drop i s) ++ texts u b 0 t) (drop-drop n i s)
 
-  -- the reader takes none
+  -- where the reader takes none, the text that is left is empty
   pub texts-stop : (l : List ℕ) → u l ≡ 0 → texts u b 0 l ≡ []
   unfolding texts took
   texts-stop [] e = refl

@@ -59,7 +59,7 @@ module _ (a b : Bool) where
   unfolding or
   or-left e = rw e
 
-  -- only the second does
+  -- where the first test fails and the second holds, `or` does
   pub or-right : a ≡ false → b ≡ true → or a b ≡ true
   unfolding or
   or-right e p = rw (e, p)
@@ -74,7 +74,7 @@ module _ (a b : Bool) where
   unfolding and
   and-both e p = rw (e, p)
 
-  -- the first does not
+  -- where the first test fails, `and` does not hold
   pub and-left : a ≡ false → and a b ≡ false
   unfolding and
   and-left e = rw e
@@ -97,6 +97,7 @@ module _ (a b : Bool) where
   pub and-gives-false : a ≡ false → false ≡ and a b
   and-gives-false e = sym (and-left e)
 
+-- a test beside one that fails does not hold
 and-no : (a : Bool) → and a false ≡ false
 unfolding and
 and-no true = refl
@@ -118,7 +119,7 @@ unfolding or
 or-false true b e = refl
 or-false false b e = e
 
--- brackets do not matter
+-- of three tests it does not matter which two are taken together
 pub or-assoc : (a b c : Bool) → or a (or b c) ≡ or (or a b) c
 unfolding or
 or-assoc true b c = refl
@@ -131,7 +132,7 @@ same-test false true f g = g refl
 same-test false false f g = refl
 
 -- ---- a test that a call made, or the code
--- what the call answered
+-- a test that a call answered has the answer that was found
 pub told : (r a v : Bool) → r ≡ a → r ≡ v → a ≡ v
 told r a v e p = sym e ∙ p
 
@@ -140,7 +141,7 @@ pub is-yes : (x k : ℕ) → x ≡ k → is x k ≡ true
 unfolding is
 is-yes x k e = eq-eqb x k e
 
--- it found them different
+-- the test of two different numbers fails
 pub is-no : (x k : ℕ) → ¬ (x ≡ k) → is x k ≡ false
 unfolding is
 is-no x k e = ne-eqb x k e

@@ -82,7 +82,7 @@ pub length-wiped : (f n : ℕ) (l : List ℕ) → length (wiped f n l) ≡ lengt
 unfolding wiped
 length-wiped f n l = length-sets l f (replicate n 0)
 
--- no zero changes nothing
+-- wiping nothing leaves the list as it is
 pub wiped-none : (f : ℕ) (l : List ℕ) → wiped f 0 l ≡ l
 unfolding wiped
 wiped-none f l = refl
@@ -125,12 +125,12 @@ pub wiped-apart : (l : List ℕ) (f g n : ℕ) (xs : List ℕ) → f + length xs
 unfolding wiped
 wiped-apart l f g n xs h = sym (sets-apart l f g xs (replicate n 0) h)
 
--- fewer zeros over zeros
+-- wiping fewer numbers where more are wiped changes nothing
 wiped-fewer : (f m n : ℕ) (l : List ℕ) → wiped f m (wiped f (m + n) l) ≡ wiped f (m + n) l
 unfolding wiped
 wiped-fewer f m n l = rw (← replicate-append-replicate {A = ℕ} m n 0) (sets-again l f (replicate m 0) (replicate n 0))
 
--- as many or more
+-- wiping as many numbers or more, where some were wiped, leaves what wiping the later ones alone leaves
 wiped-more : (f m n : ℕ) (l : List ℕ) → m ≤ n → wiped f n (wiped f m l) ≡ wiped f n l
 unfolding wiped
 wiped-more f m n l h = wiped-over l f n (replicate m 0) (omega (arith, length-replicate {A = ℕ} m 0))

@@ -24,7 +24,7 @@ unfolding refusalOf
 names-none Sheet = refl
 names-none (Fault p) = refl
 
--- the bytes are read
+-- the return where the bytes are within the limit: what checking them refuses
 pub bytes-read : (t : List ℕ) (a : CheckAnswer) (r : Refusal) → length t ≤ compiledLimit → r ≡ refusalOf a → refusalOf a ≡ bytesRefusal t → refusedAt (r .number) (r .place) ≡ bytesCalled t
 unfolding bytesCalled
 bytes-read t a r h e f =

@@ -24,7 +24,7 @@ pub letter : (n : ℕ) → decimalBase ≤ n → smallA + (n - decimalBase) ≡ 
 unfolding hexDigit
 letter n h = pick-false _ _ _ _ (le-ltb n decimalBase h) refl
 
--- ---- a pair
+-- ---- the pair of digits of a byte
 module _ (o₀ o₁ o₂ : Store) (b second first : ℕ) where
   -- its two digits, one after the other
   pub pair : second ≡ hexDigit (b % base) → first ≡ hexDigit (b / base) → o₁ ≡ emits o₀ (first ∷ []) → o₂ ≡ emits o₁ (second ∷ []) → o₂ ≡ emits o₀ (hexPair b)
@@ -40,7 +40,7 @@ last-pair s i l h =
     let d : drop i s ≡ getD s i 0 ∷ drop (i + 1) s = rw (drop-cons s i 0 l, add-one i) in
     rw (d, e)
 
--- a pair before another
+-- a byte with another behind it is written as its pair, a space and the line of those behind it
 next-pair : (s : List ℕ) (i : ℕ) → i + 1 < length s → hexLine (drop i s) ≡ hexPair (getD s i 0) ++ (space ∷ hexLine (drop (i + 1) s))
 unfolding hexLine hexPairs hexPair
 next-pair s i l =
@@ -53,7 +53,7 @@ module _ (s st₀ : List ℕ) (fill : ℕ) where
     pub left : emits (record { bytes = st; fill = f }) (hexLine (drop i s)) ≡ emits (record { bytes = st₀; fill = fill }) (hexLine s)
     pub long : length st ≡ length st₀
 
-  -- nothing is written yet
+  -- before the first byte nothing is written, and the whole line is left
   pub lining-begin : Lining st₀ fill 0
   lining-begin = record { left = refl; long = refl }
 

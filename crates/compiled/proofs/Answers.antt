@@ -21,9 +21,9 @@ use Rattle.compiled.specs.declared.sheets.SelectorAnswer.{SelectorAnswer
 use Rattle.compiled.specs.declared.sheets.SelectorAnswer.the-variants as selector
 use Rattle.compiled.proofs.Bounds.{Reaches, Holds}
 
--- ---- numbers
+-- ---- what an answer with a number says
 module _ (d : Decoded ℕ) (r : NumberAnswer) (e : r ≡ numberAnswer d) where
-  -- a number was read
+  -- an answer with a number says that it was read, up to that place
   pub number-read : (n v : ℕ) → r ≡ number.Number n v → d ≡ read n v
   unfolding numberAnswer
   number-read n v p = go d (sym p ∙ e)
@@ -32,7 +32,7 @@ module _ (d : Decoded ℕ) (r : NumberAnswer) (e : r ≡ numberAnswer d) where
       go (read m w) q = cc
       go (fault q) q′ = absurd (let z : _≡_ {A = ℕ} 0 1 = cc in omega arith)
 
-  -- there is a fault
+  -- an answer with a fault says that no number was read, and where
   pub number-fault : (p : ℕ) → r ≡ number.Fault p → d ≡ fault p
   unfolding numberAnswer
   number-fault p q = go d (sym q ∙ e)
@@ -55,9 +55,9 @@ pub number-end : (len : ℕ) (r : NumberAnswer) (n v : ℕ) → numberWithin len
 unfolding numberWithin
 number-end len r n v h e = rw e at h
 
--- ---- texts
+-- ---- what an answer with a text says
 module _ (d : Decoded Span) (r : TextAnswer) (e : r ≡ textAnswer d) where
-  -- a text was read
+  -- an answer with a text says that it was read, and where it lies
   pub text-read : (n start size : ℕ) → r ≡ text.Text n start size → d ≡ read n (record { start = start; size = size })
   unfolding textAnswer
   text-read n start size p = go d (sym p ∙ e)
@@ -70,7 +70,7 @@ module _ (d : Decoded Span) (r : TextAnswer) (e : r ≡ textAnswer d) where
           rw (a, b, c)
       go (fault q) q′ = absurd (let z : _≡_ {A = ℕ} 0 1 = cc in omega arith)
 
-  -- there is a fault
+  -- an answer with a fault says that no text was read, and where
   pub text-fault : (p : ℕ) → r ≡ text.Fault p → d ≡ fault p
   unfolding textAnswer
   text-fault p q = go d (sym q ∙ e)
@@ -90,7 +90,7 @@ module _ (d : Decoded Span) (r : TextAnswer) (e : r ≡ textAnswer d) where
 
 -- ---- values of slots
 module _ (d : Decoded Value) (r : ValueAnswer) (e : r ≡ valueAnswer d) where
-  -- a value was read
+  -- an answer with a value says that it was read, up to that place
   pub value-read : (n : ℕ) (v : Value) → r ≡ value.Value n v → d ≡ read n v
   unfolding valueAnswer
   value-read n v p = go d (sym p ∙ e)
@@ -99,7 +99,7 @@ module _ (d : Decoded Value) (r : ValueAnswer) (e : r ≡ valueAnswer d) where
       go (read m w) q = cc
       go (fault q) q′ = absurd (let z : _≡_ {A = ℕ} 0 1 = cc in omega arith)
 
-  -- there is a fault
+  -- an answer with a fault says that no value was read, and where
   pub value-fault : (p : ℕ) → r ≡ value.Fault p → d ≡ fault p
   unfolding valueAnswer
   value-fault p q = go d (sym q ∙ e)
@@ -125,7 +125,7 @@ module _ {A : Type 0} (d : Decoded A) (r : PlaceAnswer) (e : r ≡ placeAnswer d
       go (read m a) q = (a, let h : n ≡ m = cc in rw h)
       go (fault q) q′ = absurd (let z : _≡_ {A = ℕ} 0 1 = cc in omega arith)
 
-  -- there is a fault
+  -- an answer with a fault says that reading failed, and where
   pub place-fault : (p : ℕ) → r ≡ place.Fault p → d ≡ fault p
   unfolding placeAnswer
   place-fault p q = go d (sym q ∙ e)
@@ -150,7 +150,7 @@ module _ (d : Decoded Head) (r : HeadAnswer) (e : r ≡ headAnswer d) where
           rw (a, b, c, f)
       go (fault q) q′ = absurd (let z : _≡_ {A = ℕ} 0 1 = cc in omega arith)
 
-  -- there is a fault
+  -- an answer with a fault says that no head was read, and where
   pub head-fault : (p : ℕ) → r ≡ head.Fault p → d ≡ fault p
   unfolding headAnswer
   head-fault p q = go d (sym q ∙ e)
@@ -159,7 +159,7 @@ module _ (d : Decoded Head) (r : HeadAnswer) (e : r ≡ headAnswer d) where
       go (read m h) q = absurd (let z : _≡_ {A = ℕ} 0 1 = cc in omega arith)
       go (fault p′) q = cc
 
--- ---- selectors
+-- ---- what an answer with a selector says
 module _ (d : Decoded CompiledSelector) (r : SelectorAnswer) (e : r ≡ selectorAnswer d) where
   -- one was read, of this origin
   pub selector-read : (n origin : ℕ) → r ≡ selector.Selector n origin → (s : CompiledSelector) × (d ≡ read n s) × (s .origin ≡ origin)
@@ -170,7 +170,7 @@ module _ (d : Decoded CompiledSelector) (r : SelectorAnswer) (e : r ≡ selector
       go (read m s) q = let a : n ≡ m = cc in (s, rw a, cc)
       go (fault q) q′ = absurd (let z : _≡_ {A = ℕ} 0 1 = cc in omega arith)
 
-  -- there is a fault
+  -- an answer with a fault says that no selector was read, and where
   pub selector-fault : (p : ℕ) → r ≡ selector.Fault p → d ≡ fault p
   unfolding selectorAnswer
   selector-fault p q = go d (sym q ∙ e)

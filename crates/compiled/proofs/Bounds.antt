@@ -41,7 +41,7 @@ module _ {A : Type 0} (len i : ℕ) where
   unfolding Reaches
   reaches-end k n a d h e = rw e at h
 
-  -- where a fault lies
+  -- a fault lies within the bytes or at their end
   pub reaches-place : (k p : ℕ) (d : Decoded A) → Reaches k len i d → d ≡ fault p → i ≤ len → p ≤ len
   unfolding Reaches
   reaches-place k p d h e = rw e at h
@@ -54,7 +54,7 @@ module _ {A : Type 0} (len : ℕ) where
   reaches-less (fault p) least i k j h l m f = λ g. h (f g)
 
 module _ {A B : Type 0} (len : ℕ) where
-  -- one reading behind another
+  -- a reading behind another ends within the bytes, and takes at least what both take
   pub reaches-then : (d : Decoded A) (f : ℕ → A → Decoded B) (j k i : ℕ) → Reaches j len i d → ((n : ℕ) (a : A) → n ≤ len → Reaches k len n (f n a))
       → Reaches (j + k) len i (andThen d f)
   unfolding andThen Reaches
@@ -68,7 +68,7 @@ module _ {A B : Type 0} (len : ℕ) where
   reaches-mapped f (fault p) k i h = h
 
 module _ {A : Type 0} (len : ℕ) (u : ℕ → Decoded A) (one : (n : ℕ) → n ≤ len → Reaches 0 len n (u n)) where
-  -- a list of values
+  -- so many values, each of which ends within the bytes, end within them together
   pub reaches-counted : (k i : ℕ) → i ≤ len → Reaches 0 len i (counted u k i)
   unfolding counted
   reaches-counted zero i h = reaches-read len i 0 i [] (omega arith) h
@@ -83,6 +83,7 @@ module _ (t : List ℕ) where
   unfolding limited
   limited-reaches i n v h l = pick-holds (Reaches 1 (length t) i) (ltb v numberLimit) (read n v) (fault i) (λ _. reaches-read (length t) i 1 n v (omega arith) l) (λ _. reaches-fault ℕ (length t) i 1)
 
+  -- groups from n on, of a number that starts at i, end within the bytes or are a fault where it starts
   groups-reaches : (k i v scale n : ℕ) → i ≤ n → Reaches 1 (length t) i (groupsAt k t i v scale n)
   unfolding groupsAt
   groups-reaches zero i v scale n h = reaches-fault ℕ (length t) i 1
@@ -107,7 +108,7 @@ module _ (t : List ℕ) where
       (λ e. reaches-less (length t) (g n a) 0 n 1 i (p n a e (h .1)) (omega arith) (omega arith) (λ _. h .1)) (λ _ l. l)
   reaches-test (fault q) i f g h p = h
 
-  -- one in its range
+  -- a number in a range takes at least a byte and ends within the bytes
   pub ranged-reaches : (i lo hi : ℕ) → Reaches 1 (length t) i (rangedAt t i lo hi)
   unfolding rangedAt
   ranged-reaches i lo hi = reaches-test (numberAt t i) i (λ n v. within v lo hi) (λ n v. read n v) (number-reaches i) (λ n v e l. reaches-read (length t) n 0 n v (omega arith) l)
@@ -206,6 +207,7 @@ module _ (t : List ℕ) where
       reaches-then (length t) (headAt t least i) _ 3 1 i (head-reaches least i)
       (λ n h l. reaches-mapped (length t) (selectorOf h) (partsAt t (h .count) n) 1 n (parts-reach (h .count) n l))
 
+  -- selectors one behind the other end within the bytes
   selectors-reach : (k least i : ℕ) → i ≤ length t → Reaches 0 (length t) i (selectorsAt k t least i)
   unfolding selectorsAt
   selectors-reach zero least i l = reaches-read (length t) i 0 i [] (omega arith) l

@@ -42,6 +42,7 @@ Inside len n (numbers a b) = Unit
 Inside len n (names x y) = (x .start + x .size ≤ len) × (y .start + y .size ≤ len)
 
 module _ (s : List ℕ) where
+  -- the texts behind a component's kind lie within the bytes
   body-inside : (kind n : ℕ) → Holds (Inside (length s)) (bodyAt s kind n)
   unfolding bodyAt nameAt secondNumberAt numbersAt secondNameAt namesAt
   body-inside kind n =
@@ -53,6 +54,7 @@ module _ (s : List ℕ) where
       (λ m x e. holds-mapped (Inside (length s)) _ (spanAt s m) (λ k y f. (span-inside s n m x e, span-inside s m k y f))))
       (λ _. holds-mapped (Inside (length s)) _ (spanAt s n) (λ m x e. span-inside s n m x e))))
 
+  -- the texts of a component lie within the bytes
   written-inside : (at : ℕ) → Holds (Inside (length s)) (writtenAt s at)
   unfolding writtenAt
   written-inside at = holds-then (Inside (length s)) (rangedAt s at starKind attributeEqualKind) _ (λ n kind _. body-inside kind n)
@@ -65,17 +67,19 @@ module _ (s : List ℕ) (at : ℕ) where
     unfolding nameAt writtenAnswer
     name-read kind n start size p = answered _ n (name kind _) (mapped-read (λ x. name kind x) (spanAt s at) n _ (text-read (spanAt s at) r e n start size p))
 
+    -- where the one text was not read, the fault is that of the text
     pub name-fault : (kind p : ℕ) → r ≡ text.Fault p → component.Fault p ≡ componentAnswer (nameAt s kind at)
     unfolding nameAt
     name-fault kind p q = answered-fault _ p (mapped-fault (λ x. name kind x) (spanAt s at) p (text-fault (spanAt s at) r e p q))
 
-    -- the second of two
+    -- the second of two texts read, the component is an attribute with that value
     pub second-name-read : (a b n start size : ℕ) → r ≡ text.Text n start size
         → component.Names n a b start size ≡ componentAnswer (secondNameAt s (record { start = a; size = b }) at)
     unfolding secondNameAt writtenAnswer
     second-name-read a b n start size p =
         answered _ n (names _ _) (mapped-read (λ y. names (record { start = a; size = b }) y) (spanAt s at) n _ (text-read (spanAt s at) r e n start size p))
 
+    -- where the second text was not read, the fault is that of the text
     pub second-name-fault : (a b p : ℕ) → r ≡ text.Fault p → component.Fault p ≡ componentAnswer (secondNameAt s (record { start = a; size = b }) at)
     unfolding secondNameAt
     second-name-fault a b p q =
@@ -88,6 +92,7 @@ module _ (s : List ℕ) (at : ℕ) where
     names-read n start size p q h =
         h ∙ ap componentAnswer (sym (then-read (spanAt s at) (λ m x. secondNameAt s x m) n _ (text-read (spanAt s at) r e n start size p)))
 
+    -- where the first of two texts was not read, the fault is that of the text
     pub names-fault : (p : ℕ) → r ≡ text.Fault p → component.Fault p ≡ componentAnswer (namesAt s at)
     unfolding namesAt
     names-fault p q = answered-fault _ p (then-fault (spanAt s at) (λ m x. secondNameAt s x m) p (text-fault (spanAt s at) r e p q))
@@ -98,6 +103,7 @@ module _ (s : List ℕ) (at : ℕ) where
     unfolding secondNumberAt writtenAnswer
     second-number-read a n b p = answered _ n (numbers a b) (mapped-read (λ v. numbers a v) (numberAt s at) n b (number-read (numberAt s at) r e n b p))
 
+    -- where the second number was not read, the fault is that of the number
     pub second-number-fault : (a p : ℕ) → r ≡ number.Fault p → component.Fault p ≡ componentAnswer (secondNumberAt s a at)
     unfolding secondNumberAt
     second-number-fault a p q = answered-fault _ p (mapped-fault (λ v. numbers a v) (numberAt s at) p (number-fault (numberAt s at) r e p q))
@@ -108,6 +114,7 @@ module _ (s : List ℕ) (at : ℕ) where
     unfolding numbersAt
     numbers-read n a p q h = h ∙ ap componentAnswer (sym (then-read (numberAt s at) (λ m v. secondNumberAt s v m) n a (number-read (numberAt s at) r e n a p)))
 
+    -- where the first of two numbers was not read, the fault is that of the number
     pub numbers-fault : (p : ℕ) → r ≡ number.Fault p → component.Fault p ≡ componentAnswer (numbersAt s at)
     unfolding numbersAt
     numbers-fault p q = answered-fault _ p (then-fault (numberAt s at) (λ m v. secondNumberAt s v m) p (number-fault (numberAt s at) r e p q))
@@ -148,6 +155,7 @@ module _ (s : List ℕ) (at : ℕ) where
   within-read (read n (names x y)) h k = (h .1, k .0, k .1)
   within-read (fault p) h k = tt
 
+  -- an answer that is what the bytes say lies within them
   bounded : (q : ComponentAnswer) → q ≡ componentAnswer (writtenAt s at) → (q ≡ componentAnswer (writtenAt s at)) × componentWithin (length s) q
   bounded q e = (e, rw e (within-read (writtenAt s at) (written-reaches s at) (written-inside s at)))
 
@@ -159,7 +167,7 @@ module _ (s : List ℕ) (at : ℕ) where
     component-read n kind p q h =
         bounded q (h ∙ ap componentAnswer (sym (then-read (rangedAt s at starKind attributeEqualKind) (λ m k. bodyAt s k m) n kind (number-read _ r e n kind p))))
 
-    -- its kind is none
+    -- where no kind was read, the fault is that of the kind
     pub component-fault : (p : ℕ) → r ≡ number.Fault p → (component.Fault p ≡ componentAnswer (writtenAt s at)) × componentWithin (length s) (component.Fault p)
     unfolding writtenAt
     component-fault p q = bounded _ (answered-fault _ p (then-fault (rangedAt s at starKind attributeEqualKind) (λ m k. bodyAt s k m) p (number-fault _ r e p q)))
@@ -173,6 +181,7 @@ placeOf (component.Numbers n a b) = place.At n
 placeOf (component.Names n a b start size) = place.At n
 placeOf (component.Fault p) = place.Fault p
 
+-- the place in a component's answer is the place where reading it ended, or its fault
 place-of : (d : Decoded Written) → placeOf (componentAnswer d) ≡ placeAnswer d
 unfolding componentAnswer writtenAnswer placeAnswer
 place-of (read n (mark kind)) = refl
@@ -181,7 +190,7 @@ place-of (read n (numbers a b)) = refl
 place-of (read n (names x y)) = refl
 place-of (fault p) = refl
 
--- it is the answer
+-- passing over a component ends where reading it does
 pub component-skipped : (s : List ℕ) (at : ℕ) (r q : ComponentAnswer) → r ≡ componentAnswer (writtenAt s at) → r ≡ q → placeOf q ≡ placeAnswer (componentAt s at)
 unfolding componentAt
 component-skipped s at r q e p = ap placeOf (sym p ∙ e) ∙ place-of (writtenAt s at) ∙ sym (place-mapped (componentIn s) (writtenAt s at))

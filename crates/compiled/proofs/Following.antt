@@ -64,6 +64,7 @@ ends-at a m n e = rw e
 -- where a value that P holds of is read back from its bytes, so is a list of them
 module _ {A : Type 0} (t : List ℕ) (w : A → List ℕ) (u : ℕ → Decoded A) (P : A → Type 0)
     (back : (a : A) (i : ℕ) → P a → Held t i (w a) → u i ≡ read (i + length (w a)) a) where
+  -- a list of values that each are read back from their bytes is read back from all of them, one behind the other
   pub counted-back : (xs : List A) (i : ℕ) → All P xs → Held t i (textsMany w xs) → counted u (length xs) i ≡ read (i + length (textsMany w xs)) xs
   unfolding counted textsMany
   counted-back [] i p h = ends-at [] i (i + 0) (sym (add-zero i))
@@ -82,6 +83,7 @@ module _ {A : Type 0} (P : A → Type 0) where
 
 -- where the bytes of a value that P holds of are bytes, so are those of a list of them
 module _ {A : Type 0} (w : A → List ℕ) (P : A → Type 0) (Q : ℕ → Type 0) (one : (a : A) → P a → All Q (w a)) where
+  -- the bytes of a list are bytes, where those of each value are
   pub all-texts : (xs : List A) → All P xs → All Q (textsMany w xs)
   unfolding textsMany
   all-texts [] p = tt

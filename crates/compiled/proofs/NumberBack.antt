@@ -34,7 +34,7 @@ pub group-more : (k v : ℕ) → groupValues ≤ v → groupBytes (suc k) v ≡ 
 unfolding groupBytes pick
 group-more k v h = rw (le-ltb v groupValues h)
 
--- there is a byte
+-- every number has at least one group
 pub groups-some : (k v : ℕ) → 1 ≤ length (groupBytes k v)
 unfolding groupBytes
 groups-some zero v = omega arith
@@ -54,6 +54,7 @@ groups-few (suc k) v =
     (λ h. omega (arith, ap length (group-more k v h), groups-few k (v / groupValues)))
     (lt-or-ge v groupValues)
 
+-- the groups of a number that k + 1 of them hold are bytes
 groups-bytes : (k v : ℕ) → v < values k → Bytes (groupBytes k v)
 groups-bytes zero v l = rw (group-last zero v l) (omega arith, tt)
 groups-bytes (suc k) v l =
@@ -68,7 +69,7 @@ module _ (v : ℕ) where
   unfolding numberBytes
   number-some = groups-some 4 v
 
-  -- and at most five
+  -- a number takes at most five bytes
   pub number-few : length (numberBytes v) ≤ 5
   unfolding numberBytes
   number-few = groups-few 4 v
@@ -98,6 +99,7 @@ module _ (t : List ℕ) (i : ℕ) where
   unfolding groupsAt pick
   more-at k b acc scale n l e h = rw (lt-leb (length t) n l, e, le-ltb b groupValues h)
 
+  -- a number of one group is read back: the reading ends behind it, with its worth at the scale added
   last-back : (k v acc scale n : ℕ) → v < groupValues → Held t n (groupBytes k v)
       → groupsAt (suc k) t i acc scale n ≡ limited i (n + length (groupBytes k v)) (acc + v * scale)
   last-back k v acc scale n l h =
@@ -105,6 +107,7 @@ module _ (t : List ℕ) (i : ℕ) where
       let g : Held t n (v ∷ []) = rw e at h in
       rw e (last-at k v acc scale n (held-there t n v [] g) (held-byte t n v [] g) l)
 
+  -- a number of any groups is read back: the reading ends behind them, with their worth at the scale added
   groups-back : (k v acc scale n : ℕ) → v < values k → Held t n (groupBytes k v)
       → groupsAt (suc k) t i acc scale n ≡ limited i (n + length (groupBytes k v)) (acc + v * scale)
   groups-back zero v acc scale n l h = last-back zero v acc scale n l h

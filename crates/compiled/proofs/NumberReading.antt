@@ -39,6 +39,7 @@ power (suc k) = groupValues * power k
 abbrev pub allGroups : ℕ
 allGroups = 34359738368
 
+-- k groups have at least one value
 power-some : (k : ℕ) → 1 ≤ power k
 power-some zero = omega arith
 power-some (suc k) = omega (arith, power-some k)
@@ -48,7 +49,7 @@ pub record Reading (s : List ℕ) (at value scale i left : ℕ) : Type 0 where
   pub small : value < scale
   pub scaled : scale * power left ≡ allGroups
 
--- nothing is read yet
+-- before the first group all of them are left, and the value is 0
 pub reading-begin : (s : List ℕ) (at : ℕ) → Reading s at 0 1 at mostGroups
 unfolding numberAt
 reading-begin s at = record { work = refl; small = omega arith; scaled = refl }
@@ -60,6 +61,7 @@ scale-le (suc k) scale h e =
     let q : 128 ≤ 128 * power k = omega (arith, power-some k) in
     omega (arith, mul-le-mul-left scale q)
 
+-- with one group read, what is left still covers the values of five groups
 scaled-more : (left scale : ℕ) → 0 < left → scale * power left ≡ allGroups → scale * groupValues * power (left - 1) ≡ allGroups
 scaled-more zero scale h e = absurd (omega arith)
 scaled-more (suc k) scale h e = let q : suc k - 1 ≡ k = omega arith in rw q (omega arith)
@@ -130,13 +132,14 @@ reading-one s at b e l h r p =
     let v : 0 + b * 1 ≡ b = omega arith in
     reading-last s at 0 1 at mostGroups (reading-begin s at) (omega arith) b e l h r (p ∙ limited-yes at (at + 1) b (omega arith) ∙ ap (λ (n : ℕ). numberAnswer (limited at (at + 1) n)) (sym v))
 
--- ---- `read_ranged`
+-- ---- `read_ranged`: the number that was read lies within the range, or it is a fault
 module _ (s : List ℕ) (at lo hi : ℕ) (r : NumberAnswer) (e : r ≡ numberAnswer (numberAt s at)) where
   -- the choice that it makes of the number
   chosen : (n v : ℕ) → r ≡ number.Number n v → rangedAt s at lo hi ≡ pick (within v lo hi) (read n v) (fault at)
   unfolding rangedAt
   chosen n v p = then-read (numberAt s at) _ n v (number-read (numberAt s at) r e n v p)
 
+  -- an answer that is what the bytes say lies within them
   answered : (q : NumberAnswer) → q ≡ numberAnswer (rangedAt s at lo hi) → (q ≡ numberAnswer (rangedAt s at lo hi)) × numberWithin (length s) q
   answered q p = number-within (rangedAt s at lo hi) q p (length s) at (ranged-reaches s at lo hi)
 
@@ -146,7 +149,7 @@ module _ (s : List ℕ) (at lo hi : ℕ) (r : NumberAnswer) (e : r ≡ numberAns
   unfolding numberAnswer
   ranged-below n v p h = answered _ (ap numberAnswer (pick-false _ (read n v) _ _ (sym (within-false v lo hi h)) refl ∙ sym (chosen n v p)))
 
-  -- it is too great
+  -- the number is above the range: a fault where it starts
   pub ranged-above : (n v : ℕ) → r ≡ number.Number n v → hi < v
       → (number.Fault at ≡ numberAnswer (rangedAt s at lo hi)) × numberWithin (length s) (number.Fault at)
   unfolding numberAnswer

@@ -16,7 +16,7 @@ pub record Writing (v : ℕ) (st₀ : List ℕ) (fill : ℕ) (st : List ℕ) (f 
   pub work : emits (record { bytes = st; fill = f }) (groupBytes groups left) ≡ emits (record { bytes = st₀; fill = fill }) (numberBytes v)
   pub long : length st ≡ length st₀
 
--- nothing is written yet
+-- before the first group the whole number is left to write
 pub writing-begin : (v : ℕ) (st : List ℕ) (fill : ℕ) → v < numberLimit → Writing v st fill st fill v
 unfolding numberBytes
 writing-begin v st fill h = record { groups = 4; held = omega arith; work = refl; long = refl }

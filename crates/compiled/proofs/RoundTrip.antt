@@ -37,19 +37,19 @@ pseudo-ge : (p : PseudoElement) → pseudoNumber none ≤ pseudoNumber p
 unfolding pseudoNumber
 pseudo-ge p = omega arith
 
--- nor above the greatest
+-- the number of a pseudo element is not above that of `::after`
 pseudo-le : (p : PseudoElement) → pseudoNumber p ≤ pseudoNumber after
 unfolding pseudoNumber
 pseudo-le none = omega arith
 pseudo-le before = omega arith
 pseudo-le after = omega arith
 
--- which is below 2^32
+-- the number of a pseudo element is below 2^32
 pseudo-small : (p : PseudoElement) → pseudoNumber p < numberLimit
 unfolding pseudoNumber
 pseudo-small p = omega (arith, pseudo-le p)
 
--- ---- read back
+-- ---- parts of a sheet read back where their bytes lie
 module _ (t : List ℕ) where
   -- the styles with their count
   styles-back : (ds : List StyleDecl) (i : ℕ) → length ds < numberLimit → All StyleFits ds → Held t i (stylesBytes ds)

@@ -41,27 +41,31 @@ module _ (s : List ℕ) (at origin pseudo : ℕ) (r : NumberAnswer) (e : r ≡ n
   unfolding countAt headAnswer
   count-read n count p = ap headAnswer (sym (mapped-read _ (numberAt s at) n count (number-read _ r e n count p)))
 
+  -- where no count was read, the fault is that of the count
   pub count-fault : (p : ℕ) → r ≡ number.Fault p → head.Fault p ≡ headAnswer (countAt s origin pseudo at)
   unfolding countAt
   count-fault p q = faulty _ p (mapped-fault (λ k. record { origin = origin; pseudo = pseudo; count = k }) (numberAt s at) p (number-fault _ r e p q))
 
 module _ (s : List ℕ) (at origin : ℕ) (r : NumberAnswer) (e : r ≡ numberAnswer (rangedAt s at (pseudoNumber none) (pseudoNumber after))) where
-  -- behind the pseudo element
+  -- with the pseudo element read, the head is what the count behind it makes of it
   pub pseudo-read : (n pseudo : ℕ) → r ≡ number.Number n pseudo → (q : HeadAnswer) → q ≡ headAnswer (countAt s origin pseudo n)
       → q ≡ headAnswer (pseudoAt s origin at)
   unfolding pseudoAt
   pseudo-read n pseudo p q h = h ∙ ap headAnswer (sym (then-read (rangedAt s at (pseudoNumber none) (pseudoNumber after)) (λ m k. countAt s origin k m) n pseudo (number-read _ r e n pseudo p)))
 
+  -- where no pseudo element was read, the fault is that of its number
   pub pseudo-fault : (p : ℕ) → r ≡ number.Fault p → head.Fault p ≡ headAnswer (pseudoAt s origin at)
   unfolding pseudoAt
   pseudo-fault p q = faulty _ p (then-fault (rangedAt s at (pseudoNumber none) (pseudoNumber after)) (λ m k. countAt s origin k m) p (number-fault _ r e p q))
 
 module _ (s : List ℕ) (at least : ℕ) where
+  -- a head that was read ends within the bytes, and so does the place of a fault
   within-read : (d : Decoded Head) → Reaches 3 (length s) at d → headWithin (length s) (headAnswer d)
   unfolding headAnswer headWithin Reaches
   within-read (read n h) l = l .1
   within-read (fault p) l = tt
 
+  -- an answer that is what the bytes say lies within them
   bounded : (q : HeadAnswer) → q ≡ headAnswer (headAt s least at) → (q ≡ headAnswer (headAt s least at)) × headWithin (length s) q
   bounded q e = (e, rw e (within-read (headAt s least at) (head-reaches s least at)))
 
@@ -73,6 +77,7 @@ module _ (s : List ℕ) (at least : ℕ) where
     origin-read n origin p q h =
         bounded q (h ∙ ap headAnswer (sym (then-read (rangedAt s at least authorOrigin) (λ m o. pseudoAt s o m) n origin (number-read _ r e n origin p))))
 
+    -- where no origin was read, the fault is that of the origin
     pub origin-fault : (p : ℕ) → r ≡ number.Fault p → (head.Fault p ≡ headAnswer (headAt s least at)) × headWithin (length s) (head.Fault p)
     unfolding headAt
     origin-fault p q = bounded _ (faulty _ p (then-fault (rangedAt s at least authorOrigin) (λ m o. pseudoAt s o m) p (number-fault _ r e p q)))
@@ -102,7 +107,7 @@ pub short-read : (s : List ℕ) (at least : ℕ) → ShortHead s least at → (o
 unfolding headWithin
 short-read s at least h origin pseudo count eo ep ec = (rw (eo, ep, ec) (sym (h .numbers)), h .there)
 
--- ---- `skip_parts`
+-- ---- `skip_parts`: components, then styles
 module _ (s : List ℕ) (at count : ℕ) (r : PlaceAnswer) (e : r ≡ placeAnswer (counted (componentAt s) count at)) where
   -- with the components passed, the selector is what its styles make of it
   pub parts-skipped : (n : ℕ) → r ≡ place.At n → (q : PlaceAnswer) → q ≡ placeAnswer (stylesAt s n) → q ≡ placeAnswer (partsAt s count at)
@@ -111,6 +116,7 @@ module _ (s : List ℕ) (at count : ℕ) (r : PlaceAnswer) (e : r ≡ placeAnswe
       let w = place-read (counted (componentAt s) count at) r e n p in
       h ∙ sym (ap placeAnswer (then-read (counted (componentAt s) count at) _ n (w .0) (w .1)) ∙ place-mapped _ (stylesAt s n))
 
+  -- where a component has a fault, it is that of the parts
   pub parts-fault : (p : ℕ) → r ≡ place.Fault p → place.Fault p ≡ placeAnswer (partsAt s count at)
   unfolding partsAt placeAnswer
   parts-fault p q =
@@ -125,6 +131,7 @@ unfolding selectorAnswer
 faulty-selector d p e = ap selectorAnswer (sym e)
 
 module _ (s : List ℕ) (at least : ℕ) (r : HeadAnswer) (e : r ≡ headAnswer (headAt s least at)) where
+  -- with its head read, a selector is what stands behind it
   behind : (n origin pseudo count : ℕ) → r ≡ head.Head n origin pseudo count
       → selectorAt s least at ≡ mapped (selectorOf (record { origin = origin; pseudo = pseudo; count = count })) (partsAt s count n)
   unfolding selectorAt
@@ -150,12 +157,13 @@ module _ (s : List ℕ) (at least : ℕ) (r : HeadAnswer) (e : r ≡ headAnswer 
   selector-head-fault p q =
       faulty-selector _ p (then-fault (headAt s least at) (λ n h. mapped (selectorOf h) (partsAt s (h .count) n)) p (head-fault (headAt s least at) r e p q))
 
--- ---- `skip_selectors`
+-- ---- `skip_selectors`: one selector behind the other, by origins that do not go down
 module _ (s : List ℕ) where
   -- what is left to pass over at i, behind a selector of the origin `before`, is what was to be passed over
   abbrev pub Selecting : ℕ → ℕ → ℕ → ℕ → ℕ → ℕ → Type 0
   Selecting count least at left before i = placeAnswer (selectorsAt left s before i) ≡ placeAnswer (selectorsAt count s least at)
 
+  -- passing over one selector, and then over the others of its origin or a later one, ends where passing over all ends
   one-more : (left before i n : ℕ) (x : CompiledSelector) → 0 < left → selectorAt s before i ≡ read n x
       → placeAnswer (selectorsAt (left - 1) s (x .origin) n) ≡ placeAnswer (selectorsAt left s before i)
   unfolding selectorsAt
@@ -164,35 +172,37 @@ module _ (s : List ℕ) where
       let q : suc k - 1 ≡ k = omega arith in
       rw q (sym (ap placeAnswer (then-read (selectorAt s before i) _ n x e) ∙ place-mapped _ (selectorsAt k s (x .origin) n)))
 
+  -- a fault of the first selector is that of all
   one-fault : (left before i p : ℕ) → 0 < left → selectorAt s before i ≡ fault p → place.Fault p ≡ placeAnswer (selectorsAt left s before i)
   unfolding selectorsAt placeAnswer
   one-fault zero before i p h e = absurd (omega arith)
   one-fault (suc k) before i p h e =
       ap placeAnswer (sym (then-fault (selectorAt s before i) (λ n x. mapped (λ r. x ∷ r) (selectorsAt k s (x .origin) n)) p e))
 
+  -- with no selector left, passing over them ends here
   all-done : (left before i : ℕ) → left ≤ 0 → place.At i ≡ placeAnswer (selectorsAt left s before i)
   unfolding selectorsAt placeAnswer
   all-done zero before i h = refl
   all-done (suc k) before i h = absurd (omega arith)
 
   module _ (count least at left before i : ℕ) (c : Selecting count least at left before i) where
-    -- one is passed over
+    -- with one selector passed over, the others are left from behind it, of its origin or a later one
     pub selecting-more : 0 < left → (r : SelectorAnswer) → r ≡ selectorAnswer (selectorAt s before i) → (n origin : ℕ) → r ≡ selector.Selector n origin
         → Selecting count least at (left - 1) origin n
     selecting-more h r e n origin p =
         let w = selector-read (selectorAt s before i) r e n origin p in
         ap (λ (o : ℕ). placeAnswer (selectorsAt (left - 1) s o n)) (sym (w .2)) ∙ one-more left before i n (w .0) h (w .1) ∙ c
 
-    -- there is a fault
+    -- a fault in the next selector is that of all
     pub selecting-fault : 0 < left → (r : SelectorAnswer) → r ≡ selectorAnswer (selectorAt s before i) → (p : ℕ) → r ≡ selector.Fault p
         → place.Fault p ≡ placeAnswer (selectorsAt count s least at)
     selecting-fault h r e p q = one-fault left before i p h (selector-fault (selectorAt s before i) r e p q) ∙ c
 
-    -- all are passed over
+    -- with no selector left, passing over all of them ends here
     pub selecting-done : left ≤ 0 → place.At i ≡ placeAnswer (selectorsAt count s least at)
     selecting-done h = all-done left before i h ∙ c
 
--- ---- the check
+-- ---- the check of a whole sheet: its bytes end where its selectors do
 module _ (s : List ℕ) (at count : ℕ) (r : PlaceAnswer) (e : r ≡ placeAnswer (selectorsAt count s agentOrigin at)) where
   -- the bytes end with the selectors
   pub whole-sheet : (n : ℕ) → r ≡ place.At n → n ≡ length s → check.Sheet ≡ checkAnswer (wholeAt s count at)
@@ -201,7 +211,7 @@ module _ (s : List ℕ) (at count : ℕ) (r : PlaceAnswer) (e : r ≡ placeAnswe
       let w = place-read (selectorsAt count s agentOrigin at) r e n p in
       ap checkAnswer (sym (then-read (selectorsAt count s agentOrigin at) _ n (w .0) (w .1) ∙ sym (pick-true (read n (w .0)) _ _ _ (is-yes _ _ h) refl)))
 
-  -- bytes are left over
+  -- bytes that are left over behind the selectors are a fault where these end
   pub whole-left : (n : ℕ) → r ≡ place.At n → ¬ (n ≡ length s) → check.Fault n ≡ checkAnswer (wholeAt s count at)
   unfolding wholeAt ending checkAnswer
   whole-left n p h =
@@ -215,16 +225,19 @@ module _ (s : List ℕ) (at count : ℕ) (r : PlaceAnswer) (e : r ≡ placeAnswe
       ap checkAnswer (sym (then-fault (selectorsAt count s agentOrigin at) (λ n ss. ending s n ss) p (place-fault (selectorsAt count s agentOrigin at) r e p q)))
 
 module _ (s : List ℕ) where
+  -- what is answered on a whole sheet lies within the bytes
   check-within : (d : Decoded (List CompiledSelector)) → Reaches 1 (length s) 0 d → checkWithin (length s) (checkAnswer d)
   unfolding checkAnswer checkWithin Reaches
   check-within (read n ss) h = tt
   check-within (fault p) h = h (omega arith)
 
+  -- the answer refuses exactly where nothing was decoded, at the byte of the fault
   refusal-is : (d : Decoded (List CompiledSelector)) → refusalOf (checkAnswer d) ≡ onDecoded d (λ _ _. noRefusal) (λ p. refusedAt badBytes p)
   unfolding checkAnswer refusalOf onDecoded
   refusal-is (read n ss) = refl
   refusal-is (fault p) = refl
 
+  -- an answer that is what the bytes say refuses as the definition does, and lies within them
   checked : (q : CheckAnswer) → q ≡ checkAnswer (decode s) → (refusalOf q ≡ bytesRefusal s) × checkWithin (length s) q
   unfolding bytesRefusal
   checked q e = (ap refusalOf e ∙ refusal-is (decode s), rw e (check-within (decode s) (sheet-reaches s)))

@@ -53,7 +53,7 @@ module _ (t : List ℕ) (i : ℕ) where
         let k = reading-one t i kind e l (omega arith) _ refl .0 in
         sym (component-read t i _ (ranged-in t i starKind attributeEqualKind _ k (i + 1) kind refl (omega arith) h .0) (i + 1) kind refl q p .0)
 
-    -- a kind alone
+    -- a component that is its kind alone has the size 1
     pub short-mark : isMark kind ≡ true → ShortSize t i 1
     short-mark h =
         record {
@@ -82,7 +82,7 @@ module _ (t : List ℕ) (i : ℕ) where
         same : {a b c d a′ b′ c′ d′ : ℕ} → b ≡ b′ → a ≡ a′ → c ≡ c′ → d ≡ d′ → component.Name a b c d ≡ component.Name a′ b′ c′ d′
         same p q r s = rw (p, q, r, s)
 
-  -- nothing is told
+  -- size 0 tells nothing of a component, so it may always be answered
   pub short-none : ShortSize t i 0
   short-none = record { alone = λ q. absurd (omega (arith, q)); named = λ q. absurd (omega (arith, q)); there = omega arith }
 

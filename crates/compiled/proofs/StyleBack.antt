@@ -33,11 +33,13 @@ slot-le style.displayNone = omega arith
 slot-le (style.whiteSpace w) = omega arith
 slot-le (style.content x) = omega arith
 
+-- a flag is at most 1
 flag-le : (b : Bool) → flag b ≤ 1
 unfolding flag
 flag-le true = omega arith
 flag-le false = omega arith
 
+-- the number of a colour of bytes is at most the greatest of colours
 colour-le : (c : Colour) → OfBytes c → colourNumber c ≤ greatestColour
 unfolding colourNumber
 colour-le c h = sum (c .red) (c .green) (c .blue) (h .red) (h .green) (h .blue)
@@ -45,6 +47,7 @@ colour-le c h = sum (c .red) (c .green) (c .blue) (h .red) (h .green) (h .blue)
     sum : (r g b : ℕ) → r < 256 → g < 256 → b < 256 → r * 65536 + g * 256 + b ≤ greatestColour
     sum r g b hr hg hb = omega arith
 
+-- the number of a word of `white-space` is at most the greatest of them
 white-space-le : (w : WhiteSpace) → whiteSpaceNumber w ≤ greatestWhiteSpace
 unfolding whiteSpaceNumber
 white-space-le normal = omega arith
@@ -110,7 +113,7 @@ module _ (t : List ℕ) where
     abbrev pub place : ℕ
     place = textPlace (i + length a + length b) (d .style)
 
-    -- the text lies there
+    -- the style's text lies behind its length
     pub text-there : Held t place (styleText d)
     unfolding styleText
     text-there = body-text (d .style) (i + length a + length b) (held-right t (i + length a) b c behind-flag)

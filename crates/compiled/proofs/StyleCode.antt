@@ -64,6 +64,7 @@ module _ (s : List ℕ) (at : ℕ) where
     unfolding contentAt
     content-read n start size p = valued _ n _ (mapped-read _ (spanAt s at) n _ (text-read (spanAt s at) r e n start size p))
 
+    -- where no text was read, the fault is that of the content's text
     pub content-fault : (p : ℕ) → r ≡ text.Fault p → value.Fault p ≡ valueAnswer (contentAt s at)
     unfolding contentAt
     content-fault p q =
@@ -75,6 +76,7 @@ module _ (s : List ℕ) (at : ℕ) where
     unfolding numberUpTo
     number-up-to n v p = valued _ n _ (mapped-read _ (rangedAt s at 0 greatest) n v (number-read (rangedAt s at 0 greatest) r e n v p))
 
+    -- where no number in the range was read, the fault is that of the number
     pub number-up-to-fault : (p : ℕ) → r ≡ number.Fault p → value.Fault p ≡ valueAnswer (numberUpTo greatest s at)
     unfolding numberUpTo
     number-up-to-fault p q =
@@ -108,12 +110,13 @@ module _ (s : List ℕ) (at : ℕ) where
 
     -- ---- the style of the slot
     module _ (important : Bool) (r : ValueAnswer) (e : r ≡ valueAnswer (valueAt s slot at)) where
+      -- with its value read, the style is its importance, its slot and that value
       pub valued-read : (n : ℕ) (v : Value) → r ≡ value.Value n v
           → style.Style n (record { slot = slot; important = important; value = v }) ≡ styleAnswer (valuedAt s important slot at)
       unfolding valuedAt
       valued-read n v p = answered _ n _ (mapped-read _ (valueAt s slot at) n v (value-read (valueAt s slot at) r e n v p))
 
-      -- there is no value
+      -- where no value was read, the fault is that of the value
       pub valued-none : (p : ℕ) → r ≡ value.Fault p → style.Fault p ≡ styleAnswer (valuedAt s important slot at)
       unfolding valuedAt
       valued-none p q =
@@ -131,18 +134,20 @@ module _ (s : List ℕ) (at : ℕ) (important : Bool) (r : NumberAnswer) (e : r 
   unfolding slotAt
   slot-fault p q = answered-fault _ p (then-fault (rangedAt s at colourSlot lastSlot) (λ m k. valuedAt s important k m) p (number-fault _ r e p q))
 
--- ---- a style
+-- ---- a style: whether it is important, then its slot and value
 module _ (s : List ℕ) (at : ℕ) where
+  -- a style that was read ends within the bytes, and so does the place of a fault
   within-read : (d : Decoded StyleNumbers) → Reaches 1 (length s) at d → styleWithin (length s) (styleAnswer d)
   unfolding styleAnswer styleWithin Reaches
   within-read (read n x) h = h .1
   within-read (fault p) h = tt
 
+  -- an answer that is what the bytes say lies within them
   bounded : (q : StyleAnswer) → q ≡ styleAnswer (styleNumbersAt s at) → (q ≡ styleAnswer (styleNumbersAt s at)) × styleWithin (length s) q
   bounded q e = (e, rw e (within-read (styleNumbersAt s at) (style-numbers-reach s at)))
 
   module _ (r : NumberAnswer) (e : r ≡ numberAnswer (rangedAt s at 0 1)) where
-    -- behind its first number
+    -- with its importance read, the style is what its slot and value make of it
     pub style-read : (n important : ℕ) → r ≡ number.Number n important → (q : StyleAnswer) → q ≡ styleAnswer (slotAt s (eqb important 1) n)
         → (q ≡ styleAnswer (styleNumbersAt s at)) × styleWithin (length s) q
     unfolding styleNumbersAt flagOf is
@@ -160,17 +165,18 @@ abbrev pub placeOf : StyleAnswer → PlaceAnswer
 placeOf (style.Style n x) = place.At n
 placeOf (style.Fault p) = place.Fault p
 
+-- the place in a style's answer is the place where reading it ended, or its fault
 place-of : (d : Decoded StyleNumbers) → placeOf (styleAnswer d) ≡ placeAnswer d
 unfolding styleAnswer placeAnswer
 place-of (read n x) = refl
 place-of (fault p) = refl
 
--- it is the answer
+-- passing over a style ends where reading it does
 pub style-skipped : (s : List ℕ) (at : ℕ) (r q : StyleAnswer) → r ≡ styleAnswer (styleNumbersAt s at) → r ≡ q → placeOf q ≡ placeAnswer (styleAt s at)
 unfolding styleAt
 style-skipped s at r q e p = ap placeOf (sym p ∙ e) ∙ place-of (styleNumbersAt s at) ∙ sym (place-mapped (styleIn s) (styleNumbersAt s at))
 
--- ---- `skip_styles`
+-- ---- `skip_styles`: a count, then as many styles
 module _ (s : List ℕ) (at : ℕ) (r : NumberAnswer) (e : r ≡ numberAnswer (numberAt s at)) where
   -- with their count read, the styles are passed one behind the other
   pub styles-skipped : (n count : ℕ) → r ≡ number.Number n count → (q : PlaceAnswer) → q ≡ placeAnswer (counted (styleAt s) count n) → q ≡ placeAnswer (stylesAt s at)

@@ -43,16 +43,17 @@ module _ (t : List ℕ) (i : ℕ) (x : List ℕ) (h : Held t i (textBytes x)) wh
       ∙ sym (pick-true _ _ _ _ (le-leb (n + length x) (length t) w) refl)
       ∙ ends-at span _ _ e
 
-  -- the text lies there
+  -- the text lies behind its length
   pub text-held : Held t (i + length (numberBytes (length x))) x
   unfolding textBytes
   text-held = held-right t i (numberBytes (length x)) x h
 
+  -- what lies there, cut by start and length, is the text
   pub span-text : textIn t span ≡ x
   unfolding textIn
   span-text = held-part t (i + length (numberBytes (length x))) x text-held
 
-  -- it is read back
+  -- a text that was written is read back, and ends where its bytes do
   pub text-back : length x < numberLimit → textAt t i ≡ read (i + length (textBytes x)) x
   unfolding textAt
   text-back l = mapped-read (textIn t) (spanAt t i) _ span (span-back l) ∙ rw span-text

@@ -23,17 +23,18 @@ use Rattle.compiled.proofs.Answers.{number-read, number-fault, text-wit
 use Rattle.compiled.proofs.Bounds.{span-reaches, span-holds}
 use Rattle.compiled.proofs.Following.{then-read, then-fault}
 
--- ---- `read_text`
+-- ---- `read_text`: a length, then as many bytes, if there are so many
 module _ (s : List ℕ) (at : ℕ) (r : NumberAnswer) (e : r ≡ numberAnswer (numberAt s at)) where
   -- the choice that it makes of the length
   chosen : (n v : ℕ) → r ≡ number.Number n v → spanAt s at ≡ pick (leb (n + v) (length s)) (read (n + v) (record { start = n; size = v })) (fault at)
   unfolding spanAt
   chosen n v p = then-read (numberAt s at) _ n v (number-read (numberAt s at) r e n v p)
 
+  -- an answer that is what the bytes say lies within them
   answered : (q : TextAnswer) → q ≡ textAnswer (spanAt s at) → (q ≡ textAnswer (spanAt s at)) × textWithin (length s) q
   answered q p = text-within (spanAt s at) q p (length s) at (span-reaches s at) (span-holds s at)
 
-  -- the text is there
+  -- a text that is no longer than what is left lies behind its length
   pub text-there : (n v : ℕ) → r ≡ number.Number n v → n ≤ length s → v ≤ length s - n
       → (text.Text (n + v) n v ≡ textAnswer (spanAt s at)) × textWithin (length s) (text.Text (n + v) n v)
   unfolding textAnswer
@@ -46,7 +47,7 @@ module _ (s : List ℕ) (at : ℕ) (r : NumberAnswer) (e : r ≡ numberAnswer (n
   text-short n v p h =
       answered _ (ap textAnswer (pick-false _ (read (n + v) (record { start = n; size = v })) _ _ (lt-leb (n + v) (length s) (omega arith)) refl ∙ sym (chosen n v p)))
 
-  -- its length is none
+  -- where no length was read, the fault is that of the length
   pub text-none : (p : ℕ) → r ≡ number.Fault p → (text.Fault p ≡ textAnswer (spanAt s at)) × textWithin (length s) (text.Fault p)
   unfolding textAnswer spanAt
   text-none p q =

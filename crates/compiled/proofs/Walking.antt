@@ -38,6 +38,7 @@ writtenOf (component.Numbers n a b) = read n (numbers a b)
 writtenOf (component.Names n a b start size) = read n (names (record { start = a; size = b }) (record { start = start; size = size }))
 writtenOf (component.Fault p) = fault p
 
+-- an answer on a component says all that was read of it
 written-of : (d : Decoded Written) → writtenOf (componentAnswer d) ≡ d
 unfolding componentAnswer writtenAnswer
 written-of (read n (mark kind)) = refl
@@ -47,11 +48,12 @@ written-of (read n (names x y)) = refl
 written-of (fault p) = refl
 
 module _ (s : List ℕ) (at : ℕ) (r : ComponentAnswer) (e : r ≡ componentAnswer (writtenAt s at)) where
+  -- the component is the one that the answer says, with its texts cut from the bytes
   component-is : (q : ComponentAnswer) → r ≡ q → componentAt s at ≡ mapped (componentIn s) (writtenOf q)
   unfolding componentAt
   component-is q p = ap (mapped (componentIn s)) (sym (written-of (writtenAt s at)) ∙ ap writtenOf (sym e ∙ p))
 
-  -- star, child or descendant
+  -- an answer that is a mark says that star, child or descendant was read
   pub at-mark : (n kind : ℕ) → r ≡ component.Mark n kind → componentAt s at ≡ read n (markOf kind)
   unfolding mapped componentIn
   at-mark n kind p = component-is _ p
@@ -82,12 +84,14 @@ abbrev styleNumbersOf : StyleAnswer → Decoded StyleNumbers
 styleNumbersOf (style.Style n x) = read n x
 styleNumbersOf (style.Fault p) = fault p
 
+-- an answer on a style says all that was read of it
 style-numbers-of : (d : Decoded StyleNumbers) → styleNumbersOf (styleAnswer d) ≡ d
 unfolding styleAnswer
 style-numbers-of (read n x) = refl
 style-numbers-of (fault p) = refl
 
 module _ (s : List ℕ) (at : ℕ) (r : StyleAnswer) (e : r ≡ styleAnswer (styleNumbersAt s at)) where
+  -- the style is the one that the answer says, with its text cut from the bytes
   style-is : (q : StyleAnswer) → r ≡ q → styleAt s at ≡ mapped (styleIn s) (styleNumbersOf q)
   unfolding styleAt
   style-is q p = ap (mapped (styleIn s)) (sym (style-numbers-of (styleNumbersAt s at)) ∙ ap styleNumbersOf (sym e ∙ p))
@@ -110,6 +114,7 @@ pub record Steps {A B : Type 0} (d : Decoded A) (f : ℕ → A → Decoded B) (m
   pub first : d ≡ read place value
   pub rest : f place value ≡ read m b
 
+-- where two readings one behind the other succeed, the first read a value, and the second went on from it
 pub steps : {A B : Type 0} (d : Decoded A) (f : ℕ → A → Decoded B) (m : ℕ) (b : B) → andThen d f ≡ read m b → Steps d f m b
 unfolding andThen
 steps (read n a) f m b e = record { place = n; value = a; first = refl; rest = e }
@@ -121,6 +126,7 @@ pub record Source {A B : Type 0} (f : A → B) (d : Decoded A) (m : ℕ) (b : B)
   pub first : d ≡ read m value
   pub made : b ≡ f value
 
+-- where f of a reading was read, a value was read that f makes it of
 pub source : {A B : Type 0} (f : A → B) (d : Decoded A) (m : ℕ) (b : B) → mapped f d ≡ read m b → Source f d m b
 unfolding mapped
 source f (read n a) m b e =
@@ -139,6 +145,7 @@ module _ {A : Type 0} (u : ℕ → Decoded A) where
     pub rest : counted u k place ≡ read m others
     pub split : xs ≡ value ∷ others
 
+  -- where k + 1 values were read, there is a first one, and k others behind it
   pub counted-first : (k i m : ℕ) (xs : List A) → counted u (suc k) i ≡ read m xs → First k i m xs
   unfolding counted
   counted-first k i m xs e =
@@ -183,6 +190,7 @@ pub record SelectorSteps (t : List ℕ) (least i m : ℕ) (s : CompiledSelector)
   pub origin : s .origin ≡ head .origin
   pub pseudo : s .pseudo ≡ pseudoFrom (head .pseudo)
 
+-- where a selector was read, its head, its components and its styles were, one behind the other
 pub selector-steps : (t : List ℕ) (least i m : ℕ) (s : CompiledSelector) → selectorAt t least i ≡ read m s → SelectorSteps t least i m s
 unfolding selectorAt partsAt selectorOf
 selector-steps t least i m s e =
@@ -224,6 +232,7 @@ pub record FirstSelector (t : List ℕ) (k least i m : ℕ) (ss : List CompiledS
   pub rest : selectorsAt k t (selector .origin) place ≡ read m others
   pub split : ss ≡ selector ∷ others
 
+-- where k + 1 selectors were read, there is a first one, and k others of its origin or a later one behind it
 pub selectors-first : (t : List ℕ) (k least i m : ℕ) (ss : List CompiledSelector) → selectorsAt (suc k) t least i ≡ read m ss → FirstSelector t k least i m ss
 unfolding selectorsAt
 selectors-first t k least i m ss e =
@@ -251,6 +260,7 @@ unfolding ending
 ended t n m ss xs = pick-holds (λ d. d ≡ read m ss → (read n xs ≡ read m ss) × (n ≡ length t)) (is n (length t)) (read n xs) (fault n)
     (λ e p. (p, is-true n (length t) e)) (λ _ p. absurd (let z : _≡_ {A = ℕ} 0 1 = cc in omega arith))
 
+-- where a sheet was read, its count and its selectors were, and the bytes end there
 pub sheet-steps : (t : List ℕ) (m : ℕ) (ss : List CompiledSelector) → decode t ≡ read m ss → SheetSteps t m ss
 unfolding decode wholeAt
 sheet-steps t m ss e =

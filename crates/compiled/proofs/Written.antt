@@ -43,6 +43,7 @@ neither true b e = never (sym e)
 neither false b e = (refl, e)
 
 module _ (t : List ℕ) (kind f a b : ℕ) (o₀ o₁ : Store) where
+  -- the bytes of a component that is a kind alone are those of its kind
   mark-bytes : isMark kind ≡ true → componentBytes (componentFrom t kind f a b) ≡ numberBytes kind
   unfolding componentBytes componentFrom isMark componentKind componentBody pick or is
   mark-bytes h =
@@ -56,6 +57,7 @@ module _ (t : List ℕ) (kind f a b : ℕ) (o₀ o₁ : Store) where
   pub mark-written : isMark kind ≡ true → o₁ ≡ emits o₀ (numberBytes kind) → o₁ ≡ emits o₀ (componentBytes (componentFrom t kind f a b))
   mark-written h p = p ∙ ap (emits o₀) (sym (mark-bytes h))
 
+  -- the bytes of nth are those of its kind and of its two numbers
   nth-bytes : kind ≡ nthKind → componentBytes (componentFrom t kind f a b) ≡ numberBytes nthKind ++ (numberBytes a ++ numberBytes b)
   unfolding componentBytes componentFrom componentKind componentBody pick is
   nth-bytes k = rw (k, signed-number-back a, signed-number-back b)
@@ -65,6 +67,7 @@ module _ (t : List ℕ) (kind f a b : ℕ) (o₀ o₁ : Store) where
       → o₁ ≡ emits o₀ (componentBytes (componentFrom t kind f a b))
   nth-written k p = p ∙ ap (emits o₀) (sym (nth-bytes k))
 
+  -- the bytes of a component of one text are those of its kind and of that text
   named-bytes : isName kind ≡ true → componentBytes (componentFrom t kind f a b) ≡ numberBytes kind ++ textBytes (part t f a)
   unfolding componentBytes componentFrom isName componentKind componentBody pick is
   named-bytes h =
@@ -89,6 +92,7 @@ module _ (t : List ℕ) (kind f a b : ℕ) (o₀ o₁ : Store) where
       let n₃ = neither (is kind hashKind) _ (n₂ .1) in
       rw (m₁ .0, n₁ .0, n₂ .0, n₃ .0, m₂ .0, m₂ .1, is-no kind nthKind k, n₃ .1)
 
+  -- the bytes of an attribute that equals a value are those of its kind and of both texts
   equal-bytes : (x y : List ℕ) → componentBytes (attributeEqual x y) ≡ numberBytes attributeEqualKind ++ (textBytes x ++ textBytes y)
   unfolding componentBytes componentKind componentBody
   equal-bytes x y = refl
@@ -100,15 +104,17 @@ module _ (t : List ℕ) (kind f a b : ℕ) (o₀ o₁ : Store) where
   equal-written m k n p = p ∙ ap (emits o₀) (sym (ap componentBytes (equal-is m k n) ∙ equal-bytes _ _))
 
 -- ---- styles
--- the words of `white-space`
+-- the number 0 stays 0 as a word of `white-space`: normal
 pub word-normal : (n : ℕ) → n ≡ 0 → 0 ≡ whiteSpaceNumber (whiteSpaceOf n)
 unfolding whiteSpaceNumber whiteSpaceOf
 word-normal n e = ap whiteSpaceNumber (pick-true _ _ _ _ (is-yes n 0 e) refl)
 
+-- the number 1 stays 1 as a word of `white-space`: pre
 pub word-pre : (n : ℕ) → ¬ (n ≡ 0) → n ≡ 1 → 1 ≡ whiteSpaceNumber (whiteSpaceOf n)
 unfolding whiteSpaceNumber whiteSpaceOf
 word-pre n d e = ap whiteSpaceNumber (pick-false _ _ _ _ (is-no n 0 d) (pick-true _ _ _ _ (is-yes n 1 e) refl))
 
+-- any other number becomes 2: pre-wrap
 pub word-pre-wrap : (n : ℕ) → ¬ (n ≡ 0) → ¬ (n ≡ 1) → 2 ≡ whiteSpaceNumber (whiteSpaceOf n)
 unfolding whiteSpaceNumber whiteSpaceOf
 word-pre-wrap n d e = ap whiteSpaceNumber (pick-false _ _ _ _ (is-no n 0 d) (pick-false _ _ _ _ (is-no n 1 e) refl))
@@ -137,6 +143,7 @@ abbrev pub slotBytes : Style → List ℕ
 slotBytes s = numberBytes (styleSlotOf s) ++ styleBody s
 
 module _ (t : List ℕ) (slot : ℕ) (v : Value) (o₀ o₁ : Store) where
+  -- where the style of the numbers is s, and xs its bytes behind the flag, emitting xs writes the style
   stated : (s : Style) (xs : List ℕ) → styleOf t slot v ≡ s → slotBytes s ≡ xs → o₁ ≡ emits o₀ xs
       → o₁ ≡ emits o₀ (slotBytes (styleOf t slot v))
   stated s xs e f p = p ∙ ap (emits o₀) (sym (ap slotBytes e ∙ f))
@@ -163,7 +170,7 @@ module _ (t : List ℕ) (slot : ℕ) (v : Value) (o₀ o₁ : Store) where
           (append-nil (numberBytes displaySlot)) p
 
       module _ (c : ¬ (slot ≡ displaySlot)) where
-        -- a word of `white-space`
+        -- a word of `white-space` is written as its slot and its number
         pub white-space-written : slot ≡ whiteSpaceSlot → (n : ℕ) → n ≡ whiteSpaceNumber (whiteSpaceOf (v .number))
             → o₁ ≡ emits o₀ (numberBytes whiteSpaceSlot ++ numberBytes n) → o₁ ≡ emits o₀ (slotBytes (styleOf t slot v))
         unfolding styleOf styleSlotOf styleBody

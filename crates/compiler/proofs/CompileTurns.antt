@@ -57,12 +57,14 @@ unfolding writtenIn
 written-whole room b l h k =
     sym (sets-first b (take room l) (drop room l) 0 (omega (arith, k, length-take-le room l h))) ∙ ap (λ (r : List ℕ). sets r 0 b) (take-append-drop room l)
 
+-- whatever is written within the room, the buffer is as long as it was
 written-length : (room : ℕ) (b l : List ℕ) → room ≤ length l → length (writtenIn room b l) ≡ length l
 unfolding writtenIn
 written-length room b l h =
     omega (arith, h, length-append (sets (take room l) 0 b) (drop room l), length-sets (take room l) 0 b, length-take-le room l h, length-drop room l)
 
 -- ---- what is left, by its parts
+-- what is left is the same where the answer and each of the five buffers are
 left-by : {a a′ : CompileNumbers} {k k′ t t′ y y′ x x′ b b′ : List ℕ} → a ≡ a′ → k ≡ k′ → t ≡ t′ → y ≡ y′ → x ≡ x′ → b ≡ b′
     → _≡_ {A = CompileLeft} (record { answer = a; compiled = k; texts = t; rules = y; tokens = x; brackets = b }) (record { answer = a′; compiled = k′; texts = t′; rules = y′; tokens = x′; brackets = b′ })
 left-by p q r s t u = rw (p, q, r, s, t, u) refl
@@ -83,9 +85,11 @@ module _ {agent user author rules₀ tokens₀ brackets₀ texts₀ : List ℕ} 
 
   module _ {r : SheetsRead} {y₂ x₂ b₂ t₂ : List ℕ} (er : r ≡ sheetsAnswer meant) (ey : y₂ ≡ sets y₁ 0 (sheetsRows meant)) (ex : x₂ ≡ x₁) (eb : b₂ ≡ b₁)
       (et : t₂ ≡ sets t₁ 0 (sheetsTexts meant)) where
+    -- the store of tokens is zero throughout
     tokens-zero : x₂ ≡ replicate (length tokens₀) 0
     tokens-zero = ex ∙ cx ∙ zeros-of tokens₀ tokens₀ refl
 
+    -- the store of brackets is zero throughout
     brackets-zero : b₂ ≡ replicate (length brackets₀) 0
     brackets-zero = eb ∙ cb ∙ zeros-of brackets₀ brackets₀ refl
 
@@ -100,13 +104,16 @@ module _ {agent user author rules₀ tokens₀ brackets₀ texts₀ : List ℕ} 
         ∙ ap (compiledLeft compiled₀ texts₀ rules₀ tokens₀ brackets₀) (sym q)
 
     module _ {s : SheetsRules} (g : r ≡ all.Rules s) where
+      -- the three sheets came to rules, and s says where they lie
       m : Came meant s
       m = came meant s (sym g ∙ er)
 
+      -- the rules store has the rows of all three sheets at its start, and zeros behind them
       rows₂ : y₂ ≡ sets (cleared 0 rules₀) 0 (rowsHeld o m)
       unfolding sheetsRows
       rows₂ = ey ∙ ap (λ (v : Sheets). sets y₁ 0 (sheetsRows v)) (m .is) ∙ ap (λ (l : List ℕ). sets l 0 (rowsHeld o m)) cy
 
+      -- the text store has the texts of all three sheets at its start, and zeros behind them
       texts₂ : t₂ ≡ sets (cleared 0 texts₀) 0 (textsHeld o m)
       unfolding sheetsTexts
       texts₂ = et ∙ ap (λ (v : Sheets). sets t₁ 0 (sheetsTexts v)) (m .is) ∙ ap (λ (l : List ℕ). sets l 0 (textsHeld o m)) ct
@@ -115,30 +122,37 @@ module _ {agent user author rules₀ tokens₀ brackets₀ texts₀ : List ℕ} 
       pub lies : Lying y₂ t₂ x₂ s
       lies = lying o m rows₂ texts₂ x₂ (ex ∙ cx)
 
+      -- the bytes that the selectors of the three sheets compile to
       bytes : List ℕ
       bytes = encode (selectorsOf (m .agent) (m .user) (m .author))
 
       module _ {w : ℕ} {k₃ y₃ x₃ : List ℕ} (es : x₃ ≡ x₂) (ew : w ≡ fillOf (roomOf (length k₁)) (encode (selectorsFrom y₂ t₂ s)))
           (ek : k₃ ≡ writtenIn (roomOf (length k₁)) (encode (selectorsFrom y₂ t₂ s)) k₁) (ec : y₃ ≡ cleared 0 y₂) where
+        -- the fill is that of these bytes within the room
         w-is : w ≡ fillOf (roomOf (length k₁)) bytes
         unfolding bytes
         w-is = ew ∙ ap (λ ss. fillOf (roomOf (length k₁)) (encode ss)) (selectors-are o m rows₂ texts₂)
 
+        -- what is written is these bytes, as far as the room goes
         k-is : k₃ ≡ writtenIn (roomOf (length k₁)) bytes k₁
         unfolding bytes
         k-is = ek ∙ ap (λ ss. writtenIn (roomOf (length k₁)) (encode ss) k₁) (selectors-are o m rows₂ texts₂)
 
+        -- the buffer is as long as before they were written
         k-long : length k₃ ≡ length k₁
         k-long = ap length k-is ∙ written-length (roomOf (length k₁)) bytes k₁ (room-within (length k₁))
 
+        -- clearing the buffer left its room as it was
         same-room : roomOf (length k₁) ≡ roomOf (length compiled₀)
         same-room = ap (λ (l : List ℕ). roomOf (length l)) ck ∙ ap roomOf (length-cleared 0 compiled₀)
 
+        -- the rules store is zero throughout, as it was cleared
         rules-zero : y₃ ≡ replicate (length rules₀) 0
         rules-zero =
             ec ∙ zeros-of y₂ rules₀ (ap length rows₂ ∙ length-sets (cleared 0 rules₀) 0 (rowsHeld o m) ∙ length-cleared 0 rules₀)
 
         module _ {q : ℕ} (eq : q ≡ roomOf (length k₃)) where
+          -- the room that is asked for behind the writing is the one before it
           q-is : q ≡ roomOf (length k₁)
           q-is = eq ∙ ap roomOf k-long
 

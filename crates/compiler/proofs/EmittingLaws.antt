@@ -18,14 +18,17 @@ module _ (n f : ℕ) where
   unfolding past
   before-end h = sym (is-no f (n + 1) (λ (e : f ≡ n + 1). omega (arith, h, e)))
 
+  -- a fill that is more than one past the room does not tell that bytes passed its end
   pub beyond-end : 1 < f - n → false ≡ past n f
   unfolding past
   beyond-end h = sym (is-no f (n + 1) (λ (e : f ≡ n + 1). omega (arith, h, e)))
 
+  -- a fill of one past the room tells that bytes passed its end
   pub at-end : n < f → f - n ≤ 1 → true ≡ past n f
   unfolding past
   at-end h k = sym (is-yes f (n + 1) (omega (arith, h, k)))
 
+  -- where the test says that bytes passed the end, the fill is one past the room
   pub past-known : {r : Bool} → r ≡ past n f → r ≡ true → f ≡ n + 1
   unfolding past
   past-known e t = is-true f (n + 1) (sym e ∙ t)
@@ -50,16 +53,18 @@ module _ {A : Type 0} (u : List ℕ → Read A) (w : A → List ℕ) (rows : Lis
         ≡ emits (record { bytes = st₀; fill = fill }) (textsMany w (readMany u count (drop at rows) .value))
     pub long : length st ≡ length st₀
 
-  -- nothing is written yet
+  -- before the first value all of them are left to write
   pub emitting-begin : Emitting count at st₀ fill
   emitting-begin = record { left = refl; long = refl }
 
+  -- the bytes of n values are those of the first and of the n - 1 behind it
   one-less : (n place next : ℕ) → 0 < n → drop next rows ≡ u (drop place rows) .rest
       → textsMany w (readMany u n (drop place rows) .value) ≡ w (u (drop place rows) .value) ++ textsMany w (readMany u (n - 1) (drop next rows) .value)
   unfolding readMany textsMany
   one-less zero place next h e = absurd (omega arith)
   one-less (suc k) place next h e = let q : suc k - 1 ≡ k = omega arith in rw (q, e)
 
+  -- no values have no bytes
   none-left : (n : ℕ) (t : List ℕ) → n ≤ 0 → textsMany w (readMany u n t .value) ≡ []
   unfolding readMany textsMany
   none-left zero t h = refl
@@ -77,7 +82,7 @@ module _ {A : Type 0} (u : List ℕ → Read A) (w : A → List ℕ) (rows : Lis
         → record { bytes = st; fill = f } ≡ emits (record { bytes = st₀; fill = fill }) (textsMany w (readMany u count (drop at rows) .value))
     emitting-done h = sym (ap (emits (record { bytes = st; fill = f })) (none-left n (drop place rows) h) ∙ emits-none _) ∙ c .left
 
-    -- the store is full
+    -- with the store full, what is left to write changes nothing more
     pub emitting-past : f ≡ length st + 1
         → record { bytes = st; fill = f } ≡ emits (record { bytes = st₀; fill = fill }) (textsMany w (readMany u count (drop at rows) .value))
     emitting-past h =

@@ -113,7 +113,7 @@ own-few i (whiteSpace w) = omega arith
 own-few i (content t) = omega arith
 own-few i (unknown n) = omega arith
 
--- no more than declarations
+-- declarations have no more styles of their own than they are
 owns-few : (ds : List Declaration) → length (ownStyles ds) ≤ length ds
 unfolding ownStyles
 owns-few [] = omega arith
@@ -228,7 +228,7 @@ sheet-fit origin m a l [] h = tt
 sheet-fit origin m a l (r ∷ rs) h =
     all-append SelectorFits (ruleSelectors origin r) (sheetSelectors origin rs) (rule-fits origin m r a l (h .0)) (sheet-fit origin m a l rs (h .1))
 
--- are of its origin
+-- the compiled selectors of a sheet are of its origin
 sheet-origin : (origin : ℕ) (rs : List RuleSet) → All (λ s. s .origin ≡ origin) (sheetSelectors origin rs)
 unfolding sheetSelectors ruleSelectors
 sheet-origin origin [] = tt

@@ -54,7 +54,7 @@ module _ (origin : ℕ) where
       ap (λ (l : List ℕ). textsMany selectorBytes (ruleSelectors origin r) ++ l) (sheet-bytes rs)
       ∙ sym (texts-append (λ _ _. []) selectorBytes (ruleSelectors origin r) (sheetSelectors origin rs))
 
-  -- all rules are written
+  -- the bytes of all rules are those of their compiled selectors
   pub rules-written : (rs : List RuleSet) (o₀ o₁ : Store) → o₁ ≡ emits o₀ (textsMany (ruleBytes origin) rs)
       → o₁ ≡ emits o₀ (textsMany selectorBytes (sheetSelectors origin rs))
   rules-written rs o₀ o₁ p = p ∙ ap (emits o₀) (sheet-bytes rs)
@@ -62,11 +62,12 @@ module _ (origin : ℕ) where
 -- ---- returns of `count_rule`: a rule at a place
 module _ (rows : List ℕ) (at declarations count : ℕ) (d : (texts : List ℕ) → drop declarations rows ≡ selectorsRead texts (drop at rows) .rest)
     (e : count ≡ getD rows (at + ruleDeclarations) 0) (x : ℕ) (f : x ≡ styleCount (drop declarations rows) count) (origin : ℕ) (texts : List ℕ) where
+  -- the count is that of the styles which the rule's declarations mean
   count-is : x ≡ length (stylesOf (readRule texts (drop at rows) .value .declarations))
   unfolding readRule selectorsRead declarationsAt
   count-is = f ∙ count-styles texts (drop declarations rows) count ∙ rw (d texts, e, getD-drop at rows ruleDeclarations 0)
 
-  -- it has no style
+  -- a rule without a style counts with no selectors
   pub rule-uncounted : x ≡ 0 → 0 ≡ length (ruleSelectors origin (readRule texts (drop at rows) .value))
   unfolding ruleSelectors
   rule-uncounted h = sym (ap length (none-styled origin _ _ (sym count-is ∙ h)))
@@ -91,6 +92,7 @@ module _ (rows : List ℕ) (at origin : ℕ) (tokens : List ℕ) (styles : ℕ) 
   abbrev styledText : List ℕ
   styledText = textsMany selectorBytes (styledSelectors origin ds (readRule texts (drop at rows) .value .selectors))
 
+  -- as many styles are read as were counted
   long : length ds ≡ styles
   unfolding stylesAt
   long = many-length (readStyle texts) styles tokens
@@ -111,6 +113,7 @@ module _ (rows : List ℕ) (at origin : ℕ) (tokens : List ℕ) (styles : ℕ) 
       ∙ ap (emits o₀) (sym (ap (textsMany selectorBytes) (all-styled origin ds _ (λ z. h (sym long ∙ z))) ∙ styled-bytes origin ds _))
 
 -- ---- returns of `emit_rule`: the styles lie in the store of tokens, which was zero, and are taken back
+-- with the styles taken back, the store of tokens is as it was, and the bytes of the rule's selectors are written
 pub rule-written : (rows : List ℕ) (at origin : ℕ) (texts x y z : List ℕ) (n : ℕ) → Zeros x 0 → y ≡ sets x 0 (ruleStyles (drop at rows))
     → styleWidth * n ≡ length (ruleStyles (drop at rows))
     → ((texts : List ℕ) → stylesAt y texts n ≡ stylesOf (readRule texts (drop at rows) .value .declarations)) → (o₀ o₁ : Store)
@@ -129,7 +132,7 @@ unfolding EachRoom
 lent-first zero t tokens h o = absurd (omega arith)
 lent-first (suc k) t tokens h o = record { room = o .room .each .0; zeros = o .zeros }
 
--- and those behind it
+-- the rules behind the first can be asked for their styles too
 pub lent-next : (n : ℕ) (t tokens : List ℕ) → 0 < n → RulesLent n t tokens → (x : List ℕ) → x ≡ tokens → (next : List ℕ) → ((texts : List ℕ) → next ≡ readRule texts t .rest)
     → RulesLent (n - 1) next x
 unfolding EachRoom
@@ -145,12 +148,12 @@ module _ (rows : List ℕ) (count at origin : ℕ) (tokens₀ texts st₀ : List
     pub lent : RulesLent n (drop place rows) tokens
     pub same : tokens ≡ tokens₀
 
-  -- nothing is written yet
+  -- before the first rule all of them are left to write
   pub writing-begin : RulesLent count (drop at rows) tokens₀ → Writing count at tokens₀ st₀ fill
   writing-begin o = record { emitted = emitting-begin (readRule texts) (ruleBytes origin) rows count at st₀ fill; lent = o; same = refl }
 
   module _ (n place : ℕ) (tokens st : List ℕ) (f : ℕ) (c : Writing n place tokens st f) where
-    -- a rule is written
+    -- a turn: one rule is written, and the rules behind it are left
     pub writing-more : 0 < n → (x : List ℕ) → x ≡ tokens → (z : List ℕ) (g : ℕ)
         → record { bytes = z; fill = g } ≡ emits (record { bytes = st; fill = f }) (ruleBytes origin (readRule texts (drop place rows) .value)) → length z ≡ length st
         → (next : ℕ) → ((texts : List ℕ) → drop next rows ≡ readRule texts (drop place rows) .rest) → Writing (n - 1) next x z g
@@ -167,7 +170,7 @@ module _ (rows : List ℕ) (count at origin : ℕ) (tokens₀ texts st₀ : List
     writing-done h =
         (c .same, rules-written origin _ _ _ (emitting-done (readRule texts) (ruleBytes origin) rows count at st₀ fill n place st f (c .emitted) h))
 
-    -- the store is full
+    -- with the store full, what is left to write changes nothing more, and the store of tokens is as it was
     pub writing-past : f ≡ length st + 1 → (tokens ≡ tokens₀)
         × (record { bytes = st; fill = f } ≡ emits (record { bytes = st₀; fill = fill }) (textsMany selectorBytes (sheetSelectors origin (readMany (readRule texts) count (drop at rows) .value))))
     writing-past h =
@@ -183,10 +186,11 @@ module _ (rows : List ℕ) (count at : ℕ) where
   pub record Counting (total place n : ℕ) : Type 0 where
     pub left : (origin : ℕ) (texts : List ℕ) → total + selectorsFrom origin texts n place ≡ selectorsFrom origin texts count at
 
-  -- nothing is counted yet
+  -- before the first rule all of them are left to count
   pub counting-begin : Counting 0 at count
   counting-begin = record { left = λ origin texts. omega arith }
 
+  -- n rules have the selectors of the first and of the n - 1 behind it
   one-less : (origin : ℕ) (texts : List ℕ) (n place next : ℕ) → 0 < n → drop next rows ≡ readRule texts (drop place rows) .rest
       → selectorsFrom origin texts n place ≡ length (ruleSelectors origin (readRule texts (drop place rows) .value)) + selectorsFrom origin texts (n - 1) next
   unfolding readMany sheetSelectors
@@ -195,18 +199,20 @@ module _ (rows : List ℕ) (count at : ℕ) where
       let q : suc k - 1 ≡ k = omega arith in
       rw (q, e) (length-append (ruleSelectors origin (readRule texts (drop place rows) .value)) (sheetSelectors origin (readMany (readRule texts) k (readRule texts (drop place rows) .rest) .value)))
 
+  -- no rules have no selectors
   none-left : (origin : ℕ) (texts : List ℕ) (n place : ℕ) → n ≤ 0 → selectorsFrom origin texts n place ≡ 0
   unfolding readMany sheetSelectors
   none-left origin texts zero place h = refl
   none-left origin texts (suc k) place h = absurd (omega arith)
 
   module _ (total place n : ℕ) (c : Counting total place n) where
-    -- a rule
+    -- the rule at the place has r selectors with a style: they are added to the count
     module _ (h : 0 < n) (r : ℕ) (e : (origin : ℕ) (texts : List ℕ) → r ≡ length (ruleSelectors origin (readRule texts (drop place rows) .value))) where
+      -- with the rule's selectors added, the rules behind it are left to be counted
       pub counting-more : (next : ℕ) → ((texts : List ℕ) → drop next rows ≡ readRule texts (drop place rows) .rest) → Counting (total + r) next (n - 1)
       counting-more next d = record { left = λ origin texts. omega (arith, c .left origin texts, one-less origin texts n place next h (d texts), e origin texts) }
 
-      -- the total stays small
+      -- the count so far is below 2^32
       pub counting-fits : SelectorsFew (drop at rows) count → total + r < numberLimit
       unfolding readMany sheetSelectors
       counting-fits few = omega (arith, c .left (few .origin) (few .texts), at-least n h, e (few .origin) (few .texts), few .few)

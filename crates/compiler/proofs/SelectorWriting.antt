@@ -19,7 +19,7 @@ use Rattle.compiler.specs.Selectors.{compiledSelector}
 use Rattle.compiler.specs.Writing.{styledBytes}
 
 -- ---- components
--- one, from its row
+-- the numbers of a component's row are the component that is read there
 pub component-at : (rows : List ℕ) (at : ℕ) (texts : List ℕ) (k f a b : ℕ) → k ≡ getD rows (at + componentKindAt) 0 → f ≡ getD rows (at + componentTextAt) 0
     → a ≡ getD rows (at + componentFirstAt) 0 → b ≡ getD rows (at + componentSecondAt) 0 → (o₀ o₁ : Store)
     → o₁ ≡ emits o₀ (componentBytes (componentFrom texts k f a b)) → o₁ ≡ emits o₀ (componentBytes (readComponent texts (drop at rows) .value))
@@ -48,10 +48,11 @@ module _ (rows : List ℕ) (at count : ℕ) (texts st₀ : List ℕ) (fill : ℕ
     pub long : length st ≡ length st₀
     pub few : n ≤ count
 
-  -- nothing is written yet
+  -- before the last component all of them are left to write
   pub returning-begin : Returning count st₀ fill
   returning-begin = record { left = refl; long = refl; few = omega arith }
 
+  -- the bytes of n components, the last first, are those of the n-th and then of the n - 1 before it
   last-first : (n place : ℕ) → 0 < n → drop place rows ≡ drop (at + componentWidth * (n - 1)) rows
       → backwards n ≡ componentBytes (readComponent texts (drop place rows) .value) ++ backwards (n - 1)
   unfolding textsMany readComponent
@@ -66,6 +67,7 @@ module _ (rows : List ℕ) (at count : ℕ) (texts st₀ : List ℕ) (fill : ℕ
       ap (λ (cs : List Component). textsMany componentBytes (reverse cs)) v
       ∙ ap (textsMany componentBytes) (reverse-append (readMany u (n - 1) t .value) (u (drop place rows) .value ∷ []))
 
+  -- no components have no bytes
   none-left : (n : ℕ) → n ≤ 0 → backwards n ≡ []
   unfolding textsMany readMany
   none-left n h = let q : n ≡ 0 = omega arith in rw q
@@ -88,20 +90,23 @@ pub pseudo-none : (n : ℕ) → n ≡ 0 → 0 ≡ pseudoNumber (pseudoFrom n)
 unfolding pseudoNumber pseudoFrom
 pseudo-none n e = ap pseudoNumber (pick-true _ _ _ _ (is-yes n 0 e) refl)
 
+-- the number of `::before` is 1
 pub pseudo-before : (n : ℕ) → ¬ (n ≡ 0) → n ≡ 1 → 1 ≡ pseudoNumber (pseudoFrom n)
 unfolding pseudoNumber pseudoFrom
 pseudo-before n d e = ap pseudoNumber (pick-false _ _ _ _ (is-no n 0 d) (pick-true _ _ _ _ (is-yes n 1 e) refl))
 
+-- any other number is that of `::after`, 2
 pub pseudo-after : (n : ℕ) → ¬ (n ≡ 0) → ¬ (n ≡ 1) → 2 ≡ pseudoNumber (pseudoFrom n)
 unfolding pseudoNumber pseudoFrom
 pseudo-after n d e = ap pseudoNumber (pick-false _ _ _ _ (is-no n 0 d) (pick-false _ _ _ _ (is-no n 1 e) refl))
 
--- ---- selectors
+-- ---- the bytes of a selector at a place
 module _ (rows : List ℕ) (at origin : ℕ) (o₀ o₁ : Store) where
   -- what stands before the components of one at a place
   abbrev pub headAt : List ℕ
   headAt = headBytes origin (pseudoNumber (pseudoFrom (getD (drop at rows) selectorPseudo 0))) (getD (drop at rows) selectorComponents 0)
 
+  -- the head that was written, of the pseudo element and the count that were read, is that of the selector at the place
   pub head-at : (p q n : ℕ) → p ≡ getD rows (at + selectorPseudo) 0 → q ≡ pseudoNumber (pseudoFrom p) → n ≡ getD rows (at + selectorComponents) 0
       → o₁ ≡ emits o₀ (headBytes origin q n) → o₁ ≡ emits o₀ headAt
   head-at p q n ep eq en e = e ∙ rw (eq, ep, en, getD-drop at rows selectorPseudo 0, getD-drop at rows selectorComponents 0)

@@ -43,7 +43,7 @@ pub record Finding (rows : List ℕ) (count at own : ℕ) (height-zero overflow-
   pub overflow : or overflow-hidden (anyRow hiddenRow n (drop place rows)) ≡ anyRow hiddenRow count (drop at rows)
   pub few : own + n ≤ count
 
--- nothing is counted yet
+-- before the first declaration all of them are left to count
 pub finding-begin : (rows : List ℕ) (count at : ℕ) → Finding rows count at 0 false false at count
 unfolding or
 finding-begin rows count at = record { left = omega arith; height = refl; overflow = refl; few = omega arith }
@@ -54,6 +54,7 @@ unfolding ownRows
 rows-step zero t h = absurd (omega arith)
 rows-step (suc k) t h = let q : suc k - 1 ≡ k = omega arith in rw q
 
+-- some of n declarations passes a test exactly if the first does, or some of the n - 1 behind it
 any-step : (p : List ℕ → Bool) (n : ℕ) (t : List ℕ) → 0 < n → anyRow p n t ≡ or (p t) (anyRow p (n - 1) (drop declarationWidth t))
 unfolding anyRow
 any-step p zero t h = absurd (omega arith)
@@ -65,6 +66,7 @@ unfolding ownRows
 rows-none zero t h = refl
 rows-none (suc k) t h = absurd (omega arith)
 
+-- of no declarations none passes a test
 any-none : (p : List ℕ → Bool) (n : ℕ) (t : List ℕ) → n ≤ 0 → anyRow p n t ≡ false
 unfolding anyRow
 any-none p zero t h = refl
@@ -100,11 +102,12 @@ module _ (rows : List ℕ) (count at own : ℕ) (height-zero overflow-hidden : B
         few = omega (arith, c .few, l);
       }
 
-  -- all declarations
+  -- when all declarations are passed, the count is that of the rule's styles
   module _ (h : n ≤ 0) where
     abbrev both : Bool
     both = and (anyRow zeroRow count (drop at rows)) (anyRow hiddenRow count (drop at rows))
 
+    -- both flags are set exactly if some declaration is a zero height and some a hidden overflow
     both-is : (height-zero && overflow-hidden) ≡ both
     both-is =
         and-is height-zero overflow-hidden
@@ -115,6 +118,7 @@ module _ (rows : List ℕ) (count at own : ℕ) (height-zero overflow-hidden : B
           or-false overflow-hidden _ (any-none hiddenRow n (drop place rows) h),
         )
 
+    -- the styles of the declarations themselves, with the one that both flags add, are all styles
     total-is : (f : ℕ) → f ≡ flag (height-zero && overflow-hidden) → own + f ≡ styleCount (drop at rows) count
     unfolding styleCount styleNumbers
     total-is f e =

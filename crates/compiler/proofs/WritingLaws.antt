@@ -27,10 +27,12 @@ use Rattle.compiler.specs.Writing.{SelectorsFew}
 use Rattle.compiler.specs.Written.{selectorsFrom, SheetLying, fillOf, writtenIn}
 
 -- ---- the room of a buffer
+-- a buffer above the limit has the limit as its room
 pub room-limit : (n : ℕ) → compiledLimit < n → compiledLimit ≡ roomOf n
 unfolding roomOf
 room-limit n h = pick-true _ _ _ _ (lt-ltb compiledLimit n h) refl
 
+-- a buffer up to the limit is all room
 pub room-whole : (n : ℕ) → n ≤ compiledLimit → n ≡ roomOf n
 unfolding roomOf
 room-whole n h = pick-false _ _ _ _ (le-ltb compiledLimit n h) refl
@@ -60,21 +62,24 @@ sheet-written rows texts s origin o₀ o₁ e =
 pub lies-same : (rows texts tokens x : List ℕ) (s : SheetRules) → x ≡ tokens → SheetLying rows texts tokens s → SheetLying rows texts x s
 lies-same rows texts tokens x s e l = rw e l
 
--- ---- three sheets
+-- ---- three sheets: the count of their selectors, then the agent's, the user's and the author's
 module _ (rows texts : List ℕ) (s : SheetsRules) where
+  -- the compiled selectors of the agent's rules
   a : List CompiledSelector
   a = sheetSelectors agentOrigin (rulesFrom rows texts (s .agent))
 
+  -- the compiled selectors of the user's rules
   u : List CompiledSelector
   u = sheetSelectors userOrigin (rulesFrom rows texts (s .user))
 
+  -- the compiled selectors of the author's rules
   w : List CompiledSelector
   w = sheetSelectors authorOrigin (rulesFrom rows texts (s .author))
 
   abbrev all : List CompiledSelector
   all = selectorsFrom rows texts s
 
-  -- how many they are
+  -- all selectors are as many as those of the three sheets together
   total : length all ≡ length a + length u + length w
   unfolding a u w selectorsFrom selectorsOf
   total = omega (arith, length-append a (u ++ w), length-append u w)
@@ -110,10 +115,12 @@ module _ (rows texts : List ℕ) (s : SheetsRules) where
     unfolding a rulesFrom rulesAt
     agent-few = record { texts = drop (s .agent .from) texts; origin = agentOrigin; few = omega (arith, few, total) }
 
+    -- the count of the user's selectors fits a number of the bytes
     pub user-few : SelectorsFew (drop (s .user .place) rows) (s .user .count)
     unfolding u rulesFrom rulesAt
     user-few = record { texts = drop (s .user .from) texts; origin = userOrigin; few = omega (arith, few, total) }
 
+    -- the count of the author's selectors fits a number of the bytes
     pub author-few : SelectorsFew (drop (s .author .place) rows) (s .author .count)
     unfolding w rulesFrom rulesAt
     author-few = record { texts = drop (s .author .from) texts; origin = authorOrigin; few = omega (arith, few, total) }
@@ -122,13 +129,16 @@ module _ (rows texts : List ℕ) (s : SheetsRules) where
     module _ {i j k : ℕ} (ei : (origin : ℕ) (t : List ℕ) → i ≡ length (sheetSelectors origin (readMany (readRule t) (s .agent .count) (drop (s .agent .place) rows) .value)))
         (ej : (origin : ℕ) (t : List ℕ) → j ≡ length (sheetSelectors origin (readMany (readRule t) (s .user .count) (drop (s .user .place) rows) .value)))
         (ek : (origin : ℕ) (t : List ℕ) → k ≡ length (sheetSelectors origin (readMany (readRule t) (s .author .count) (drop (s .author .place) rows) .value))) where
+      -- the three counts together are the count of all selectors
       pub counts : i + j + k ≡ length all
       unfolding a u w rulesFrom rulesAt
       counts = omega (arith, total, ei agentOrigin (drop (s .agent .from) texts), ej userOrigin (drop (s .user .from) texts), ek authorOrigin (drop (s .author .from) texts))
 
+      -- the three counts together fit a word
       pub counts-fit : i + j + k < 2 ^ 64
       counts-fit = omega (arith, counts, few)
 
+      -- the counts of the agent's and the user's selectors together fit a word
       pub first-fit : i + j < 2 ^ 64
       first-fit = omega (arith, counts, few)
 
@@ -138,6 +148,7 @@ module _ (l : List ℕ) {r : ℕ} (e : r ≡ roomOf (length l)) where
   pub room-fits : r ≤ length l
   room-fits = omega (arith, e, room-within (length l))
 
+  -- the part of the buffer that is the room has that length
   pub room-long : r ≡ length (take r l)
   room-long = sym (length-take-le r l room-fits)
 

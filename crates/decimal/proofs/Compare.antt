@@ -56,10 +56,11 @@ number-lt (d ∷ ds) h = rw (pow-suc 10 (length ds)) (leading (h 0) (number-lt d
 
 -- the leading digits d and t, and behind them the digits of v and w, as many as the powers of ten p and q have zeros
 module _ (d t v w p q : ℕ) (hv : v < p) (hw : w < q) where
-  -- both sides multiplied out
+  -- the left side multiplied out, ten being a factor of all of it
   left : (d * p + v) * (q * 10) ≡ (d * (p * q) + v * q) * 10
   left = rw (← mul-assoc (d * p + v) q 10, add-mul (d * p) v q, mul-assoc d p q)
 
+  -- the right side multiplied out, ten being a factor of all of it
   right : (t * q + w) * (p * 10) ≡ (t * (p * q) + w * p) * 10
   right = rw (← mul-assoc (t * q + w) p 10, add-mul (t * q) w p, mul-assoc t q p, mul-comm q p)
 
@@ -67,6 +68,7 @@ module _ (d t v w p q : ℕ) (hv : v < p) (hw : w < q) where
   left-rest : v * q < p * q
   left-rest = mul-lt-mul-of-pos-right hv (omega arith)
 
+  -- on the right, too, the digits behind the leading one make less than one of those
   right-rest : w * p < p * q
   right-rest = rw (mul-comm p q) (mul-lt-mul-of-pos-right hw (omega arith))
 
@@ -76,7 +78,7 @@ module _ (d t v w p q : ℕ) (hv : v < p) (hw : w < q) where
       let l : suc d * (p * q) ≤ t * (p * q) = mul-le-mul-right (p * q) h in
       omega (arith, left, right, left-rest, suc-mul d (p * q))
 
-  -- the greater the greater
+  -- the greater leading digit is the greater number
   above : t < d → (t * q + w) * (p * 10) < (d * p + v) * (q * 10)
   above h =
       let l : suc t * (p * q) ≤ d * (p * q) = mul-le-mul-right (p * q) h in

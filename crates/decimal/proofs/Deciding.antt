@@ -105,12 +105,12 @@ one-below-ten (t ∷ ts) h (suc k) = one-below-ten ts (λ k. h (suc k)) k
 -- ---- a test that compares with a table, and gives the answer that is asked for
 module _ (answer : List ℕ → Bool) (test : List ℕ → ZeroTest) (table : List ℕ) (b : BelowTen table)
     (a : (s : List ℕ) → test s .zero ≡ answer s) (e : (s : List ℕ) → test s ≡ digitsTest table s) where
-  -- its answer
+  -- the answer of such a test is the comparison of the digits with the table
   test-zero : (s : List ℕ) → test s .zero ≡ atMost (digits s) table
   unfolding digitsTest
   test-zero s = ap (λ (r : ZeroTest). r .zero) (e s)
 
-  -- its count
+  -- its count is that of the digits that are looked at against the table
   test-looked : (s : List ℕ) → test s .looked ≡ lookedAt (digits s) table
   unfolding digitsTest
   test-looked s = ap (λ (r : ZeroTest). r .looked) (e s)

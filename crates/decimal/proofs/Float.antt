@@ -81,7 +81,7 @@ module _ (a b : ℕ) (B : 0 < b) where
       (λ (l : b ≤ a). le-trans (le-div-iff-mul-le B .1 (omega arith)) (nearest-ge (a / b) (compare (a % b * 2) b)))
       (lt-or-ge a b)
 
-  -- together, as one test
+  -- the whole number nearest to a / b is 0 exactly if twice a is at most b
   closest-zero : eqb (closest a b) 0 ≡ leb (a * 2) b
   closest-zero =
       ⊎-elim
@@ -121,6 +121,7 @@ module _ (f : Format) (n den : ℕ) (D : 0 < den) where
       omega arith
 
 -- ---- for any format: up to half of the smallest positive value
+-- a fraction rounds to zero exactly if it is at most half of the format's smallest positive value
 round-zero : (f : Format) (s : Bool) (num den : ℕ) → 0 < den → isZero (round f s num den) ≡ leb (num * 2 ^ suc (low f)) den
 round-zero f s num den D =
     let n = num * 2 ^ low f in

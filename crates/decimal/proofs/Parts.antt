@@ -60,7 +60,7 @@ module _ (i f : List ℕ) (w : ZeroTest) (e : w ≡ digitsTest [] i) where
       let a : false ≡ roundsToZero i f = and-gives-false _ _ z ∙ sym (rounds-to-zero-digits i f) in
       e ∙ rw (← a, z, ← at-most-none (digits i), z) (unfold pick in refl)
 
--- the answer alone
+-- without its count the test is the answer of document 01
 pub answer-alone : (i f : List ℕ) (r : ZeroTest) → r ≡ zeroTest i f → r .zero ≡ roundsToZero i f
 unfolding zeroTest
 answer-alone i f r e = ap (λ (t : ZeroTest). t .zero) e

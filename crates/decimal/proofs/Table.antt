@@ -53,7 +53,7 @@ digit-below-ten x =
     (λ e. let p = within-true x digitZero digitNine e in omega (arith, p))
     (λ e. omega arith)
 
--- so each digit is
+-- the digits that are read of a text are each below ten
 pub digits-below-ten : (s : List ℕ) → BelowTen (digits s)
 unfolding digits
 digits-below-ten [] k = omega arith

@@ -25,6 +25,7 @@ use Rattle.declarations.specs.Leaving.{colourLeft}
 use Rattle.declarations.proofs.Declaring as declaring
 
 -- ---- `or_faulty`: a colour stays
+-- where a colour was found, the faulty syntax is not asked, and the colour is the answer
 pub colour-stays : (a : answer.ColourAnswer) (v : ℕ) (s : List ℕ) → a ≡ answer.the-variants.Colour v → answer.the-variants.Colour v ≡ orFaultyBy a s
 unfolding orFaultyBy
 colour-stays a v s e = rw e
@@ -42,7 +43,7 @@ faulty-answer missing s = refl
 
 -- ---- the colour of an attribute, by its statement
 module _ (s : List ℕ) where
-  -- a bracket is wrong
+  -- where a bracket is wrong, the attribute has no colour
   attribute-none : statementOf false s .balanced ≡ false → colourAnswer (colourAttribute s) ≡ answer.the-variants.NoColour
   unfolding colourAttribute valueOf valueFrom onParsed pick colourAnswer onFound
   attribute-none h = rw h
@@ -59,7 +60,7 @@ module _ (s tokens brackets store : List ℕ) (fill : ℕ) (room : Room (length 
   r = statementOf false s
 
   module _ {k m : ℕ} (ek : k ≡ length (r .tokens)) (em : m ≡ length (textsOf (r .tokens))) where
-    -- the texts, wiped again
+    -- wiping the texts that were written leaves the store wiped by the value's texts
     store-wiped : {z′ : List ℕ} → z′ ≡ wiped fill m z → z′ ≡ wiped fill (length (textsOf (r .tokens))) store
     store-wiped q = q ∙ rw (em, declaring.store-is s tokens brackets store fill e) (wiped-over store fill (length (textsOf (r .tokens))) (textsOf (r .tokens)) (omega arith))
 
@@ -85,7 +86,7 @@ module _ (s tokens brackets store : List ℕ) (fill : ℕ) (room : Room (length 
         → record { answer = answer.the-variants.NoColour; tokens = x′; brackets = b′; store = z′ } ≡ colourLeft s tokens brackets store fill
     none-left ex eb ez = attribute-left (none-here .count) (none-here .text) (sym (attribute-none s (none-here .balanced))) ex eb ez
 
-  -- ---- a value
+  -- ---- a value was read: its colour is looked for
   module _ {t k m : ℕ} {i : Bool} (ea : a ≡ value.Value t k m i) where
     -- the answer tells the bytes taken, how many tokens and bytes of text there are, and the mark
     some-here : declaring.Valued r t k m i

@@ -87,19 +87,23 @@ module _ (names : Bool) (z : List ℕ) (f n : ℕ) (name : List ℕ) (en : part 
   abbrev Keeps : Decl → Type 0
   Keeps d = keptText (declAnswer (namedDecl names d)) z f n ≡ declText (namedDecl names d)
 
+  -- a declaration without a text keeps none
   keeps-none : (d : Decl) → declText (namedDecl names d) ≡ [] → Keeps d
   unfolding keptText part
   keeps-none d e = let l = decl-length (namedDecl names d) ∙ ap length e in rw (l, e)
 
+  -- an unknown declaration keeps its name where names are asked for, and else no text
   keeps-unknown : (b : Bool) → names ≡ b → Keeps (unknown name)
   unfolding keptText shift declAnswer declOfNumbers namedDecl declText pick is part
   keeps-unknown true e = rw (e, long, add-zero f) en
   keeps-unknown false e = rw e
 
+  -- a content keeps the texts of the value's tokens, which lie behind the name
   keeps-content : Keeps (content (textsMany textOf ks))
   unfolding keptText shift declAnswer declOfNumbers namedDecl declText pick is
   keeps-content = held-part z (f + n) (textsMany textOf ks) ht
 
+  -- whatever a name and tokens declare, the store keeps the declaration's text
   keeps-text : Keeps (declOf name ks)
   keeps-text = decl-text Keeps name ks (λ d h. keeps-none d (named-textless names d h)) (keeps-unknown names refl) keeps-content
 
@@ -108,14 +112,17 @@ module _ (s : List ℕ) (v : ℕ) (name : List ℕ) (e : propertyOf s ≡ ok v n
   abbrev r : Statement
   r = statementOf false (drop v s)
 
+  -- with the property read, what is used is the tokens of the value, the bytes of the name and of the tokens' texts
   used-is : usedBy s ≡ record { tokens = length (r .tokens); bytes = length name + length (textsOf (r .tokens)) }
   unfolding usedBy onParsed
   used-is = rw e
 
+  -- a value with a wrong bracket makes no declaration
   declaration-err : r .balanced ≡ false → declarationOf s ≡ err
   unfolding declarationOf valueBehind valueOf valueFrom onParsed pick
   declaration-err h = rw (e, h)
 
+  -- a value with right brackets makes a declaration of its tokens without the mark, important where the mark is there
   declaration-ok : r .balanced ≡ true → declarationOf s ≡ ok (v + r .taken)
       (record { decl = declOf name (withoutMark (tokensOf (r .tokens))); important = isImportant (tokensOf (r .tokens)); start = skipWhitespace s })
   unfolding declarationOf valueBehind valueOf valueFrom onParsed pick
@@ -123,13 +130,13 @@ module _ (s : List ℕ) (v : ℕ) (name : List ℕ) (e : propertyOf s ≡ ok v n
 
 -- ---- what is left
 module _ (names : Bool) (at : ℕ) (s rules : List ℕ) (place : ℕ) (tokens brackets store : List ℕ) (fill : ℕ) (u : Used) (eu : usedBy s ≡ u) where
-  -- of what does not read
+  -- where no declaration reads, all that was used is wiped, and nothing else changes
   left-err : declarationOf s ≡ err → (x b z : List ℕ) → x ≡ wiped 0 (tokenWidth * u .tokens) tokens → b ≡ wiped 0 (u .tokens) brackets → z ≡ wiped fill (u .bytes) store
       → record { answer = answer.NoDeclaration; rules = rules; tokens = x; brackets = b; store = z } ≡ declarationLeft names at s rules place tokens brackets store fill
   unfolding declarationLeft leaves declarationAnswer keptOf onParsed declarationRows declarationTexts rowsMany textsMany
   left-err e x b z ex eb ez = rw (e, eu, ex, eb, ez)
 
-  -- of a declaration d
+  -- where d reads, its row and its text are left, and the rest that was used is wiped
   left-ok : (n : ℕ) (d : Declaration) → declarationOf s ≡ ok n d → (k : ℕ) → k ≡ textKept names d → (y x b z : List ℕ) → y ≡ sets rules place (declarationRow fill (kept names at d))
       → x ≡ wiped 0 (tokenWidth * u .tokens) tokens → b ≡ wiped 0 (u .tokens) brackets → z ≡ sets (wiped fill (u .bytes) store) fill (declarationText (kept names at d))
       → record { answer = answer.Declaration n k; rules = y; tokens = x; brackets = b; store = z } ≡ declarationLeft names at s rules place tokens brackets store fill
@@ -145,12 +152,14 @@ pub record Valued (r : Statement) (n k m : ℕ) (i : Bool) : Type 0 where
   pub text : m ≡ length (textsOf (r .tokens))
   pub important : i ≡ isImportant (tokensOf (r .tokens))
 
+-- an answer with a value comes of right brackets alone, and has the numbers of that case
 valued-by : (b : Bool) (p q t n k m : ℕ) (j i : Bool) → value.Value n k m i ≡ pick b (value.Value p q t j) (value.NoValue q t)
     → (b ≡ true) × (n ≡ p) × (k ≡ q) × (m ≡ t) × (i ≡ j)
 unfolding pick
 valued-by true p q t n k m j i e = (refl, cc, cc, cc, cc)
 valued-by false p q t n k m j i e = absurd (let z : _≡_ {A = ℕ} 0 1 = cc in omega arith)
 
+-- an answer with a value says the statement's bytes, tokens, length of text and mark
 valued : (r : Statement) (n k m : ℕ) (i : Bool) → value.Value n k m i ≡ valueAnswer r → Valued r n k m i
 unfolding valueAnswer
 valued r n k m i e =
@@ -162,11 +171,13 @@ pub record Unvalued (r : Statement) (k m : ℕ) : Type 0 where
   pub count : k ≡ length (r .tokens)
   pub text : m ≡ length (textsOf (r .tokens))
 
+-- an answer without a value comes of a wrong bracket alone, and has the numbers of that case
 unvalued-by : (b : Bool) (p q t k m : ℕ) (j : Bool) → value.NoValue k m ≡ pick b (value.Value p q t j) (value.NoValue q t) → (b ≡ false) × (k ≡ q) × (m ≡ t)
 unfolding pick
 unvalued-by true p q t k m j e = absurd (let z : _≡_ {A = ℕ} 0 1 = cc in omega arith)
 unvalued-by false p q t k m j e = (refl, cc, cc)
 
+-- an answer without a value says how many tokens were read, and how long their texts are
 unvalued : (r : Statement) (k m : ℕ) → value.NoValue k m ≡ valueAnswer r → Unvalued r k m
 unfolding valueAnswer
 unvalued r k m e = let p = unvalued-by (r .balanced) _ _ _ k m _ e in record { balanced = p .0; count = p .1; text = p .2 }
@@ -182,14 +193,17 @@ module _ (s tokens brackets store : List ℕ) (fill : ℕ) {a : ValueAnswer} {x 
   unfolding valueLeft
   answer-is = ap (λ (l : ValueLeft). l .answer) e
 
+  -- the rows of the value's tokens stand at the start of the token store
   tokens-are : x ≡ sets tokens 0 (rowsOf fill (stated .tokens))
   unfolding valueLeft left
   tokens-are = ap (λ (l : ValueLeft). l .rows) e
 
+  -- the store of brackets is as the tokens leave it
   brackets-are : b ≡ bracketsAfter (stated .tokens) brackets 0
   unfolding valueLeft left
   brackets-are = ap (λ (l : ValueLeft). l .brackets) e
 
+  -- the texts of the value's tokens stand from the fill on
   pub store-is : z ≡ sets store fill (textsOf (stated .tokens))
   unfolding valueLeft left
   store-is = ap (λ (l : ValueLeft). l .store) e
@@ -198,17 +212,17 @@ module _ (s tokens brackets store : List ℕ) (fill : ℕ) {a : ValueAnswer} {x 
   pub none-said : {k m : ℕ} → a ≡ value.NoValue k m → Unvalued stated k m
   none-said {k} {m} ea = unvalued stated k m (sym ea ∙ answer-is)
 
-  -- those of a value
+  -- an answer with a value says that the brackets are right, and has the value's numbers
   pub some-said : {t k m : ℕ} {i : Bool} → a ≡ value.Value t k m i → Valued stated t k m i
   some-said {t} {k} {m} {i} ea = valued stated t k m i (sym ea ∙ answer-is)
 
   module _ {k : ℕ} (ek : k ≡ length (stated .tokens)) where
-    -- the rows, wiped again
+    -- wiping the rows that were written leaves the store wiped by the value's rows
     pub tokens-wiped : {x′ : List ℕ} → x′ ≡ wiped 0 (tokenWidth * k) x → x′ ≡ wiped 0 (tokenWidth * length (stated .tokens)) tokens
     tokens-wiped q =
         q ∙ rw (ek, tokens-are) (wiped-over tokens 0 (tokenWidth * length (stated .tokens)) (rowsOf fill (stated .tokens)) (omega (arith, rows-long (stated .tokens) fill)))
 
-    -- the brackets, wiped again
+    -- wiping the brackets leaves the store wiped by as many as there are tokens
     pub brackets-zero : {b′ : List ℕ} → b′ ≡ wiped 0 k b → b′ ≡ wiped 0 (length (stated .tokens)) brackets
     brackets-zero q = q ∙ rw (ek, brackets-are) (brackets-wiped (stated .tokens) brackets 0 (length (stated .tokens)) (omega arith))
 
@@ -221,7 +235,7 @@ module _ (s tokens brackets store : List ℕ) (fill : ℕ) {a : ValueAnswer} {x 
       pub count-bits : tokenWidth * k < 2 ^ 64
       count-bits = omega (arith, ek, sized .counted, sized .within, room .bits)
 
-      -- the tokens read back
+      -- the token rows read back as the value's tokens
       back : tokensAt x z k ≡ tokensOf (stated .tokens)
       unfolding left
       back =
@@ -246,7 +260,7 @@ module _ (s tokens brackets store : List ℕ) (fill : ℕ) {a : ValueAnswer} {x 
         pub left-counted : Counted x j
         left-counted = record { inside = omega (arith, unmarked-le, tokens-long, ek, sized .counted, sized .within, room .for-tokens) }
 
--- ---- `parse_declared`
+-- ---- `parse_declared`: the value behind a property that was read
 module _ (names : Bool) (at : ℕ) (s rules : List ℕ) (place : ℕ) (tokens brackets store : List ℕ) (fill v n : ℕ)
     (room : RulesRoom s at rules place tokens brackets store fill) (read : PropertyRead s v n store fill) where
   abbrev name : List ℕ
@@ -255,19 +269,23 @@ module _ (names : Bool) (at : ℕ) (s rules : List ℕ) (place : ℕ) (tokens br
   abbrev value-of : Statement
   value-of = statementOf false (drop v s)
 
+  -- the property that was read takes no more than the text, and its name is shorter than what it takes
   head : Headed s v name
   head = headed s v name (read .reads)
 
+  -- the value starts within the text
   pub value-within : v ≤ length s
   value-within = head .within
 
+  -- the name is shorter than what the property takes
   name-short : n < v
   name-short = omega (arith, head .short, read .long)
 
+  -- the value's tokens, texts and bytes are within the bounds of the text from v on
   sized-value : Sized (drop v s) 0 value-of
   sized-value = statement-sized false (drop v s)
 
-  -- the value has room
+  -- the stores have room for the value behind the name
   rest-room : Room (length (drop v s)) (fill + n) tokens brackets store
   rest-room =
       let l = length-drop v s in
@@ -281,40 +299,50 @@ module _ (names : Bool) (at : ℕ) (s rules : List ℕ) (place : ℕ) (tokens br
         bits = omega (arith, o .bits);
       }
 
+  -- so has the rest of the text as the code lends it
   pub value-room : Room (length (take (length s - v) (drop v s))) (fill + n) tokens brackets store
   value-room = rw (rest s v) rest-room
 
+  -- the fill behind the name fits a word
   pub fill-fits : fill + n < 2 ^ 64
   fill-fits = omega (arith, name-short, value-within, room .room .bits)
 
-  -- what `parse_value` left
+  -- what `parse_value` left: the tokens of the value, and their texts behind the name
   module _ {a : ValueAnswer} {x b z : List ℕ}
       (e : record { answer = a; rows = x; brackets = b; store = z } ≡ valueLeft (statementOf false (take (length s - v) (drop v s))) tokens brackets store (fill + n)) where
+    -- what is left is that of the value of the text from v on
     left-is : record { answer = a; rows = x; brackets = b; store = z } ≡ valueLeft value-of tokens brackets store (fill + n)
     left-is = e ∙ ap (λ t. valueLeft (statementOf false t) tokens brackets store (fill + n)) (rest s v)
 
+    -- the texts of the value's tokens stand behind the name
     stored : z ≡ sets store (fill + n) (textsOf (value-of .tokens))
     stored = store-is (drop v s) tokens brackets store (fill + n) left-is
 
     -- the texts, wiped again
     module _ {m : ℕ} (em : m ≡ length (textsOf (value-of .tokens))) where
+      -- the bytes of the name and of the value's texts together fit a word
       text-bits : n + m < 2 ^ 64
       text-bits = omega (arith, em, sized-value .text, length-drop v s, value-within, name-short, room .room .bits)
 
+      -- wiping name and texts leaves the store wiped by all that the declaration used
       store-wiped : wiped fill (n + m) z ≡ wiped fill (length name + length (textsOf (value-of .tokens))) store
       store-wiped = rw (em, read .long, stored) (wiped-inner store fill n (length (textsOf (value-of .tokens))) (textsOf (value-of .tokens)) (omega arith))
 
     -- a bracket is wrong
     module _ {k m : ℕ} (ea : a ≡ value.NoValue k m) where
+      -- the answer's numbers are the counts of a value with a wrong bracket
       none-here : Unvalued value-of k m
       none-here = none-said (drop v s) tokens brackets store (fill + n) left-is ea
 
+      -- the numbers of the rows to be wiped, where a bracket is wrong, fit a word
       pub none-count : tokenWidth * k < 2 ^ 64
       none-count = count-bits (drop v s) tokens brackets store (fill + n) left-is (none-here .count) rest-room
 
+      -- the bytes of text to be wiped, where a bracket is wrong, fit a word
       pub none-text : n + m < 2 ^ 64
       none-text = text-bits (none-here .text)
 
+      -- the return where a bracket is wrong: no declaration, and all that was used is wiped
       pub none-left : {x′ b′ z′ : List ℕ} → x′ ≡ wiped 0 (tokenWidth * k) x → b′ ≡ wiped 0 k b → z′ ≡ wiped fill (n + m) z
           → record { answer = answer.NoDeclaration; rules = rules; tokens = x′; brackets = b′; store = z′ } ≡ declarationLeft names at s rules place tokens brackets store fill
       none-left {x′} {b′} {z′} ex eb ez =
@@ -323,14 +351,17 @@ module _ (names : Bool) (at : ℕ) (s rules : List ℕ) (place : ℕ) (tokens br
           (tokens-wiped (drop v s) tokens brackets store (fill + n) left-is (u .count) ex)
           (brackets-zero (drop v s) tokens brackets store (fill + n) left-is (u .count) eb) (ez ∙ store-wiped (u .text))
 
-    -- a value
+    -- a value was read, of k tokens and m bytes of text
     module _ {t k m : ℕ} {i : Bool} (ea : a ≡ value.Value t k m i) where
+      -- the answer's numbers are those of a value with right brackets
       some-here : Valued value-of t k m i
       some-here = some-said (drop v s) tokens brackets store (fill + n) left-is ea
 
+      -- the numbers of the rows to be wiped, where a value was read, fit a word
       pub some-count : tokenWidth * k < 2 ^ 64
       some-count = count-bits (drop v s) tokens brackets store (fill + n) left-is (some-here .count) rest-room
 
+      -- the bytes that property and value take together fit a word
       pub some-taken : v + t < 2 ^ 64
       some-taken = omega (arith, some-here .taken, sized-value .within, length-drop v s, value-within, room .room .bits)
 
@@ -339,6 +370,7 @@ module _ (names : Bool) (at : ℕ) (s rules : List ℕ) (place : ℕ) (tokens br
       ks = withoutMark (tokensOf (value-of .tokens))
 
       module _ {j : ℕ} (ej : j ≡ pick i (k - 2) k) where
+        -- the token rows without the mark read back as the value's tokens without it
         tokens-read : tokensAt x z j ≡ ks
         tokens-read = tokens-left (drop v s) tokens brackets store (fill + n) left-is (some-here .count) rest-room (some-here .important) ej
 
@@ -346,17 +378,21 @@ module _ (names : Bool) (at : ℕ) (s rules : List ℕ) (place : ℕ) (tokens br
         begins : Begins (textsOf (value-of .tokens)) (textsMany textOf ks)
         begins = rw (texts-same (value-of .tokens)) at (texts-begin (tokensOf (value-of .tokens)))
 
+        -- their texts are no longer than those of all the value's tokens
         texts-le : length (textsMany textOf ks) ≤ m
         texts-le = omega (arith, some-here .text, ap length (begins .whole), length-append (textsMany textOf ks) (begins .more))
 
+        -- the text store is as long as it was
         store-long : length z ≡ length store
         store-long = ap length stored ∙ length-sets store (fill + n) (textsOf (value-of .tokens))
 
+        -- the texts of the value's tokens lie within the store
         texts-inside : fill + n + length (textsOf (value-of .tokens)) ≤ length store
         texts-inside = texts-room false (drop v s) tokens brackets store (fill + n) rest-room
 
         -- the start is behind white space
         module _ {w : ℕ} (ew : w ≡ skipWhitespace s) where
+          -- the stores have the room that putting the declaration down asks for
           pub put-room : PutRoom (at + w) x j z fill n m
           put-room =
               record {
@@ -374,19 +410,24 @@ module _ (names : Bool) (at : ℕ) (s rules : List ℕ) (place : ℕ) (tokens br
           abbrev declaration : Declaration
           declaration = record { decl = decl; important = isImportant (tokensOf (value-of .tokens)); start = skipWhitespace s }
 
+          -- the name still lies at the fill, before the texts
           name-is : part z fill n ≡ name
           name-is = rw stored (part-apart store fill n (textsOf (value-of .tokens)))
 
+          -- what the stores say is the declaration of the name and the value's tokens
           said-is : declSaid names x j z fill n ≡ declAnswer (namedDecl names decl)
           unfolding declSaid
           said-is = rw (name-is, tokens-read)
 
+          -- the store holds their texts behind the name
           held : Held z (fill + n) (textsMany textOf ks)
           held = rw stored (held-begin _ (fill + n) _ (textsMany textOf ks) begins (sets-held store (fill + n) (textsOf (value-of .tokens)) texts-inside))
 
+          -- what is kept of the store is the declaration's text
           text-is : keptText (declAnswer (namedDecl names decl)) z fill n ≡ declText (namedDecl names decl)
           text-is = keeps-text names z fill n name name-is (read .long) ks held
 
+          -- the return where a value was read: the declaration's row and text are put down, and the rest is wiped
           pub some-left : {q : ℕ} {y x′ b′ z′ : List ℕ} → Put names i (at + w) x j rules place z fill n m q y z′ → x′ ≡ wiped 0 (tokenWidth * k) x → b′ ≡ wiped 0 k b
               → record { answer = answer.Declaration (v + t) q; rules = y; tokens = x′; brackets = b′; store = z′ } ≡ declarationLeft names at s rules place tokens brackets store fill
           unfolding textKept kept declarationText declarationRow
@@ -415,11 +456,13 @@ record Headword (p : Parsed (List ℕ)) (v n : ℕ) : Type 0 where
   reads : p ≡ ok v name
   long : n ≡ length name
 
+-- an answer with a name comes of a property that reads, and has its place and the length of its name
 headword : (p : Parsed (List ℕ)) (m v n : ℕ) → property.Name v n ≡ onParsed p (λ w name. property.Name w (length name)) (property.NoName m) → Headword p v n
 unfolding onParsed
 headword (ok w b) m v n e = let q : v ≡ w = cc in record { name = b; reads = rw q; long = cc }
 headword err m v n e = absurd (let z : _≡_ {A = ℕ} 0 1 = cc in omega arith)
 
+-- an answer without a name comes of a property that does not read
 headless : (p : Parsed (List ℕ)) (m n : ℕ) → property.NoName n ≡ onParsed p (λ w name. property.Name w (length name)) (property.NoName m) → (p ≡ err) × (n ≡ m)
 unfolding onParsed
 headless (ok w b) m n e = absurd (let z : _≡_ {A = ℕ} 0 1 = cc in omega arith)
@@ -431,6 +474,7 @@ module _ (names : Bool) (at : ℕ) (s rules : List ℕ) (place : ℕ) (tokens br
   z-long : length z ≡ length store
   z-long = ap length ez ∙ length-sets store fill (nameText (identOf s))
 
+  -- the stores have the same room with the name written
   pub named-room : RulesRoom s at rules place tokens brackets z fill
   named-room =
       let o = room .room in
@@ -443,21 +487,26 @@ module _ (names : Bool) (at : ℕ) (s rules : List ℕ) (place : ℕ) (tokens br
 
   -- a name and ':'
   module _ {v n : ℕ} (ea : p ≡ property.Name v n) where
+    -- the answer has the property's value place and the length of its name
     word : Headword (propertyOf s) v n
     unfolding propertyAnswer
     word = headword (propertyOf s) (length (nameText (identOf s))) v n (sym ea ∙ ep)
 
+    -- the property takes no more than the text, and its name is the one that was written
     of-word : Headed s v (word .name)
     of-word = headed s v (word .name) (word .reads)
 
+    -- the store is the old one with that name at the fill
     z-is : z ≡ sets store fill (word .name)
     z-is = ez ∙ ap (sets store fill) (of-word .named)
 
+    -- the n bytes at the fill are the name
     part-is : part z fill n ≡ word .name
     part-is =
         ap (λ y. part y fill n) z-is ∙ ap (λ j. part (sets store fill (word .name)) fill j) (word .long)
         ∙ (held-part (sets store fill (word .name)) fill (word .name) (sets-held store fill (word .name) (omega (arith, of-word .short, of-word .within, room .room .for-texts))))
 
+    -- so the property was read, and its name lies in the store
     pub named-read : PropertyRead s v n z fill
     named-read = record { reads = word .reads ∙ ap (ok v) (sym part-is); long = ap length part-is ∙ sym (word .long) }
 
@@ -466,24 +515,29 @@ module _ (names : Bool) (at : ℕ) (s rules : List ℕ) (place : ℕ) (tokens br
     wiped-name =
         rw z-is (wiped-over store fill (usedBy s .bytes) (word .name) (omega (arith, ap (λ (u : Used). u .bytes) (used-is s v (word .name) (word .reads)))))
 
+    -- what is left of the store with the name is what is left of the store without it
     pub declared-left : {l : Leaves DeclarationAnswer} → l ≡ declarationLeft names at s rules place tokens brackets z fill → l ≡ declarationLeft names at s rules place tokens brackets store fill
     unfolding declarationLeft leaves
     declared-left e = e ∙ rw wiped-name
 
-  -- none
+  -- no property reads: there is no declaration, and the name is wiped
   module _ {n : ℕ} (ea : p ≡ property.NoName n) where
+    -- the property does not read, and n is how much of a name was written
     lacks : (propertyOf s ≡ err) × (n ≡ length (nameText (identOf s)))
     unfolding propertyAnswer
     lacks = headless (propertyOf s) (length (nameText (identOf s))) n (sym ea ∙ ep)
 
+    -- what is used is that name alone, and no token
     used-name : usedBy s ≡ record { tokens = 0; bytes = n }
     unfolding usedBy onParsed
     used-name = rw (lacks .0, lacks .1)
 
+    -- so no declaration reads
     unread : declarationOf s ≡ err
     unfolding declarationOf onParsed
     unread = rw (lacks .0)
 
+    -- the return where no property reads: no declaration, and the name is wiped
     pub unnamed-left : {z′ : List ℕ} → z′ ≡ wiped fill n z
         → record { answer = answer.NoDeclaration; rules = rules; tokens = tokens; brackets = brackets; store = z′ } ≡ declarationLeft names at s rules place tokens brackets store fill
     unnamed-left {z′} e =
@@ -504,15 +558,18 @@ module _ (names : Bool) (name : List ℕ) (ks : List Token) where
   abbrev NoLonger : Decl → Type 0
   NoLonger d = length (declText (namedDecl names d)) ≤ length name + length (textsMany textOf ks)
 
+  -- the text of an unknown declaration is its name or nothing
   unknown-le : (b : Bool) → names ≡ b → NoLonger (unknown name)
   unfolding namedDecl declText pick
   unknown-le true e = rw e (omega arith)
   unknown-le false e = rw e (omega arith)
 
+  -- the text of a content is the texts of its tokens
   content-le : NoLonger (content (textsMany textOf ks))
   unfolding namedDecl declText
   content-le = omega arith
 
+  -- whatever a name and tokens declare, its text is no longer than both together
   text-le : NoLonger (declOf name ks)
   text-le = decl-text NoLonger name ks (λ d h. omega (arith, ap length (named-textless names d h))) (unknown-le names refl) content-le
 
@@ -520,6 +577,7 @@ module _ (names : Bool) (s : List ℕ) (v : ℕ) (name : List ℕ) (e : property
   abbrev said : Statement
   said = statementOf false (drop v s)
 
+  -- a declaration with right brackets takes its property and its value, within these bounds
   takes-value : said .balanced ≡ true → Takes names s (v + said .taken)
       (record { decl = declOf name (withoutMark (tokensOf (said .tokens))); important = isImportant (tokensOf (said .tokens)); start = skipWhitespace s })
   unfolding textKept kept declarationText
@@ -541,14 +599,14 @@ module _ (names : Bool) (s : List ℕ) (v : ℕ) (name : List ℕ) (e : property
         sharp = λ k. omega (arith, g .short, z .sharp (omega (arith, g .within)));
       }
 
--- where the same reads
+-- two readings that are equal take and keep the same
 takes-as : (names : Bool) (s : List ℕ) (m n : ℕ) (x d : Declaration) → _≡_ {A = Parsed Declaration} (ok m x) (ok n d) → Takes names s m x → Takes names s n d
 takes-as names s m n x d e t =
     let p : m ≡ n = cc in
     let q : x ≡ d = cc in
     rw (p, q) at t
 
--- where there is no property
+-- where no property reads, there is no declaration
 property-err : (s : List ℕ) → propertyOf s ≡ err → declarationOf s ≡ err
 unfolding declarationOf onParsed
 property-err s e = rw e

@@ -54,7 +54,7 @@ most-le : (a b c : ℕ) → a ≤ c → b ≤ c → most a b ≤ c
 unfolding most
 most-le a b c h k = pick-holds (λ m. m ≤ c) _ b a (λ _. k) (λ _. h)
 
--- by one and more
+-- one declaration within the bounds, and more behind it within what is left, are within them together
 then-small : (n : ℕ) (u w : Used) (k : ℕ) → Small n u → w .tokens ≤ n → k + w .bytes ≤ n + 2 → Small n (usedThen u k w)
 unfolding usedThen
 then-small n u w k h i j = record { tokens = most-le _ _ n (h .tokens) i; bytes = most-le _ _ (n + 2) (h .bytes) j }
@@ -69,6 +69,7 @@ unfolding usedMore pick
 none-used names zero = refl
 none-used names (suc l) = rw (is-no 0 ascii.semicolon (λ e. omega arith))
 
+-- at the end of the text no byte is used
 end-used : (names : Bool) (l : ℕ) (r : List ℕ) → length r ≡ 0 → usedMore names l r .bytes ≡ 0
 unfolding unused
 end-used names l [] h = ap (λ (u : Used). u .bytes) (none-used names l)
@@ -104,7 +105,7 @@ more-small names (suc l) s =
     (λ _. small-more (length (drop w s)) (length s) _ (omega arith) (one-small (drop w s))))
     (λ _. unused-small (length s))
 
--- by all of them
+-- all declarations of a text use no more tokens than it has bytes, and two bytes more of text
 pub rules-small : (names : Bool) (s : List ℕ) → Small (length s) (usedRules names s)
 unfolding usedRules
 rules-small names s =
@@ -117,9 +118,11 @@ rules-small names s =
 module _ (N : ℕ) (s rules tokens brackets store : List ℕ) (fill : ℕ) (within : length s ≤ N) (filled : fill ≤ N) (bits : N < 2 ^ 30)
     (for-store : textLeast N ≤ length store) (for-brackets : bracketLeast N ≤ length brackets) (for-rules : numberLeast N ≤ length rules)
     (for-tokens : numberLeast N ≤ length tokens) where
+  -- stores of the least lengths have room for the tokens, brackets and texts of s
   pub least-room : Room (length s) fill tokens brackets store
   least-room = record { for-tokens = omega arith; for-brackets = omega arith; for-texts = omega arith; bits = omega arith }
 
+  -- stores of the least lengths have the room that reading the styles of s asks for
   pub least-style-room : StyleRoom s rules tokens brackets store fill
   least-style-room =
       record {

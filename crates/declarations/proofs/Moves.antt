@@ -25,7 +25,7 @@ unfolding part
 moved-step l s d k h i = rw (drop-cons l s 0 i, drop-set-lt (suc s) l d (getD l s 0) (omega arith))
 
 module _ (store₀ : List ℕ) (from to n : ℕ) (store : List ℕ) (i : ℕ) (c : Moving store₀ from to n store i) where
-  -- a byte is moved
+  -- with one byte moved down, the bytes behind it are left to move
   pub moving-more : Downward store₀ from to n → i < n → Moving store₀ from to n (set store (to + i) (getD store (from + i) 0)) (i + 1)
   moving-more r h =
       let a : to + (i + 1) ≡ suc (to + i) = omega arith in
@@ -37,7 +37,7 @@ module _ (store₀ : List ℕ) (from to n : ℕ) (store : List ℕ) (i : ℕ) (c
         long = length-set store (to + i) (getD store (from + i) 0) ∙ c .long;
       }
 
-  -- all n are moved
+  -- with all n moved, the part lies at its new place
   pub moving-done : n ≤ i → store ≡ sets store₀ to (part store₀ from n)
   unfolding part
   moving-done h =

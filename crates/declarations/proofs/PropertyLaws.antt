@@ -23,7 +23,7 @@ use Rattle.declarations.specs.declared.rules.Property.the-variants as pr
 
 -- ---- the meaning, where there is a name
 module _ (s : List ℕ) (n : ℕ) (name : List ℕ) (e : identOf s ≡ ok n name) where
-  -- and ':' behind it
+  -- with ':' behind the name, the property reads, and its value starts behind the white space there
   colon-there : (c : ℕ) → c ≡ n + skipWhitespace (drop n s) → is (getD s c 0) ascii.colon ≡ true → propertyOf s ≡ ok (c + 1 + skipWhitespace (drop (c + 1) s)) name
   unfolding propertyOf colonBehind onParsed pick
   colon-there c ec t = rw (e, ← ec, t)
@@ -33,7 +33,7 @@ module _ (s : List ℕ) (n : ℕ) (name : List ℕ) (e : identOf s ≡ ok n name
   unfolding propertyOf colonBehind onParsed pick
   colon-missing c ec t = rw (e, ← ec, t)
 
--- where there is none
+-- where no name reads, there is no property
 no-name : (s : List ℕ) → identOf s ≡ err → propertyOf s ≡ err
 unfolding propertyOf onParsed
 no-name s e = rw e
@@ -44,20 +44,24 @@ answer-hit : (s : List ℕ) (v : ℕ) (name : List ℕ) → propertyOf s ≡ ok 
 unfolding propertyAnswer onParsed
 answer-hit s v name e = rw e
 
+-- where no property reads, the answer has the length of the name that was written
 answer-miss : (s : List ℕ) → propertyOf s ≡ err → (m : ℕ) → m ≡ length (nameText (identOf s)) → property.NoName m ≡ propertyAnswer s
 unfolding propertyAnswer onParsed
 answer-miss s e m em = rw (e, em)
 
 -- ---- the returns of `parse_property`
 module _ (s : List ℕ) {x : Name} (ex : x ≡ nameAnswer (identOf s)) where
+  -- the return where no name reads: nothing was written
   pub property-none : x ≡ code.NoName → property.NoName 0 ≡ propertyAnswer s
   unfolding nameText
   property-none h = let e = unnamed-from (identOf s) (sym h ∙ ex) in answer-miss s (no-name s e) 0 (rw e)
 
   module _ {n m : ℕ} (h : x ≡ code.Text n m) where
+    -- the answer has the bytes that the name takes and the length of its text
     found : NameRead (identOf s) n m
     found = named-from (identOf s) n m (sym h ∙ ex)
 
+    -- the name that was read is within the bounds of the text
     fits : Fits s n (found .name)
     fits = ident-fits s n (found .name) (found .reads)
 
@@ -69,15 +73,18 @@ module _ (s : List ℕ) {x : Name} (ex : x ≡ nameAnswer (identOf s)) where
     module _ {c : ℕ} (ec : c ≡ n + skipWhitespace (drop n s)) where
       -- and a test for ':'
       module _ {t : Bool} (et : t ≡ is (getD s c 0) ascii.colon) where
+        -- the return where no ':' follows the name
         pub property-miss : t ≡ false → property.NoName m ≡ propertyAnswer s
         unfolding nameText
         property-miss f =
             answer-miss s (colon-missing s n (found .name) (found .reads) c ec (sym et ∙ f)) m
             (found .long ∙ ap (λ (p : Parsed (List ℕ)). length (nameText p)) (sym (found .reads)))
 
+        -- a ':' that is found stands before the end of the text
         pub colon-before : t ≡ true → c < length s
         colon-before f = byte-there s c ascii.colon (omega arith) (sym et ∙ f)
 
+        -- the return where ':' follows: the value starts behind it and the white space there
         pub property-hit : t ≡ true → {v : ℕ} → v ≡ c + 1 + skipWhitespace (drop (c + 1) s) → property.Name v m ≡ propertyAnswer s
         property-hit f {v} ev = rw (ev, found .long) (answer-hit s _ (found .name) (colon-there s n (found .name) (found .reads) c ec (sym et ∙ f)))
 
@@ -92,6 +99,7 @@ module _ (s : List ℕ) (n : ℕ) (b : List ℕ) (e : identOf s ≡ ok n b) wher
   abbrev c : ℕ
   c = n + skipWhitespace (drop n s)
 
+  -- by the test for ':', a property that reads stays within the text, and its name is shorter than what it takes
   headed-by : (t : Bool) → is (getD s c 0) ascii.colon ≡ t → (v : ℕ) (name : List ℕ) → propertyOf s ≡ ok v name → Headed s v name
   unfolding nameText
   headed-by true et v name ep =
@@ -107,6 +115,7 @@ module _ (s : List ℕ) (n : ℕ) (b : List ℕ) (e : identOf s ≡ ok n b) wher
       }
   headed-by false et v name ep = absurd (let q : _≡_ {A = Parsed (List ℕ)} err (ok v name) = sym (colon-missing s n b e c refl et) ∙ ep in let z : _≡_ {A = ℕ} 0 1 = cc in omega arith)
 
+-- a property that reads stays within the text, and its name is shorter than what it takes
 pub headed : (s : List ℕ) (v : ℕ) (name : List ℕ) → propertyOf s ≡ ok v name → Headed s v name
 headed s v name ep = go (identOf s) refl
   where

@@ -21,21 +21,25 @@ use Rattle.values.proofs.DeclLaws.{Textless, decl-text}
 use Rattle.declarations.specs.DeclRow.{namedDecl, namedBy, shift, keptText, Keeping, rowBy, Narrow}
 use Rattle.declarations.specs.Leaving.{PutRoom, declSaid, Put}
 
--- ---- `unmarked`
+-- ---- `unmarked`: the count of tokens without the two of a mark
 module _ (count : ℕ) where
+  -- of fewer than two tokens with a mark none is left
   pub unmarked-few : (b : Bool) → b ≡ true → count < 2 → 0 ≡ pick b (count - 2) count
   unfolding pick
   unmarked-few b e h = let z : 0 ≡ count - 2 = omega arith in rw e z
 
+  -- of two tokens or more with a mark, all but two are left
   pub unmarked-two : (b : Bool) → b ≡ true → count - 2 ≡ pick b (count - 2) count
   unfolding pick
   unmarked-two b e = rw e
 
+  -- without a mark all tokens are left
   pub unmarked-all : (b : Bool) → b ≡ false → count ≡ pick b (count - 2) count
   unfolding pick
   unmarked-all b e = rw e
 
 -- ---- a declaration as the code has it, without its name if asked
+-- leaving out the name in the code's answer is the answer for the declaration without its name
 pub named-answer : (names : Bool) (d : Decl) → namedBy names (declAnswer d) ≡ declAnswer (namedDecl names d)
 unfolding namedBy declAnswer namedDecl declOfNumbers pick is
 named-answer names (color c) = refl
@@ -83,7 +87,7 @@ part-le : (store : List ℕ) (f n : ℕ) → length (part store f n) ≤ n
 unfolding part
 part-le store f n = omega (arith, length-take n (drop f store))
 
--- one without a text
+-- a declaration without a text is within any bounds
 textless-bounded : (n t : ℕ) (d : Decl) → Textless d → Bounded n t d
 unfolding Bounded declText
 textless-bounded n t (color c) h = tt
@@ -107,23 +111,29 @@ module _ (names important : Bool) {start : ℕ} {tokens : List ℕ} {count : ℕ
   abbrev said : Decl
   said = declOf (part store f n) (tokensAt tokens store count)
 
+  -- the declaration that the code has is the one that the stores say
   said-is : y ≡ declSaid names tokens count store f n
   unfolding declSaid
   said-is = ey ∙ ap (namedBy names) (ex ∙ ap (λ w. declAnswer (declOf w (tokensAt tokens store count))) ev) ∙ named-answer names said
 
+  -- its text is at most t bytes long, where it is a content, and at most n, where it is a name
   bounded : Bounded n t said
   bounded = decl-bounded (part store f n) (tokensAt tokens store count) n t (part-le store f n) (room .texts)
 
+  -- the text to be kept lies among the n bytes of name and the t bytes behind them
   among : shift y n + y .text ≤ n + t
   unfolding declSaid
   among = rw said-is (text-among names n t said bounded)
 
+  -- so it can be moved down within the store
   pub put-keeping : Keeping y store f n t
   put-keeping = record { inside = room .inside; among = among; bits = omega (arith, room .bits) }
 
+  -- the numbers of its row fit 32 bits
   pub put-narrow : Narrow y start f
   put-narrow = record { text-fits = omega (arith, among, room .bits); start-fits = room .start-bits; fill-fits = omega (arith, room .bits) }
 
+  -- with the text moved down and the row written, the declaration is put down
   pub put-done : {rules rules′ store′ : List ℕ} {place : ℕ} → store′ ≡ sets (wiped f (n + t) store) f (keptText y store f n)
       → rules′ ≡ sets rules place (rowBy (flag important) start f y) → Put names important start tokens count rules place store f n t (y .text) rules′ store′
   put-done {rules} {rules′} {store′} {place} es er =

@@ -18,7 +18,7 @@ use Rattle.values.specs.declared.properties.Decl as declared
 use Rattle.declarations.specs.Moved.{Downward}
 use Rattle.declarations.specs.DeclRow.{namedBy, shift, keptText, Keeping, rowValue, rowBy}
 
--- ---- `named`
+-- ---- `named`: a declaration with the name of its property, or without
 module _ (d : declared.Decl) (names : Bool) where
   -- where names are kept an unknown declaration keeps its name
   pub named-kept : d .kind ≡ unknownKind → names ≡ true → d ≡ namedBy names d
@@ -35,7 +35,7 @@ module _ (d : declared.Decl) (names : Bool) where
   unfolding namedBy declOfNumbers pick
   named-other h = rw (is-no _ _ h)
 
--- ---- `keep_text`
+-- ---- `keep_text`: the text of a declaration moved down to the fill, and zeros behind it
 module _ (d : declared.Decl) (store : List ℕ) (f n t : ℕ) (k : Keeping d store f n t) where
   abbrev from : ℕ
   from = f + shift d n
@@ -44,6 +44,7 @@ module _ (d : declared.Decl) (store : List ℕ) (f n t : ℕ) (k : Keeping d sto
   pub keep-down : (m : ℕ) → m ≡ shift d n → Downward store (f + m) f (d .text)
   keep-down m e = record { down = omega arith; inside = omega (arith, k .inside, k .among) }
 
+  -- the part that is kept has all bytes of the declaration's text
   length-kept : length (part store from (d .text)) ≡ d .text
   unfolding part
   length-kept = length-take-le (d .text) (drop from store) (omega (arith, length-drop from store, k .inside, k .among))
@@ -68,8 +69,9 @@ module _ (d : declared.Decl) (store : List ℕ) (f n t : ℕ) (k : Keeping d sto
       in
       ez ∙ ap (wiped (f + N) M) (ey ∙ ap (λ j. sets store f (part store (f + j) N)) em) ∙ p ∙ sym o ∙ ap (λ l. sets l f x) (sym q)
 
--- ---- `put_declaration`
+-- ---- `put_declaration`: the five numbers of its row, one behind the other
 module _ (d : declared.Decl) (l : List ℕ) (at i s f : ℕ) (v : ℕ) (ev : v ≡ rowValue f d) (m : ℕ) (em : m ≡ i) where
+  -- five numbers emitted in turn, kind, mark, start, value and length of text, leave the declaration's row
   pub row-left : (l₁ l₂ l₃ l₄ l₅ : List ℕ) (f₁ f₂ f₃ f₄ f₅ : ℕ)
       → record { bytes = l₁; fill = f₁ } ≡ emits (record { bytes = l; fill = at }) (d .kind ∷ [])
       → record { bytes = l₂; fill = f₂ } ≡ emits (record { bytes = l₁; fill = f₁ }) (m ∷ [])

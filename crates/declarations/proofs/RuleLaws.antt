@@ -38,6 +38,7 @@ module _ {A B : Type 0} (a₁ : A) (a₂ : B) (d : Declaration) (ds : List Decla
   abbrev one : Leaves A
   one = leaves a₁ (d ∷ []) u rules place tokens brackets store fill
 
+  -- one declaration and then more, each into the stores that were left, leave what all of them leave at once
   pub leaves-then : leaves a₂ ds w (one .rules) (place + declarationWidth) (one .tokens) (one .brackets) (one .store) (fill + length (declarationText d))
       ≡ leaves a₂ (d ∷ ds) (usedThen u (length (declarationText d)) w) rules place tokens brackets store fill
   unfolding leaves usedThen declarationRows declarationTexts rowsMany textsMany
@@ -62,22 +63,27 @@ kept-moved names at w d = let e : at + (w + d .start) ≡ at + w + d .start = om
 module _ (names : Bool) (s : List ℕ) (i : ℕ) where
   -- the rest at i, as the code has it: w is where a declaration is looked for
   module _ (w : ℕ) (ew : w ≡ i + 1 + skipWhitespace (drop (i + 1) s)) where
+    -- the ';' and the white space behind it are the bytes from i up to w
     skip-is : 1 + skipWhitespace (drop 1 (drop i s)) ≡ w - i
     skip-is = let e = ap skipWhitespace (drop-drop 1 i s) in omega arith
 
+    -- what is left at i, without those bytes, is the text from w on
     drop-is : drop (w - i) (drop i s) ≡ drop w s
     drop-is = let e : i + (w - i) ≡ w = omega arith in drop-drop (w - i) i s ∙ rw e
 
+    -- without n bytes more it is the text from w + n on
     behind-is : (n : ℕ) → drop (w - i + n) (drop i s) ≡ drop (w + n) s
     behind-is n = let e : i + (w - i + n) ≡ w + n = omega arith in drop-drop (w - i + n) i s ∙ rw e
 
+    -- n bytes behind the white space are at w + n in the whole text
     at-is : (n : ℕ) → i + (w - i + n) ≡ w + n
     at-is n = omega arith
 
+    -- the end of the white space is at w in the whole text
     from-is : i + (w - i) ≡ w
     from-is = omega arith
 
-    -- ';' and a declaration
+    -- a ';' with a declaration behind it: it is the next, and reading goes on behind it
     pub more-next : is (getD s i 0) ascii.semicolon ≡ true → (l n : ℕ) (d : Declaration) → declarationOf (drop w s) ≡ ok n d
         → (moreRules (suc l) (drop i s) i ≡ record { declarations = startsAt w d ∷ moreRules l (drop (w + n) s) (w + n) .declarations; taken = moreRules l (drop (w + n) s) (w + n) .taken })
         × (usedMore names (suc l) (drop i s) ≡ usedThen (usedBy (drop w s)) (textKept names d) (usedMore names l (drop (w + n) s)))

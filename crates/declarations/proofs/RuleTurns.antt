@@ -58,6 +58,7 @@ module _ (names : Bool) (at place fill : ℕ) where
     unfolding leavesFrom leaves rulesOf declarationRows declarationTexts rowsMany textsMany
     from-used i u = rw (add-zero c, add-zero t)
 
+    -- with nothing left to read and nothing used, the stores and the counts stay as they are
     from-none : (i : ℕ) → leavesFrom names at place fill c t (record { declarations = []; taken = i }) unused rules tokens brackets store
         ≡ record { answer = record { taken = i; count = c; text = t }; rules = rules; tokens = tokens; brackets = brackets; store = store }
     unfolding unused
@@ -120,11 +121,13 @@ record Declared (names : Bool) (p : Parsed Declaration) (n k : ℕ) : Type 0 whe
   reads : p ≡ ok n declaration
   keeps : k ≡ textKept names declaration
 
+-- an answer with a declaration comes of one that reads, and has its bytes and the length of its text
 declared-by : (names : Bool) (p : Parsed Declaration) (n k : ℕ) → answer.Declaration n k ≡ declarationAnswer names p → Declared names p n k
 unfolding declarationAnswer onParsed
 declared-by names (ok m d) n k e = let q : n ≡ m = cc in record { declaration = d; reads = rw q; keeps = cc }
 declared-by names err n k e = absurd (let z : _≡_ {A = ℕ} 0 1 = cc in omega arith)
 
+-- an answer without one comes of a declaration that does not read
 undeclared-by : (names : Bool) (p : Parsed Declaration) → answer.NoDeclaration ≡ declarationAnswer names p → p ≡ err
 unfolding declarationAnswer onParsed
 undeclared-by names (ok m d) e = absurd (let z : _≡_ {A = ℕ} 0 1 = cc in omega arith)
@@ -133,6 +136,7 @@ undeclared-by names err e = refl
 -- what `parse_declaration` left, by what it read
 module _ (names : Bool) (at : ℕ) (s rules : List ℕ) (place : ℕ) (tokens brackets store : List ℕ) (fill : ℕ) {a : DeclarationAnswer} {y x b z : List ℕ}
     (e : record { answer = a; rules = y; tokens = x; brackets = b; store = z } ≡ declarationLeft names at s rules place tokens brackets store fill) where
+  -- the answer is that of the declaration at the start of the text
   pub answer-is : a ≡ declarationAnswer names (declarationOf s)
   unfolding declarationLeft leaves
   answer-is = ap (λ (l : Leaves DeclarationAnswer). l .answer) e
@@ -156,7 +160,7 @@ module _ (names : Bool) (at : ℕ) (s rules : List ℕ) (place : ℕ) (tokens br
       in
       ap (λ (l : Leaves DeclarationAnswer). record { answer = a; rules = l .rules; tokens = l .tokens; brackets = l .brackets; store = l .store }) q
 
--- ---- a turn
+-- ---- a turn of `more_rules`: a ';' and a declaration behind it, or the end
 module _ {names : Bool} {at : ℕ} {s : List ℕ} {from : ℕ} {rules₀ : List ℕ} {place : ℕ} {tokens₀ brackets₀ store₀ : List ℕ} {fill : ℕ}
     {rules tokens brackets store : List ℕ} {taken count text : ℕ}
     (c : Reading names at s from rules₀ place tokens₀ brackets₀ store₀ fill rules tokens brackets store taken count text)
@@ -168,6 +172,7 @@ module _ {names : Bool} {at : ℕ} {s : List ℕ} {from : ℕ} {rules₀ : List 
   abbrev here : RulesRead
   here = record { taken = taken; count = count; text = text }
 
+  -- the counts so far are within the bounds that a caller is told
   bounds : MoreRead s from here
   bounds = record { count = omega (arith, c .counted, c .within); text = omega (arith, c .long, c .within) }
 
@@ -184,22 +189,28 @@ module _ {names : Bool} {at : ℕ} {s : List ℕ} {from : ℕ} {rules₀ : List 
 
   -- ';' and white space up to w
   module _ {t : Bool} (et : t ≡ is (getD s taken 0) ascii.semicolon) (f : t ≡ true) where
+    -- a ';' that is found stands before the end of the text
     pub semicolon-there : taken < length s
     semicolon-there = byte-there s taken ascii.semicolon (omega arith) (sym et ∙ f)
 
+    -- the place of the next row fits a word
     pub rows-fit : place + declarationWidth * count < 2 ^ 64
     rows-fit = omega (arith, semicolon-there, c .counted, o .row-bits)
 
+    -- where a ';' is left, the stores have the room that was asked for
     stores-room : Room (length s - from) fill tokens₀ brackets₀ store₀
     stores-room = o .room (omega (arith, semicolon-there, c .counted))
 
+    -- the fill behind the texts so far fits a word
     pub fill-fits : fill + text < 2 ^ 64
     fill-fits = let l = semicolon-there in omega (arith, c .sharp l, stores-room .bits)
 
+    -- a turn is left, as a byte is
     left-over : (j : ℕ) × (suc j ≡ c .turns)
     left-over = more-turns (length s) taken (c .turns) (c .enough) (c .within)
 
     module _ {w : ℕ} (ew : w ≡ taken + 1 + skipWhitespace (drop (taken + 1) s)) (wl : w ≤ length s) where
+      -- the place of the next declaration in the whole sheet fits a word
       pub start-fits : at + w < 2 ^ 64
       start-fits = omega (arith, o .start-bits)
 
@@ -207,9 +218,11 @@ module _ {names : Bool} {at : ℕ} {s : List ℕ} {from : ℕ} {rules₀ : List 
       abbrev lent : List ℕ
       lent = take (length s - w) (drop w s)
 
+      -- the rest that is lent has the bytes from w on
       lent-long : length lent ≡ length s - w
       lent-long = ap length (rest s w) ∙ length-drop w s
 
+      -- the stores have room for a declaration in that rest, behind the rows and texts so far
       pub next-room : RulesRoom lent (at + w) rules (place + declarationWidth * count) tokens brackets store (fill + text)
       next-room =
           let l = semicolon-there in
@@ -230,14 +243,16 @@ module _ {names : Bool} {at : ℕ} {s : List ℕ} {from : ℕ} {rules₀ : List 
             start-bits = omega (arith, o .start-bits);
           }
 
-      -- what `parse_declaration` left
+      -- what `parse_declaration` left: the declaration, written behind those before
       module _ {a : DeclarationAnswer} {y x b z : List ℕ}
           (e : record { answer = a; rules = y; tokens = x; brackets = b; store = z }
           ≡ declarationLeft names (at + w) lent rules (place + declarationWidth * count) tokens brackets store (fill + text)) where
+        -- what is left is that of the text from w on
         left-is : record { answer = a; rules = y; tokens = x; brackets = b; store = z }
             ≡ declarationLeft names (at + w) (drop w s) rules (place + declarationWidth * count) tokens brackets store (fill + text)
         left-is = e ∙ ap (λ l. declarationLeft names (at + w) l rules (place + declarationWidth * count) tokens brackets store (fill + text)) (rest s w)
 
+        -- the answer is that of the declaration at w
         said : a ≡ declarationAnswer names (declarationOf (drop w s))
         said = answer-is names (at + w) (drop w s) rules (place + declarationWidth * count) tokens brackets store (fill + text) left-is
 
@@ -254,23 +269,29 @@ module _ {names : Bool} {at : ℕ} {s : List ℕ} {from : ℕ} {rules₀ : List 
               bounds,
             )
 
-        -- a declaration
+        -- a declaration was read: it is counted, and the loop goes on behind it
         module _ {n k : ℕ} (ea : a ≡ answer.Declaration n k) where
+          -- the declaration at w reads, with the bytes and the length of text that are answered
           next : Declared names (declarationOf (drop w s)) n k
           next = declared-by names (declarationOf (drop w s)) n k (sym ea ∙ said)
 
+          -- what it takes and keeps is within its bounds
           took : Takes names (drop w s) n (next .declaration)
           took = takes names (drop w s) n (next .declaration) (next .reads)
 
+          -- the declaration ends within the text
           pub next-within : w + n ≤ length s
           next-within = omega (arith, took .within, length-drop w s)
 
+          -- reading goes on behind where it was
           pub next-more : taken < w + n
           next-more = omega arith
 
+          -- the texts so far are at most four bytes longer than the text
           pub next-text : text + k ≤ length s + 4
           next-text = omega (arith, took .text, next .keeps, next-within, c .long, c .within)
 
+          -- with the declaration counted, what is left to read still leaves what all declarations leave
           pub goes : length y ≡ length rules → length x ≡ length tokens → length b ≡ length brackets → length z ≡ length store
               → Reading names at s from rules₀ place tokens₀ brackets₀ store₀ fill y x b z (w + n) (count + 1) (text + k)
           goes ly lx lb lz =
@@ -325,20 +346,24 @@ module _ (names : Bool) (at : ℕ) (s rules : List ℕ) (place : ℕ) (tokens br
       let p = rules-none names s n in
       none-is names at s rules place tokens brackets store fill e n r ∙ rw (er, p .0, p .1)
 
-  -- a declaration
+  -- the first declaration was read: others may follow behind a ';'
   module _ {n k : ℕ} (ea : a ≡ answer.Declaration n k) where
+    -- the first declaration reads, with the bytes and the length of text that are answered
     one-said : Declared names (declarationOf s) n k
     one-said = declared-by names (declarationOf s) n k (sym ea ∙ answer-is names at s rules place tokens brackets store fill e)
 
     abbrev d : Declaration
     d = one-said .declaration
 
+    -- what the first declaration takes and keeps is within its bounds
     one-took : Takes names s n d
     one-took = takes names s n d (one-said .reads)
 
+    -- the fill behind its text fits a word
     pub behind-fits : fill + k < 2 ^ 64
     behind-fits = omega (arith, one-took .text, one-said .keeps, one-took .within, o .room .bits)
 
+    -- behind the first declaration the stores have room for more, where they keep their lengths
     pub behind-room : length y ≡ length rules → length x ≡ length tokens → length b ≡ length brackets → length z ≡ length store
         → MoreRoom s n at y (place + declarationWidth) x b z (fill + k)
     behind-room ly lx lb lz =
@@ -365,9 +390,11 @@ module _ (names : Bool) (at : ℕ) (s rules : List ℕ) (place : ℕ) (tokens br
     module _ {r : RulesRead} {y′ x′ b′ z′ : List ℕ}
         (em : record { answer = r; rules = y′; tokens = x′; brackets = b′; store = z′ } ≡ moreLeft names at s n y (place + declarationWidth) x b z (fill + k))
         (mr : MoreRead s n r) where
+      -- the count of all declarations fits a word
       pub count-fits : r .count + 1 < 2 ^ 64
       count-fits = omega (arith, mr .count, one-took .some, o .start-bits)
 
+      -- the length of all their texts fits a word
       pub text-fits : r .text + k < 2 ^ 64
       text-fits = omega (arith, mr .text, one-took .text, one-said .keeps, one-took .within, o .start-bits)
 
@@ -403,6 +430,7 @@ module _ (names : Bool) (at : ℕ) (s rules : List ℕ) (place : ℕ) (tokens br
           let e₂ : length (declarationTexts behind) + k ≡ length (w ++ declarationTexts behind) = omega (arith, one-said .keeps, length-append w (declarationTexts behind)) in
           rw (q, e₁, e₂)
 
+      -- the return where the first declaration was read: it and those behind it leave what all declarations leave
       pub all-left : {q : RulesRead} → q ≡ record { taken = r .taken; count = r .count + 1; text = r .text + k }
           → record { answer = q; rules = y′; tokens = x′; brackets = b′; store = z′ } ≡ rulesLeft names at s rules place tokens brackets store fill
       all-left {q} eq =

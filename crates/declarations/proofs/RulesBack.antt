@@ -32,6 +32,7 @@ named-fits names (content t) h = tt
 named-fits names (unknown t) h = tt
 
 module _ (names : Bool) (at : ℕ) where
+  -- declarations that fit rows fit them as they are kept, with their starts moved and names left out
   kept-fit : (ds : List Declaration) → DeclarationsFit ds → DeclarationsFit (map (kept names at) ds)
   unfolding kept
   kept-fit [] h = tt
@@ -43,6 +44,7 @@ module _ (names : Bool) (at : ℕ) where
   kept-texts [] = refl
   kept-texts (d ∷ ds) = rw (kept-texts ds)
 
+-- what `parse_rules` leaves reads back, by its count, as the declarations that the text means
 pub rules-back : (names : Bool) (at : ℕ) (s rules : List ℕ) (place : ℕ) (tokens brackets store : List ℕ) (fill : ℕ) → RulesRoom s at rules place tokens brackets store fill →
     let l = rulesLeft names at s rules place tokens brackets store fill in
     let ds = rulesOf names at (declarationsOf s) in

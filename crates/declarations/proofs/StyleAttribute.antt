@@ -53,7 +53,7 @@ nameless-one (whiteSpace w) = tt
 nameless-one (content t) = tt
 nameless-one (unknown n) = refl
 
--- of any of them
+-- declarations that are kept without names have no text other than a content's
 pub nameless : (at : ℕ) (ds : List Declaration) → Nameless (map (kept false at) ds)
 unfolding kept
 nameless at [] = tt
@@ -138,7 +138,7 @@ module _ (names : Bool) where
     abbrev both : Rules
     both = record { declarations = x ∷ r .declarations; taken = r .taken }
 
-    -- its text and theirs
+    -- the texts of all are its own text and those of the declarations behind it
     texts-next : length (declarationTexts (rulesOf names 0 both)) ≡ textKept names d + length (declarationTexts (rulesOf names 0 r))
     unfolding rulesOf declarationTexts textsMany textKept kept declarationText
     texts-next = rw ex (length-append (declarationText (kept names 0 d)) (textsMany declarationText (map (kept names 0) (r .declarations))))
@@ -159,7 +159,7 @@ module _ (names : Bool) where
           fit = (rw ex (declaration-fits s n d e), b .fit);
         }
 
-  -- behind a first one
+  -- declarations behind a first one are bounded by the text
   more-bounded : (l : ℕ) (s : List ℕ) (at : ℕ) → Bounded names at (length s) (moreRules l s at)
   unfolding moreRules startsAt
   more-bounded zero s at = bounded-none at (length s)
@@ -175,7 +175,7 @@ module _ (names : Bool) where
       (bounded-none at (length s)))
       (λ _. bounded-none at (length s))
 
-  -- all of a text
+  -- all declarations of a text are bounded by it
   pub bounded : (s : List ℕ) → Bounded names 0 (length s) (declarationsOf s)
   unfolding declarationsOf
   bounded s =
@@ -223,7 +223,7 @@ pub attribute-fits : (s : List ℕ) → StylesFit (styleAttribute s)
 unfolding styleAttribute
 attribute-fits s = styles-fit (declarationsOf s .declarations) (bounded false s .fit)
 
--- ---- `parse_style_attribute`
+-- ---- `parse_style_attribute`: declarations are read, and their styles written in their place
 module _ (s : List ℕ) where
   -- the declarations as they are kept
   abbrev ds : List Declaration
@@ -257,10 +257,10 @@ module _ (s : List ℕ) where
     rows-fit : 0 + length (declarationRows fill ds) ≤ length rules
     rows-fit = omega (arith, length-declarations fill ds, ds-long, declarations-count s, o .for-declarations .for-rules)
 
-    -- what `parse_rules` left
+    -- what `parse_rules` left: the declarations of the attribute, from the start of the store on
     module _ {r : RulesRead} {y x b z : List ℕ}
         (e : record { answer = r; rules = y; tokens = x; brackets = b; store = z } ≡ rulesLeft false 0 s rules 0 tokens brackets store fill) where
-      -- the count of declarations
+      -- the count that is answered is that of the declarations
       count-is : r .count ≡ length ds
       unfolding rulesLeft leaves rulesAnswer
       count-is = ap (λ (l : Leaves RulesRead). l .answer .count) e
@@ -270,7 +270,7 @@ module _ (s : List ℕ) where
       unfolding rulesLeft leaves
       rules-are = ap (λ (l : Leaves RulesRead). l .rules) e
 
-      -- zeros over the tokens
+      -- what was used of the tokens is zero again
       tokens-are : x ≡ wiped 0 (tokenWidth * usedRules false s .tokens) tokens
       unfolding rulesLeft leaves
       tokens-are = ap (λ (l : Leaves RulesRead). l .tokens) e
@@ -315,13 +315,14 @@ module _ (s : List ℕ) where
           rw (en, styles-are, et, ew, ex, tokens-are, numbers-are, eb, ez, ds-texts, ds-long)
 
     -- ---- what is left reads back: there was room for the texts
+    -- the texts of the attribute's styles fit the store behind the fill
     texts-fit : fill + length (styleTexts (styleAttribute s)) ≤ length store
     texts-fit =
         let b = bounded false s in
         let q = ap length ds-texts in
         omega (arith, b .text, b .within, o .for-declarations .room .for-texts)
 
-    -- and for the rows
+    -- the rows of the attribute's styles fit the store of tokens
     rows-room : length (styleRows fill (styleAttribute s)) ≤ length tokens
     rows-room =
         let q = ap length (rows-meant fill []) in

@@ -100,7 +100,7 @@ module _ (store : List ℕ) where
   unfolding readMany readStyle
   reads-one x = record { long = length-style x; reads = λ t. rw (row-numbers-back x t, row-numbers-rest x t) }
 
-  -- one behind the other
+  -- rows behind rows read as the styles of the first and then of the second
   reads-both : (xs ys : List ℕ) (ds es : List StyleDecl) → Reads xs ds → Reads ys es → Reads (xs ++ ys) (ds ++ es)
   reads-both xs ys ds es p q =
       let e : length (ds ++ es) ≡ length ds + length es = length-append ds es in
@@ -135,12 +135,13 @@ module _ (store : List ℕ) where
   unfolding ownNumbersAt declaredValue readDeclaration
   declared-said t = own-said _ _ _
 
-  -- its row reads so
+  -- the row of what a declaration asks for reads as that style, or none
   reads-said : (o : OwnStyle) → Reads (rowOfOwn o) (saidBy o)
   unfolding rowOfOwn saidBy
   reads-said (Style x) = reads-one x
   reads-said NoStyle = reads-none
 
+  -- the row of the declaration at the start of a stream reads as the style that it asks for
   reads-declared : (t : List ℕ) → Reads (ownRow t) (styleOf (readDeclaration store t .value .important) (readDeclaration store t .value .decl))
   unfolding ownRow
   reads-declared t = rw (← declared-said t) (reads-said (ownNumbersAt t))
@@ -169,6 +170,7 @@ module _ (store : List ℕ) where
 
   -- a test of one of them
   module _ (p : List ℕ → Bool) (q : Decl → Bool) (h : (t : List ℕ) → p t ≡ q (readDeclaration store t .value .decl)) where
+    -- some row passes p exactly if some of the declarations that the rows mean passes q
     any-row : (n : ℕ) (t : List ℕ) → anyRow p n t ≡ anyDecl q (declarationsAt t store n)
     unfolding anyRow anyDecl declarationsAt readMany readDeclaration
     any-row zero t = refl
@@ -195,7 +197,7 @@ module _ (store : List ℕ) where
   unfolding styleNumbers stylesOf
   reads-styles rows n = rw (any-zero n rows, any-hidden n rows) (reads-both _ _ _ _ (reads-rows n rows) (reads-added _))
 
-  -- how many these are
+  -- the count of styles that the rows have is that of the declarations' styles
   pub count-styles : (rows : List ℕ) (n : ℕ) → styleCount rows n ≡ length (stylesOf (declarationsAt rows store n))
   unfolding styleCount
   count-styles rows n = omega (arith, reads-styles rows n .long)
@@ -430,6 +432,7 @@ own-rows-only (d ∷ ds) f t u =
 
 -- a test of one of them
 module _ (p : List ℕ → Bool) (q : Decl → Bool) (h : (i s f : ℕ) (d : Decl) (t : List ℕ) → p (declRow i s f d ++ t) ≡ q d) where
+  -- some row passes p exactly if some of the declarations whose rows they are passes q
   pub any-declared : (ds : List Declaration) (f : ℕ) (t : List ℕ) → anyRow p (length ds) (declarationRows f ds ++ t) ≡ anyDecl q ds
   unfolding anyRow anyDecl declarationRows declarationRow rowsMany
   any-declared [] f t = refl
@@ -455,7 +458,7 @@ unfolding pick one rowsMany rowOfOwn numbersFrom styleSlotOf valueFrom
 added-row true f = sym (one-row addedStyle f _ refl)
 added-row false f = refl
 
--- it has no text
+-- the style that is added has no text
 added-text : (z : Bool) → textsMany styleText (pick z (one false style.displayNone) []) ≡ []
 unfolding pick one textsMany styleText styleTextOf
 added-text true = refl

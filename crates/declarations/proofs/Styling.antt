@@ -46,6 +46,7 @@ module _ (rows : List ℕ) (at k a : ℕ) (ek : k ≡ getD rows (at + declaratio
 
   -- whether it is of one of two kinds, with a value
   module _ (m n v : ℕ) where
+    -- the test of the two numbers that were read is the test of the row at its place
     value-at : (r : Bool) → r ≡ and (or (is k m) (is k n)) (is a v) → r ≡ hasValue m n v (drop at rows)
     unfolding hasValue
     value-at r e = e ∙ rw (ek, ea, getD-drop at rows declarationKind 0, getD-drop at rows declarationValue 0)
@@ -60,7 +61,7 @@ module _ (rows : List ℕ) (at k a : ℕ) (ek : k ≡ getD rows (at + declaratio
     unfolding is
     value-second d e = value-at _ (and-gives _ _ _ (or-right _ _ (is-no k m d) (is-yes k n e)) refl)
 
-    -- it is of neither
+    -- a declaration of neither kind has no such value
     pub value-none : ¬ (k ≡ m) → ¬ (k ≡ n) → false ≡ hasValue m n v (drop at rows)
     value-none d e = value-at _ (and-gives-false _ _ (or-none _ _ (is-no k m d) (is-no k n e)))
 
@@ -156,7 +157,7 @@ pub record Styling (rows : List ℕ) (count : ℕ) (styles₀ styles : List ℕ)
   pub within : i ≤ count
   pub long : length styles ≡ length styles₀
 
--- nothing is written yet
+-- before the first declaration nothing is written, and neither flag is set
 pub styling-begin : (rows : List ℕ) (count : ℕ) (styles : List ℕ) → Styling rows count styles styles 0 false false 0 0
 unfolding or
 styling-begin rows count styles =
@@ -180,7 +181,7 @@ module _ (rows : List ℕ) (count : ℕ) (styles₀ styles : List ℕ) (place : 
         long = k ∙ c .long;
       }
 
-  -- all declarations
+  -- when all declarations are passed, the styles are those of the rows, with the one that is added where it is asked for
   module _ (h : count ≤ i) (room : StylesRoom rows count styles₀) where
     -- behind the last declaration none is left
     none-left : count - i ≡ 0
@@ -194,7 +195,7 @@ module _ (rows : List ℕ) (count : ℕ) (styles₀ styles : List ℕ) (place : 
     both : (height-zero && overflow-hidden) ≡ and (anyRow zeroRow count rows) (anyRow hiddenRow count rows)
     both = and-is height-zero overflow-hidden ∙ rw (any-done zeroRow _ _ height-zero _ none-left (c .height), any-done hiddenRow _ _ overflow-hidden _ none-left (c .overflow))
 
-    -- they add a style
+    -- both flags set: the style that is added is put behind the others
     pub styling-added : (height-zero && overflow-hidden) ≡ true → (x : StyleNumbers) → x ≡ addedStyle → (styles₁ : List ℕ) (place₁ : ℕ)
         → record { bytes = styles₁; fill = place₁ } ≡ emits (record { bytes = styles; fill = place }) (rowOfNumbers x)
         → Styled rows count styles₀ styles₁ (place₁ / styleWidth)

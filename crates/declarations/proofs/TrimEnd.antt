@@ -36,7 +36,7 @@ use Rattle.declarations.proofs.PairLaws.{first-missing, second-missing,
 unfoldable fails : Bool → Bool
 fails t = pick t false true
 
--- then it is false
+-- a test whose failing holds is false
 fails-false : (t : Bool) → fails t ≡ true → t ≡ false
 unfolding fails pick
 fails-false true e = never e

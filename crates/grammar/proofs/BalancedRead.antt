@@ -46,7 +46,7 @@ unfoldable stack : List ℕ → List Frame → List ℕ
 stack base [] = base
 stack base (f ∷ fs) = closes (f .bracket) ∷ stack base fs
 
--- inside no other
+-- inside no other bracket, those are awaited that were before
 stack-none : (base : List ℕ) → stack base [] ≡ base
 unfolding stack
 stack-none base = refl
@@ -57,14 +57,14 @@ opening round = grammar.round
 opening square = grammar.square
 opening curly = grammar.brace
 
--- with the same bytes
+-- an opening bracket is written as in the tokens
 opening-opens : (b : Bracket) → grammar.writtenOpening (opening b) ≡ opens b ∷ []
 unfolding opening opens grammar.writtenOpening
 opening-opens round = refl
 opening-opens square = refl
 opening-opens curly = refl
 
--- closing ones too
+-- a closing bracket is written as in the tokens, too
 opening-closes : (b : Bracket) → grammar.closer (opening b) ≡ closes b
 unfolding opening closes grammar.closer
 opening-closes round = refl
@@ -105,54 +105,54 @@ unfoldable AllClear : Bool → Balanced → List Frame → Type 0
 AllClear calm v [] = Clear v × CalmIf calm v
 AllClear calm v (f ∷ fs) = (Clear v × CalmIf calm v) × AllClear calm (f .behind) fs
 
--- so is the innermost
+-- where all texts are clear, the innermost is, and has no '!' where none may stand
 all-first : (calm : Bool) (v : Balanced) (fs : List Frame) → AllClear calm v fs → Clear v × CalmIf calm v
 unfolding AllClear
 all-first calm v [] c = c
 all-first calm v (f ∷ fs) c = c .0
 
--- which may be another
+-- with another innermost text that is clear, all are clear still
 all-other : (calm : Bool) (v r : Balanced) (fs : List Frame) → AllClear calm v fs → Clear r × CalmIf calm r → AllClear calm r fs
 unfolding AllClear
 all-other calm v r [] c k = k
 all-other calm v r (f ∷ fs) c k = (k, c .1)
 
--- and has a block more around it
+-- with a clear text in a block more, and a clear one behind the block, all are clear still
 all-inside : (calm : Bool) (b : Bracket) (v w r : Balanced) (fs : List Frame) → AllClear calm v fs → Clear w × CalmIf calm w → Clear r × CalmIf calm r
     → AllClear calm w (record { bracket = b; behind = r } ∷ fs)
 unfolding AllClear
 all-inside calm b v w r [] c k j = (k, j)
 all-inside calm b v w r (f ∷ fs) c k j = (k, (j, c .1))
 
--- its text is clear
+-- where all texts are clear, the innermost is, whether a '!' may stand in it or not
 first-clear : (calm : Bool) (v : Balanced) (fs : List Frame) → AllClear calm v fs → Clear v
 first-clear calm v fs c = all-first calm v fs c .0
 
--- what is left of a text
+-- what is left of a text has no semicolon and no brace block where the text may have none
 left-level : (base : List ℕ) (v r : Balanced) → Leaves v r → Level base v → Level base r
 unfolding Level
 left-level [] v r l s = leaves-outside l s
 left-level (c ∷ cs) v r l s = tt
 
--- what is left of the innermost
+-- with what is left of the innermost text, the outermost is as it must be still
 left-sound : (base : List ℕ) (v r : Balanced) (fs : List Frame) → Leaves v r → Sound base v fs → Sound base r fs
 unfolding Sound
 left-sound base v r [] l s = (left-level base v r l (s .0), leaves-tight l (s .1))
 left-sound base v r (f ∷ fs) l s = s
 
--- and of all texts
+-- what is left of a text has no '!' where the text may have none
 left-calm : (calm : Bool) (v r : Balanced) → Leaves v r → CalmIf calm v → CalmIf calm r
 unfolding CalmIf
 left-calm true v r l c = leaves-calm l c
 left-calm false v r l c = tt
 
--- clear as they were
+-- with what is left of the innermost text, all are clear still
 left-clear : (calm : Bool) (v r : Balanced) (fs : List Frame) → Leaves v r → AllClear calm v fs → AllClear calm r fs
 left-clear calm v r fs l c =
     let k = all-first calm v fs c in
     all-other calm v r fs c (leaves-clear l (k .0), left-calm calm v r l (k .1))
 
--- behind a string
+-- where no semicolon and no brace block may stand, none stands behind a string either
 string-level : (base : List ℕ) (q : Quoted) (v : Balanced) → Level base (quoted q v) → Level base v
 unfolding Level Outside
 string-level [] q v s = s
@@ -188,7 +188,7 @@ bang-clear calm v fs c = let k = by-calm calm (all-first calm (bang v) fs c) in 
     by-calm true k = absurd (unfold CalmIf Calm in k .1)
     by-calm false k = unfold Clear CalmIf in ((λ e. never e), (k .0, tt))
 
--- inside a block
+-- a bracket that may stand there may be closed there, and what stands behind its block is as it must be
 block-level : (base : List ℕ) (b : Bracket) (w v : Balanced) → Level base (block b w v) → Closable base b [] × Level base v
 unfolding Level Outside Closable
 block-level [] round w v s = (tt, s)
@@ -222,7 +222,7 @@ block-clear calm b w v fs c = let k = by-calm calm (all-first calm (block b w v)
     by-calm true k = unfold Clear CalmIf Calm in ((k .0 .0, k .1 .0), (k .0 .1, k .1 .1))
     by-calm false k = unfold Clear CalmIf in ((k .0 .0, tt), (k .0 .1, tt))
 
--- behind a '!'
+-- what stands behind a '!' is as it must be there, too
 bang-level : (base : List ℕ) (v : Balanced) → Level base (bang v) → Level base v
 unfolding Level Outside
 bang-level [] v s = s
@@ -246,19 +246,19 @@ unfolding Unbanged
 unbanged-plain [] h = unfold isImportant in refl
 unbanged-plain (k ∷ ks) h = plain-first k ks (h .0) ∙ unbanged-plain ks (h .1)
 
--- steps at tokens
+-- what a statement does at each kind of token
 module _ (include : Bool) where
-  -- one without brackets
+  -- a token without brackets is passed: the brackets that are awaited stay
   harmless-goes : (k : Token) (cs : List ℕ) → Harmless k → stepOf include (bracketOf k) cs ≡ values.next cs
   unfolding stepOf
   harmless-goes k cs h = rw (h .0)
 
-  -- a function
+  -- at a function, the round bracket that closes it is awaited
   call-goes : (b : List ℕ) (cs : List ℕ) → stepOf include (bracketOf (tokens.function b)) cs ≡ values.next (closes round ∷ cs)
   unfolding stepOf bracketOf bracketBy coded closes
   call-goes b cs = refl
 
-  -- a string
+  -- a string is passed: the brackets that are awaited stay
   string-goes : (b : List ℕ) (cs : List ℕ) → stepOf include (bracketOf (tokens.string b)) cs ≡ values.next cs
   unfolding stepOf bracketOf bracketBy coded
   string-goes b cs = refl
@@ -268,12 +268,12 @@ module _ (include : Bool) where
   unfolding stepOf bracketOf bracketBy coded values.ending
   semicolon-goes c cs = refl
 
-  -- a '!'
+  -- a '!' is passed: the brackets that are awaited stay
   bang-goes : (cs : List ℕ) → stepOf include (bracketOf (tokens.delim ascii.exclamationMark)) cs ≡ values.next cs
   unfolding stepOf bracketOf bracketBy coded
   bang-goes cs = refl
 
-  -- an opening bracket
+  -- at an opening bracket, the one that closes it is awaited before the others
   block-goes : (base : List ℕ) (b : Bracket) (v : Balanced) (fs : List Frame)
       → stepOf include (bracketOf (grammar.meansOpening (opening b))) (stack base fs) ≡ values.next (stack base (record { bracket = b; behind = v } ∷ fs))
   unfolding stepOf bracketOf bracketBy coded grammar.meansOpening opening closes stack
@@ -281,21 +281,21 @@ module _ (include : Bool) where
   block-goes base square v fs = refl
   block-goes base curly v fs = refl
 
-  -- a closing one inside another
+  -- a closing bracket inside another is passed, and the others are awaited still
   close-one : (b : Bracket) (c : ℕ) (cs : List ℕ) → stepOf include (bracketOf (grammar.meansCloser (opening b))) (closes b ∷ c ∷ cs) ≡ values.next (c ∷ cs)
   unfolding stepOf bracketOf bracketBy coded grammar.meansCloser opening closes values.closing pick is
   close-one round c cs = refl
   close-one square c cs = refl
   close-one curly c cs = refl
 
-  -- a closing one outside
+  -- a closing bracket that is the last awaited, and no brace, is passed, and none is awaited
   close-last : (b : Bracket) → Closable [] b [] → stepOf include (bracketOf (grammar.meansCloser (opening b))) (closes b ∷ []) ≡ values.next []
   unfolding stepOf bracketOf bracketBy coded grammar.meansCloser opening closes values.closing pick is Closable
   close-last round h = refl
   close-last square h = refl
   close-last curly h = absurd h
 
-  -- either
+  -- a closing bracket that is awaited is passed, whether others are awaited or not
   close-goes : (base : List ℕ) (b : Bracket) (fs : List Frame) → Closable base b fs
       → stepOf include (bracketOf (grammar.meansCloser (opening b))) (closes b ∷ stack base fs) ≡ values.next (stack base fs)
   unfolding stack
@@ -342,7 +342,7 @@ module _ (include calm : Bool) (base : List ℕ) (z : List ℕ) (hz : Halts z) w
       let f = token-fits s n k e in
       omega (arith, f .some, f .within-text, length-drop n s, ap length d)
 
-  -- behind white space
+  -- where a token begins behind white space and the rest passes, all of it passes
   token-step : (l : ℕ) (b : Blanks) (u t : List ℕ) (at n : ℕ) (k : Token) (cs ds : List ℕ) → Begins u n k → drop n u ≡ t → stepOf include (bracketOf k) cs ≡ values.next ds
       → (calm ≡ true → isDelim ascii.exclamationMark k ≡ false) → length (b .bytes ++ u) < suc l → ((j : ℕ) → length t < l → Through include calm t z j ds base) → Through include calm (b .bytes ++ u) z at cs base
   token-step l b u t at n k cs ds e d g w h r =
@@ -371,7 +371,7 @@ void-tight (semicolon v) o m t = o
 void-tight (bang v) o m t = o
 void-tight (block b w v) o m t = o
 
--- so it is empty
+-- a text of white space and comments alone, which may not end in any, is empty
 void-empty : (v : Balanced) → Void v → Tight v → writtenBalanced v ≡ []
 void-empty end o t = unfold writtenBalanced in refl
 void-empty (space x w v) o t = absurd (void-tight (space x w v) o (unfold More in tt) t)
@@ -382,12 +382,12 @@ void-empty (semicolon v) o t = absurd (unfold Void in o)
 void-empty (bang v) o t = absurd (unfold Void in o)
 void-empty (block b w v) o t = absurd (unfold Void in o)
 
--- a string, with t behind it
+-- a string with t behind it is its quote, its characters, its quote and what follows
 quoted-onto : (q : Quoted) (v : Balanced) (t : List ℕ) → writtenBalanced (quoted q v) ++ t ≡ q .quote ∷ (q .bytes ++ (q .quote ∷ (writtenBalanced v ++ t)))
 unfolding writtenBalanced
 quoted-onto q v t = ap (λ (l : List ℕ). q .quote ∷ l) (append-assoc (q .bytes) (q .quote ∷ writtenBalanced v) t)
 
--- what stands behind it
+-- behind the quote, the characters and the quote stands what follows
 string-drop : (q : ℕ) (b t : List ℕ) → drop (1 + length b + 1) (q ∷ (b ++ (q ∷ t))) ≡ t
 string-drop q b t =
     let i : 1 + length b + 1 ≡ 1 + (length b + 1) = omega arith in
@@ -396,7 +396,7 @@ string-drop q b t =
 module _ (include calm : Bool) (base : List ℕ) (z : List ℕ) (hz : Halts z) (l : ℕ)
     (ih : (v : Balanced) (fs : List Frame) (at : ℕ) → length (writtenBalanced v ++ after fs z) < l → AllClear calm v fs → Sound base v fs
     → Through include calm (writtenBalanced v ++ after fs z) z at (stack base fs) base) where
-  -- a plain character
+  -- a text that begins with a plain character passes: with its token, whatever it is, if the rest does
   plain-step : (b : Blanks) (x : ℕ) (e : isPlain x ≡ true) (v : Balanced) (fs : List Frame) (at : ℕ) → length (b .bytes ++ (writtenBalanced (plain x e v) ++ after fs z)) < suc l
       → AllClear calm (plain x e v) fs → Sound base (plain x e v) fs → Through include calm (b .bytes ++ (writtenBalanced (plain x e v) ++ after fs z)) z at (stack base fs) base
   plain-step b x e v fs at h c s = by-token _ refl (start-in (after fs z) ha x e v k)
@@ -432,7 +432,7 @@ module _ (include calm : Bool) (base : List ℕ) (z : List ℕ) (hz : Halts z) (
               ih w (record { bracket = round; behind = r } ∷ fs) i d (block-clear calm round w r fs (left-clear calm (plain x e v) (block round w r) fs y c))
               (block-sound base round w r fs (left-sound base (plain x e v) (block round w r) fs y s))
 
-  -- a string
+  -- a text that begins with a string passes, if the rest does
   string-step : (b : Blanks) (q : Quoted) (v : Balanced) (fs : List Frame) (at : ℕ) → length (b .bytes ++ (writtenBalanced (quoted q v) ++ after fs z)) < suc l
       → AllClear calm (quoted q v) fs → Sound base (quoted q v) fs → Through include calm (b .bytes ++ (writtenBalanced (quoted q v) ++ after fs z)) z at (stack base fs) base
   string-step b q v fs at h c s =
@@ -465,7 +465,7 @@ module _ (include calm : Bool) (base : List ℕ) (z : List ℕ) (hz : Halts z) (
           semicolon-in b v [] at x cs (stack-none base ∙ e) h c (unfold Sound in (subst (λ (q : List ℕ). Level q v) (sym e) (unfold Level in tt), unfold Tight in k .1))
   semicolon-step b v (f ∷ fs) at h c s = semicolon-in b v (f ∷ fs) at (closes (f .bracket)) (stack base fs) (unfold stack in refl) h c (unfold Sound in s)
 
-  -- a '!'
+  -- a text that begins with a '!' passes, if the rest does
   bang-step : (b : Blanks) (v : Balanced) (fs : List Frame) (at : ℕ) → length (b .bytes ++ (writtenBalanced (bang v) ++ after fs z)) < suc l
       → AllClear calm (bang v) fs → Sound base (bang v) fs → Through include calm (b .bytes ++ (writtenBalanced (bang v) ++ after fs z)) z at (stack base fs) base
   unfolding writtenBalanced
@@ -475,7 +475,7 @@ module _ (include calm : Bool) (base : List ℕ) (z : List ℕ) (hz : Halts z) (
       token-step include calm base z hz l b (ascii.exclamationMark ∷ t) t at 1 (tokens.delim ascii.exclamationMark) (stack base fs) (stack base fs) (bang-begins t) refl (bang-goes include (stack base fs))
       (λ e. absurd (k .0 e)) h (λ i w. ih v fs i w (k .1) (bang-sound base v fs s))
 
-  -- an opening bracket
+  -- a text that begins with an opening bracket passes, if what is inside it and behind it does
   block-step : (b : Blanks) (k : Bracket) (w v : Balanced) (fs : List Frame) (at : ℕ) → length (b .bytes ++ (writtenBalanced (block k w v) ++ after fs z)) < suc l
       → AllClear calm (block k w v) fs → Sound base (block k w v) fs → Through include calm (b .bytes ++ (writtenBalanced (block k w v) ++ after fs z)) z at (stack base fs) base
   block-step b k w v fs at h c s =
@@ -501,7 +501,7 @@ module _ (include calm : Bool) (base : List ℕ) (z : List ℕ) (hz : Halts z) (
   solid-step b (bang v) fs at o h c s = bang-step b v fs at h c s
   solid-step b (block k w v) fs at o h c s = block-step b k w v fs at h c s
 
-  -- what closes it
+  -- where only white space is left, the bracket around the text is closed, or outside all brackets the end is reached
   void-step : (b : Blanks) (v : Balanced) (fs : List Frame) (at : ℕ) → Void v → writtenBalanced v ≡ b .bytes → length (writtenBalanced v ++ after fs z) < suc l
       → AllClear calm v fs → Sound base v fs → Through include calm (writtenBalanced v ++ after fs z) z at (stack base fs) base
   unfolding after stack AllClear Sound Unbanged
@@ -514,7 +514,7 @@ module _ (include calm : Bool) (base : List ℕ) (z : List ℕ) (hz : Halts z) (
       (token-step include calm base z hz l b (closes k ∷ t) t at 1 (grammar.meansCloser (opening k)) (closes k ∷ stack base fs) (stack base fs) (bracket-begins k t .1) refl (close-goes include base k fs (s .0))
       (λ _. brackets-unbanged k .1) (subst (λ (u : List ℕ). length (u ++ (closes k ∷ t)) < suc l) e h) (λ i w. ih (f .behind) fs i w (c .1) (s .1)))
 
-  -- every text
+  -- every text passes, if all shorter ones do
   text-step : (v : Balanced) (fs : List Frame) (at : ℕ) → length (writtenBalanced v ++ after fs z) < suc l → AllClear calm v fs → Sound base v fs
       → Through include calm (writtenBalanced v ++ after fs z) z at (stack base fs) base
   text-step v fs at h c s = by-skipped (skipped v (after fs z) (first-clear calm v fs c) (after-halts fs z hz))

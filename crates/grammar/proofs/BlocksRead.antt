@@ -189,6 +189,7 @@ nexts-read (m ∷ ms) q r (suc l) at h =
     (moved-item (at + (1 + length g)) 0 (m .item) ∙ ap (λ (i : ℕ). meansItem i (m .item)) (add-zero (at + (1 + length g))))
 
 -- ---- all declarations of a block
+-- where a first declaration reads, and others behind it, these are the declarations of the text
 some-read : (s : List ℕ) (n : ℕ) (d : Declaration) (t : List ℕ) (ds : List Declaration) (m : ℕ) → declarationOf s ≡ ok n d → drop n s ≡ t
     → moreRules (length s) t n ≡ record { declarations = ds; taken = m } → declarationsOf s ≡ record { declarations = d ∷ ds; taken = m }
 unfolding declarationsOf onParsed

@@ -76,7 +76,7 @@ name-component x l n b e z p =
       zero-add n,
     )
 
--- a type selector
+-- a type selector: a name that ends there, with no bracket or mark before it
 module _ (n : Name) (t : List ℕ) (h : Ended t) where
   -- by how the name starts
   by-start : (bytes : List ℕ) → IdentSequence bytes → identOf (bytes ++ t) ≡ ok (length bytes) bytes → componentOf (bytes ++ t) ≡ reads (length bytes) (element bytes)
@@ -146,7 +146,7 @@ closed-read : (t : List ℕ) (j : ℕ) (c : Component) → getD t j 0 ≡ ascii.
 unfolding closed pick is
 closed-read t j c e = rw e
 
--- `=` in its place
+-- where an `=` stands in the place of the bracket, nothing is closed there
 closed-fails : (t : List ℕ) (j : ℕ) (c : Component) → getD t j 0 ≡ ascii.equalsSign → closed t j c ≡ fails
 unfolding closed pick is
 closed-fails t j c e = rw e
@@ -201,7 +201,7 @@ first-of n t = by-first (n .bytes) (n .sequence)
     by-first _ (started {x} e h) = start-code-point x e
     by-first _ (dashed e h) = hyphen-code-point
 
--- no quote may be
+-- no quote is a character of names
 quotes : (identCodePoint ascii.quotationMark ≡ false) × (identCodePoint ascii.apostrophe ≡ false)
 unfolding identCodePoint identStart letter or and within is
 quotes = (refl, refl)
@@ -217,7 +217,7 @@ unfolding quotedOf onParsed isKind kindOf columnsOf coded textOf pick is
 quoted v u = rw (quoted-read v u)
 
 module _ (n : Name) (r : List ℕ) where
-  -- what stands behind `=`
+  -- behind the bracket, the name and the `=` stands what follows
   behind-equals : drop (2 + length (n .bytes)) (ascii.leftSquareBracket ∷ (n .bytes ++ (ascii.equalsSign ∷ r))) ≡ r
   behind-equals =
       let d : 2 + length (n .bytes) ≡ suc (length (n .bytes)) + 1 = omega arith in

@@ -36,27 +36,29 @@ use Rattle.grammar.specs.Declarations as declarations
 use Rattle.grammar.proofs.Spelling.{isSpelt, ident, spelt, hashed, quoted}
 use Rattle.grammar.proofs.GrammarCases.{nothing, blank}
 
--- `Color: #0F0`
+-- `Color: #0F0`, three digits and letters of either case: green
 unfoldable green : Declared
 unfolding isSpelt allOf ident hashed folded lower isHexDigit identStart identCodePoint letter knownName text utf8 pick or and is within
 green =
     known (ident (text "Color") refl) blank
     (color (shade (three (hashed (text "0F0") refl (omega arith)) ascii.digitZero ascii.capitalF ascii.digitZero refl refl))) refl
 
+-- its property and value are written so, and it declares the colour 0, 255, 0
 test-green : (property green .bytes ≡ text "Color") × (writtenValue green ≡ text " #0F0") × (meansDeclared green ≡ syntax.color (rgb 0 255 0))
 unfolding green property ident writtenValue knownValues colourValues shadeValues hashed writtenValues writtenAtom meansDeclared meansKnown meansColour meansShade pair hexDigit text utf8 continuation pick and within
 test-green = (refl, refl, refl)
 
--- `background:Orange`
+-- `background:Orange`, a colour by its name in letters of either case
 unfoldable orange : Declared
 unfolding isSpelt allOf ident folded lower identStart identCodePoint letter knownName lookup foundOr sameText text utf8 continuation pick or and is within
 orange = known (ident (text "background") refl) nothing (background (named (record { name = ident (text "Orange") refl; means = rgb 255 165 0; listed = refl }))) refl
 
+-- its value is written so, and it declares the background 255, 165, 0
 test-orange : (writtenValue orange ≡ text "Orange") × (meansDeclared orange ≡ syntax.backgroundColor (rgb 255 165 0))
 unfolding orange ident writtenValue knownValues shadeValues writtenValues writtenAtom meansDeclared meansKnown meansShade text utf8 continuation pick
 test-orange = (refl, refl)
 
--- `color:RGB( 7,+20 ,255)`
+-- `color:RGB( 7,+20 ,255)`, three numbers with white space and a sign
 unfoldable seven : Numeral
 unfolding isDigit and within text utf8 pick
 seven = record { sign = unsigned; fraction = false; digits = text "7"; are = more refl each.none; some = omega arith }
@@ -77,11 +79,12 @@ mixed =
     (record { before = nothing; numeral = twenty; whole = refl; positive = refl; byte = omega arith; behind = blank })
     (record { before = nothing; numeral = full; whole = refl; positive = refl; byte = omega arith; behind = nothing }))) refl
 
+-- its value is written so, and it declares the colour 7, 20, 255
 test-mixed : (writtenValue mixed ≡ text "RGB( 7,+20 ,255)") × (meansDeclared mixed ≡ syntax.color (rgb 7 20 255))
 unfolding mixed seven twenty full ident writtenValue knownValues colourValues partValues writtenValues writtenAtom writtenNumeral writtenSign writtenStop writtenOpening closer meansDeclared meansKnown meansColour worth numeral text utf8 continuation pick
 test-mixed = (refl, refl)
 
--- `height:.05EM`, `max-height:-0`
+-- `height:.05EM`, `max-height:-0`: a length that is not zero, and one that is
 unfoldable tiny : Declared
 unfolding isDigit isSpelt allOf ident folded lower identStart identCodePoint letter knownName isExponent startsWith isZero negative anyOf sameText text utf8 continuation pick or and is within
 tiny =
@@ -97,6 +100,7 @@ unfoldable nil : Declared
 unfolding isDigit isZero isSpelt allOf ident folded lower identStart identCodePoint letter knownName text utf8 continuation pick or and is within
 nil = known (ident (text "max-height") refl) nothing (maxHeight (bare (record { sign = minus; fraction = false; digits = text "0"; are = more refl each.none; some = omega arith }) refl)) refl
 
+-- both values are written so: the first declares a height other than zero, the second a maximal height of zero
 test-lengths : (writtenValue tiny ≡ text ".05EM") × (meansDeclared tiny ≡ syntax.height false)
     × (writtenValue nil ≡ text "-0") × (meansDeclared nil ≡ syntax.maxHeight true)
 unfolding tiny nil ident writtenValue knownValues lengthValues writtenValues writtenAtom writtenNumeral writtenSign writtenStop meansDeclared meansKnown meansLength isZero allOf text utf8 continuation pick and is
@@ -123,6 +127,7 @@ unfoldable said : Declared
 unfolding isSpelt allOf ident folded lower identStart identCodePoint letter knownName text utf8 pick or and is within
 said = known (ident (text "content") refl) nothing (content (declarations.more doubled blank (last single))) refl
 
+-- its value is written so, and it declares the content `a"b`
 test-said : (writtenValue said ≡ text "\"a\\\"\" 'b'") × (meansDeclared said ≡ syntax.content (text "a\"b"))
 unfolding said doubled single quoted ident writtenValue knownValues stringValues writtenValues writtenAtom meansDeclared meansKnown meansStrings text utf8 continuation pick
 test-said = (refl, refl)
@@ -134,6 +139,7 @@ group =
     several (record { selector = one (typed (spelt (text "a") refl refl) []); agrees = tt; pseudo = pseudo.before; gap = nothing }) refl nothing
     (selectors.last (record { selector = one (universal []); agrees = tt; pseudo = pseudo.after; gap = blank }))
 
+-- the group is written so, and means an element with `::before` and star with `::after`
 test-group : (writtenGroup group ≡ text "a::before,*::after ")
     × (meansGroup group
     ≡ record { components = pseudo.element (text "a") ∷ []; pseudo = pseudo.before } ∷ record { components = pseudo.star ∷ []; pseudo = pseudo.after } ∷ [])

@@ -155,7 +155,7 @@ six-meant p q x y z w h =
     let e = first-digit z (w ∷ []) (d .1) in
     six-small p q x y z w (a .0) (b .0) (c .0) (d .0) (e .0) (first-digit w [] (e .1) .0)
 
--- three are replicated
+-- a hash of three digits is the colour whose parts are each digit twice
 three-meant : (x y z : ℕ) → allOf isHexDigit (x ∷ y ∷ z ∷ []) ≡ true → hashColour (map lower (x ∷ y ∷ z ∷ [])) ≡ found (rgb (pair x x) (pair y y) (pair z z))
 three-meant x y z h =
     let a = first-digit x (y ∷ z ∷ []) h in
@@ -225,7 +225,7 @@ overflow-meant k =
     rows : All (λ (e : Entry Overflow). overflowOf (ident (e .word) ∷ []) ≡ found (e .means)) overflowWords
     rows = unfold overflowOf firstWord lookup foundOr onFound isKind kindOf columnsOf coded textOf sameText text utf8 continuation pick and is in (refl, (refl, (refl, (refl, tt))))
 
--- each of `display`
+-- each word of the document's table of `display` hides the element or does not, as the table says
 display-meant : (k : Keyword displayWords) → displayOf (ident (folded (k .name)) ∷ []) ≡ k .means
 display-meant k =
     row-holds (λ (w : List ℕ) (a : Bool). displayOf (ident w ∷ []) ≡ a) (folded (k .name)) (k .means) displayWords rows (k .listed)
@@ -235,7 +235,7 @@ display-meant k =
         unfold displayOf firstWord lookup foundOr onFound isKind kindOf columnsOf coded textOf sameText text utf8 continuation pick and is in
         (refl, (refl, (refl, (refl, (refl, (refl, (refl, (refl, (refl, (refl, (refl, (refl, (refl, (refl, (refl, tt)))))))))))))))
 
--- each of `white-space`
+-- each word of the document's table of `white-space` is read as the value that the table says
 white-space-meant : (k : Keyword whiteSpaceWords) → whiteSpaceOf (ident (folded (k .name)) ∷ []) ≡ k .means
 white-space-meant k =
     row-holds (λ (w : List ℕ) (a : WhiteSpace). whiteSpaceOf (ident w ∷ []) ≡ a) (folded (k .name)) (k .means) whiteSpaceWords rows (k .listed)
@@ -285,7 +285,7 @@ alone-value : (b : Blanks) (a : Atom) → isSemicolon a ≡ false → isBang a �
 unfolding Some Apart Follows Outermost Unmarked
 alone-value b a s m = record { some = tt; apart = (tt, tt); outermost = (s, refl); unmarked = (m, tt) }
 
--- a name
+-- a name alone is a value that a declaration may have
 word-value : (b : Blanks) (n : Ident) → DeclarationValue (alone b (word n))
 unfolding isSemicolon isBang
 word-value b n = alone-value b (word n) refl refl
@@ -315,7 +315,7 @@ comma-follows n b =
         unfold mayFollow endsName beginsName identCodePoint identStart letter or and within is in
         record { of-space = refl; of-tab = refl; of-line-feed = refl; of-carriage-return = refl; of-form-feed = refl; of-solidus = refl }
 
--- any colour
+-- every colour, in one token or as `rgb()`, is a value that a declaration may have
 colour-value : (b : Blanks) (v : ColourValue) → DeclarationValue (colourValues b v)
 unfolding colourValues partValues Some Apart Follows Outermost Unmarked isBrace mayFollow
 colour-value b (shade s) = shade-value b s
@@ -327,7 +327,7 @@ colour-value b (parts n h x y z) =
       unmarked = tt;
     }
 
--- a length
+-- every length, with a unit or a bare zero, is a value that a declaration may have
 length-value : (b : Blanks) (l : Length) → DeclarationValue (lengthValues b l)
 unfolding lengthValues isSemicolon isBang
 length-value b (measured m) = alone-value b (dimension (m .numeral) (m .unit)) refl refl

@@ -51,7 +51,7 @@ lead-onto (end b) = sym (append-nil (b .bytes))
 lead-onto (then b a v) = refl
 lead-onto (block b o w v) = refl
 
--- the tokens stay
+-- without the white space before it, a value has the same tokens
 unled-means : (v : Values) → meansValues (unled v) ≡ meansValues v
 unfolding meansValues unled
 unled-means (end b) = refl
@@ -83,7 +83,7 @@ record ValueRead (w : List ℕ) (m : Importance) (t name : List ℕ) (means : De
   reads : valueOf (left ++ t) ≡ ok (length left) (record { tokens = tokens; important = isMarked m })
   meant : declOf name tokens ≡ means
 
--- of component values
+-- component values are read whole, with their mark, and come to the declaration that their tokens mean
 values-read : (v : Values) (m : Importance) (t name : List ℕ) (means : Decl) → DeclarationValue v → declOf name (meansValues v) ≡ means → ValueEnds t
     → ValueRead (writtenValues v) m t name means
 values-read v m t name means h e z =
@@ -116,7 +116,7 @@ any-read v m t name means h e z =
       meant = e (p .ks);
     }
 
--- of every declaration
+-- the value of every declaration is read whole, whether its property is known or not
 declared-read : (d : Declared) (m : Importance) (t : List ℕ) → ValueEnds t → ValueRead (writtenValue d) m t (folded (property d)) (meansDeclared d)
 unfolding writtenValue property meansDeclared
 declared-read (known n b k h) m t z = values-read (knownValues b k) m t (folded n) (meansKnown k) (known-value b k) (declared-meant n b k h) z
@@ -174,7 +174,7 @@ module _ (d : Item) (t : List ℕ) (z : ValueEnds t) where
   abbrev u : List ℕ
   u = k .left
 
-  -- what is written
+  -- a declaration is written as its name, white space, a colon, white space and the value with its mark
   item-parts : writtenItem d ≡ a ++ (g ++ (ascii.colon ∷ (l ++ u)))
   unfolding writtenItem
   item-parts = ap (λ (r : List ℕ). a ++ (g ++ (ascii.colon ∷ r))) (k .onto)

@@ -56,6 +56,7 @@ selector =
     (joined (untyped (attributeIs a b) []) (descendant (record { space = ascii.space; white = blank-space; more = nothing }))
     (one (typed b (nthChild nothing (sum minus two blank false (record { count = three; some = omega arith })) nothing ∷ []))))
 
+-- it is read up to the block, as seven components from the right: nth and b, descendant, the attribute, child, class and a
 test-selector : selectorOf (text "a.b>[a=b] b:nth-child(-2n +3){")
     ≡ reads 29
     (record {

@@ -51,7 +51,7 @@ unfolding writtenChosen
 chosen-length c =
     omega (arith, length-append (written (c .selector)) (writtenPseudo (c .pseudo) ++ c .gap .bytes), length-append (writtenPseudo (c .pseudo)) (c .gap .bytes))
 
--- no white space
+-- white space that is empty
 abbrev nothing : Blanks
 nothing = record { bytes = []; blank = blanks.none }
 
@@ -163,7 +163,7 @@ group-item (last c) t = chosen-item c t
 group-item (several c h b g) t =
     ap whitespaceItem (append-assoc (writtenChosen c) (ascii.comma ∷ (b .bytes ++ writtenGroup g)) t) ∙ chosen-item c _
 
--- the last selector
+-- the last selector of a group is read, up to the block
 last-steps : (c : Chosen) (x : List ℕ) → Steps (last c) x
 unfolding writtenGroup meansGroup
 last-steps c x =
@@ -246,7 +246,7 @@ module _ (c : Chosen) (h : Tight (c .pseudo) (c .gap)) (b : Blanks) (g : Group) 
         behind-comma : (n : ℕ) → drop (1 + length (b .bytes) + n) tail ≡ drop n (writtenGroup g ++ opened x)
         behind-comma n = let i : 1 + length (b .bytes) + n ≡ suc (length (b .bytes) + n) = omega arith in rw i (drop-append-add (b .bytes) (writtenGroup g ++ opened x) n)
 
--- every group
+-- every group is read up to the block, by as many selectors as it has
 steps : (g : Group) (x : List ℕ) → Steps g x
 steps (last c) x = last-steps c x
 steps (several c h b g) x = several-steps c h b g x (steps g x)

@@ -64,7 +64,7 @@ worth-on t i (x ∷ ds) r h e =
     worth-some : (t : List ℕ) (i x : ℕ) (ds : List ℕ) → take (suc (length ds)) (drop i t) ≡ x ∷ ds → Each isDigit (x ∷ ds) → digitsWorth t i (suc (length ds)) ≡ worth (x ∷ ds)
     worth-some t i x ds e h = unfold digitsWorth worth pick in rw (is-no (suc (length ds)) 0 (λ z. omega arith), e) (numeral-same h 0)
 
--- so they are converted
+-- so digits that stand in a text are converted to the number that they write
 converted-on : {A : Type 0} (t : List ℕ) (i : ℕ) (c : Count) (r : List ℕ) (m : Bool) (f : ℤ → Outcome A) → drop i t ≡ c .bytes ++ r
     → converted t i (length (c .bytes)) m f ≡ f (signed m (worth (c .bytes)))
 unfolding converted pick
@@ -78,7 +78,7 @@ unsignedByte x = or (isDigit x) (is x ascii.smallN)
 unfoldable numericByte : ℕ → Bool
 numericByte x = or (unsignedByte x) (or (is x ascii.plusSign) (is x ascii.hyphenMinus))
 
--- the marks are none
+-- neither sign begins what stands behind a sign
 unsigned-others : (unsignedByte ascii.plusSign ≡ false) × (unsignedByte ascii.hyphenMinus ≡ false)
 unfolding unsignedByte isDigit or and within is
 unsigned-others = (refl, refl)
@@ -118,7 +118,7 @@ unworded t e =
       starts-not 0x6f (0x64 ∷ 0x64 ∷ []) t (differs numericByte (getD t 0 0) 0x6f e (no-words .1)),
     )
 
--- ---- an+b
+-- ---- an+b, an and b, by what stands behind the sign and the digits
 module _ (t : List ℕ) (i n w m : ℕ) (minus₁ : Bool) (hi : signTaken t ≡ i) (hn : digits (drop i t) ≡ n) (hm : isMinus t 0 ≡ minus₁) where
   -- all of it is there
   both-by : getD t (i + n) 0 ≡ ascii.smallN → skipWhitespace (drop (i + n + 1) t) ≡ w → digits (drop (i + n + 1 + w + 1) t) ≡ m → isSign t (i + n + 1 + w) ≡ true → 1 ≤ m
@@ -143,7 +143,7 @@ module _ (t : List ℕ) (i n w m : ℕ) (minus₁ : Bool) (hi : signTaken t ≡ 
   unfolding justA pick is
   a-by b = rw (hi, hn, b, hm)
 
-  -- no `n` at all
+  -- without `n` behind the digits there is no an
   a-none : is (getD t (i + n) 0) ascii.smallN ≡ false → justA t ≡ fails
   unfolding justA pick
   a-none b = rw (hi, hn, b)
@@ -164,12 +164,12 @@ module _ (c : Blanks) (r : List ℕ) where
   unfolding isDigit and within
   no-digit = record { of-space = refl; of-tab = refl; of-line-feed = refl; of-carriage-return = refl; of-form-feed = refl; of-solidus = refl }
 
-  -- and with no `n`
+  -- white space and comments begin with no `n`
   no-n : Unblank (λ x. is x ascii.smallN)
   unfolding is
   no-n = record { of-space = refl; of-tab = refl; of-line-feed = refl; of-carriage-return = refl; of-form-feed = refl; of-solidus = refl }
 
-  -- nor does the bracket
+  -- the closing bracket is no digit
   round-digit : isDigit ascii.rightParenthesis ≡ false
   unfolding isDigit and within
   round-digit = refl
@@ -319,6 +319,7 @@ module _ (c : Blanks) (r : List ℕ) where
       ∙ ap (λ (l : Bool). reads (p + 1 + length d) (record { a = signed (negative s) (worth (a .bytes)); b = signed l (worth d) })) (h .1))
 
 -- ---- the whole argument
+-- white space and comments begin with no byte that begins numbers
 numeric-unblank : Unblank numericByte
 unfolding numericByte unsignedByte isDigit or and within is
 numeric-unblank = record { of-space = refl; of-tab = refl; of-line-feed = refl; of-carriage-return = refl; of-form-feed = refl; of-solidus = refl }
@@ -327,7 +328,7 @@ numeric-unblank = record { of-space = refl; of-tab = refl; of-line-feed = refl; 
 numeric-item : (t : List ℕ) {i : ℕ} {m : Bool} → Starts t i m → whitespaceItem t ≡ 0
 numeric-item t g = unblank-item numericByte numeric-unblank t (g .numeric)
 
--- nor do the words
+-- neither word begins with white space
 word-items : (l : List ℕ) → (whitespaceItem (text "even" ++ l) ≡ 0) × (whitespaceItem (text "odd" ++ l) ≡ 0)
 unfolding whitespaceItem isWhitespace commentOf text utf8 continuation pick or is
 word-items l = (refl, refl)
@@ -344,19 +345,23 @@ unfolding writtenArgument
 multiple-onto s a l =
     append-assoc (writtenSign s) (a .bytes ++ (ascii.smallN ∷ [])) l ∙ ap (λ (x : List ℕ). writtenSign s ++ x) (append-assoc (a .bytes) (ascii.smallN ∷ []) l)
 
+-- an argument `an` is as long as its sign, its digits and the `n`
 multiple-length : (s : Sign) (a : Count) → length (writtenSign s) + length (a .bytes) + 1 ≡ length (writtenArgument (multiple s a))
 unfolding writtenArgument
 multiple-length s a = omega (arith, length-append (writtenSign s) (a .bytes ++ (ascii.smallN ∷ [])), length-append (a .bytes) (ascii.smallN ∷ []))
 
+-- an argument `b` with l behind it is its sign, its digits and l
 number-onto : (s : Sign) (b : Integer) (l : List ℕ) → writtenArgument (number s b) ++ l ≡ writtenSign s ++ (b .count .bytes ++ l)
 unfolding writtenArgument
 number-onto s b l = append-assoc (writtenSign s) (b .count .bytes) l
 
+-- an argument `b` is as long as its sign and its digits
 number-length : (s : Sign) (b : Integer) → length (writtenSign s) + length (b .count .bytes) ≡ length (writtenArgument (number s b))
 unfolding writtenArgument
 number-length s b = sym (length-append (writtenSign s) (b .count .bytes))
 
 module _ (s : Sign) (a : Count) (w : Blanks) (m : Bool) (b : Integer) where
+  -- an argument `an+b` with l behind it is its sign and digits, the `n`, white space, a sign, digits and l
   sum-onto : (l : List ℕ) → writtenArgument (sum s a w m b) ++ l ≡ writtenSign s ++ (a .bytes ++ (ascii.smallN ∷ (w .bytes ++ (signByte m ∷ (b .count .bytes ++ l)))))
   unfolding writtenArgument
   sum-onto l =
@@ -365,6 +370,7 @@ module _ (s : Sign) (a : Count) (w : Blanks) (m : Bool) (b : Integer) where
       ∙ ap (λ (x : List ℕ). writtenSign s ++ x)
       (append-assoc (a .bytes) (ascii.smallN ∷ (w .bytes ++ v)) l ∙ ap (λ (x : List ℕ). a .bytes ++ (ascii.smallN ∷ x)) (append-assoc (w .bytes) v l))
 
+  -- an argument `an+b` is as long as these parts together
   sum-length : length (writtenSign s) + length (a .bytes) + 1 + length (w .bytes) + 1 + length (b .count .bytes) ≡ length (writtenArgument (sum s a w m b))
   unfolding writtenArgument
   sum-length =
@@ -402,6 +408,7 @@ argument-read (number s b) c r =
     ∙ ap (λ (n : ℕ). reads n (record { a = pos 0; b = signed (negative s) (worth (b .count .bytes)) })) (number-length s b)
 
 -- ---- `nth-child(`, the argument, and `)`
+-- a bracket, white space, an argument, white space and a bracket are read as the argument
 args-by : (t : List ℕ) (w n : ℕ) (x : Nth) (k : ℕ) → getD t 0 0 ≡ ascii.leftParenthesis → 1 + skipWhitespace (drop 1 t) ≡ w → nthOf (drop w t) ≡ reads n x
     → skipWhitespace (drop (w + n) t) ≡ k → getD t (w + n + k) 0 ≡ ascii.rightParenthesis → nthArgsOf t ≡ reads (w + n + k + 1) x
 unfolding nthArgsOf onOutcome pick is

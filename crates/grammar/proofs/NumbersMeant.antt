@@ -66,7 +66,7 @@ digit-zero x h =
     let p = within-true x ascii.digitZero ascii.digitNine h in
     rw h (same-test _ _ (λ e. let q = is-true (x - ascii.digitZero) 0 e in is-yes x ascii.digitZero (omega arith)) (λ e. let q = is-true x ascii.digitZero e in is-yes _ _ (omega arith)))
 
--- so of all
+-- digits are all zero as numbers exactly if each is written as a 0
 digits-zero : {ds : List ℕ} → Each isDigit ds → allZero (decimal.digits ds) ≡ allOf (λ d. is d ascii.digitZero) ds
 unfolding decimal.digits allZero allOf
 digits-zero none = refl
@@ -152,7 +152,7 @@ sign-zero : (s : Sign) (u : List ℕ) → unsignedFirst (getD u 0 0) ≡ true �
 unfolding numberZero
 sign-zero s u h = rw (signed-unskipped s u h) (by-sign s u h)
 
--- digits alone
+-- digits alone, without a full stop, are zero exactly if each is a 0
 whole-zero : {ds : List ℕ} → Each isDigit ds → unsignedZero ds ≡ allOf (λ d. is d ascii.digitZero) ds
 unfolding unsignedZero
 whole-zero {ds} h =

@@ -64,7 +64,7 @@ pub record PlainByte (x : ℕ) : Type 0 where
   no-bang : is x ascii.exclamationMark ≡ false
   no-escape : is x ascii.reverseSolidus ≡ false
 
--- by the test
+-- a character that passes the test is none of those that are left out
 pub plain-byte : (x : ℕ) → isPlain x ≡ true → PlainByte x
 unfolding isPlain member text utf8 pick
 plain-byte x e =
@@ -122,7 +122,7 @@ leaves-on {q = q} (past-space x w v r h) k = past-space x w v q (leaves-on h k)
 leaves-on {q = q} (past-remark c w v r h) k = past-remark c w v q (leaves-on h k)
 leaves-on {q = q} (past-plain x e v r h) k = past-plain x e v q (leaves-on h k)
 
--- it is as clear
+-- what is left of a clear text is clear
 pub leaves-clear : {v r : Balanced} → Leaves v r → Clear v → Clear r
 unfolding Clear
 leaves-clear (here v) c = c
@@ -160,11 +160,11 @@ pub record Eaten (v : Balanced) (t : List ℕ) (n : ℕ) : Type 0 where
   pub leaves : Leaves v rest
   pub onto : drop n (writtenBalanced v ++ t) ≡ writtenBalanced rest ++ t
 
--- none
+-- where nothing is taken, all of the text is left
 eaten-none : (v : Balanced) (t : List ℕ) → Eaten v t 0
 eaten-none v t = record { rest = v; leaves = here v; onto = refl }
 
--- and more
+-- what is taken from the rest is taken from the whole, behind what was taken before
 eaten-on : {v : Balanced} {t : List ℕ} {n m : ℕ} → (k : Eaten v t n) → Eaten (k .rest) t m → Eaten v t (n + m)
 eaten-on {v} {t} {n} {m} k j =
     record {
@@ -173,7 +173,7 @@ eaten-on {v} {t} {n} {m} k j =
       onto = sym (drop-drop m n (writtenBalanced v ++ t)) ∙ ap (drop m) (k .onto) ∙ j .onto;
     }
 
--- behind one byte more
+-- without n + 1 bytes, a list is its rest without n
 pub drop-one : (n x : ℕ) (l : List ℕ) → drop (1 + n) (x ∷ l) ≡ drop n l
 drop-one n x l = let i : 1 + n ≡ suc n = omega arith in ap (λ (m : ℕ). drop m (x ∷ l)) i
 
@@ -198,7 +198,7 @@ halts-first p k (halts {l} {t} h c) = blank-first p (k .unblank) t h (closes-fir
     closes-first (at-bang r) = k .of-bang
     closes-first (at-brace r) = unfold opens in k .of-open curly
 
--- a quote
+-- such a test fails for a quote
 quote-first : (p : ℕ → Bool) → Plainly p → (q : ℕ) → isQuote q ≡ true → p q ≡ false
 unfolding isQuote
 quote-first p k q e =
@@ -257,7 +257,7 @@ escapeless =
     close-escapeless square = unfold closes is in refl
     close-escapeless curly = unfold closes is in refl
 
--- no backslash begins it
+-- no text in which brackets match begins with a backslash
 no-escape-first : (v : Balanced) (t : List ℕ) → Halts t → is (getD (writtenBalanced v ++ t) 0 0) ascii.reverseSolidus ≡ false
 unfolding Otherwise
 no-escape-first (plain x e v) t h = unfold writtenBalanced in plain-byte x e .no-escape
@@ -270,13 +270,13 @@ no-escape-first (bang v) t h = head-fails (λ x. is x ascii.reverseSolidus) esca
 no-escape-first (block b w v) t h = head-fails (λ x. is x ascii.reverseSolidus) escapeless t h (block b w v) tt
 
 module _ (u : List ℕ → ℕ) (p : ℕ → Bool) (k : Plainly p) (z : Takes u p) (t : List ℕ) (h : Halts t) where
-  -- one is taken
+  -- a byte that passes the test is taken, and the rest behind it
   many-one : (x : ℕ) (l : List ℕ) → is x ascii.reverseSolidus ≡ false → p x ≡ true → many u 0 0 (x ∷ l) ≡ 1 + many u 0 0 l
   unfolding pick
   many-one x l e d =
       many-took u (x ∷ l) 0 1 (omega arith) (z (x ∷ l) e ∙ rw d) (λ q. omega arith) ∙ many-from 1 u l 0 0
 
-  -- none is
+  -- where the first byte fails the test, none is taken
   many-none : (s : List ℕ) → is (getD s 0 0) ascii.reverseSolidus ≡ false → p (getD s 0 0) ≡ false → many u 0 0 s ≡ 0
   unfolding pick
   many-none s e d = many-stop u s 0 (z s e ∙ rw d)
@@ -331,7 +331,7 @@ all-brackets p f x y z round = x
 all-brackets p f x y z square = y
 all-brackets p f x y z curly = z
 
--- characters of names
+-- characters of names are plain characters
 names-plainly : Plainly isNmchar
 unfolding isNmchar isNmstart or and within is opens closes
 names-plainly =
@@ -346,7 +346,7 @@ names-plainly =
       of-close = all-brackets isNmchar closes refl refl refl;
     }
 
--- digits
+-- digits are plain characters
 digits-plainly : Plainly isDigit
 unfolding isDigit and within opens closes
 digits-plainly =
@@ -365,7 +365,7 @@ digits-plainly =
 unfoldable isNumberMark : ℕ → Bool
 isNumberMark x = or (is x ascii.fullStop) (or (is x ascii.percentSign) (or (is x ascii.hyphenMinus) (is x ascii.plusSign)))
 
--- which is plain
+-- the marks of numbers are plain characters
 marks-plainly : Plainly isNumberMark
 unfolding isNumberMark or is opens closes
 marks-plainly =
@@ -395,7 +395,7 @@ eat-chars : (v : Balanced) (t : List ℕ) → Halts t → Eaten v t (charsEnd (w
 unfolding charsEnd
 eat-chars v t h = eat-many charTaken isNmchar names-plainly char-takes t h v
 
--- and digits
+-- and digits are taken, as long as they go on
 eat-digits : (v : Balanced) (t : List ℕ) → Halts t → Eaten v t (digits (writtenBalanced v ++ t))
 unfolding digits
 eat-digits v t h = eat-many oneDigit isDigit digits-plainly (λ s e. unfold oneDigit in refl) t h v
@@ -404,7 +404,7 @@ eat-digits v t h = eat-many oneDigit isDigit digits-plainly (λ s e. unfold oneD
 eaten-first : {v : Balanced} {t : List ℕ} {n : ℕ} → (k : Eaten v t n) → getD (writtenBalanced v ++ t) n 0 ≡ getD (writtenBalanced (k .rest) ++ t) 0 0
 eaten-first {v} {t} {n} k = sym (first (writtenBalanced v ++ t) n) ∙ ap (λ (l : List ℕ). getD l 0 0) (k .onto)
 
--- what a choice takes
+-- what either arm of a choice takes, the choice takes
 eaten-pick : {v : Balanced} {t : List ℕ} (b : Bool) (n m : ℕ) → (b ≡ true → Eaten v t n) → (b ≡ false → Eaten v t m) → Eaten v t (pick b n m)
 eaten-pick {v} {t} b n m f g = pick-holds (Eaten v t) b n m f g
 
@@ -431,7 +431,7 @@ module _ (t : List ℕ) (h : Halts t) where
   unfolding numbers.unsigned
   eat-unsigned v = eaten-pick (is (digits (writtenBalanced v ++ t)) 0) _ _ (λ e. eat-decimal v) (λ e. eat-digits v t h)
 
-  -- a sign or none
+  -- a sign takes a plain character, and no sign takes nothing
   eat-sign : (v : Balanced) → Eaten v t (numbers.sign (writtenBalanced v ++ t))
   unfolding numbers.sign
   eat-sign v =
@@ -452,7 +452,7 @@ module _ (t : List ℕ) (h : Halts t) where
       (λ e. subst (λ (m : ℕ). Eaten v t (numbers.sign s + m)) (ap numbers.unsigned (sym (k .onto))) (eaten-on k j))
 
 -- ---- white space and comments
--- the asterisk
+-- an asterisk is a plain character
 star-plainly : Plainly (λ x. is x ascii.asterisk)
 unfolding is opens closes
 star-plainly =
@@ -497,7 +497,7 @@ Solid (semicolon v) = Unit
 Solid (bang v) = Unit
 Solid (block b w v) = Unit
 
--- or has none
+-- or nothing but white space and comments stands in it
 unfoldable pub Void : Balanced → Type 0
 Void end = Unit
 Void (space x w v) = Void v
@@ -513,14 +513,14 @@ pub data Skipped (t : List ℕ) (v : Balanced) : Type 0 where
   solid : (rest : Balanced) (b : Blanks) → Solid rest → writtenBalanced v ≡ b .bytes ++ writtenBalanced rest → Leaves v rest → whitespaceItem (writtenBalanced rest ++ t) ≡ 0 → Skipped t v
   empty : (b : Blanks) → Void v → writtenBalanced v ≡ b .bytes → Skipped t v
 
--- one more before them
+-- one white space more in front is skipped with what is skipped
 space-skipped : (t : List ℕ) (x : ℕ) (w : White x) (v : Balanced) → Skipped t v → Skipped t (space x w v)
 unfolding writtenBalanced
 space-skipped t x w v (solid rest b o e l i) =
     solid rest (record { bytes = x ∷ b .bytes; blank = white x (b .bytes) w (b .blank) }) o (ap (λ (r : List ℕ). x ∷ r) e) (past-space x w v rest l) i
 space-skipped t x w v (empty b o e) = empty (record { bytes = x ∷ b .bytes; blank = white x (b .bytes) w (b .blank) }) (unfold Void in o) (ap (λ (r : List ℕ). x ∷ r) e)
 
--- or a comment
+-- a comment before a text is skipped with what is skipped of it
 remark-skipped : (t c : List ℕ) (w : Comment c) (v : Balanced) → Skipped t v → Skipped t (remark c w v)
 unfolding writtenBalanced
 remark-skipped t c w v (solid rest b o e l i) =
@@ -528,7 +528,7 @@ remark-skipped t c w v (solid rest b o e l i) =
     (ap (λ (r : List ℕ). c ++ r) e ∙ sym (append-assoc c (b .bytes) (writtenBalanced rest))) (past-remark c w v rest l) i
 remark-skipped t c w v (empty b o e) = empty (record { bytes = c ++ b .bytes; blank = comment c (b .bytes) w (b .blank) }) (unfold Void in o) (ap (λ (r : List ℕ). c ++ r) e)
 
--- no white space
+-- white space that is empty
 abbrev nowhite : Blanks
 nowhite = record { bytes = []; blank = none }
 
@@ -538,21 +538,21 @@ mark-items : (l : List ℕ) → (whitespaceItem (ascii.semicolon ∷ l) ≡ 0) �
 unfolding whitespaceItem isWhitespace commentOf pick or is
 mark-items l = (refl, refl, refl, refl)
 
--- of an opening bracket
+-- an opening bracket begins no white space and no comment
 bracket-item : (b : Bracket) (l : List ℕ) → whitespaceItem (opens b ∷ l) ≡ 0
 unfolding opens whitespaceItem isWhitespace commentOf pick or is
 bracket-item round l = refl
 bracket-item square l = refl
 bracket-item curly l = refl
 
--- of a quote
+-- a quote begins no white space and no comment
 quote-item : (q : ℕ) (l : List ℕ) → isQuote q ≡ true → whitespaceItem (q ∷ l) ≡ 0
 unfolding isQuote
 quote-item q l e =
     rules.either (whitespaceItem (q ∷ l) ≡ 0) _ _ e (λ w. ap (λ (x : ℕ). whitespaceItem (x ∷ l)) (is-true q ascii.quotationMark w) ∙ mark-items l .1)
     (λ w. ap (λ (x : ℕ). whitespaceItem (x ∷ l)) (is-true q ascii.apostrophe w) ∙ mark-items l .2)
 
--- every text
+-- of every text white space and comments are skipped, up to a token or to its end
 pub skipped : (v : Balanced) (t : List ℕ) → Clear v → Halts t → Skipped t v
 unfolding writtenBalanced Clear Solid
 skipped end t c h = empty nowhite (unfold Void in tt) refl
@@ -566,15 +566,15 @@ skipped (block b w v) t c h = solid (block b w v) nowhite tt refl (here (block b
 
 -- what is skipped is taken
 module _ (v rest : Balanced) (b : Blanks) (e : writtenBalanced v ≡ b .bytes ++ writtenBalanced rest) (t : List ℕ) where
-  -- how it stands
+  -- the text is the white space, then what is left, then what follows
   pub skipped-onto : writtenBalanced v ++ t ≡ b .bytes ++ (writtenBalanced rest ++ t)
   skipped-onto = ap (λ (l : List ℕ). l ++ t) e ∙ append-assoc (b .bytes) (writtenBalanced rest) t
 
-  -- what is left
+  -- behind the white space stands what is left
   skipped-drop : drop (length (b .bytes)) (writtenBalanced v ++ t) ≡ writtenBalanced rest ++ t
   skipped-drop = ap (drop (length (b .bytes))) skipped-onto ∙ drop-append-seam (b .bytes) (writtenBalanced rest ++ t)
 
-  -- how much is skipped
+  -- as many bytes are skipped as the white space has
   skipped-length : whitespaceItem (writtenBalanced rest ++ t) ≡ 0 → skipWhitespace (writtenBalanced v ++ t) ≡ length (b .bytes)
   skipped-length i = ap skipWhitespace skipped-onto ∙ skips-blank (b .bytes) (writtenBalanced rest ++ t) (b .blank) i
 
@@ -588,7 +588,7 @@ data NameIn (v : Balanced) (t : List ℕ) : Parsed (List ℕ) → Type 0 where
   unnamed : NameIn v t err
   named : (n : ℕ) (b : List ℕ) → Eaten v t n → NameIn v t (ok n b)
 
--- a name
+-- a name takes plain characters alone, or there is none
 name-in : (t : List ℕ) → Halts t → (v : Balanced) → NameIn v t (nameOf (writtenBalanced v ++ t))
 name-in t h v = by-start (nmstartOf (drop (dash (writtenBalanced v ++ t)) (writtenBalanced v ++ t))) refl
   where
@@ -596,7 +596,7 @@ name-in t h v = by-start (nmstartOf (drop (dash (writtenBalanced v ++ t)) (writt
     by-start (Value n y) e = subst (NameIn v t) (sym (name-some (writtenBalanced v ++ t) n y e)) (named _ _ (eat-chars v t h))
     by-start NoScalar e = subst (NameIn v t) (sym (name-none (writtenBalanced v ++ t) e)) unnamed
 
--- characters of names
+-- characters of names take plain characters alone, or there are none
 chars-in : (t : List ℕ) → Halts t → (v : Balanced) → NameIn v t (charsOf (writtenBalanced v ++ t))
 unfolding charsOf
 chars-in t h v = pick-holds (NameIn v t) (is (charsEnd (writtenBalanced v ++ t)) 0) err _ (λ e. unnamed) (λ e. named _ _ (eat-chars v t h))
@@ -626,22 +626,22 @@ halts-ahead b (halts {l} {t} h c) =
 
 -- a reader behind white space
 module _ (f : List ℕ → Parsed (List ℕ)) (t : List ℕ) (h : Halts t) (i : (v : Balanced) → NameIn v t (f (writtenBalanced v ++ t))) (j : (c : List ℕ) → Closes c → f c ≡ err) where
-  -- what it reads
+  -- the reader, at the first byte behind white space and comments
   abbrev reader : List ℕ → Parsed (List ℕ)
   reader s = parser.behind (skipWhitespace s) (f (drop (skipWhitespace s) s))
 
-  -- where something stands there
+  -- what a reader takes behind what was taken before it, it takes of the whole text
   behind-solid : (v : Balanced) {n : ℕ} (k : Eaten v t n) (p : Parsed (List ℕ)) → NameIn (k .rest) t p → NameIn v t (parser.behind n p)
   unfolding parser.behind
   behind-solid v k _ unnamed = unnamed
   behind-solid v k _ (named m b q) = named _ b (eaten-on k q)
 
-  -- where nothing does
+  -- where a value may end behind white space, it reads nothing
   behind-empty : (s : List ℕ) → Ahead s → reader s ≡ err
   unfolding parser.behind
   behind-empty s (ahead n c e d q) = rw (e, d, j c q)
 
-  -- of every text
+  -- in every text it takes plain characters and white space alone, or reads nothing
   behind-in : (v : Balanced) → Clear v → NameIn v t (reader (writtenBalanced v ++ t))
   behind-in v c = by-skipped (skipped v t c h)
     where
@@ -653,17 +653,17 @@ module _ (f : List ℕ → Parsed (List ℕ)) (t : List ℕ) (h : Halts t) (i : 
       by-skipped (empty b o e) =
           subst (NameIn v t) (sym (ap (λ (r : List ℕ). reader (r ++ t)) e ∙ behind-empty (b .bytes ++ t) (halts-ahead b h))) unnamed
 
--- `parse_ident`
+-- an identifier (`parse_ident`) takes plain characters and white space alone
 ident-in : (t : List ℕ) → Halts t → (v : Balanced) → Clear v → NameIn v t (identOf (writtenBalanced v ++ t))
 unfolding identOf
 ident-in t h v c = behind-in nameOf t h (name-in t h) (λ l q. closes-unnamed q .0) v c
 
--- `parse_identstring`
+-- the characters of a name (`parse_identstring`) take plain characters and white space alone
 identstring-in : (t : List ℕ) → Halts t → (v : Balanced) → Clear v → NameIn v t (identstringOf (writtenBalanced v ++ t))
 unfolding identstringOf
 identstring-in t h v c = behind-in charsOf t h (chars-in t h) (λ l q. closes-unnamed q .1) v c
 
--- ---- numbers
+-- ---- numbers: they take plain characters and white space alone
 number-in : (t : List ℕ) → Halts t → (v : Balanced) → Clear v → Eaten v t (numbers.number (writtenBalanced v ++ t))
 number-in t h v c = by-skipped (skipped v t c h)
   where
@@ -692,12 +692,12 @@ pub data TokenIn (v : Balanced) (t : List ℕ) : Parsed Token → Type 0 where
   call : (n : ℕ) (b : List ℕ) (w r : Balanced) → Leaves v (block round w r) → drop n (writtenBalanced v ++ t) ≡ writtenBalanced w ++ (closes round ∷ (writtenBalanced r ++ t))
       → TokenIn v t (ok n (tokens.function b))
 
--- tokens without brackets
+-- numbers, percentages, hashes and names open and close nothing
 harmless-number : (b : List ℕ) → Harmless (tokens.number b) × Harmless (tokens.percentage b) × Harmless (tokens.hash b) × Harmless (tokens.ident b)
 unfolding bracketOf bracketBy coded isDelim isKind kindOf columnsOf and is
 harmless-number b = ((refl, refl), (refl, refl), (refl, refl), (refl, refl))
 
--- a dimension
+-- a dimension opens and closes nothing
 harmless-dimension : (b u : List ℕ) → Harmless (tokens.dimension b u)
 unfolding bracketOf bracketBy coded isDelim isKind kindOf columnsOf and is
 harmless-dimension b u = (refl, refl)
@@ -713,7 +713,7 @@ unfolding bracketOf bracketBy coded isDelim isKind kindOf columnsOf and is
 harmless-marks = ((refl, refl), (refl, refl))
 
 module _ (t : List ℕ) (h : Halts t) where
-  -- `parse_numeric_token`
+  -- a number, percentage or dimension (`parse_numeric_token`) takes plain characters and white space alone
   numeric-in : (v : Balanced) → Clear v → TokenIn v t (numericOf (writtenBalanced v ++ t))
   unfolding numericOf numericFrom
   numeric-in v c =
@@ -743,7 +743,7 @@ unrounded : Unblank (λ x. is x ascii.leftParenthesis)
 unfolding is
 unrounded = record { of-space = refl; of-tab = refl; of-line-feed = refl; of-carriage-return = refl; of-form-feed = refl; of-solidus = refl }
 
--- what closes does not
+-- what closes begins with no opening round bracket
 closes-unrounded : {c : List ℕ} → Closes c → is (getD c 0 0) ascii.leftParenthesis ≡ false
 unfolding grammar.closer is
 closes-unrounded nothing = refl
@@ -759,14 +759,14 @@ closes-unrounded (at-brace r) = refl
 halts-unrounded : {t : List ℕ} → Halts t → is (getD t 0 0) ascii.leftParenthesis ≡ false
 halts-unrounded (halts {l} {t} h c) = blank-first (λ x. is x ascii.leftParenthesis) unrounded t h (closes-unrounded c)
 
--- nor a quote
+-- a quote is no round bracket
 quote-unrounded : (q : ℕ) → isQuote q ≡ true → is q ascii.leftParenthesis ≡ false
 unfolding isQuote
 quote-unrounded q e =
     rules.either (is q ascii.leftParenthesis ≡ false) _ _ e (λ w. is-no q ascii.leftParenthesis (λ z. omega (arith, is-true q ascii.quotationMark w)))
     (λ w. is-no q ascii.leftParenthesis (λ z. omega (arith, is-true q ascii.apostrophe w)))
 
--- so
+-- so a text that begins with a round bracket begins with a block in round brackets
 round-called : (v : Balanced) (t : List ℕ) → Halts t → is (getD (writtenBalanced v ++ t) 0 0) ascii.leftParenthesis ≡ true → Called v
 unfolding writtenBalanced
 round-called end t h e = never (sym (halts-unrounded h) ∙ e)
@@ -781,7 +781,7 @@ round-called (block round w v) t h e = called w v
 round-called (block square w v) t h e = unfold opens is in never e
 round-called (block curly w v) t h e = unfold opens is in never e
 
--- behind its bracket
+-- a block with what follows is its opening bracket, what is inside, its closing bracket and the rest
 pub block-onto : (b : Bracket) (w r : Balanced) (t : List ℕ) → writtenBalanced (block b w r) ++ t ≡ opens b ∷ (writtenBalanced w ++ (closes b ∷ (writtenBalanced r ++ t)))
 unfolding writtenBalanced
 block-onto b w r t = ap (λ (l : List ℕ). opens b ∷ l) (append-assoc (writtenBalanced w) (closes b ∷ writtenBalanced r) t)
@@ -795,7 +795,7 @@ module _ (t : List ℕ) (h : Halts t) where
       by-called _ l o (called w r) =
           call (n + 1) b w r l (sym (drop-drop 1 n (writtenBalanced v ++ t)) ∙ ap (drop 1) (o ∙ block-onto round w r t))
 
-  -- `parse_ident_like`
+  -- a name, or a function up to its bracket (`parse_ident_like`), takes plain characters and that bracket alone
   like-in : (v : Balanced) → Clear v → TokenIn v t (identLikeOf (writtenBalanced v ++ t))
   unfolding identLikeOf
   like-in v c = by-name _ (ident-in t h v c)
@@ -808,7 +808,7 @@ module _ (t : List ℕ) (h : Halts t) where
           pick-holds (TokenIn v t) (is (getD (writtenBalanced v ++ t) n 0) ascii.leftParenthesis) (ok (n + 1) (tokens.function b)) (ok n (tokens.ident b)) (λ e. call-in v n b k e)
           (λ e. token n (tokens.ident b) k (harmless-number b .3))
 
-  -- the first of two
+  -- what either of two alternatives takes, the first that reads takes
   else-in : (v : Balanced) (p q : Parsed Token) → TokenIn v t p → TokenIn v t q → TokenIn v t (orElse p q)
   unfolding orElse
   else-in v _ q tokenless j = j
@@ -817,17 +817,18 @@ module _ (t : List ℕ) (h : Halts t) where
 
   -- behind one plain character
   module _ (x : ℕ) (e : isPlain x ≡ true) (v : Balanced) where
+    -- what a reader takes behind one plain character, it takes with that character in front
     behind-one : (p : Parsed Token) → TokenIn v t p → TokenIn (plain x e v) t (parser.behind 1 p)
     unfolding parser.behind
     behind-one _ tokenless = tokenless
     behind-one _ (token n k j f) = token (1 + n) k (eaten-plain x e v j) f
     behind-one _ (call n b w r l o) = call (1 + n) b w r (past-plain x e v (block round w r) l) (unfold writtenBalanced in (drop-one n x (writtenBalanced v ++ t) ∙ o))
 
-    -- a delimiter
+    -- a plain character that is a delimiter takes itself alone
     delim-in : TokenIn (plain x e v) t (ok 1 (tokens.delim x))
     delim-in = token 1 (tokens.delim x) (eaten-plain x e v (eaten-none v t)) (harmless-delim x (plain-byte x e .no-bang))
 
-    -- `#`
+    -- a `#` takes the name behind it, or itself alone
     hash-in : Clear v → TokenIn (plain x e v) t (tokens.hashOf x (writtenBalanced (plain x e v) ++ t))
     unfolding tokens.hashOf writtenBalanced
     hash-in c = by-name _ (identstring-in t h v c)
@@ -847,7 +848,7 @@ module _ (t : List ℕ) (h : Halts t) where
             (pick-holds Harmless (is x ascii.comma) tokens.comma _ (λ d. harmless-marks .1) (λ d. pick-holds Harmless (is x ascii.colon) tokens.colon (tokens.delim x) (λ f. harmless-marks .0) (λ f. harmless-delim x (p .no-bang))))
 
 -- ---- the token that a plain character begins
--- '-' and '>'
+-- a '-' is a plain character
 dash-plainly : Plainly (λ x. is x ascii.hyphenMinus)
 unfolding is opens closes
 dash-plainly =
@@ -862,7 +863,7 @@ dash-plainly =
       of-close = all-brackets (λ x. is x ascii.hyphenMinus) closes refl refl refl;
     }
 
--- '>' alone
+-- '>' is a plain character
 greater-plainly : Plainly (λ x. is x ascii.greaterThanSign)
 unfolding is opens closes
 greater-plainly =
@@ -885,7 +886,7 @@ no-cdc x (y ∷ []) t e h =
     rules.and-right _ _ (rules.and-right _ _ (starts-not ascii.greaterThanSign [] t (halts-first (λ x. is x ascii.greaterThanSign) greater-plainly h)))
 no-cdc x (y ∷ z ∷ l) t e h = e
 
--- nor `<!--`
+-- nor does a `<!--` begin where none was written
 no-cdo : (x : ℕ) (l t : List ℕ) → startsWith tokens.cdoMark (x ∷ l) ≡ false → sameText (x ∷ l) (text "<") ≡ false → is x ascii.lessThanSign ≡ true → Halts t
     → startsWith tokens.cdoMark (x ∷ (l ++ t)) ≡ false
 unfolding startsWith sameText text utf8 pick
@@ -905,7 +906,7 @@ module _ (t : List ℕ) (h : Halts t) (x : ℕ) (e : isPlain x ≡ true) (v : Ba
   unfolding Clear
   clear-behind = c
 
-  -- `-`
+  -- `-` begins a number, a name or a function, or is a delimiter; a `-->` it is not
   minus-in : TokenIn (plain x e v) t (tokens.minusOf x text-here)
   unfolding tokens.minusOf
   minus-in =
@@ -916,7 +917,7 @@ module _ (t : List ℕ) (h : Halts t) (x : ℕ) (e : isPlain x ≡ true) (v : Ba
       no-mark : startsWith tokens.cdcMark text-here ≡ false
       no-mark = unfold writtenBalanced in no-cdc x (writtenBalanced v) t (unfold isMark in neither _ _ (neither _ _ (clear-behind .0) .1) .0) h
 
-  -- `<`
+  -- `<` is a delimiter; a `<!--` it is not
   less-in : is x ascii.lessThanSign ≡ true → TokenIn (plain x e v) t (tokens.lessOf x text-here)
   unfolding tokens.lessOf
   less-in q = subst (λ (b : Bool). TokenIn (plain x e v) t (pick b (ok 4 tokens.cdo) (ok 1 (tokens.delim x)))) (sym no-mark) (unfold pick in delim-in t h x e v)
@@ -927,7 +928,7 @@ module _ (t : List ℕ) (h : Halts t) (x : ℕ) (e : isPlain x ≡ true) (v : Ba
       no-mark : startsWith tokens.cdoMark text-here ≡ false
       no-mark = let m = marks (clear-behind .0) in unfold writtenBalanced in no-cdo x (writtenBalanced v) t (m .0) (m .1) q h
 
-  -- by a reader
+  -- what the token takes, by the reader that its first character selects
   abbrev By : Start → Type 0
   By s = TokenIn (plain x e v) t (tokens.tokenBy s 1 x text-here)
 
@@ -960,11 +961,11 @@ unfolding orElse
 else-some (ok m j) n k e = some-read m j e
 else-some err n k e = some-read n k e
 
--- both of a choice
+-- where both arms of a choice read, the choice reads
 pick-some : (b : Bool) (p q : Parsed Token) → ¬ (p ≡ err) → ¬ (q ≡ err) → ¬ (pick b p q ≡ err)
 pick-some b p q f g = pick-holds (λ (r : Parsed Token). ¬ (r ≡ err)) b p q (λ _. f) (λ _. g)
 
--- a name or none
+-- where both what a name makes and what none makes read, one of them reads
 name-some-read : (p : Parsed (List ℕ)) (f : ℕ → List ℕ → Parsed Token) (q : Parsed Token) → ((n : ℕ) (b : List ℕ) → ¬ (f n b ≡ err)) → ¬ (q ≡ err) → ¬ (onParsed p f q ≡ err)
 unfolding onParsed
 name-some-read (ok n b) f q g h = g n b
@@ -992,7 +993,7 @@ letter-named x l i d n = skips (skips-blank [] (x ∷ l) none i) (name-some (x �
     skips : skipWhitespace (x ∷ l) ≡ 0 → nameOf (x ∷ l) ≡ ok (charsEnd (x ∷ l)) (charsText (x ∷ l)) → identOf (x ∷ l) ≡ ok (0 + charsEnd (x ∷ l)) (charsText (x ∷ l))
     skips z q = unfold identOf parser.behind in rw (z, q)
 
--- so it is read
+-- where a name reads, a name or a function reads
 letter-some : (x : ℕ) (l : List ℕ) (n : ℕ) (b : List ℕ) → identOf (x ∷ l) ≡ ok n b → ¬ (identLikeOf (x ∷ l) ≡ err)
 unfolding identLikeOf onParsed
 letter-some x l n b e = rw e (pick-some (is (getD (x ∷ l) n 0) ascii.leftParenthesis) _ _ (some-read _ _) (some-read _ _))
@@ -1026,7 +1027,7 @@ digit-some x l i d q =
     let n = number-digits (x ∷ l) (digits l) (skips-blank [] (x ∷ l) none i) (digit-unsigned x l d) (unsigned-digits (x ∷ l) (digits l) (digit-first x l d)) in
     omega (arith, n, q)
 
--- which is read
+-- where a number begins, a number, percentage or dimension is read
 numeric-some : (s : List ℕ) → ¬ (numbers.number s ≡ 0) → ¬ (numericOf s ≡ err)
 unfolding numericOf numericFrom pick
 numeric-some s d =
@@ -1047,7 +1048,7 @@ module _ (t : List ℕ) (h : Halts t) (x : ℕ) (e : isPlain x ≡ true) (v : Ba
   unfolding writtenBalanced
   letter-there q d = letter-some x (writtenBalanced v ++ t) _ _ (letter-named x (writtenBalanced v ++ t) there-item d (letter-start x (plain-byte x e .high) q))
 
-  -- or a digit
+  -- a number is read where the character is a digit
   digit-there : isDigit x ≡ true → ¬ (numericOf text-there ≡ err)
   unfolding writtenBalanced
   digit-there q = numeric-some (x ∷ (writtenBalanced v ++ t)) (digit-some x (writtenBalanced v ++ t) there-item q)
@@ -1056,7 +1057,7 @@ module _ (t : List ℕ) (h : Halts t) (x : ℕ) (e : isPlain x ≡ true) (v : Ba
   abbrev Some : Start → Type 0
   Some s = ¬ (tokens.tokenBy s 1 x text-there ≡ err)
 
-  -- whatever it selects
+  -- so a plain character begins a token, whichever reader it selects
   pub start-some : Some (startOf x)
   unfolding startOf isQuote
   start-some =

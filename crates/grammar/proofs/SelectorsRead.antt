@@ -44,7 +44,7 @@ unfolding componentsOf onOutcome
 stops s zero e = refl
 stops s (suc l) e = rw e
 
--- so there are none
+-- where no component reads, no components come
 comes-stop : (s : List ℕ) → componentOf s ≡ fails → Comes s 0 []
 comes-stop s e = record { comes = λ l h. stops s l e }
 
@@ -96,7 +96,7 @@ code-point-begins : (x : ℕ) (l : List ℕ) → identCodePoint x ≡ true → B
 code-point-begins x l e =
     record { item = code-point-item x l e; no-greater = differs identCodePoint x ascii.greaterThanSign e (marks .0); no-star = differs identCodePoint x ascii.asterisk e (marks .1) }
 
--- so does a name
+-- with a name no white space, no `>` and no `*` begins
 name-begins : (n : Name) (s : List ℕ) → Begins (n .bytes ++ s)
 name-begins n s = by-start (n .bytes) (n .sequence)
   where
@@ -111,7 +111,7 @@ newline-ended l line-feed = record { no-character = refl; no-escape = λ q. omeg
 newline-ended l carriage-return = record { no-character = refl; no-escape = λ q. omega arith; no-round = refl }
 newline-ended l form-feed = record { no-character = refl; no-escape = λ q. omega arith; no-round = refl }
 
--- of all white space
+-- a name ends before white space
 white-ended : {x : ℕ} (l : List ℕ) → White x → Ended (x ∷ l)
 unfolding identCodePoint identStart letter or and within is
 white-ended l (newline n) = newline-ended l n
@@ -135,6 +135,7 @@ unfolding identCodePoint identStart letter or and within is
 greater-ended l = record { no-character = refl; no-escape = λ q. omega arith; no-round = refl }
 
 -- ---- a simple selector
+-- a simple selector is written in one byte or more
 simple-some : (p : Simple) → 1 ≤ length (writtenSimple p)
 unfolding writtenSimple
 simple-some (id n) = omega arith
@@ -149,11 +150,13 @@ length-attribute : (n : Name) → 1 + length (n .bytes) + 1 ≡ length (writtenS
 unfolding writtenSimple
 length-attribute n = omega (arith, length-append (n .bytes) (ascii.rightSquareBracket ∷ []))
 
+-- an attribute with a name as its value is as long as both names, the brackets and the `=`
 length-attribute-is : (n v : Name) → 2 + length (n .bytes) + length (v .bytes) + 1 ≡ length (writtenSimple (attributeIs n v))
 unfolding writtenSimple
 length-attribute-is n v =
     omega (arith, length-append (n .bytes) (ascii.equalsSign ∷ (v .bytes ++ (ascii.rightSquareBracket ∷ []))), length-append (v .bytes) (ascii.rightSquareBracket ∷ []))
 
+-- an attribute with a string as its value is as long as its name, the string with its quotes, the brackets and the `=`
 length-attribute-string : (n : Name) (v : Quoted) → 2 + length (n .bytes) + (1 + length (v .bytes) + 1) + 1 ≡ length (writtenSimple (attributeString n v))
 unfolding writtenSimple
 length-attribute-string n v =
@@ -168,6 +171,7 @@ attribute-onto : (n : Name) (s : List ℕ) → writtenSimple (attribute n) ++ s 
 unfolding writtenSimple
 attribute-onto n s = ap (λ (l : List ℕ). ascii.leftSquareBracket ∷ l) (append-assoc (n .bytes) (ascii.rightSquareBracket ∷ []) s)
 
+-- an attribute with a name as its value, and s behind it, is its parts in order and s
 attribute-is-onto : (n v : Name) (s : List ℕ)
     → writtenSimple (attributeIs n v) ++ s ≡ ascii.leftSquareBracket ∷ (n .bytes ++ (ascii.equalsSign ∷ (v .bytes ++ (ascii.rightSquareBracket ∷ s))))
 unfolding writtenSimple
@@ -176,6 +180,7 @@ attribute-is-onto n v s =
     (append-assoc (n .bytes) (ascii.equalsSign ∷ (v .bytes ++ (ascii.rightSquareBracket ∷ []))) s
     ∙ ap (λ (l : List ℕ). n .bytes ++ (ascii.equalsSign ∷ l)) (append-assoc (v .bytes) (ascii.rightSquareBracket ∷ []) s))
 
+-- an attribute with a string as its value, and s behind it, is its parts in order and s
 attribute-string-onto : (n : Name) (v : Quoted) (s : List ℕ)
     → writtenSimple (attributeString n v) ++ s
     ≡ ascii.leftSquareBracket ∷ (n .bytes ++ (ascii.equalsSign ∷ v .quote ∷ (v .bytes ++ (v .quote ∷ ascii.rightSquareBracket ∷ s))))
@@ -187,6 +192,7 @@ attribute-string-onto n v s =
 
 -- `nth-child`, and what is written behind it
 module _ (b : Blanks) (x : Argument) (c : Blanks) where
+  -- `:nth-child()` with s behind it is its name, the bracket, white space, the argument, white space, the bracket and s
   nth-child-onto : (s : List ℕ)
       → writtenSimple (nthChild b x c) ++ s
       ≡ ascii.colon ∷ (text "nth-child" ++ (ascii.leftParenthesis ∷ (b .bytes ++ (writtenArgument x ++ (c .bytes ++ (ascii.rightParenthesis ∷ s))))))
@@ -200,6 +206,7 @@ module _ (b : Blanks) (x : Argument) (c : Blanks) where
       (append-assoc (b .bytes) (a ++ (c .bytes ++ v)) s
       ∙ ap (λ (l : List ℕ). b .bytes ++ l) (append-assoc a (c .bytes ++ v) s ∙ ap (λ (l : List ℕ). a ++ l) (append-assoc (c .bytes) v s))))
 
+  -- `:nth-child()` is as long as these parts together
   nth-child-length : 10 + (1 + length (b .bytes) + length (writtenArgument x) + length (c .bytes) + 1) ≡ length (writtenSimple (nthChild b x c))
   unfolding writtenSimple text utf8 continuation pick
   nth-child-length =
@@ -225,6 +232,7 @@ simple-read (nthChild b x c) s h =
     ∙ ap (λ (m : ℕ). reads m (syntax.nth (meansArgument x .a) (meansArgument x .b))) (nth-child-length b x c)
 
 -- ---- simple selectors one behind the other
+-- where a name ends before s, it ends before simple selectors with s behind them
 simples-ended : (ps : List Simple) (s : List ℕ) → Ended s → Ended (writtenSimples ps ++ s)
 unfolding writtenSimples
 simples-ended [] s h = h
@@ -285,7 +293,7 @@ data Stops : List ℕ → Type 0 where
   ends : {t : List ℕ} → Ends t → Stops t
   colons : (t : List ℕ) → Stops (ascii.colon ∷ ascii.colon ∷ t)
 
--- no component begins there
+-- where a selector stops, no component begins
 end-fails : {t : List ℕ} → Stops t → componentOf t ≡ fails
 unfolding componentOf marked blankOf classOf attrOf hashOf pseudoClassOf orElse parsed onParsed identOf nameOf nameFrom dash nmstartOf either nmstartCharOf foldedChar identEscapeOf isNmstart parser.behind skipWhitespace many took whitespaceItem isWhitespace commentOf pick or and within is
 end-fails (ends text-ends) = refl
@@ -293,7 +301,7 @@ end-fails (ends (block t)) = refl
 end-fails (ends (another t)) = refl
 end-fails (colons t) = refl
 
--- no white space
+-- there no white space, no '>' and no '*' begins
 end-item : {t : List ℕ} → Stops t → Begins t
 unfolding whitespaceItem isWhitespace commentOf pick or is
 end-item (ends text-ends) = record { item = refl; no-greater = refl; no-star = refl }
@@ -308,7 +316,7 @@ end-pseudo text-ends = refl
 end-pseudo (block t) = refl
 end-pseudo (another t) = refl
 
--- and a name ends
+-- where a selector stops, a name ends
 end-ended : {t : List ℕ} → Stops t → Ended t
 unfolding identCodePoint identStart letter or and within is
 end-ended (ends text-ends) = record { no-character = refl; no-escape = λ q. omega arith; no-round = refl }
@@ -378,6 +386,7 @@ combinator-ended (child b c) s =
 combinator-ended (descendant w) s = white-ended (w .more .bytes ++ s) (w .white)
 
 -- ---- the first byte of a selector
+-- an asterisk begins no white space and no comment
 star-item : (l : List ℕ) → whitespaceItem (ascii.asterisk ∷ l) ≡ 0
 unfolding whitespaceItem isWhitespace commentOf pick or is
 star-item l = refl
@@ -449,14 +458,14 @@ comes-of {s} {n} e h = subst (λ (r : List Component). Comes s n r) e h
 
 -- `*`, `>` and a selector
 module _ (x y : Blanks) (g : Complex) where
-  -- how they are written
+  -- star, white space, `>`, white space and what follows are written in that order
   star-onto : (s : List ℕ) → (ascii.asterisk ∷ x .bytes) ++ (ascii.greaterThanSign ∷ (y .bytes ++ (written g ++ s))) ≡ written (joined (universal []) (child x y) g) ++ s
   unfolding writtenCompound writtenSimples writtenCombinator
   star-onto s =
       ap (λ (l : List ℕ). ascii.asterisk ∷ l) (sym (append-assoc (x .bytes) (ascii.greaterThanSign ∷ y .bytes) (written g ++ s)))
       ∙ sym (joined-onto (universal []) (child x y) g s)
 
-  -- how long they are
+  -- the lengths of these parts add up to that of the whole
   star-length : (m : ℕ) → length (ascii.asterisk ∷ x .bytes) + (length (ascii.greaterThanSign ∷ y .bytes) + (length (written g) + m))
       ≡ length (written (joined (universal []) (child x y) g)) + m
   unfolding writtenCompound writtenSimples writtenCombinator
@@ -538,6 +547,7 @@ module _ {b t : List ℕ} (hb : Blank b) (ht : Stops t) where
   complex-comes (joined k (descendant w) g) a = joined-end k (descendant w) g (complex-comes g (a .2)) (a .1) (a .0)
 
 -- ---- `bodyOf`, which reads a name at the start by itself
+-- a name at the start is read as an element, in front of the components that come behind it
 element-named : (m : Name) (r : List ℕ) (n : ℕ) (cs : List Component) → Ended r → Comes r n cs
     → withElementOf (m .bytes ++ r) ≡ reads (length (m .bytes) + n) (syntax.element (m .bytes) ∷ cs)
 unfolding withElementOf componentsFrom onParsed behind onOutcome
@@ -553,7 +563,7 @@ body-unnamed : (s : List ℕ) (n : ℕ) (c : Component) (cs : List Component) �
 unfolding bodyOf withElementOf withoutElementOf componentsFrom someOf orElse onParsed onOutcome pick
 body-unnamed s n c cs e q = rw (e, q .comes (length s) (omega arith), is-no (length (c ∷ cs)) 0 (λ z. omega arith))
 
--- no name begins there
+-- no name begins with an asterisk
 star-unnamed : (l : List ℕ) → identOf (ascii.asterisk ∷ l) ≡ err
 unfolding identOf nameOf nameFrom dash nmstartOf either nmstartCharOf foldedChar identEscapeOf isNmstart parser.behind skipWhitespace many took whitespaceItem isWhitespace commentOf pick or and within is
 star-unnamed l = refl
@@ -778,7 +788,7 @@ pseudo-found syntax.none t d = absurd (d refl)
 pseudo-found syntax.before t d = refl
 pseudo-found syntax.after t d = refl
 
--- whole
+-- a pseudo element takes as many bytes as it is written with
 pseudo-taken : (p : PseudoElement) → pseudoTaken p ≡ length (writtenPseudo p)
 unfolding writtenPseudo pseudoTaken
 pseudo-taken syntax.none = refl

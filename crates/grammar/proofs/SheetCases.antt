@@ -59,6 +59,7 @@ indent =
 unfoldable starless : ℕ → Bool
 starless x = not (is x ascii.asterisk)
 
+-- a text without an asterisk has no end of a comment in it
 starless-end : (p q : List ℕ) → allOf starless (p ++ (ascii.asterisk ∷ ascii.solidus ∷ q)) ≡ true → ⊥
 unfolding allOf
 starless-end [] q e = unfold starless and is in never e
@@ -84,7 +85,7 @@ plains (x ∷ w) e v = let p = and-true (balanced.isPlain x) (allOf balanced.isP
 abbrev spaced : balanced.Balanced → balanced.Balanced
 spaced v = balanced.space ascii.space blank-space v
 
--- ---- `@charset "utf-8";`
+-- ---- `@charset "utf-8";`, an at-rule that ends with a semicolon
 unfoldable encoding : Quoted
 unfolding isQuote plain ordinary unprocessed allOf text utf8 continuation pick or and is
 encoding = quoted ascii.quotationMark (text "utf-8") refl refl refl
@@ -223,6 +224,7 @@ unfoldable pageText : List ℕ
 pageText =
     text "@charset \"utf-8\";\n/* page */\nbody { color: #333; background-color: white }\nnav, a::before { display: none !important; }\n@media print { nav > a { color: blue!important; } }\np.note {\n  margin: 0 Auto calc(1.5em - 2px);\n  height: 0\n}\nul > li:nth-child(2n+1) { content: \"* \" }\n"
 
+-- the sheet is written as that text
 test-text : writtenSheet page ≡ pageText
 unfolding pageText page charset encoding remark body dark bright away hidden media note margin plains flat items two odd star bullet ident spelt folded lower hashed writtenSheet writtenStatements writtenStatement writtenRule writtenAt writtenAtEnd writtenBlock writtenEnd writtenShut writtenNexts writtenNext writtenItem writtenImportance writtenGroup writtenChosen writtenPseudo written writtenCompound writtenCombinator writtenSimples writtenSimple writtenArgument writtenSign signByte property knownName writtenValue balanced.writtenBalanced balanced.opens balanced.closes knownValues colourValues shadeValues lengthValues stringValues writtenValues writtenAtom writtenNumeral writtenStop writtenOpening closer text utf8 continuation pick quoted
 test-text = refl
@@ -276,6 +278,7 @@ unfoldable guarded : Values
 unfolding sameText isSpelt allOf spelt pick or and is within text utf8 ident folded lower identStart identCodePoint letter knownName
 guarded = block nothing (function (ident (text "b") refl) refl) (then nothing (string marks) (block aside square (then nothing semicolon (end nothing)) (end nothing))) (end nothing)
 
+-- read as a value, it ends before the white space at byte 16, with these six tokens
 test-ends : Stated false (text "b(\"};\"/*;}*/[;]) ;c") 16
     (tokens.function (text "b") ∷ tokens.string (text "};") ∷ tokens.openSquare ∷ tokens.semicolon ∷ tokens.closeSquare ∷ tokens.closeRound ∷ [])
 unfolding guarded marks aside ident spelt folded lower Follows Apart Outermost isBrace writtenValues meansValues writtenAtom writtenOpening closer meansAtom meansOpening meansCloser mayFollow text utf8 pick quoted

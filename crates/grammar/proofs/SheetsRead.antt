@@ -126,12 +126,12 @@ module _ (v : Balanced) (h : Clear v) (o : Outside v) (r : Tight v) (g : Blanks)
       ended-by (writtenBalanced v ++ (g .bytes ++ (ascii.leftCurlyBracket ∷ f))) x e (passes-on p (passes-on q m)) (length (b .bytes) + 1) (meansCloser brace) (closer-read b brace x) (end-steps .1)
       (omega (arith, length-append (b .bytes) (ascii.rightCurlyBracket ∷ x)))
 
-  -- either
+  -- either way an at-rule ends where its statement does
   body-ends : (e : AtEnd) → Ended (writtenBalanced v ++ (g .bytes ++ writtenAtEnd e)) x
   body-ends semicolon = semicolon-ends
   body-ends (braces w c t b) = braces-end w c t b
 
--- it ends a name
+-- a token ends before white space and the end of an at-rule
 at-halts : (g : Blanks) (e : AtEnd) (x : List ℕ) → Halts ((g .bytes ++ writtenAtEnd e) ++ x)
 unfolding writtenAtEnd
 at-halts g semicolon x = subst Halts (sym (append-assoc (g .bytes) (ascii.semicolon ∷ []) x)) (halts (g .blank) (at-semicolon x))
@@ -190,7 +190,7 @@ at-length : (a : AtRule) → length (writtenAt a) ≡ 1 + length (a .name .bytes
 unfolding writtenAt writtenBody
 at-length a = omega (arith, length-append (a .name .bytes) (writtenBalanced (a .prelude) ++ (a .gap .bytes ++ writtenAtEnd (a .end))))
 
--- its name is read
+-- the name of an at-rule is read whole, folded
 at-name : (a : AtRule) (x : List ℕ) → identOf (a .name .bytes ++ (writtenBody a ++ x)) ≡ ok (length (a .name .bytes)) (folded (a .name))
 unfolding writtenBody folded
 at-name a x =

@@ -49,6 +49,6 @@ unfolding plain
 plain-within q [] h = nothing
 plain-within q (x ∷ r) h = let p = and-true (ordinary q x) (plain q r) h in byte (p .0) (plain-within q r (p .1))
 
--- between quotes
+-- a plain text between quotes is a string that stands for itself
 unfoldable pub quoted : (q : ℕ) (w : List ℕ) → isQuote q ≡ true → plain q w ≡ true → allOf unprocessed w ≡ true → Quoted
 quoted q w h p u = record { quote = q; bytes = w; body = w; quotes = h; stands = plain-within q w p; unchanged = each-of unprocessed w u }

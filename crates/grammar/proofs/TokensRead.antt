@@ -162,7 +162,7 @@ pub record NameEnds (t : List ℕ) : Type 0 where
   pub no-character : identCodePoint (getD t 0 0) ≡ false
   pub no-escape : ¬ (getD t 0 0 ≡ ascii.reverseSolidus)
 
--- by the grammar's test
+-- where the grammar's test says so, a name ends
 name-ends : (t : List ℕ) → endsName (getD t 0 0) ≡ true → NameEnds t
 unfolding endsName
 name-ends t e =
@@ -189,7 +189,7 @@ round-ends : (t : List ℕ) → NameEnds (ascii.leftParenthesis ∷ t)
 unfolding identCodePoint identStart letter or and within is
 round-ends t = record { no-character = refl; no-escape = λ q. omega arith }
 
--- where one does
+-- a name directly before a round bracket is read with it, as a function
 like-function : (n : Ident) (t : List ℕ) → identLikeOf (n .bytes ++ (ascii.leftParenthesis ∷ t)) ≡ ok (length (n .bytes) + 1) (tokens.function (folded n))
 unfolding identLikeOf onParsed pick is
 like-function n t = rw (name-whole n (ascii.leftParenthesis ∷ t) (round-ends t), behind-blank (n .bytes) (ascii.leftParenthesis ∷ t))
@@ -329,23 +329,23 @@ unsigned-read true ds u h l e = sym (pick-true _ _ _ _ (is-yes _ _ (stop-digits 
 unfoldable pub unsignedFirst : ℕ → Bool
 unsignedFirst x = or (isDigit x) (is x ascii.fullStop)
 
--- as it does
+-- a number without its sign does begin with one of these
 pub unsigned-first : (f : Bool) (ds u : List ℕ) → Each isDigit ds → 1 ≤ length ds → unsignedFirst (getD (writtenStop f ++ (ds ++ u)) 0 0) ≡ true
 unsigned-first true ds u h l = unfold writtenStop unsignedFirst isDigit or and within is in refl
 unsigned-first false _ u none l = absurd (omega arith)
 unsigned-first false _ u (more e es) l = unfold writtenStop unsignedFirst or in rw e
 
--- neither begins white space
+-- neither a digit nor a full stop begins white space
 first-unblank : Unblank unsignedFirst
 unfolding unsignedFirst isDigit or and within is
 first-unblank = record { of-space = refl; of-tab = refl; of-line-feed = refl; of-carriage-return = refl; of-form-feed = refl; of-solidus = refl }
 
--- neither is a sign
+-- neither sign is a digit or a full stop
 pub first-signs : (unsignedFirst ascii.plusSign ≡ false) × (unsignedFirst ascii.hyphenMinus ≡ false)
 unfolding unsignedFirst isDigit or and within is
 first-signs = (refl, refl)
 
--- without a sign
+-- where no sign stands before a number, reading it with its sign takes the number alone
 unsigned-signed : (v : List ℕ) (n : ℕ) → unsignedFirst (getD v 0 0) ≡ true → numbers.unsigned v ≡ n → 1 ≤ n → numbers.signed v ≡ n
 unfolding numbers.signed numbers.sign pick or
 unsigned-signed v n e p l =
@@ -357,7 +357,7 @@ unsigned-signed v n e p l =
       zero-add n,
     )
 
--- and behind a '-'
+-- behind a '-' a number without a sign takes one byte more
 minus-signed : (v : List ℕ) (n : ℕ) → numbers.unsigned v ≡ n → 1 ≤ n → numbers.signed (ascii.hyphenMinus ∷ v) ≡ 1 + n
 unfolding numbers.signed numbers.sign pick or is
 minus-signed v n p l = rw (p, is-no n 0 (λ z. omega arith))
@@ -564,7 +564,7 @@ record NumberEnds (t : List ℕ) : Type 0 where
   no-percent : is (getD t 0 0) ascii.percentSign ≡ false
   no-name-behind : beginsName (getD t (skipWhitespace t) 0) (getD t (skipWhitespace t + 1) 0) ≡ false
 
--- by the grammar's test
+-- where the grammar says that a number ends, it does
 number-ends : (n : Numeral) (t : List ℕ) → EndsBefore (number n) t → NumberEnds t
 unfolding mayFollow
 number-ends n t e =
@@ -634,17 +634,17 @@ name-item n t = by-start (n .bytes) (n .sequence)
 mark-begins : (x : ℕ) (l : List ℕ) → whitespaceItem (x ∷ l) ≡ 0 → x ≤ 0x7f → startOf x ≡ Other → Begins (x ∷ l) 1 (markOf x)
 mark-begins x l e h s = begins-by x l 1 (markOf x) e h (unfold tokenBy in rw s)
 
--- a comma
+-- a comma is a token of one byte
 pub comma-token : (t : List ℕ) → Begins (ascii.comma ∷ t) 1 tokens.comma
 unfolding whitespaceItem isWhitespace commentOf startOf isQuote isIdentStart isDigit markOf pick or and within is
 comma-token t = mark-begins ascii.comma t refl (omega arith) refl
 
--- a colon
+-- a colon is a token of one byte
 pub colon-token : (t : List ℕ) → Begins (ascii.colon ∷ t) 1 tokens.colon
 unfolding whitespaceItem isWhitespace commentOf startOf isQuote isIdentStart isDigit markOf pick or and within is
 colon-token t = mark-begins ascii.colon t refl (omega arith) refl
 
--- a semicolon
+-- a semicolon is a token of one byte
 pub semicolon-token : (t : List ℕ) → Begins (ascii.semicolon ∷ t) 1 tokens.semicolon
 unfolding whitespaceItem isWhitespace commentOf startOf isQuote isIdentStart isDigit markOf pick or and within is
 semicolon-token t = mark-begins ascii.semicolon t refl (omega arith) refl
@@ -654,12 +654,12 @@ pub round-token : (t : List ℕ) → Begins (ascii.leftParenthesis ∷ t) 1 toke
 unfolding whitespaceItem isWhitespace commentOf startOf isQuote isIdentStart isDigit markOf pick or and within is
 round-token t = mark-begins ascii.leftParenthesis t refl (omega arith) refl
 
--- a square bracket
+-- an opening square bracket is a token of one byte
 pub square-token : (t : List ℕ) → Begins (ascii.leftSquareBracket ∷ t) 1 tokens.openSquare
 unfolding whitespaceItem isWhitespace commentOf startOf isQuote isIdentStart isDigit markOf pick or and within is
 square-token t = mark-begins ascii.leftSquareBracket t refl (omega arith) refl
 
--- a brace
+-- an opening brace is a token of one byte
 pub brace-token : (t : List ℕ) → Begins (ascii.leftCurlyBracket ∷ t) 1 tokens.openBrace
 unfolding whitespaceItem isWhitespace commentOf startOf isQuote isIdentStart isDigit markOf pick or and within is
 brace-token t = mark-begins ascii.leftCurlyBracket t refl (omega arith) refl
@@ -691,7 +691,7 @@ unfoldable Every : (ℕ → Type 0) → List ℕ → Type 0
 Every P [] = Unit
 Every P (k ∷ ks) = P k × Every P ks
 
--- holds of its members
+-- what holds of every member of a list holds of one that is found in it
 every : (P : ℕ → Type 0) (c : ℕ) (ks : List ℕ) → Every P ks → member c ks ≡ true → P c
 unfolding Every member
 every P c [] h e = never e
@@ -743,7 +743,7 @@ hyphen-unnamed t h = rw (name-at (ascii.hyphenMinus ∷ t) (skips-blank [] (asci
     unnamed : (t : List ℕ) → NameEnds t → nameOf (ascii.hyphenMinus ∷ t) ≡ err
     unnamed t h = name-none (ascii.hyphenMinus ∷ t) (unfold dash pick is in no-start t (no-first (getD t 0 0) (h .no-character)) (is-no _ _ (h .no-escape)))
 
--- nor the mark `-->`
+-- a hyphen before which no name goes on is not the mark `-->`
 hyphen-unmarked : (t : List ℕ) → NameEnds t → startsWith tokens.cdcMark (ascii.hyphenMinus ∷ t) ≡ false
 hyphen-unmarked t h = unfold startsWith and is in starts-not ascii.hyphenMinus (ascii.greaterThanSign ∷ []) t (is-no _ _ (λ q. never (sym (h .no-character) ∙ ap identCodePoint q ∙ hyphen-code-point)))
 
@@ -762,7 +762,7 @@ unsigned-none : (s : List ℕ) → numbers.unsigned s ≡ 0 → is (getD s 0 0) 
 unfolding numbers.signed numbers.sign pick or is
 unsigned-none s u m p = rw (m, p, u)
 
--- as where none begins
+-- where no number begins, none is read
 signed-none : (s : List ℕ) → beginsNumber (getD s 0 0) ≡ false → numbers.signed s ≡ 0
 unfolding beginsNumber
 signed-none s e =
@@ -838,7 +838,7 @@ module _ (b : Blanks) where
   pub opening-read : (o : Opening) (t : List ℕ) → tokenOf (b .bytes ++ (writtenOpening o ++ t)) ≡ ok (length (b .bytes) + length (writtenOpening o)) (meansOpening o)
   opening-read o t = token-read b (writtenOpening o ++ t) _ _ (opening-begins o t)
 
-  -- and what closes it
+  -- a closing bracket is read as its token, behind white space or none
   pub closer-read : (o : Opening) (t : List ℕ) → tokenOf (b .bytes ++ (closer o ∷ t)) ≡ ok (length (b .bytes) + 1) (meansCloser o)
   closer-read o t = token-read b (closer o ∷ t) _ _ (closer-token o t)
 

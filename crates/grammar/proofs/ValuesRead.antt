@@ -33,7 +33,7 @@ use Rattle.grammar.proofs.Places.{Unblank, blank-first}
 use Rattle.grammar.proofs.StringsRead.{untrue}
 use Rattle.grammar.proofs.TokensRead.{ended-digit, Begins, token-read, semicolon-token, closer-token, atom-begins, opening-begins, closer-read, ends-behind, neither}
 
--- no white space
+-- white space that is empty
 abbrev pub unspaced : Blanks
 unspaced = record { bytes = []; blank = none }
 
@@ -59,7 +59,7 @@ one-turn : (include : Bool) (l : ℕ) (s t : List ℕ) (at n : ℕ) (k : Token) 
 unfolding scan onParsed onStep conses
 one-turn include l s t at n k cs ds e d p = rw (e, p, d)
 
--- tokens behind tokens
+-- tokens joined in front of a statement are the second ones, then the first ones before them
 conses-append : (ps qs : List Placed) (r : Statement) → conses (ps ++ qs) r ≡ conses ps (conses qs r)
 unfolding conses
 conses-append [] qs r = refl
@@ -72,7 +72,7 @@ tokens-append [] qs = refl
 tokens-append (p ∷ ps) qs = ap (λ (l : List Token). p .token ∷ l) (tokens-append ps qs)
 
 module _ {include : Bool} where
-  -- none
+  -- from a text to itself no token is passed
   pub passes-none : (s : List ℕ) (at : ℕ) (cs : List ℕ) → Passes include s s at cs cs []
   unfolding conses tokensOf
   passes-none s at cs =
@@ -86,7 +86,7 @@ module _ {include : Bool} where
         goes = λ l. ap (λ (m : ℕ). scan m include s at cs) (zero-add l) ∙ ap (λ (i : ℕ). scan l include s i cs) (sym (add-zero at));
       }
 
-  -- one token
+  -- a token that does not end the statement is passed by one turn
   pub passes-one : (s t : List ℕ) (at n : ℕ) (k : Token) (cs ds : List ℕ) → tokenOf s ≡ ok n k → drop n s ≡ t → n + length t ≡ length s → 1 ≤ n
       → stepOf include (bracketOf k) cs ≡ next ds → Passes include s t at cs ds (k ∷ [])
   unfolding tokensOf
@@ -101,7 +101,7 @@ module _ {include : Bool} where
         goes = λ l. let m : 1 + l ≡ suc l = omega arith in ap (λ (i : ℕ). scan i include s at cs) m ∙ one-turn include l s t at n k cs ds e d p;
       }
 
-  -- and more behind them
+  -- tokens that pass, and others that pass behind them, pass together
   pub passes-on : {s t u : List ℕ} {at : ℕ} {cs ds es : List ℕ} {ks js : List Token} → (p : Passes include s t at cs ds ks) → Passes include t u (at + p .taken) ds es js
       → Passes include s u at cs es (ks ++ js)
   passes-on {s} {t} {u} {at} {cs} {ds} {es} {ks} {js} p q =
@@ -430,7 +430,7 @@ marked-is (a ∷ []) = marked-is []
 marked-is (a ∷ b ∷ []) = marked-is (b ∷ [])
 marked-is (a ∷ b ∷ c ∷ ks) = marked-is (b ∷ c ∷ ks)
 
--- which is taken off
+-- the mark behind tokens is taken off, and the tokens are left
 marked-without : (ks : List Token) → withoutMark (ks ++ markTokens) ≡ ks
 unfolding withoutMark
 marked-without [] = unfold isMark isDelim isWord isKind kindOf firstOf textOf columnsOf coded sameText and is text utf8 pick in refl
@@ -462,7 +462,7 @@ module _ {include : Bool} where
   passes-as : {s s′ t : List ℕ} {at : ℕ} {cs ds : List ℕ} {ks : List Token} → s ≡ s′ → Passes include s′ t at cs ds ks → Passes include s t at cs ds ks
   passes-as {t = t} {at} {cs} {ds} {ks} e p = subst (λ (l : List ℕ). Passes include l t at cs ds ks) (sym e) p
 
-  -- values pass
+  -- component values are passed, all tokens of them, up to the white space behind the last
   pub values-pass : (v : Values) (z : List ℕ) (at : ℕ) (cs : List ℕ) → Apart v → Halts z → Within cs v
       → Passes include (writtenValues v ++ z) (trail v .bytes ++ z) at cs cs (meansValues v)
   unfolding Apart trail meansValues
@@ -503,7 +503,7 @@ none-scan (suc l) t at e = rw e
 blank-skipped : (b : Blanks) → skipWhitespace (b .bytes) ≡ length (b .bytes)
 blank-skipped b = ap skipWhitespace (sym (append-nil (b .bytes))) ∙ skips-blank (b .bytes) [] (b .blank) (closes-first nothing .3)
 
--- and has no token
+-- white space alone has no token
 blank-token : (b : Blanks) → tokenOf (b .bytes) ≡ err
 unfolding tokenOf parser.behind tokenAt scalarOf scalarBy is pick
 blank-token b = rw (blank-skipped b, drop-of-length-le (b .bytes) {i = length (b .bytes)} (omega arith))
@@ -522,7 +522,7 @@ value-stops (before-semicolon b r) l at =
 value-stops (before-brace b r) l at =
     stop-scan l (b .bytes ++ (ascii.rightCurlyBracket ∷ r)) at _ _ (closer-read b brace r) (mark-steps .1)
 
--- values end there
+-- where a value ends in a declaration, values may end
 pub ends-halt : {z : List ℕ} → ValueEnds z → Halts z
 unfolding closer
 ends-halt (at-end b) = subst Halts (append-nil (b .bytes)) (halts (b .blank) nothing)

@@ -76,13 +76,16 @@ module _ {A : Type 0} (b : Bool) (d v : ℕ) (bad : A) (good : ℕ → A) where
   judged =
       pick (or (ltb mostDecimals d) (or (ltb (mostNumber * ten ^ d) v) (and b (ltb 0 v)))) bad (good (v * ten ^ (mostDecimals - d)))
 
+  -- a number of more than four decimals is refused
   fine-bad : mostDecimals < d → bad ≡ judged
   fine-bad h = pick-true _ _ _ _ (or-left _ _ (lt-ltb mostDecimals d h)) refl
 
   module _ (h : d < 5) (s : ℕ) (e : s ≡ getD scales d 0) where
+    -- the scale that was looked up is that of d decimals
     scale : Scale d s
     scale = rw e (scale-at d h)
 
+    -- four decimals or fewer are not too many
     few : ltb mostDecimals d ≡ false
     few = le-ltb mostDecimals d (omega arith)
 
@@ -92,9 +95,11 @@ module _ {A : Type 0} (b : Bool) (d v : ℕ) (bad : A) (good : ℕ → A) where
         pick-true _ _ _ _ (or-right _ _ few (or-left _ _ (lt-ltb _ v (scaled-above v (mostNumber * ten ^ d) s (scale .whole) (scale .some) m)))) refl
 
     module _ (m : capped v * s ≤ mostDigits) where
+      -- the number is at most 10,000, and the code's digits are the number's
       within : (v ≤ mostNumber * ten ^ d) × (capped v ≡ v)
       within = scaled-within v (mostNumber * ten ^ d) s (scale .whole) (scale .some) m
 
+      -- the number is not above 10,000
       not-above : ltb (mostNumber * ten ^ d) v ≡ false
       not-above = le-ltb (mostNumber * ten ^ d) v (within .0)
 
@@ -127,17 +132,19 @@ module _ {A : Type 0} (b : Bool) (d v : ℕ) (bad : A) (good : ℕ → A) where
           let w : v ≤ 0 = omega (arith, within .1) in
           ap good (sym k) ∙ not-below (and-right _ _ (le-ltb 0 v w))
 
--- ---- `with_unit`
+-- ---- `with_unit`: a number in ten-thousandths, times the factor of its unit
 module _ (place kind factor : ℕ) (n : List ℕ) (x : Numeral) (e : x ≡ numeralOf n) where
   -- the parts of the number
   digits-are : x .digits ≡ capped (digitsNumber n)
   unfolding numeralOf
   digits-are = ap (λ (y : Numeral). y .digits) e
 
+  -- the decimals that the code counted are the number's
   decimals-are : x .decimals ≡ decimals n
   unfolding numeralOf
   decimals-are = ap (λ (y : Numeral). y .decimals) e
 
+  -- the sign that the code found is the number's
   negative-is : x .negative ≡ isNegative n
   unfolding numeralOf
   negative-is = ap (λ (y : Numeral). y .negative) e
@@ -148,17 +155,21 @@ module _ (place kind factor : ℕ) (n : List ℕ) (x : Numeral) (e : x ≡ numer
   abbrev length-of : ℕ → LengthAnswer
   length-of m = Length kind (m * factor)
 
+  -- the return where the number has more than four decimals: refusal 12
   pub too-fine : 5 ≤ x .decimals → BadLength place ≡ whole
   unfolding withUnit isBad isTooFine isAbove isBelow tenThousandths
   too-fine h = fine-bad (isNegative n) (decimals n) (digitsNumber n) (BadLength place) length-of (omega (arith, decimals-are))
 
   module _ (h : x .decimals < 5) (s : ℕ) (es : s ≡ getD scales (x .decimals) 0) where
+    -- the number has four decimals or fewer
     few-decimals : decimals n < 5
     few-decimals = omega (arith, decimals-are)
 
+    -- the scale that was looked up is that of the number's decimals
     scale-is : s ≡ getD scales (decimals n) 0
     scale-is = es ∙ ap (λ (d : ℕ). getD scales d 0) decimals-are
 
+    -- the product that the code made is that of the number's digits, up to the most, and the scale
     amount-is : x .digits * s ≡ capped (digitsNumber n) * s
     amount-is = ap (λ (v : ℕ). v * s) digits-are
 
@@ -170,25 +181,30 @@ module _ (place kind factor : ℕ) (n : List ℕ) (x : Numeral) (e : x ≡ numer
         let q : x .digits * s ≤ (mostDigits + 1) * s = mul-le-mul-right s (omega (arith, digits-are)) in
         omega (arith, k .small)
 
+    -- the return where the number is above 10,000: refusal 12
     pub too-much : mostDigits < x .digits * s → BadLength place ≡ whole
     unfolding withUnit isBad isTooFine isAbove isBelow tenThousandths
     too-much m = above-bad (isNegative n) (decimals n) (digitsNumber n) (BadLength place) length-of few-decimals s scale-is (omega (arith, amount-is))
 
     module _ (m : x .digits * s ≤ mostDigits) where
+      -- the number's digits, scaled, are not above the most
       lower : capped (digitsNumber n) * s ≤ mostDigits
       lower = omega (arith, amount-is)
 
+      -- the return where the number is below zero: refusal 12
       pub below-zero : x .negative ≡ true → 0 < x .digits * s → BadLength place ≡ whole
       unfolding withUnit isBad isTooFine isAbove isBelow tenThousandths
       below-zero b p =
           below-bad (isNegative n) (decimals n) (digitsNumber n) (BadLength place) length-of few-decimals s scale-is lower (sym negative-is ∙ b) (omega (arith, amount-is))
 
+      -- the return where the number is zero, with a '-' or without: the length 0
       pub minus-zero : x .digits * s ≤ 0 → Length kind 0 ≡ whole
       unfolding withUnit isBad isTooFine isAbove isBelow tenThousandths
       minus-zero z =
           let q : 0 * factor ≡ 0 = omega arith in
           ap (Length kind) (sym q) ∙ zero-good (isNegative n) (decimals n) (digitsNumber n) (BadLength place) length-of few-decimals s scale-is lower (omega (arith, amount-is))
 
+      -- the return where the number is not below zero: its ten-thousandths times the unit's factor
       pub a-length : x .negative ≡ false → Length kind (x .digits * s * factor) ≡ whole
       unfolding withUnit isBad isTooFine isAbove isBelow tenThousandths
       a-length b =
@@ -209,7 +225,7 @@ row-found (e ∷ es) zero h = (e .means, refl, λ f. refl)
 row-found (e ∷ es) (suc i) h = row-found es i (omega arith)
 
 module _ (place : ℕ) (n unit : List ℕ) (i : ℕ) (e : i ≡ placeOf unit (split (joinedOf units) (lengthsOf units))) where
-  -- one of the eight
+  -- a dimension whose unit is one of the eight is a number with that unit's factor
   pub unit-known : i < length (wordsOf units) → (r : LengthAnswer)
       → r ≡ withUnit place n (getD (numbersOf (λ u. u .kind) units) i 0) (getD (numbersOf (λ u. u .factor) units) i 0) → r ≡ dimensionLength place n unit
   unfolding dimensionLength onFound
@@ -225,8 +241,9 @@ module _ (place : ℕ) (n unit : List ℕ) (i : ℕ) (e : i ≡ placeOf unit (sp
   unit-unknown h =
       ap (λ (u : Found LengthUnit). onFound u (λ a. withUnit place n (a .kind) (a .factor)) NoLength) (sym (row-none units i h) ∙ table-place units unit i e)
 
--- ---- `number_length`
+-- ---- `number_length`: a number without a unit is a length only if it is zero
 module _ (n : List ℕ) (x : Numeral) (e : x ≡ numeralOf n) where
+  -- the digits that the code has are the number's, up to the most
   number-digits : x .digits ≡ capped (digitsNumber n)
   unfolding numeralOf
   number-digits = ap (λ (y : Numeral). y .digits) e

@@ -86,6 +86,7 @@ pub record Fine (n : List ℕ) : Type 0 where
   pub within : digitsNumber n ≤ mostNumber * ten ^ decimals n
   pub not-below : isBelow n ≡ false
 
+-- a number that is not refused has four decimals at most, is 10,000 at most and not below zero
 fine-of : (n : List ℕ) → isBad n ≡ false → Fine n
 unfolding isBad isTooFine isAbove
 fine-of n e =
@@ -111,6 +112,7 @@ fine-most n o =
 abbrev pub largestAmount : ℕ
 largestAmount = 3657600000000
 
+-- the largest amount is the most ten-thousandths times the largest factor, that of the inch
 largest : largestAmount ≡ mostDigits * largestFactor
 largest = refl
 
@@ -121,6 +123,7 @@ pub data Answered (place : ℕ) (n w : List ℕ) : LengthAnswer → Type 0 where
   known : (u : LengthUnit) (m : ℕ) → lookup w units ≡ found u → Fine n → m ≤ largestAmount → m * ten ^ decimals n ≡ digitsNumber n * u .amount
       → Answered place n w (Length (u .kind) m)
 
+-- the answer for a number with a unit is that it is no unit of a length, that the number is refused, or its exact length
 pub answered : (place : ℕ) (n w : List ℕ) → Answered place n w (dimensionLength place n w)
 unfolding dimensionLength onFound withUnit
 answered place n w = by-unit (lookup w units) refl
@@ -171,6 +174,6 @@ kept s =
     on-holds (Kept (skipWhitespace s)) (numericToken s) _ _
     (λ i k _. pick-holds (Kept (skipWhitespace s)) _ _ _ (λ _. token-kept (skipWhitespace s) k) (λ _. tt)) (λ _. tt)
 
--- 64 bits are enough
+-- the largest amount fits 64 bits
 pub amount-bits : largestAmount < 2 ^ 64
 amount-bits = omega arith

@@ -41,24 +41,29 @@ value-read s rules tokens brackets texts u {r} {y} {x} {b} {z} er ey ex eb ez h 
 
 -- ---- `height_length`, in the order of the refusals
 module _ (s rules tokens brackets texts : List ℕ) where
+  -- the return where the value is too long: refused, and the stores as they were
   pub too-long : sheetLimit < length s → _≡_ {A = LengthLeft} (record { answer = numbersOf TooLong; rules = rules; tokens = tokens; brackets = brackets; texts = texts }) (heightLength s rules tokens brackets texts)
   unfolding heightLength unchanged numbersOf
   too-long h = pick-true _ _ _ _ (lt-ltb sheetLimit (length s) h) refl
 
   module _ (h : length s ≤ sheetLimit) {t : Bool} (et : t ≡ storesSuffice (length s) (length rules) (length tokens) (length brackets) (length texts)) where
+    -- the return where the stores are too short: refused, and the stores as they were
     pub short-store : t ≡ false → _≡_ {A = LengthLeft} (record { answer = numbersOf ShortStore; rules = rules; tokens = tokens; brackets = brackets; texts = texts }) (heightLength s rules tokens brackets texts)
     unfolding heightLength unchanged numbersOf
     short-store e = pick-false _ _ _ _ (le-ltb sheetLimit (length s) h) (pick-false _ _ _ _ (sym et ∙ e) refl)
 
     module _ (e : t ≡ true) where
+      -- behind both tests the value is within its limit, and the stores have the least lengths
       pub lent : SheetLent s rules tokens brackets texts
       lent = record { within = h; least = least et e }
 
       module _ {v : Bool} (ev : v ≡ valid s) where
+        -- the return where the value is no UTF-8: refused, and the stores as they were
         pub not-utf8 : v ≡ false → _≡_ {A = LengthLeft} (record { answer = numbersOf NotUtf8; rules = rules; tokens = tokens; brackets = brackets; texts = texts }) (heightLength s rules tokens brackets texts)
         unfolding heightLength unchanged numbersOf
         not-utf8 f = pick-false _ _ _ _ (le-ltb sheetLimit (length s) h) (pick-true _ _ _ _ (sym et ∙ e) (pick-false _ _ _ _ (sym ev ∙ f) refl))
 
+        -- behind all tests, what reading the value leaves is what the call leaves
         pub read : v ≡ true → {a : LengthNumbers} {y x b z : List ℕ}
             → record { answer = a; rules = y; tokens = x; brackets = b; texts = z } ≡ lengthLeft s rules tokens brackets texts
             → record { answer = a; rules = y; tokens = x; brackets = b; texts = z } ≡ heightLength s rules tokens brackets texts

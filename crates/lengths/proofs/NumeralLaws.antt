@@ -111,12 +111,13 @@ module _ (negative : Bool) (u : List ℕ) (n : ℕ) (e : n ≡ digits u) (w : �
       let x = worth 0 (take n u) in
       parts [] (sym (drop-of-length-le u {i = n + 1} (omega arith))) 0 w refl (ew ∙ sym (capped-worth x []) ∙ ap capped (sym ew))
 
-  -- a byte follows them
+  -- where a point follows the digits, those behind it are its decimals
   pub point-numeral : (f : List ℕ) → f ≡ take (length u - (n + 1)) (drop (n + 1) u) → (v : ℕ) → v ≡ capped (worth w f)
       → _≡_ {A = Numeral} (record { negative = negative; decimals = length f; digits = v }) (unsignedNumeral negative u)
   point-numeral f ef v ev = parts f (ef ∙ rest u (n + 1)) (length f) v refl ev
 
 -- ---- `numeral_of`: w bytes of white space, and a sign of k
+-- the number behind white space and its sign, read without a sign, is that of the whole text
 pub numeral-read : (s : List ℕ) (w : ℕ) → w ≡ skipWhitespace s → (t : List ℕ) → t ≡ take (length s - w) (drop w s) → (b : Bool)
     → b ≡ is (getD t 0 0) hyphenMinus → (k : ℕ) → k ≡ sign t → (r : Numeral) → r ≡ unsignedNumeral b (take (length t - k) (drop k t)) → r ≡ numeralOf s
 unfolding numeralOf unsignedNumeral digitsNumber decimals isNegative integerOf fractionOf unsignedOf

@@ -46,9 +46,11 @@ module _ (place : ℕ) (t : List ℕ) (n : ℕ) where
   -- what the call says of the rest of the text
   module _ (st : List ℕ) (o : Behind t n st) (x : Name) (z : List ℕ)
       (w : (x ≡ nameAnswer (identOf (take (length t - n) (drop n t)))) × (z ≡ sets st 0 (nameText (identOf (take (length t - n) (drop n t)))))) where
+    -- the answer is that of a name behind the number
     answered : x ≡ nameAnswer (identOf (drop n t))
     answered = w .0 ∙ ap (λ (l : List ℕ). nameAnswer (identOf l)) (rest t n)
 
+    -- what was stored is the text of that name
     stored : z ≡ sets st 0 (nameText (identOf (drop n t)))
     stored = w .1 ∙ ap (λ (l : List ℕ). sets st 0 (nameText (identOf l))) (rest t n)
 
@@ -56,9 +58,11 @@ module _ (place : ℕ) (t : List ℕ) (n : ℕ) where
       abbrev name : List ℕ
       name = nameText (identOf (drop n t))
 
+      -- a name reads behind the number, and the answer has the length of its text
       read : (identOf (drop n t) ≡ ok m name) × (l ≡ length name)
       read = name-ok (identOf (drop n t)) m l (sym q ∙ answered)
 
+      -- the name takes no more than there is, and its text is bounded
       fits : Fits (drop n t) m name
       fits = ident-fits (drop n t) m name (read .0)
 
@@ -71,6 +75,7 @@ module _ (place : ℕ) (t : List ℕ) (n : ℕ) where
       unit-back = rw (stored, read .1) (held-part (sets st 0 name) 0 name (sets-held st 0 name (omega (arith, bound-two (fits .bound), o .room, unit-within))))
 
       module _ (b : Bool) (eb : b ≡ onlyWhitespace (take (length t - (n + m)) (drop (n + m) t))) where
+        -- the code's test of what stands behind the unit is the definition's
         alone : (v : Bool) → b ≡ v → onlyWhitespace (drop (n + m) t) ≡ v
         alone v e = ap onlyWhitespace (sym (rest t (n + m))) ∙ told _ _ _ eb e
 
@@ -85,9 +90,11 @@ module _ (place : ℕ) (t : List ℕ) (n : ℕ) where
         unit-followed e = (pick-false _ _ _ _ (alone false e) refl ∙ sym (behind-unit m name (read .0)), stored)
 
     module _ (q : x ≡ NoName) (b : Bool) (eb : b ≡ onlyWhitespace (take (length t - n) (drop n t))) where
+      -- no name reads behind the number
       none : identOf (drop n t) ≡ err
       none = name-err (identOf (drop n t)) (sym q ∙ answered)
 
+      -- the code's test of what stands behind the number is the definition's
       last : (v : Bool) → b ≡ v → onlyWhitespace (drop n t) ≡ v
       last v e = ap onlyWhitespace (sym (rest t n)) ∙ told _ _ _ eb e
 
@@ -100,16 +107,19 @@ module _ (place : ℕ) (t : List ℕ) (n : ℕ) where
       pub number-followed : b ≡ false → (NoLength ≡ lengthBehind place t n) × (z ≡ sets st 0 (nameText (identOf (drop n t))))
       number-followed e = (pick-false _ _ _ _ (last false e) refl ∙ sym (behind-none none), stored)
 
--- ---- tokens
+-- ---- the length of each kind of token
 module _ (place : ℕ) (n u : List ℕ) where
+  -- the length of a dimension is that of its number with its unit
   of-dimension : tokenLength place (dimension n u) ≡ dimensionLength place n u
   unfolding tokenLength isKind kindOf firstOf numberOf unitOf coded columnsOf textOf pick is
   of-dimension = rw (take-at n u (length n) refl, drop-at n u (length n) refl)
 
+  -- the length of a number is that of a number without a unit
   of-number : tokenLength place (number n) ≡ numberLength n
   unfolding tokenLength isKind kindOf coded columnsOf textOf pick is
   of-number = refl
 
+  -- a percentage is no length
   of-percentage : tokenLength place (percentage n) ≡ NoLength
   unfolding tokenLength isKind kindOf coded columnsOf textOf pick is
   of-percentage = refl
@@ -130,7 +140,7 @@ module _ (s : List ℕ) where
   unfolding lengthOf numericToken onParsed behind
   length-ok i k e = rw e
 
-  -- what stands behind it
+  -- where a token reads, the value is its length where only white space follows, else none
   length-at : (i : ℕ) (k : Token) (a : LengthAnswer) → numericOf rest-of ≡ ok i k → tokenLength (skipWhitespace s) k ≡ a
       → pick (onlyWhitespace (drop i rest-of)) a NoLength ≡ lengthOf s
   length-at i k a e ea =
@@ -139,23 +149,27 @@ module _ (s : List ℕ) where
 
 module _ (s st : List ℕ) (w : ℕ) (ew : w ≡ skipWhitespace s) (p : ℕ) (ep : p ≡ plus (take (length s - w) (drop w s)))
     (t : List ℕ) (et : t ≡ take (length s - (w + p)) (drop (w + p) s)) (n : ℕ) (en : n ≡ numbers.number t) where
+  -- the number's text starts behind the white space and a '+'
   start-is : w + p ≡ textStart s
   unfolding textStart
   start-is =
       let q : p ≡ plus (drop w s) = ep ∙ ap plus (rest s w) in
       ap (λ (k : ℕ). w + k) q ∙ ap (λ (k : ℕ). k + plus (drop k s)) ew
 
+  -- the text that the code reads is the value from there on
   text-is : t ≡ drop (textStart s) s
   text-is = et ∙ rest s (w + p) ∙ ap (λ (k : ℕ). drop k s) start-is
 
+  -- the text that goes to the store is the name behind the number
   text-of : unitText s ≡ nameBehind t n
   unfolding unitText
   text-of = ap (λ (l : List ℕ). nameBehind l (numbers.number l)) (sym text-is) ∙ ap (nameBehind t) (sym en)
 
-  -- no text goes to the store
+  -- where no name stands behind the number, the store is as it was
   kept : nameBehind t n ≡ [] → st ≡ sets st 0 (unitText s)
   kept e = sym (ap (sets st 0) (text-of ∙ e))
 
+  -- the token is the one at the start of that text
   token-is : numericOf (drop (textStart s) s) ≡ numericOf t
   token-is = ap numericOf (sym text-is)
 
@@ -166,6 +180,7 @@ module _ (s st : List ℕ) (w : ℕ) (ew : w ≡ skipWhitespace s) (p : ℕ) (ep
       (length-err s (token-is ∙ sym (pick-true _ _ _ _ (is-yes _ _ (sym en ∙ z)) refl)), kept (sym (pick-true _ _ _ _ (is-yes _ _ z) refl)))
 
   module _ (d : ¬ (n ≡ 0)) (b : Bool) (eb : b ≡ is (getD t n 0) percentSign) where
+    -- where there is a number, the token is what follows from its length
     token-from : numericOf (drop (textStart s) s) ≡ numericFrom n t
     unfolding numericOf
     token-from = token-is ∙ sym (pick-false _ _ _ _ (is-no _ _ (λ z. d (en ∙ z))) refl) ∙ ap (λ (k : ℕ). numericFrom k t) (sym en)
@@ -196,6 +211,7 @@ module _ (s st : List ℕ) (w : ℕ) (ew : w ≡ skipWhitespace s) (p : ℕ) (ep
           behind-none w t n i ∙ ap (λ (l : List ℕ). pick (onlyWhitespace (drop n l)) (numberLength (take n t)) NoLength) text-is
           ∙ length-at s n (number (take n t)) (numberLength (take n t)) (token-by ∙ rw i refl) (of-number (skipWhitespace s) (take n t) [])
 
+      -- the return where the number is no percentage: what stands behind it decides, and its name is stored
       pub read-behind : (r : LengthAnswer) (z : List ℕ) → (r ≡ lengthBehind w t n) × (z ≡ sets st 0 (nameText (identOf (drop n t))))
           → (r ≡ lengthOf s) × (z ≡ sets st 0 (unitText s))
       unfolding nameBehind

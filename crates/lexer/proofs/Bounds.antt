@@ -113,7 +113,7 @@ module _ (u : List ℕ → ℕ) (b : List ℕ → List ℕ) (le : (l : List ℕ)
   at x r i f zero e = rw e (fits (omega arith))
   at x r i f (suc n) e = rw e (turn x r i n (rw e at (fine (x ∷ r))) (f n (omega (arith, le (x ∷ r), e))))
 
-  -- all of the text
+  -- from any byte on, a repetition stands for no more than it takes, but for two bytes where a lone backslash ends the text
   span : (s : List ℕ) (i k : ℕ) → k ≤ length s → Span s i k (many u i k s) (texts u b k s)
   unfolding many texts took
   span [] i k h = fits (omega arith)
@@ -140,14 +140,14 @@ module _ (u : List ℕ → ℕ) (b : List ℕ → List ℕ) (le : (l : List ℕ)
       let h = f n (omega (arith, le (x ∷ r), e)) in
       rw e (omega (arith, length-append (b (x ∷ r)) (texts u b n r), small (x ∷ r), e))
 
-  -- all of the text
+  -- from any byte on, a repetition stands for no more than it takes
   run-short : (s : List ℕ) (i k : ℕ) → k ≤ length s → length (texts u b k s) + (i + k) ≤ many u i k s
   unfolding many texts
   run-short [] i k h = omega arith
   run-short (x ∷ r) i zero h = rw (add-zero i) (at-short x r i (λ n l. run-short r (i + 1) n l) (u (x ∷ r)) refl)
   run-short (x ∷ r) i (suc k) h = omega (arith, run-short r (i + 1) k (omega arith))
 
-  -- neither does its repetition
+  -- a reader that stands for no more than it takes, repeated, stands for no more than it takes
   pub repeated-short : (s : List ℕ) → length (texts u b 0 s) ≤ many u 0 0 s
   repeated-short s = omega (arith, run-short s 0 0 (omega arith))
 

@@ -30,9 +30,11 @@ stands s k v e = ap bytesOf e
 
 -- a character, and those behind it
 module _ (s : List ℕ) (n v : ℕ) (e : nmcharOf s ≡ Value n v) where
+  -- a character takes a byte or more
   nonzero : ¬ (n ≡ 0)
   nonzero q = omega (arith, char-of s n v e .some)
 
+  -- the reader of characters takes the bytes of that one
   takes-n : charTaken s ≡ n
   unfolding takenOf
   takes-n = takes s _ e
@@ -102,7 +104,7 @@ module _ (s st₀ : List ℕ) (fill : ℕ) (st : List ℕ) (f i n : ℕ) (w : Ch
       writing-more _ _ _ _ _ _ _ _ _ w k m z g (takes (drop i s) _ e) (c .within-text) (λ q. omega (arith, c .some))
       (em ∙ ap length (sym t)) (ez ∙ ap (emits _) (sym t)) lz
 
-  -- no character is there
+  -- the return where no character is left: what was taken and written is all of it
   pub chars-stop : (x : Scalar) → x ≡ nmcharOf (take (length s - i) (drop i s)) → x ≡ NoScalar → Emitted s st₀ fill st i n
   unfolding takenOf
   chars-stop x ex h =

@@ -58,6 +58,7 @@ lower-le x h = pick-holds (λ (y : ℕ). y ≤ 0x7f) _ _ _ (λ w. omega (arith, 
 pub lower-byte : (x : ℕ) → isNmchar x ≡ true → utf8 (lower x) ≡ lower x ∷ []
 lower-byte x e = utf8-ascii _ (lower-le x (nmchar-le x e))
 
+-- a character that is no escape takes one byte that is there, or nothing, and its text keeps to the bound
 nmchar-char-fine : (s : List ℕ) → Fine s (nmcharCharOf s)
 unfolding nmcharCharOf foldedChar
 nmchar-char-fine s =
@@ -140,7 +141,7 @@ unfolding utf8 pick
 replacement-three = omega arith
 
 module _ (s : List ℕ) (h : getD s 0 0 ≡ reverseSolidus) where
-  -- the backslash is there
+  -- the backslash stands before the end of the text
   backslash : 1 ≤ length s
   backslash = inside s 0 0x5b h
 
@@ -186,13 +187,13 @@ module _ (s : List ℕ) (h : getD s 0 0 ≡ reverseSolidus) where
       pick-holds (Fine s) _ _ _ (λ e. end-fits (is-true _ _ e))
       (λ _. pick-holds (Fine s) _ _ _ hex-fits (λ _. next-char (scalarOf (drop 1 s)) refl))
 
--- an escape, or none
+-- an escape that reads keeps to the bounds
 escape-fine : (s : List ℕ) → Fine s (identEscapeOf s)
 unfolding identEscapeOf
 escape-fine s = pick-holds (Fine s) _ _ _ (λ e. escaped-fine s (is-true _ _ e)) (λ _. tt)
 
 -- ---- either of both
--- the first that reads
+-- where both alternatives keep to the bounds, so does the first that reads
 either-fine : (s : List ℕ) (a b : Scalar) → Fine s a → Fine s b → Fine s (either a b)
 unfolding either
 either-fine s (Value n v) b p q = p

@@ -35,7 +35,7 @@ module _ (s : List ℕ) (i : ℕ) (c : Seeking s i) where
   unfolding commentEnd
   step l t e = rw (drop-cons s i 0 l, next s i, e, add-one i)
 
-  -- a "*/" stands there
+  -- where a "*/" stands at i, the comment ends behind it
   pub seek-found : i < length s → getD s i 0 ≡ asterisk → is (getD s (i + 1) 0) solidus ≡ true → i + 4 ≡ commentEnd 2 s
   unfolding pick
   seek-found l a b = let e = step l true (and-both _ _ (is-yes _ _ a) b) in let p = c .left in omega arith
@@ -51,7 +51,7 @@ module _ (s : List ℕ) (i : ℕ) (c : Seeking s i) where
   pub seek-other : i < length s → is (getD s (i + 1) 0) solidus ≡ false → Seeking s (i + 1)
   seek-other l b = on l (and-right _ _ b)
 
-  -- no asterisk stands there
+  -- where no asterisk stands at i, the search goes on behind i
   pub seek-past : i < length s → ¬ (getD s i 0 ≡ asterisk) → Seeking s (i + 1)
   seek-past l a = on l (and-left _ _ (is-no _ _ a))
 
@@ -105,13 +105,16 @@ pub skip-le : (s : List ℕ) → skipWhitespace s ≤ length s
 unfolding skipWhitespace
 skip-le s = omega (arith, many-le whitespaceItem s 0 0)
 
--- ---- `skip_from`
+-- ---- `skip_from`: the place behind white space and comments from a place on
 module _ (s : List ℕ) (at : ℕ) where
+  -- what is skipped of the lent rest is what is skipped from the place on
   pub skipped-from : {w : ℕ} → w ≡ skipWhitespace (take (length s - at) (drop at s)) → at + w ≡ at + skipWhitespace (drop at s)
   skipped-from e = ap (λ x. at + x) (e ∙ ap skipWhitespace (rest s at))
 
+  -- skipping from a place within the text ends within the text
   pub skip-from-le : at ≤ length s → at + skipWhitespace (drop at s) ≤ length s
   skip-from-le h = omega (arith, skip-le (drop at s), length-drop at s)
 
+  -- so does skipping in the lent rest
   pub skipped-le : at ≤ length s → {w : ℕ} → w ≡ skipWhitespace (take (length s - at) (drop at s)) → at + w ≤ length s
   skipped-le h e = omega (arith, skipped-from e, skip-from-le h)

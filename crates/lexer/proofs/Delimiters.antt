@@ -33,14 +33,14 @@ unfolding behind
 behind-only i (ok n k) x m d e = x n d cc
 behind-only i err x m d e = cc
 
--- a number gives none
+-- a number, a percentage or a dimension is no delimiter
 numeric-only : (s : List ℕ) → Only (numericOf s)
 unfolding numericOf numericFrom
 numeric-only s =
     pick-holds Only _ _ _ (λ _ n d e. cc)
     (λ _. pick-holds Only _ _ _ (λ _ n d e. cc) (λ _. on-holds Only (identOf _) _ _ (λ m u _ n d e. cc) (λ _ n d e. cc)))
 
--- nor does a name
+-- a name or a function is no delimiter
 ident-like-only : (s : List ℕ) → Only (identLikeOf s)
 unfolding identLikeOf
 ident-like-only s = on-holds Only (identOf s) _ _ (λ m b _. pick-holds Only _ _ _ (λ _ n d e. cc) (λ _ n d e. cc)) (λ _ n d e. cc)
@@ -54,7 +54,7 @@ string-only t =
     (λ _ n d e. cc)
 
 module _ (c : ℕ) (h : isScalar c ≡ true) where
-  -- the character c itself
+  -- the character c as a delimiter is a scalar value
   delim-only : (m : ℕ) → Only (ok m (delim c))
   delim-only m n d e = cc
 

@@ -46,7 +46,7 @@ pub record Counting (s : List ℕ) (i : ℕ) : Type 0 where
   pub left : hexRun 0 maximumDigits s ≡ hexRun i (maximumDigits - i) (drop i s)
   pub bound : i ≤ maximumDigits
 
--- nothing is counted yet
+-- before the first digit none is counted, and all are left
 pub count-begin : (s : List ℕ) → Counting s 0
 count-begin s = record { left = refl; bound = omega arith }
 
@@ -56,7 +56,7 @@ module _ (s : List ℕ) (i : ℕ) (c : Counting s i) where
   unfolding hexRun
   step n l = refl
 
-  -- the byte at i
+  -- the byte at i ends the run, or is counted where it is a hex digit
   turn : i < maximumDigits → hexRun 0 maximumDigits s ≡ pick (isHexDigit (getD s i 0)) (hexRun (i + 1) (maximumDigits - (i + 1)) (drop (i + 1) s)) i
   turn h =
       let d : maximumDigits - i ≡ suc (maximumDigits - (i + 1)) = omega arith in
@@ -70,7 +70,7 @@ module _ (s : List ℕ) (i : ℕ) (c : Counting s i) where
   pub count-stop : i < maximumDigits → isHexDigit (getD s i 0) ≡ false → i ≡ hexRun 0 maximumDigits s
   count-stop h e = sym (turn h ∙ sym (pick-false _ _ _ _ e refl))
 
-  -- no more are taken
+  -- with six digits counted the run ends
   pub count-full : maximumDigits ≤ i → i ≡ hexRun 0 maximumDigits s
   unfolding hexRun
   count-full h = let d : maximumDigits - i ≡ 0 = omega arith in sym (rw d at (c .left))
@@ -119,7 +119,7 @@ value-step : (a k : ℕ) (s : List ℕ) → hexValue a (suc k) s ≡ hexValue (a
 unfolding hexValue
 value-step a k s = refl
 
--- nothing is read yet
+-- before the first digit the value is 0, and all digits are left
 pub value-begin : (s : List ℕ) (n : ℕ) → Reading s n 0 0
 unfolding powerOfSixteen
 value-begin s n = let d : n - 0 ≡ n = omega arith in record { left = rw d; small = omega arith; bound = omega arith }
@@ -141,7 +141,7 @@ module _ (s : List ℕ) (n v i : ℕ) (c : Reading s n v i) where
         bound = omega arith;
       }
 
-  -- all n are read
+  -- with all n digits read, the value is theirs
   pub value-done : n ≤ i → v ≡ hexValue 0 n s
   unfolding hexValue
   value-done h = let d : n - i ≡ 0 = omega arith in sym (rw d at (c .left))
@@ -211,18 +211,18 @@ module _ (s : List ℕ) (r : Bool) (er : r ≡ is (getD s 0 0) reverseSolidus) w
   unfolding identEscapeOf
   escape-no h = pick-false _ _ _ _ (told _ _ _ er h) refl
 
-  -- the backslash is there
+  -- a backslash that is found stands before the end of the text
   pub escape-there : r ≡ true → 1 ≤ length s
   escape-there h = byte-there s 0 reverseSolidus (omega arith) (told _ _ _ er h)
 
 -- ---- the returns of `nmstart` and `nmchar`
 module _ (x a b : Scalar) (ex : x ≡ a) where
-  -- the first alternative reads
+  -- where the first alternative reads, it is the answer
   pub either-first : (n v : ℕ) → x ≡ Value n v → Value n v ≡ either a b
   unfolding either
   either-first n v h = rw (sym ex ∙ h)
 
-  -- the second is tried
+  -- where the first does not, the second is the answer
   pub either-second : x ≡ NoScalar → (y : Scalar) → y ≡ b → y ≡ either a b
   unfolding either
   either-second h y ey = rw (sym ex ∙ h) ey

@@ -22,7 +22,7 @@ use Rattle.lexer.proofs.Idents.{text-none, start-same, name-some, name-
 abbrev pub NameKeeps : List ℕ → Parsed (List ℕ) → Type 0
 NameKeeps s p = Keeps (λ b. b) s p
 
--- a run of characters
+-- one character of a name or more keep to the bounds
 chars-fit : (t : List ℕ) → 1 ≤ charsEnd t → Fits t (charsEnd t) (charsText t)
 chars-fit t h = record { some = h; within-text = chars-le t; bound = chars-bound t }
 

@@ -24,7 +24,7 @@ use Rattle.lexer.proofs.Escapes.{char-yes, char-no}
 use Rattle.lexer.proofs.CharacterRuns.{Emitted, chars-bound, chars-step, chars-text-step}
 
 -- ---- what starts a name is a character of names too
--- a backslash is none
+-- a backslash neither starts a name nor continues one
 slash-no : (isNmstart reverseSolidus ≡ false) × (isNmchar reverseSolidus ≡ false)
 unfolding isNmstart isNmchar or and within is
 slash-no = (refl, refl)
@@ -44,7 +44,7 @@ pub start-plain : (s : List ℕ) → isNmstart (getD s 0 0) ≡ true → nmstart
 unfolding nmstartOf nmstartCharOf either isNmchar
 start-plain s e = rw (← char-yes isNmstart s _ refl _ refl e _ refl) (sym (char-plain s (or-left _ _ e)))
 
--- an escape starts one
+-- at a backslash, what starts a name is any character of names
 start-escape : (s : List ℕ) → getD s 0 0 ≡ reverseSolidus → nmstartOf s ≡ nmcharOf s
 unfolding nmstartOf nmstartCharOf nmcharOf nmcharCharOf either
 start-escape s e =
@@ -65,7 +65,7 @@ start-same s n v e = go (isNmstart (getD s 0 0)) refl (is (getD s 0 0) reverseSo
     go false p false q = absurd (let z = start-none s p q in let w : _≡_ {A = ℕ} 0 1 = cc in omega arith)
 
 -- ---- a name is one run of characters from its start, a '-' or not
--- behind the text b
+-- with a text b in front, a name that starts behind it is b and its characters
 from-start : (b u : List ℕ) (n v : ℕ) → nmstartOf u ≡ Value n v → nameFrom b u (Value n v) ≡ ok (length b + charsEnd u) (b ++ charsText u)
 unfolding nameFrom
 from-start b u n v e =
@@ -131,7 +131,7 @@ module _ (t : List ℕ) (d : ℕ) (ed : d ≡ dash t) (x : Scalar) (ex : x ≡ n
   not-named h st fill = named-err _ (name-none t (started ∙ h)) st st fill refl
 
 module _ (t st z : List ℕ) (fill i m : ℕ) (w : Emitted t st fill z i m) where
-  -- one character or more
+  -- the return where one character or more was read: a name
   pub chars-named : ¬ (i ≡ 0) → Named (charsOf t) st fill (Text i m) z
   unfolding charsOf
   chars-named d = named-ok _ _ _ (sym (pick-false _ _ _ _ (is-no-of _ _ _ (w .0 .0) d) refl)) st z fill i m (w .0 .0) (w .0 .1) (w .1)

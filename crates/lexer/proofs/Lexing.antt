@@ -34,6 +34,7 @@ unfolding startOf isQuote numbers.isDigit
 digit-start c n₁ n₂ n₃ n₄ n₅ n₆ n₇ n₈ i d = search cases depth 40
 
 -- ---- `mark_of`: a mark, as the code has it
+-- the code's token of a mark is that of the byte which it was made of
 pub marked : (k : Token) (c : ℕ) → k ≡ markOf c → coded k ≡ coded (markOf c)
 marked k c e = ap coded e
 
@@ -69,9 +70,9 @@ pub mark-lexes : (c n : ℕ) (st : List ℕ) (fill : ℕ) (k : declared.Token) �
 unfolding tokenAnswer tokenText
 mark-lexes c n st fill k e = (ap (Took n) e, sym (ap (sets st fill) (mark-text c)))
 
--- ---- `token_at`
+-- ---- `token_at`: by the character at the start, if there is one
 module _ (t st : List ℕ) (fill : ℕ) (x : Scalar) (ex : x ≡ scalarOf t) where
-  -- a character is there
+  -- the return where a character is there: the token by what it starts
   pub at-char : (n c : ℕ) → x ≡ Value n c → (r : TokenAnswer) (z : List ℕ) → Lexes (tokenBy (startOf c) n c t) st fill r z
       → Lexes (tokenAt t (scalarOf t)) st fill r z
   unfolding tokenAt

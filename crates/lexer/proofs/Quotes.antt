@@ -29,10 +29,12 @@ fine-byte : (s : List ℕ) (n b : ℕ) → n ≤ length s → 1 ≤ n → Fine s
 unfolding takenOf textOf
 fine-byte s n b h l = record { within-text = h; small = l }
 
+-- bytes that stand for nothing, no more than there are, are fine
 fine-skip : (s : List ℕ) (n : ℕ) → n ≤ length s → Fine s (Skip n)
 unfolding takenOf textOf
 fine-skip s n h = record { within-text = h; small = omega arith }
 
+-- the end of a string, which takes nothing, is fine
 fine-stop : (s : List ℕ) → Fine s Stop
 unfolding takenOf textOf
 fine-stop s = record { within-text = omega arith; small = omega arith }
@@ -72,7 +74,7 @@ Turned q s st f k m z g =
     ((k ≡ quotedTaken q s) × (m ≡ length (quotedText q s))) × (record { bytes = z; fill = g } ≡ emits (record { bytes = st; fill = f }) (quotedText q s))
 
 module _ (q : ℕ) (s : List ℕ) (c : Quoted) (e : c ≡ quotedOf q s) (st : List ℕ) (f : ℕ) where
-  -- a byte of text
+  -- the return where a byte of text was read: it is emitted
   pub turn-byte : (n x : ℕ) → c ≡ Byte n x → (z : List ℕ) (g : ℕ) → record { bytes = z; fill = g } ≡ emits (record { bytes = st; fill = f }) (x ∷ [])
       → Turned q s st f n 1 z g
   unfolding quotedTaken quotedText takenOf textOf
@@ -165,7 +167,7 @@ module _ (q : ℕ) (s st₀ : List ℕ) (fill : ℕ) (st : List ℕ) (f i n : �
       let o = onward in
       writing-more _ _ _ _ _ _ _ _ _ w k m z g (sym (o .0 .0)) (omega (arith, o .0 .0, quoted-le q (drop i s))) d (o .0 .1) (o .1) l
 
-  -- the string ends here
+  -- a turn that takes nothing ends the string: what was taken and written is all of it
   pub string-stop : k ≡ 0 → Ended q s st₀ fill z i n
   string-stop h =
       let o = onward in

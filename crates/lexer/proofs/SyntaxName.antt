@@ -160,7 +160,7 @@ start-read x l e =
     let c = sym (start-is x) ∙ e in
     start-plain (x ∷ l) c ∙ char-plain (x ∷ l) (nmstart-nmchar x c)
 
--- and is no '-'
+-- what starts a name is no '-'
 undashed : (x : ℕ) (l : List ℕ) → identStart x ≡ true → dash (x ∷ l) ≡ 0
 unfolding dash
 undashed x l e = let h = start-above x e in sym (pick-false _ _ _ _ (is-no _ _ (λ q. omega arith)) refl)

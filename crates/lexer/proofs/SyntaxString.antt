@@ -74,7 +74,7 @@ unfolding quotedTaken quotedOf takenOf
 stop-quote q t =
     ap takenOf (sym (pick-false Stop _ _ _ (is-no (suc (length t)) 0 (λ e. omega arith)) (pick-true _ _ _ _ (is-yes q q refl) refl)))
 
--- nor with a newline
+-- no character of a string begins with a newline
 stop-newline : (q : ℕ) (t : List ℕ) → quotedTaken q (lineFeed ∷ t) ≡ 0
 unfolding quotedTaken quotedOf takenOf is pick
 stop-newline q t =
@@ -87,7 +87,7 @@ unfolding quotedTaken quotedOf takenOf is pick
 stop-empty q = refl
 
 module _ (q : ℕ) (body : List ℕ) (h : plain q body ≡ true) where
-  -- the ending code point
+  -- a string up to its quote is its text, and ends before the quote
   pub string-quote : (t : List ℕ) → (stringEnd q (body ++ q ∷ t) ≡ length body) × (stringText q (body ++ q ∷ t) ≡ body)
   string-quote t = reads-itself q body (q ∷ t) h (stop-quote q t)
 

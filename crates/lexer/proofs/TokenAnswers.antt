@@ -66,7 +66,7 @@ unfolding orElse tokenAnswer tokenText
 lexes-first (ok n x) q st z fill m k w = w
 lexes-first err q st z fill m k w = took-none m k (w .0)
 
--- the second is tried
+-- where the first alternative leaves no token, what the second leaves is left
 pub lexes-second : (p q : Parsed Token) (st z : List ℕ) (fill : ℕ) → Lexes p st fill NoToken z → (y : TokenAnswer) (v : List ℕ)
     → Lexes q z fill y v → Lexes (orElse p q) st fill y v
 unfolding orElse

@@ -98,7 +98,7 @@ ident-like-bounded s =
     (λ _. tt)
 
 -- ---- a string
--- by how it ends
+-- a string, however it ends, keeps to the bounds
 string-from : (q : ℕ) (t : List ℕ) → 1 ≤ length t → Bounded t (stringFrom q (drop 1 t) (stringEnd q (drop 1 t)) (stringText q (drop 1 t)))
 unfolding stringFrom textOf
 string-from q t h =

@@ -62,7 +62,7 @@ module _ (s : List ℕ) (n : ℕ) (en : n ≡ numbers.number s) where
     unfolding numericOf
     from = sym (pick-false _ _ _ _ (is-no-of _ _ _ en d) refl) ∙ ap (λ k. numericFrom k s) (sym en)
 
-    -- its text is stored
+    -- the text of the number is stored at the fill
     stored : l ≡ sets st fill (take n s)
     stored = sets-emitted st l (take n s) fill f e
 
@@ -117,7 +117,7 @@ module _ (s st z : List ℕ) (fill : ℕ) (x : Name) (w : Named (identOf s) st f
     like : identLikeOf s ≡ pick (is (getD s n 0) leftParenthesis) (ok (n + 1) (function (nameText (identOf s)))) (ok n (ident (nameText (identOf s))))
     like = like-ok s n _ (read .0)
 
-    -- with '(' behind it
+    -- the return where '(' stands behind the name: a function
     pub function-like : r ≡ true → Lexes (identLikeOf s) st fill (Took (n + 1) (code.Function m)) z
     unfolding coded textOf
     function-like h = lexes-ok _ _ _ (like ∙ sym (pick-true _ _ _ _ (told _ _ _ er h) refl)) _ (rw (read .1)) st z fill (w .1)
@@ -129,7 +129,7 @@ module _ (s st z : List ℕ) (fill : ℕ) (x : Name) (w : Named (identOf s) st f
 
 -- ---- `parse_string_token`: q is the first byte, and c whether it is a quote
 module _ (t : List ℕ) (q : ℕ) (eq : q ≡ getD t 0 0) (c : Bool) (ec : c ≡ isQuote q) where
-  -- the quote is there
+  -- a quote that is found stands before the end of the text
   pub quote-there : c ≡ true → 1 ≤ length t
   unfolding isQuote
   quote-there h =
@@ -166,7 +166,7 @@ module _ (t : List ℕ) (q : ℕ) (eq : q ≡ getD t 0 0) (c : Bool) (ec : c ≡
       string-closed e =
           lexes-ok _ _ _ (quoted ∙ sym (pick-false _ _ _ _ (is-no _ _ d) (pick-true _ _ _ _ (told _ _ _ er e) refl))) _ (rw (w .0 .1)) st z fill (w .1)
 
-      -- at a line feed
+      -- the return where the string ends at a line feed: a bad string
       pub string-bad : r ≡ false → Lexes (stringOf t) st fill (Took (1 + n) (code.BadString m)) z
       unfolding stringFrom coded textOf
       string-bad e =
@@ -253,7 +253,7 @@ module _ (c : ℕ) (t : List ℕ) (r : Bool) (er : r ≡ startsWith cdoMark t) w
   unfolding lessOf tokenAnswer coded pick
   less-delim h = rw (told _ _ _ er h)
 
--- neither has a text
+-- a token that begins with '<' has no text
 less-text : (c : ℕ) (t : List ℕ) → tokenText (lessOf c t) ≡ []
 unfolding lessOf tokenText textOf
 less-text c t = pick-holds (λ p. tokenText p ≡ []) _ _ _ (λ _. refl) (λ _. refl)

@@ -21,6 +21,7 @@ word-same x h = omega arith
 pub found : (k k′ : declared.Token) → k ≡ k′ → (r : Columns) → r ≡ columnsOf k′ → r ≡ columnsOf k
 found k k′ e r er = er ∙ ap columnsOf (sym e)
 
+-- the columns of a delimiter are its kind, its scalar value and 0
 pub delim-columns : (c v : ℕ) → v ≡ c → (r : Columns) → r ≡ record { kind = delimKind; first = v; second = 0 } → r ≡ columnsOf (code.Delim c)
 unfolding columnsOf
 delim-columns c v e r er = er ∙ rw e
@@ -37,24 +38,29 @@ five o₀ o₁ o₂ o₃ o₄ o₅ a b c d e p q r s t =
 -- the row of a token
 module _ (k : declared.Token) (x : Columns) (ex : x ≡ columnsOf k) (byte start : ℕ) (b s f g : ℕ)
     (eb : b ≡ word byte) (es : s ≡ word start) (ef : f ≡ word (x .first)) (eg : g ≡ word (x .second)) where
+  -- the five numbers, each as a word, are the token's row
   columns : (x .kind ∷ b ∷ s ∷ f ∷ g ∷ []) ≡ rowOf byte start k
   unfolding rowOf
   columns = rw (← ex, eb, es, ef, eg)
 
+  -- the five numbers emitted one behind the other leave the token's row in the store
   pub row-written : (o₀ o₁ o₂ o₃ o₄ o₅ : Store) → o₁ ≡ emits o₀ (x .kind ∷ []) → o₂ ≡ emits o₁ (b ∷ []) → o₃ ≡ emits o₂ (s ∷ [])
       → o₄ ≡ emits o₃ (f ∷ []) → o₅ ≡ emits o₄ (g ∷ []) → o₅ ≡ emits o₀ (rowOf byte start k)
   row-written o₀ o₁ o₂ o₃ o₄ o₅ p q r t u = five o₀ o₁ o₂ o₃ o₄ o₅ _ b s f g p q r t u ∙ ap (emits o₀) columns
 
 -- a token of a known kind, with its numbers
 module _ (k a b n : ℕ) (e : n ≡ a) where
+  -- a row of the kind of numbers reads as a number with its length of text
   pub number-from : k ≡ numberKind → code.Number n ≡ tokenFrom k a b
   unfolding tokenFrom pick is
   number-from h = rw (h, e)
 
+  -- a row of the kind of dimensions reads as a dimension with both lengths
   pub dimension-from : k ≡ dimensionKind → (m : ℕ) → m ≡ b → code.Dimension n m ≡ tokenFrom k a b
   unfolding tokenFrom pick is
   dimension-from h m em = rw (h, e, em)
 
+  -- a row of the kind of percentages reads as a percentage with its length of text
   pub percentage-from : k ≡ percentageKind → code.Percentage n ≡ tokenFrom k a b
   unfolding tokenFrom pick is
   percentage-from h = rw (h, e)

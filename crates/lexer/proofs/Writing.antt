@@ -24,7 +24,7 @@ pub record Writing (u : List ℕ → ℕ) (b : List ℕ → List ℕ) (s st₀ :
 abbrev pub Wrote : (List ℕ → ℕ) → (List ℕ → List ℕ) → List ℕ → List ℕ → ℕ → List ℕ → ℕ → ℕ → Type 0
 Wrote u b s st₀ fill st i n = (i ≡ many u 0 0 s) × (n ≡ length (texts u b 0 s)) × (st ≡ sets st₀ fill (texts u b 0 s))
 
--- nothing is read yet
+-- before the first byte nothing is written, and all of the text is left
 pub writing-begin : (u : List ℕ → ℕ) (b : List ℕ → List ℕ) (s st : List ℕ) (fill : ℕ) → Writing u b s st fill st fill 0 0
 writing-begin u b s st fill = record { end = refl; text = omega arith; stored = refl; long = refl; within-text = omega arith }
 
@@ -54,7 +54,7 @@ module _ (u : List ℕ → ℕ) (b : List ℕ → List ℕ) (s st₀ : List ℕ)
     ap (λ (o : Store). o .bytes) (sym (ap (emits _) q ∙ emits-none _) ∙ w .stored) ∙ emits-bytes (texts u b 0 s) st₀ fill,
   )
 
-  -- the reader takes none
+  -- where the reader takes none, what was written is all of it
   pub writing-stop : u (drop i s) ≡ 0 → Wrote u b s st₀ fill st i n
   writing-stop e = done (many-stop u (drop i s) i e) (texts-stop u b (drop i s) e)
 

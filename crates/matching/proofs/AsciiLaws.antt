@@ -58,7 +58,7 @@ module _ (s : List ℕ) (i : ℕ) (inside : i < length s) (b : ℕ) (eb : b ≡ 
     between-ends : (0x21 ≤ b) × (b ≤ 0x7e)
     between-ends = within-true b 0x21 0x7e (sym eg ∙ yes-graphic)
 
-    -- it is no White_Space
+    -- a graphic ASCII character is no White_Space
     no-white : isWhiteSpace b ≡ false
     no-white = graphic-is-none b (between-ends .0) (between-ends .1)
 
@@ -66,7 +66,7 @@ module _ (s : List ℕ) (i : ℕ) (inside : i < length s) (b : ℕ) (eb : b ≡ 
     ascii : b ≤ 0x7f
     ascii = let h = between-ends .1 in omega arith
 
-    -- White_Space ends before it
+    -- a run of White_Space ends before a graphic ASCII character
     pub graphic-stops : Repeating whiteTaken s i → i ≡ many whiteTaken 0 0 s
     unfolding pick
     graphic-stops c = repeat-stop _ _ _ c (sym (white-value (drop i s) _ (one-byte ascii) 1 b refl _ false (sym no-white) refl))
@@ -77,7 +77,7 @@ module _ (s : List ℕ) (i : ℕ) (inside : i < length s) (b : ℕ) (eb : b ≡ 
     graphic-goes-on c =
         repeat-more _ _ _ c 1 (sym (word-value (drop i s) _ (one-byte ascii) some-left 1 b refl _ false (sym no-white) refl)) (omega arith) (λ z. absurd (omega arith))
 
-  -- ---- a space
+  -- ---- a space, which is White_Space and ends a word
   module _ (e : b ≡ 0x20) where
     -- the byte of a space is White_Space
     white : true ≡ isWhiteSpace b

@@ -29,6 +29,7 @@ use Rattle.matching.proofs.PathLaws.{parent-rooted, parent-before}
 use Rattle.matching.proofs.TopmostLaws.{line-up, last-document, last-above, Needs, step-needs, none-found, right-top, top-within, right-above}
 
 -- ---- the returns of `matches_below`: where the climb leads, the number decides
+-- what the number says of where the climb leads is whether the components match the path
 pub below-top : (nodes attributes text : List ℕ) (cs : List Component) (row top : ℕ) → RightTop nodes attributes text cs row top
     → (t : Climbed) → t ≡ climbOf nodes attributes text cs row → (x : Climbed) → t ≡ x → belowTop top x ≡ matches cs (pathOf nodes attributes text row)
 below-top nodes attributes text cs row top g t e x f = ap (belowTop top) (sym f ∙ e) ∙ g .decides row same
@@ -49,13 +50,13 @@ module _ (store components nodes attributes text : List ℕ) where
       pub right : RightTop nodes attributes text before at top
       pub finds : lastMatched nodes attributes text before (ancestorsOf nodes at) found ≡ topmost nodes attributes text before row
 
-    -- nothing is found yet
+    -- before the parent is asked nothing is found, and the whole search is left
     pub seek-begin : Rooted nodes row → RightTop nodes attributes text before row top → Seeking row row
     unfolding topmost
     seek-begin r g = record { rooted = r; right = g; finds = refl }
 
     module _ (found at : ℕ) (s : Seeking found at) where
-      -- no ancestor is left
+      -- at the document no ancestor is left, and what is found is the topmost
       pub seek-end : at ≡ 0 → found ≡ topmost nodes attributes text before row
       seek-end e =
           sym (last-document nodes attributes text before found) ∙ ap (λ (r : ℕ). lastMatched nodes attributes text before (ancestorsOf nodes r) found) (sym e) ∙ s .finds
@@ -65,10 +66,12 @@ module _ (store components nodes attributes text : List ℕ) where
         pub up-rooted : Rooted nodes p
         up-rooted = parent-rooted nodes at (s .rooted) z p ep
 
+        -- the number that is right for a row is right for its parent
         pub up-right : RightTop nodes attributes text before p top
         up-right = right-above nodes attributes text before at top p (s .right) (line-up nodes same z p ep)
 
         module _ (b : Bool) (eb : b ≡ matches before (pathOf nodes attributes text p)) where
+          -- with the parent as what is found where its path matches, the search from the parent on finds what the whole search finds
           asked : lastMatched nodes attributes text before (ancestorsOf nodes p) (pick b p found) ≡ topmost nodes attributes text before row
           asked =
               rw (eb, ep) (sym (last-above nodes attributes text before at (parent-before nodes at (s .rooted) z _ refl) found)) ∙ s .finds
@@ -104,6 +107,7 @@ module _ (store components nodes attributes text : List ℕ) where
       so-far r = rw (g .is-top) (right-top nodes attributes text row r (componentsAt store components i))
 
       module _ (h : i < left) (k : ℕ) (ek : k ≡ componentNumber components i componentKindAt) where
+        -- one component more: a descendant combinator takes the topmost ancestor, any other keeps the number so far
         one-more : selectorTop nodes attributes text row (componentsAt store components (i + 1))
             ≡ byCombinator (componentAt store components i) (selectorTop nodes attributes text row (componentsAt store components i)) (topmost nodes attributes text (componentsAt store components i) row) (selectorTop nodes attributes text row (componentsAt store components i))
         unfolding selectorTop
@@ -122,6 +126,7 @@ module _ (store components nodes attributes text : List ℕ) where
   -- where nothing is found for a descendant combinator, nothing is for those behind it
   module _ (row : ℕ) (r : Rooted nodes row) (i : ℕ) (e : componentNumber components i componentKindAt ≡ descendantKind)
       (none : topmost nodes attributes text (componentsAt store components i) row ≡ row) where
+    -- the first i + 1 components are a descendant combinator in front of the first i
     combinator : componentsAt store components (suc i) ≡ descendant ∷ componentsAt store components i
     unfolding componentAt
     combinator = components-more store components i ∙ ap (λ (c : Component). c ∷ componentsAt store components i) (from-descendant store _ _ _ _ e)
@@ -136,6 +141,7 @@ module _ (store components nodes attributes text : List ℕ) where
         (λ (l : n ≤ i). let q : n ≡ i = omega arith in rw (q, combinator) (λ p z. z))
         (lt-or-ge i n)
 
+    -- for any more than the first i components the number is the row itself
     pub none-behind : (n : ℕ) → i < n → selectorTop nodes attributes text row (componentsAt store components n) ≡ row
     unfolding selectorTop byCombinator
     none-behind zero h = absurd (omega arith)

@@ -39,11 +39,11 @@ by-combinator P (attributeEqual n v) p q r = r
 no-complete : {A : Type 0} → FailsCompletely ≡ FailsLocally → A
 no-complete e = absurd (let z : _≡_ {A = ℕ} 0 1 = cc in omega arith)
 
--- nor is to match
+-- to match is not to fail locally
 no-match : {A : Type 0} → Matches ≡ FailsLocally → A
 no-match e = absurd (let z : _≡_ {A = ℕ} 0 1 = cc in omega arith)
 
--- ---- products
+-- ---- what the bound says, one component or one ancestor further
 module _ (m d : ℕ) where
   -- the call itself is within the bound
   one-call : 1 ≤ suc m * suc d
@@ -62,6 +62,7 @@ module _ (m d : ℕ) where
   more-ancestors k n h l = omega (arith, mul-suc (suc m) (suc d))
 
   -- ---- a descendant combinator: the second result does not fail locally
+  -- the calls at the parent and at the other ancestors stay, with the call itself, within the bound for one component and one ancestor more
   bounded-else : (s t : SelectorMatch) (a b : ℕ) → Bounded m d s a → Bounded (suc m) d t (1 + b) → ¬ (t ≡ FailsLocally)
       → Bounded (suc m) (suc d) (orElse s t) (1 + (a + callsElse s b))
   unfolding orElse callsElse
@@ -109,6 +110,7 @@ module _ (f : Path → SelectorMatch) (k : Path → ℕ) (m : ℕ) (bounded : (p
   bounded-simple p false = record { all = one-call m (length p); local = λ e. omega arith }
 
 -- ---- all of them
+-- the calls for components on a path are at most (components + 1) × (ancestors + 1)
 all-bounded : (cs : List Component) (p : Path) → Bounded (suc (length cs)) (length p) (matchRecursively cs p) (calls cs p)
 unfolding matchRecursively calls resultStep callsStep
 all-bounded [] p = record { all = one-call 0 (length p); local = λ e. omega arith }

@@ -51,11 +51,12 @@ module _ (store components nodes attributes text : List ℕ) where
     hand-begin r = record { rooted = r; same = refl }
 
     module _ (n at : ℕ) (g : Handed n at) where
-      -- no component is left
+      -- with no component left the climb ends, and the selector matches
       pub none-left : n ≡ 0 → Ended Matches ≡ Climb left row
       none-left e = one.match-end store components nodes attributes text n at e ∙ sym (g .same)
 
       module _ (some : 0 < n) (k : ℕ) (ek : k ≡ componentNumber components (n - 1) componentKindAt) where
+        -- where some component is left, their count is not 0
         no-zero : ¬ (n ≡ 0)
         no-zero z = absurd (omega arith)
 
@@ -68,7 +69,7 @@ module _ (store components nodes attributes text : List ℕ) where
           pub child-ends : at ≡ 0 → Ended FailsCompletely ≡ Climb left row
           child-ends z = one.child-of-document store components nodes attributes text n at no-zero k ek e z ∙ sym (g .same)
 
-          -- or on an element
+          -- a child combinator on an element hands the components before it to the parent
           pub hand-up : ¬ (at ≡ 0) → (p : ℕ) → p ≡ nodeAt nodes at .parent → Handed (n - 1) p
           hand-up z p ep =
               record {
@@ -82,7 +83,7 @@ module _ (store components nodes attributes text : List ℕ) where
           is-test = one.match-simple store components nodes attributes text n at no-zero k ek no-child no-descendant
 
           module _ (b : Bool) (eb : b ≡ matches (componentAt store components (n - 1) ∷ []) (pathOf nodes attributes text at)) where
-            -- that the row passes
+            -- a test that the row passes hands the components before it to the row itself
             pub hand-on : b ≡ true → Handed (n - 1) at
             hand-on h = record { rooted = g .rooted; same = g .same ∙ one.match-passes store components nodes attributes text n at no-zero k ek no-child no-descendant b eb h }
 
@@ -102,7 +103,7 @@ module _ (store components nodes attributes text : List ℕ) where
   tells-below left row row′ h (Descendant n at) s t = (omega (arith, t .0), omega (arith, t .1), t .2, t .3)
 
   module _ (n : ℕ) (tells : (row : ℕ) → Rooted nodes row → Tells n row (Climb n row) (Result n row)) where
-    -- a child combinator
+    -- with a child combinator in front, a climb goes on from the parent and says the result there; from the document it fails
     child-tells : (row : ℕ) → Rooted nodes row
         → Tells (suc n) row (pick (is row 0) (Ended FailsCompletely) (Climb n (nodeAt nodes row .parent))) (resultOnParent (matchRecursively (componentsAt store components n)) (pathOf nodes attributes text row))
     unfolding Tells resultOnParent pick is
@@ -249,7 +250,7 @@ module _ (store components nodes text : List ℕ) (n row : ℕ) where
             (other-name store components nodes attributes text n row above (s .next attributes) a z b (eb ∙ ap (sameText (nameOf nodes text above)) en) h) p ep;
       }
 
-  -- no element has it
+  -- where no element above has the name, the document is the next to be tried
   pub seek-end : (above : ℕ) → Seeking store components nodes text n row above → above ≡ 0 → (attributes : List ℕ)
       → NextAncestor store components nodes attributes text n row 0
   seek-end above s e attributes = subst (NextAncestor store components nodes attributes text n row) e (s .next attributes)

@@ -45,12 +45,13 @@ module _ (store components : List ℕ) (i start first : ℕ) (es : start ≡ com
 
 -- k + 1 values are k values and one
 module _ {A : Type 0} (u : List ℕ → Read A) where
+  -- reading k + 1 values gives the first k, and behind them the one that is read next
   read-more : (k : ℕ) (t : List ℕ) → readMany u (suc k) t .value ≡ readMany u k t .value ++ (u (readMany u k t .rest) .value ∷ [])
   unfolding readMany
   read-more zero t = refl
   read-more (suc k) t = ap (λ (l : List A). u t .value ∷ l) (read-more k (u t .rest))
 
--- where k components end
+-- reading k components ends k rows further on
 read-rest : (store : List ℕ) (k : ℕ) (t : List ℕ) → readMany (readComponent store) k t .rest ≡ drop (k * componentWidth) t
 unfolding readMany readComponent
 read-rest store zero t = refl
@@ -93,22 +94,27 @@ nothing = record { inline = false; id = 0; class = 0; typ = 0 }
 
 -- what a component of kind k adds
 module _ (store : List ℕ) (k f a b : ℕ) where
+  -- star adds nothing to a specificity
   pub adds-star : k ≡ starKind → nothing ≡ added (componentFrom store k f a b)
   unfolding componentFrom added noSpecificity specificityOf pick is
   adds-star e = rw e
 
+  -- an element name adds one to the element names
   pub adds-element : k ≡ elementKind → specificityOf 0 0 1 ≡ added (componentFrom store k f a b)
   unfolding componentFrom added pick is
   adds-element e = rw e
 
+  -- a hash adds one to the ids
   pub adds-hash : k ≡ hashKind → specificityOf 1 0 0 ≡ added (componentFrom store k f a b)
   unfolding componentFrom added pick is
   adds-hash e = rw e
 
+  -- a child combinator adds nothing to a specificity
   pub adds-child : k ≡ childKind → nothing ≡ added (componentFrom store k f a b)
   unfolding componentFrom added noSpecificity specificityOf pick is
   adds-child e = rw e
 
+  -- a descendant combinator adds nothing to a specificity
   pub adds-descendant : k ≡ descendantKind → nothing ≡ added (componentFrom store k f a b)
   unfolding componentFrom added noSpecificity specificityOf pick is
   adds-descendant e = rw e
@@ -150,6 +156,7 @@ pub record Adding (components : List ℕ) (n i : ℕ) (r : Specificity) : Type 0
   pub classes : r .class ≤ i
   pub types : r .typ ≤ i
 
+-- before the first component the sum is nothing, in every count
 pub add-begin : (components : List ℕ) (n : ℕ) → Adding components n 0 nothing
 unfolding specificity noSpecificity specificityOf
 add-begin components n =
@@ -171,10 +178,12 @@ add-end components n i r v h store =
 -- x is what the i-th component adds
 module _ (components : List ℕ) (n i : ℕ) (r : Specificity) (v : Adding components n i r) (inside : i < n) (k : ℕ) (ek : k ≡ componentNumber components i componentKindAt)
     (x : Specificity) (adds : (store : List ℕ) (f a b : ℕ) → x ≡ added (componentFrom store k f a b)) where
+  -- x is what the component that stands in the i-th row adds, with any text store
   there : (store : List ℕ) → x ≡ added (componentAt store components i)
   unfolding componentAt
   there store = rw (← ek) (adds store _ _ _)
 
+  -- it is at most one in each count
   few : (x .id ≤ 1) × ((x .class ≤ 1) × (x .typ ≤ 1))
   few = rw (there []) (added-few (componentAt [] components i))
 
@@ -195,6 +204,7 @@ module _ (components : List ℕ) (n i : ℕ) (r : Specificity) (v : Adding compo
       ap (λ (y : Specificity). sum y r) (there store) ∙ ap (sum (added (componentAt store components i))) (v .total store)
       ∙ sym (ap specificity (components-more store components i)) ∙ ap (λ (m : ℕ). specificity (componentsAt store components m)) e
 
+  -- with x added, the sum is that of i + 1 components, and its counts are at most i + 1
   bounded : Adding components n (i + 1) (sum x r)
   unfolding sum
   bounded =
@@ -206,5 +216,6 @@ module _ (components : List ℕ) (n i : ℕ) (r : Specificity) (v : Adding compo
         types = omega (arith, few .1 .1, v .types);
       }
 
+  -- so is the sum that the code took
   pub add-more : (q : Specificity) → q ≡ sum x r → Adding components n (i + 1) q
   add-more q e = rw e bounded

@@ -64,6 +64,7 @@ of-all : (P : Attribute → Type 0) → ((a : Attribute) → P a) → (l : List 
 of-all P f [] = tt
 of-all P f (a ∷ l) = (f a, of-all P f l)
 
+-- an attribute passes the test for a name exactly if it has that name
 named-exactly : (n : List ℕ) (a : Attribute) → Exactly (isNamed n a ≡ true) (Named n a)
 unfolding isNamed
 named-exactly n a = same-exactly (a .name) n
@@ -153,6 +154,7 @@ module _ (n v : List ℕ) where
           go [] e o = absurd (h (subst (Named n) (sym (ap (firstOr a) e)) (f .named)))
           go (x ∷ b) e o = record { earlier = b; which = f .which; later = f .later; split = ap behindFirst e; others = o .1; named = f .named; valued = f .valued }
 
+  -- the empty list has no first attribute of the name
   no-first : ¬ (FirstValue n v [])
   no-first f = go (f .earlier) (f .split)
     where
@@ -160,12 +162,14 @@ module _ (n v : List ℕ) where
       go [] e = absurd (omega (arith, ap length e))
       go (x ∷ b) e = absurd (omega (arith, ap length e))
 
+  -- by whether the first of the list has the name, its own value decides or the list behind it does
   first-by : (a : Attribute) (l : List Attribute) → Exactly (firstIs n v l ≡ true) (FirstValue n v l) → (t : Bool) → isNamed n a ≡ t
       → Exactly (pick t (sameText (a .value) v) (firstIs n v l) ≡ true) (FirstValue n v (a ∷ l))
   unfolding pick
   first-by a l f true e = first-here a l (named-exactly n a .0 e)
   first-by a l f false e = exactly-then _ _ _ f (first-later a l (λ d. never (sym e ∙ named-exactly n a .1 d)))
 
+  -- the test holds exactly if the first attribute of the name has the value
   first-exactly : (l : List Attribute) → Exactly (firstIs n v l ≡ true) (FirstValue n v l)
   unfolding firstIs
   first-exactly [] = ((λ e. never e), (λ f. absurd (no-first f)))
@@ -175,6 +179,7 @@ module _ (n v : List ℕ) where
   abbrev Valued : Attribute → Type 0
   Valued a = Named n a × (a .value ≡ v)
 
+  -- where no two names are the same, an attribute with the name and the value is the first of its name
   valued-first : (l : List Attribute) → Distinct l → Some Valued l → FirstValue n v l
   valued-first [] d q = absurd q
   valued-first (a ∷ l) d q =
@@ -188,10 +193,12 @@ module _ (n v : List ℕ) where
           all-at [] o = o .0
           all-at (x ∷ b) o = all-at b (o .1)
 
+  -- a list in which such an attribute stands, at any place, has some such attribute
   some-at : (b l : List Attribute) (a : Attribute) → Valued a → Some Valued (b ++ (a ∷ l))
   some-at [] l a w = inl w
   some-at (x ∷ b) l a w = inr (some-at b l a w)
 
+  -- the first attribute of the name, where it has the value, is some attribute with both
   first-valued : (l : List Attribute) → FirstValue n v l → Some Valued l
   first-valued l f = subst (Some Valued) (sym (f .split)) (some-at (f .earlier) (f .later) (f .which) (f .named, f .valued))
 
@@ -225,6 +232,7 @@ sequence-exactly (nth a b) cs p s = beside _ (matches cs p)
 sequence-exactly (attribute n) cs p s = beside (here (hasAttribute n) p) (matches cs p)
 sequence-exactly (attributeEqual n v) cs p s = beside (here (attributeIs n v) p) (matches cs p)
 
+-- a component that matches the document, the empty path, is star
 document-star : (c : Component) → matches (c ∷ []) [] ≡ true → c ≡ star
 unfolding matches step here onParent onAncestors and
 document-star star e = refl
@@ -242,6 +250,7 @@ pub document-exactly : (c : Component) → Exactly (matches (c ∷ []) [] ≡ tr
 document-exactly c = (document-star c, (λ e. ap (λ (d : Component). matches (d ∷ []) []) e ∙ universal []))
 
 -- ---- on an accepted page the values of every element are in UTF-8, as `class-exactly` asks
+-- attributes have values in UTF-8, where those of their rows are
 values-from : (attributes bytes : List ℕ) (k at : ℕ) → ((j : ℕ) → j < k → valid (attributeValue attributes bytes (at + j)) ≡ true)
     → All (λ a. valid (a .value) ≡ true) (attributesFrom attributes bytes k at)
 unfolding attributesFrom

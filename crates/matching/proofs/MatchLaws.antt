@@ -21,7 +21,7 @@ use Rattle.matching.proofs.ComponentLaws.{components-none, components-m
 use Rattle.matching.proofs.PassLaws.{from-child, from-descendant, from-star, document-fails, third-chosen, asked-of-element}
 use Rattle.matching.proofs.PathLaws.{top-path, other-path}
 
--- ---- `passes`
+-- ---- `passes`: whether a simple component matches the path of a row
 module _ (store components nodes attributes text : List ℕ) (i row k : ℕ) (ek : k ≡ componentNumber components i componentKindAt) where
   -- star passes on every path
   pub star-passes : k ≡ starKind → true ≡ matches (componentAt store components i ∷ []) (pathOf nodes attributes text row)
@@ -42,7 +42,7 @@ module _ (store components nodes attributes text : List ℕ) (i row k : ℕ) (ek
     unfolding componentAt
     document-passes z = rw (top-path nodes attributes text row rooted z) (document-fails store _ _ _ _ (λ y. no-star (ek ∙ y)))
 
--- ---- `match_locally`
+-- ---- `match_locally`: where components lead from a row, one by one
 module _ (store components nodes attributes text : List ℕ) where
   -- where the first l components lead from a row
   abbrev Climb : ℕ → ℕ → Climbed
@@ -56,7 +56,7 @@ module _ (store components nodes attributes text : List ℕ) where
   climb-opened n row = rw (components-more store components n, components-length store components n) refl
 
   module _ (left row : ℕ) where
-    -- no component is left
+    -- with no component left the climb ends, and the selector matches
     pub match-end : left ≡ 0 → Ended Matches ≡ Climb left row
     unfolding climbOf
     match-end e = rw (e, components-none store components) refl
@@ -73,8 +73,9 @@ module _ (store components nodes attributes text : List ℕ) where
       opened = let e : left ≡ suc (left - 1) = omega arith in ap (λ (l : ℕ). Climb l row) e ∙ climb-opened (left - 1) row
 
       module _ (k : ℕ) (ek : k ≡ componentNumber components (left - 1) componentKindAt) where
-        -- child
+        -- the component is a child combinator
         module _ (e : k ≡ childKind) where
+          -- a child combinator fails on the document, and else leads where what is left leads from the parent
           child-opened : Climb left row ≡ Up
           unfolding componentAt byCombinator
           child-opened = opened ∙ ap (λ (c : Component). byCombinator c Up (Descendant (left - 1) row) On) (from-child store _ _ _ _ (sym ek ∙ e))
@@ -87,17 +88,19 @@ module _ (store components nodes attributes text : List ℕ) where
           pub child-of-parent : ¬ (row ≡ 0) → (p : ℕ) → p ≡ nodeAt nodes row .parent → Climb left row ≡ Climb (left - 1) p
           child-of-parent z p ep = child-opened ∙ sym (pick-false _ _ _ (is row 0) (is-no row 0 z) refl) ∙ ap (Climb (left - 1)) (sym ep)
 
-        -- descendant
+        -- at a descendant combinator the climb ends, with the components left of it, at this row
         pub descendant-opened : k ≡ descendantKind → Descendant (left - 1) row ≡ Climb left row
         unfolding componentAt byCombinator
         descendant-opened e = sym (opened ∙ ap (λ (c : Component). byCombinator c Up (Descendant (left - 1) row) On) (from-descendant store _ _ _ _ (sym ek ∙ e)))
 
         -- any other component, asked of the row itself
         module _ (no-child : ¬ (k ≡ childKind)) (no-descendant : ¬ (k ≡ descendantKind)) where
+          -- a component that is neither combinator is a simple one
           pub match-simple : SimpleAt components (left - 1)
           match-simple = record { no-child = λ z. no-child (ek ∙ z); no-descendant = λ z. no-descendant (ek ∙ z) }
 
           module _ (b : Bool) (eb : b ≡ matches (componentAt store components (left - 1) ∷ []) (pathOf nodes attributes text row)) where
+            -- the row's answer decides: what is left leads on from the row, or the climb fails locally
             asked : Climb left row ≡ pick b (Climb (left - 1) row) (Ended FailsLocally)
             unfolding componentAt
             asked =

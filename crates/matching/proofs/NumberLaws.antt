@@ -109,7 +109,7 @@ module _ (nodes attributes text : List ℕ) where
       pick-holds (NotBehind nodes row) (is row 0) _ _ (λ _. tt)
       (λ e. let z = is-false row 0 e in not-behind-on (nodeAt nodes row .parent) row (omega (arith, parent-before nodes row r z _ refl)) (Climb cs (nodeAt nodes row .parent)) (up z))
 
-  -- a climb goes up
+  -- a climb leads to no row behind the one it starts from
   climbs-up : (cs : List Component) (row : ℕ) → Rooted nodes row → NotBehind nodes row (Climb cs row)
   unfolding climbOf NotBehind
   climbs-up [] row r = tt
@@ -190,7 +190,7 @@ module _ (nodes attributes text : List ℕ) where
       one-reaches row (below k l n r) e at w z =
           one-turn row (below k l n r) (λ q. absurd (omega arith)) (reaches (Climb cs row)) refl e (one-reaches (nodeAt nodes row .parent) r) at w z
 
-    -- ---- the number
+    -- ---- the number of a selector on a row
     module _ (row : ℕ) (r : Rooted nodes row) where
       abbrev Top : ℕ
       Top = selectorTop nodes attributes text row cs
@@ -219,21 +219,21 @@ module _ (nodes attributes text : List ℕ) where
       abbrev Sole : ℕ
       Sole = pick (matches cs (pathOf nodes attributes text (First row))) (parentReached nodes (Climb cs (First row))) row
 
-      -- it decides there
+      -- where one row alone reaches a descendant combinator, that number decides on this row
       on-first : (at : ℕ) → Line nodes row at → at ≡ First row → Says Sole at
       on-first at w e =
           ap (λ (i : ℕ). belowTop (pick (matches cs (pathOf nodes attributes text i)) (parentReached nodes (Climb cs i)) row) (Climb cs at)) (sym e)
           ∙ alone nodes Top row (Climb cs at) (not-behind-on at row (line-before nodes row at r w) (Climb cs at) (climbs-up cs at (line-rooted nodes row at r w))) (matches cs (pathOf nodes attributes text at))
           (right-top nodes attributes text row r cs .decides at w)
 
-      -- and on all rows
+      -- where one row alone reaches a descendant combinator, that number decides on all rows of the path
       one-says : Second ≡ 0 → (at : ℕ) → Line nodes row at → (b : Bool) → is at 0 ≡ b → Says Sole at
       one-says f at w true e = unasked _ at w true e (λ z. absurd (z (is-true at 0 e)))
       one-says f at w false e =
           ⊎-elim (λ (q : at ≡ First row). on-first at w q) (λ (q : reaches (Climb cs at) ≡ false). unasked _ at w false e (λ z. q))
           (one-reaches (First row) f row r refl at w (is-false at 0 e))
 
-      -- so it is right
+      -- so that number is right, where one row alone reaches a descendant combinator
       right-one : Second ≡ 0 → Right Sole
       right-one f = record { decides = λ at w. one-says f at w (is at 0) refl }
 
@@ -244,7 +244,7 @@ module _ (nodes attributes text : List ℕ) where
           pick-holds Right (is (First row) 0) _ _ (λ e. right-none (is-true _ _ e))
           (λ e. pick-holds Right (is Second 0) _ _ (λ f. right-one (is-true _ _ f)) (λ f. right-top nodes attributes text row r cs))
 
-      -- and any does without
+      -- without a descendant combinator any number is right
       right-other : hasDescendant cs ≡ false → (top : ℕ) → Right top
       right-other e top = record { decides = λ at w. unasked top at w (is at 0) refl (λ z. unreached cs e at) }
 
@@ -291,7 +291,7 @@ module _ (nodes attributes text : List ℕ) where
         number-none z = pick-true _ _ _ _ (is-yes _ _ (sym ef ∙ z)) refl
 
         module _ (z : ¬ (first ≡ 0)) (p : ℕ) (ep : p ≡ nodeAt nodes first .parent) where
-          -- so is its parent
+          -- from the parent, too, parents lead to the document
           pub above-rooted : Rooted nodes p
           above-rooted = parent-rooted nodes first first-is-rooted z p ep
 
@@ -304,12 +304,12 @@ module _ (nodes attributes text : List ℕ) where
             no-first : ¬ (First row ≡ 0)
             no-first e = z (ef ∙ e)
 
-            -- more than one does
+            -- the return where more than one row reaches a descendant combinator: the number is the selector's topmost row
             pub number-more : ¬ (second ≡ 0) → (t : ℕ) → t ≡ Top → t ≡ reachedNumber nodes attributes text row cs
             unfolding reachedNumber
             number-more y t et = pick-false _ _ _ _ (is-no _ _ no-first) (pick-false _ _ _ _ (is-no _ _ (λ e. y (second-is ∙ e))) et)
 
-            -- one does
+            -- only the first row reaches a descendant combinator: the matcher is asked there
             module _ (none : second ≡ 0) (b : Bool) (eb : b ≡ matches cs (pathOf nodes attributes text first)) where
               -- the number by what the matcher answers
               number-one : (n : ℕ) → n ≡ Sole → n ≡ reachedNumber nodes attributes text row cs
@@ -324,7 +324,7 @@ module _ (nodes attributes text : List ℕ) where
               pub number-yes : b ≡ true → (t : ℕ) → t ≡ parentReached nodes (Climb cs first) → t ≡ reachedNumber nodes attributes text row cs
               number-yes h t et = number-one t (pick-true _ _ _ _ (sym first-matched ∙ h) (et ∙ ap (λ (i : ℕ). parentReached nodes (Climb cs i)) ef))
 
-              -- or not
+              -- the selector does not match the first row: its number is the row itself
               pub number-no : b ≡ false → row ≡ reachedNumber nodes attributes text row cs
               number-no h = number-one row (pick-false _ _ _ _ (sym first-matched ∙ h) refl)
 
@@ -335,7 +335,7 @@ module _ (nodes attributes text : List ℕ) where
       unfolding parentReached
       parent-found e p ep = ep ∙ ap (parentReached nodes) (sym e ∙ et)
 
-      -- or not
+      -- no descendant combinator is reached: the answer is 0
       pub parent-none : {s : SelectorMatch} → t ≡ Ended s → 0 ≡ parentReached nodes (Climb cs row)
       unfolding parentReached
       parent-none e = ap (parentReached nodes) (sym e ∙ et)
@@ -367,7 +367,7 @@ module _ (nodes attributes text : List ℕ) where
     reach-begin row r = record { rooted = r; same-first = refl }
 
     module _ (row at : ℕ) (g : Reaching row at) where
-      -- no element is left
+      -- with no element left, no row reaches a descendant combinator
       pub reach-end : at ≡ 0 → 0 ≡ First row
       reach-end e = sym (g .same-first ∙ ap First e ∙ first-document nodes attributes text cs)
 
@@ -377,7 +377,7 @@ module _ (nodes attributes text : List ℕ) where
         unfolding reaches
         reach-found e = sym (g .same-first ∙ first-here nodes attributes text cs at (g .rooted) z (ap reaches (sym et ∙ e)))
 
-        -- or not
+        -- no descendant combinator is reached here: the first is sought from the parent on
         pub reach-on : {s : SelectorMatch} → t ≡ Ended s → (p : ℕ) → Rooted nodes p → First (nodeAt nodes at .parent) ≡ First p → Reaching row p
         unfolding reaches
         reach-on e p rp ep = record { rooted = rp; same-first = g .same-first ∙ first-above nodes attributes text cs at (g .rooted) z (ap reaches (sym et ∙ e)) ∙ ep }
@@ -390,12 +390,12 @@ module _ (components : List ℕ) where
   pub record Looking (left n : ℕ) : Type 0 where
     pub same-has : (store : List ℕ) → Has store left ≡ Has store n
 
-  -- all are left
+  -- before the first component all are still to be looked at
   pub look-begin : (left : ℕ) → Looking left left
   look-begin left = record { same-has = λ store. refl }
 
   module _ (left n : ℕ) (g : Looking left n) where
-    -- none is left
+    -- where no component is left, there is no descendant combinator
     pub look-end : n ≡ 0 → (store : List ℕ) → false ≡ Has store left
     unfolding hasDescendant
     look-end e store = sym (g .same-has store ∙ ap (Has store) e ∙ ap hasDescendant (components-none store components))
@@ -408,13 +408,13 @@ module _ (components : List ℕ) where
           let e : n ≡ suc (n - 1) = omega arith in
           ap (Has store) e ∙ ap hasDescendant (components-more store components (n - 1))
 
-      -- the last is one
+      -- where the last component is a descendant combinator, there is one
       pub look-found : k ≡ descendantKind → (store : List ℕ) → true ≡ Has store left
       unfolding componentAt byCombinator
       look-found e store =
           sym (g .same-has store ∙ last-asked store ∙ ap (λ (c : Component). byCombinator c (Has store (n - 1)) true (Has store (n - 1))) (from-descendant store _ _ _ _ (sym ek ∙ e)))
 
-      -- or another component
+      -- any other component is passed over, and those left of it are looked at
       pub look-on : ¬ (k ≡ descendantKind) → Looking left (n - 1)
       unfolding componentAt
       look-on d = record { same-has = λ store. g .same-has store ∙ last-asked store ∙ second-passed store _ _ _ _ (λ y. d (ek ∙ y)) _ _ }

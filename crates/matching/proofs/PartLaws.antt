@@ -13,9 +13,11 @@ use Rattle.combinators.proofs.Parts.{part-none}
 use Rattle.combinators.proofs.Words.{same-lengths}
 
 -- ---- the returns of `least`: the first a of b are a, or all of them
+-- where there are more than a, the first a of them are a
 pub fewer-taken : (a b : ℕ) → a < b → (l : List ℕ) → length l ≡ b → length (take a l) ≡ a
 fewer-taken a b h l e = length-take-le a l (omega arith)
 
+-- where there are no more than a, all b of them are taken
 pub all-taken : (a b : ℕ) → b ≤ a → (l : List ℕ) → length l ≡ b → length (take a l) ≡ b
 all-taken a b h l e = ap length (take-all a l (omega arith)) ∙ e
 
@@ -41,7 +43,7 @@ module _ (text : List ℕ) (start n : ℕ) (t : List ℕ) where
     unfolding part
     long = em (drop start text) (ap length (sym (rest text start)))
 
-    -- as many as t
+    -- a part as long as t is t exactly if the text there begins with t
     pub part-starts : m ≡ length t → (r : Bool) → r ≡ startsWith t (take (length text - start) (drop start text)) → r ≡ sameText (part text start n) t
     unfolding part
     part-starts e r p =

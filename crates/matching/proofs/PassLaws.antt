@@ -20,12 +20,14 @@ use Rattle.matching.specs.Nth.{nthMatches}
 use Rattle.matching.specs.Rows.{componentNumber, firstText, secondText, attributesPass, elementPasses}
 use Rattle.matching.specs.Recursion.{byCombinator}
 
+-- a test beside one that holds is the test itself
 pub and-yes : (x : Bool) → and x true ≡ x
 unfolding and
 and-yes true = refl
 and-yes false = refl
 
 -- ---- the return of `is_called`: the part that is compared is the name
+-- comparing the part that the node's numbers name is comparing the element's name
 pub called-as : (nodes text name : List ℕ) (row start n : ℕ) → start ≡ nodeAt nodes row .nameStart → n ≡ nodeAt nodes row .nameLength → (r : Bool)
     → r ≡ sameText (part text start n) name → r ≡ sameText (nameOf nodes text row) name
 unfolding nameOf
@@ -117,10 +119,12 @@ module _ (store : List ℕ) (k f a b : ℕ) where
   unfolding componentFrom pick is
   from-child e = rw e
 
+  -- numbers of the descendant combinator's kind are a descendant combinator
   pub from-descendant : k ≡ descendantKind → componentFrom store k f a b ≡ descendant
   unfolding componentFrom pick is
   from-descendant e = rw e
 
+  -- numbers of star's kind are a component that matches every path
   pub from-star : (p : Path) → k ≡ starKind → true ≡ matches (componentFrom store k f a b ∷ []) p
   unfolding componentFrom matches step pick is
   from-star p e = rw e
@@ -129,6 +133,7 @@ module _ (store : List ℕ) (k f a b : ℕ) where
   abbrev FailsThere : Component → Type 0
   FailsThere c = false ≡ matches (c ∷ []) []
 
+  -- numbers of any kind but star's are a component that fails on the document
   pub document-fails : ¬ (k ≡ starKind) → FailsThere (componentFrom store k f a b)
   unfolding componentFrom matches step here onParent onAncestors and
   document-fails no-star =
@@ -146,6 +151,7 @@ module _ (store : List ℕ) (k f a b : ℕ) where
     abbrev Simple : Component → Type 0
     Simple c = byCombinator c false false true ≡ true
 
+    -- numbers of neither combinator's kind are a simple component
     is-simple : Simple (componentFrom store k f a b)
     unfolding componentFrom byCombinator
     is-simple =
@@ -173,31 +179,38 @@ module _ (store : List ℕ) (k f a b : ℕ) where
       abbrev Agrees : Component → Type 0
       Agrees c = Asked ≡ matches (c ∷ []) (x ∷ up)
 
+      -- of a class kind: what is asked of the element is whether it has that class
       at-class : k ≡ classKind → Agrees (class (part store f a))
       unfolding matches step here hasClass attributesPass pick is
       at-class e = rw e (sym (and-yes _))
 
+      -- of an element kind: what is asked is whether the element has that name
       at-element : k ≡ elementKind → Agrees (element (part store f a))
       unfolding matches step here pick is
       at-element e = rw e (sym (and-yes _))
 
+      -- of a hash kind: what is asked is whether the element has that id
       at-hash : k ≡ hashKind → Agrees (hash (part store f a))
       unfolding matches step here hasId attributesPass pick is
       at-hash e = rw e (sym (and-yes _))
 
+      -- of an nth kind: what is asked is whether the element's place is one of those
       at-nth : k ≡ nthKind → Agrees (nth (signedOf a) (signedOf b))
       unfolding matches step here pick is
       at-nth e = rw e (sym (and-yes _))
 
+      -- of an attribute kind: what is asked is whether the element has an attribute of that name
       at-attribute : k ≡ attributeKind → Agrees (attribute (part store f a))
       unfolding matches step here hasAttribute attributesPass pick is
       at-attribute e = rw e (sym (and-yes _))
 
+      -- of any other kind: what is asked is whether the first attribute of the name has the value
       at-equal : is k classKind ≡ false → is k elementKind ≡ false → is k hashKind ≡ false → is k nthKind ≡ false → is k attributeKind ≡ false
           → Agrees (attributeEqual (part store f a) (part store (f + a) b))
       unfolding matches step here attributeIs attributesPass pick
       at-equal e1 e2 e3 e6 e7 = rw (e6, e2, e1, e3, e7) (sym (and-yes _))
 
+      -- whatever simple component the numbers name, what is asked of the element is whether that component matches it
       pub asked-of-element : Agrees (componentFrom store k f a b)
       unfolding componentFrom
       asked-of-element =
@@ -217,5 +230,6 @@ module _ (store : List ℕ) (k f a b : ℕ) where
   chosen true e d x y = rw (from-child (is-true k childKind e)) refl
   chosen false e d x y = third-chosen (is-false k childKind e) d x y x
 
+  -- so where the first choice and the third are one, any component but a descendant combinator chooses it
   pub second-passed : ¬ (k ≡ descendantKind) → {A : Type 0} (x y : A) → byCombinator (componentFrom store k f a b) x y x ≡ x
   second-passed d x y = chosen (is k childKind) refl d x y

@@ -53,21 +53,25 @@ pub parent-rooted : (nodes : List ℕ) (row : ℕ) → Rooted nodes row → ¬ (
 parent-rooted nodes row (document d) z p e = absurd (z refl)
 parent-rooted nodes row (below k l n r) z p e = rw e r
 
+-- the parent of a row other than the document's stands before it
 pub parent-before : (nodes : List ℕ) (row : ℕ) → Rooted nodes row → ¬ (row ≡ 0) → (p : ℕ) → p ≡ nodeAt nodes row .parent → p < row
 parent-before nodes row (document d) z p e = absurd (z refl)
 parent-before nodes row (below k l n r) z p e = rw e l
 
 -- ---- the place of a row is at most the length of the page's rows
+-- a test counts for at most one
 one-most : (t : Bool) → pick t 1 0 ≤ 1
 unfolding pick
 one-most true = omega arith
 one-most false = omega arith
 
+-- among the first k rows there are at most k element children of a row
 children-most : (nodes : List ℕ) (p k : ℕ) → elementChildren nodes p k ≤ k
 unfolding elementChildren
 children-most nodes p zero = omega arith
 children-most nodes p (suc k) = omega (arith, children-most nodes p k, one-most (isElementChild nodes p k))
 
+-- among any rows there are no more element children of a row than the page has numbers for nodes
 children-there : (nodes : List ℕ) (p k : ℕ) → elementChildren nodes p k ≤ length nodes
 unfolding elementChildren
 children-there nodes p zero = omega arith
@@ -77,6 +81,7 @@ children-there nodes p (suc k) =
     let z : 0 ≡ pick (isElementChild nodes p k) 1 0 = no-element nodes p k 0 (node-past nodes k kindColumn 0 h) (λ (y : 0 ≡ elementKind). omega arith) in
     omega (arith, children-there nodes p k)) (lt-or-ge k (length nodes))
 
+-- the place of a row is at most the count of numbers that the page has for nodes
 pub place-most : (nodes : List ℕ) (row : ℕ) → placeOf nodes row ≤ length nodes
 unfolding placeOf
 place-most nodes row = children-there nodes (nodeAt nodes row .parent) (row + 1)

@@ -36,21 +36,25 @@ module _ (white : ℕ → Bool) (w : List ℕ) where
     leads : Leads rest
 
   -- ---- the first piece of a text
+  -- by whether the first character is white: the first piece has no white space in it, where that of the rest has none
   front-by : (t : Bool) (v : ℕ) (vs : List ℕ) → white v ≡ t → All (λ x. white x ≡ false) (front white vs) → All (λ x. white x ≡ false) (pick t [] (v ∷ front white vs))
   unfolding pick
   front-by true v vs e h = tt
   front-by false v vs e h = (e, h)
 
+  -- the first piece of a text has no white space in it
   front-unbroken : (t : List ℕ) → All (λ v. white v ≡ false) (front white t)
   unfolding front
   front-unbroken [] = tt
   front-unbroken (v ∷ vs) = front-by (white v) v vs refl (front-unbroken vs)
 
+  -- by whether the first character is white: what stands behind the first piece begins with white space, or nothing stands there
   behind-by : (t : Bool) (v : ℕ) (vs : List ℕ) → white v ≡ t → BeginsWithWhite white (behind white vs) → BeginsWithWhite white (pick t (v ∷ vs) (behind white vs))
   unfolding pick
   behind-by true v vs e h = white-behind v vs e
   behind-by false v vs e h = h
 
+  -- what stands behind the first piece of a text begins with white space, or nothing stands there
   behind-begins : (t : List ℕ) → BeginsWithWhite white (behind white t)
   unfolding behind
   behind-begins [] = nothing-behind
@@ -62,11 +66,13 @@ module _ (white : ℕ → Bool) (w : List ℕ) where
   front-none t nothing-behind = refl
   front-none t (white-behind v vs e) = sym (pick-true _ _ _ _ e refl)
 
+  -- a text without white space, which white space follows or nothing, is the first piece
   front-is : (x later : List ℕ) → All (λ v. white v ≡ false) x → BeginsWithWhite white later → front white (x ++ later) ≡ x
   unfolding front
   front-is [] later h b = front-none later b
   front-is (v ∷ x) later h b = sym (pick-false _ _ _ _ (h .0) refl) ∙ ap (λ l. v ∷ l) (front-is x later (h .1) b)
 
+  -- w is the first piece of a text exactly if the text begins with w, and white space follows or nothing
   first-exactly : (t : List ℕ) → Exactly (front white t ≡ w) (Leads t)
   first-exactly t = (there, (λ r. ap (front white) (r .split) ∙ front-is w (r .later) (r .unbroken) (r .begins)))
     where
@@ -80,10 +86,12 @@ module _ (white : ℕ → Bool) (w : List ℕ) where
   tailOf [] = []
   tailOf (v ∷ vs) = vs
 
+  -- the first character of a text, or d where there is none
   headOf : ℕ → List ℕ → ℕ
   headOf d [] = d
   headOf d (v ∷ vs) = v
 
+  -- what follows white space in a text follows it with one character more in front
   further : (v : ℕ) (vs : List ℕ) → Follows vs → Follows (v ∷ vs)
   further v vs f = record { earlier = v ∷ f .earlier; blank = f .blank; rest = f .rest; split = ap (λ l. v ∷ l) (f .split); is-white = f .is-white; leads = f .leads }
 
@@ -96,6 +104,7 @@ module _ (white : ℕ → Bool) (w : List ℕ) where
       go [] s = here (ap white (ap (headOf v) s) ∙ f .is-white) (subst Leads (sym (ap tailOf s)) (f .leads))
       go (x ∷ e) s = there (record { earlier = e; blank = f .blank; rest = f .rest; split = ap tailOf s; is-white = f .is-white; leads = f .leads })
 
+  -- by whether the first character is white: w is a piece behind the first exactly if it follows some white space
   others-by : (t : Bool) (v : ℕ) (vs : List ℕ) → white v ≡ t → Exactly (In (others white vs)) (Follows vs) → Exactly (In (pick t (pieces white vs) (others white vs))) (Follows (v ∷ vs))
   unfolding pick
   others-by false v vs e h = ((λ q. further v vs (h .0 q)), (λ f. follows-says (In (others white vs)) v vs f (λ d l. never (sym e ∙ d)) (h .1)))
@@ -112,6 +121,7 @@ module _ (white : ℕ → Bool) (w : List ℕ) where
       back : Follows (v ∷ vs) → In (pieces white vs)
       back f = subst In (sym (first-piece white vs)) (follows-says (In (front white vs ∷ others white vs)) v vs f (λ d l. inl (first-exactly vs .1 l)) (λ g. inr (h .1 g)))
 
+  -- in the empty text nothing follows white space
   no-others : ¬ (Follows [])
   no-others f = go (f .earlier) (f .split)
     where
@@ -119,12 +129,14 @@ module _ (white : ℕ → Bool) (w : List ℕ) where
       go [] s = absurd (omega (arith, ap length s))
       go (x ∷ e) s = absurd (omega (arith, ap length s))
 
+  -- w is one of the pieces behind the first exactly if it follows some white space of the text
   others-exactly : (t : List ℕ) → Exactly (In (others white t)) (Follows t)
   unfolding others
   others-exactly [] = ((λ q. absurd q), (λ f. absurd (no-others f)))
   others-exactly (v ∷ vs) = others-by (white v) v vs refl (others-exactly vs)
 
   -- ---- all pieces: w begins a text, or what stands behind some white space of it, exactly if w is parted from the rest of the text
+  -- w leads a text or follows some white space of it exactly if it is parted from the rest
   parted-exactly : (t : List ℕ) → Exactly (Leads t ⊎ Follows t) (Parted white w t)
   parted-exactly t = (⊎-elim first later, back)
     where
@@ -153,12 +165,14 @@ module _ (white : ℕ → Bool) (w : List ℕ) where
           go e (white-before p v h) s =
               inr (record { earlier = p; blank = v; rest = w ++ r .later; split = s ∙ append-assoc p (v ∷ []) (w ++ r .later); is-white = h; leads = leads (w ++ r .later) refl })
 
+  -- w is a piece of a text exactly if it is parted from the rest of the text
   pieces-exactly : (t : List ℕ) → Exactly (In (pieces white t)) (Parted white w t)
   pieces-exactly t =
       exactly-then _ _ _ (subst In (first-piece white t), subst In (sym (first-piece white t)))
       (exactly-then (In (front white t ∷ others white t)) (Leads t ⊎ Follows t) (Parted white w t) (exactly-either _ _ _ _ (first-exactly t) (others-exactly t)) (parted-exactly t))
 
   -- ---- words are the pieces that have a character
+  -- w is among the pieces that are kept exactly if it has a character and is a piece
   kept-exactly : (ps : List (List ℕ)) → Exactly (In (withoutEmpty ps)) ((¬ (w ≡ [])) × In ps)
   unfolding withoutEmpty
   kept-exactly [] = ((λ q. absurd q), (λ q. q .1))

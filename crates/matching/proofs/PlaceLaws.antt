@@ -46,6 +46,7 @@ none-before nodes row (document d) l = absurd (omega arith)
 none-before nodes row (below k m n r) l = n
 
 -- ---- the return of `place_of`
+-- the element children of the parent, counted from the row behind it up to the row, are the row's place
 pub place-behind : (nodes : List ℕ) (row : ℕ) → Rooted nodes row → (p : ℕ) → p ≡ nodeAt nodes row .parent → p < row → (r : ℕ)
     → r ≡ elementChildren (take (length nodes - (p + 1) * nodeWidth) (drop ((p + 1) * nodeWidth) nodes)) p (row - p) → r ≡ placeOf nodes row
 unfolding placeOf

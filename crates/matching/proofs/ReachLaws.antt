@@ -36,6 +36,6 @@ module _ (nodes attributes text : List ℕ) (cs : List Component) where
     pub first-here : reaches (Climb row) ≡ true → First row ≡ row
     first-here e = first-opened row (parent-before nodes row r z _ refl) ∙ sym (pick-true _ _ _ _ e refl)
 
-    -- or not
+    -- where it is not reached from there, the first is that of the parent
     pub first-above : reaches (Climb row) ≡ false → First row ≡ First (nodeAt nodes row .parent)
     first-above e = first-opened row (parent-before nodes row r z _ refl) ∙ sym (pick-false _ _ _ _ e refl)

@@ -24,6 +24,7 @@ neither false b e = (refl, e)
 
 -- where f fails on all ancestors, what fails without f on an ancestor fails on the path and on all ancestors
 module _ (f g : Path → Bool) (weaker : (q : Path) → onAncestors f q ≡ false → g q ≡ false) where
+  -- where f fails on all ancestors of a path, g fails on the path and on all its ancestors
   none-above : (p : Path) → onAncestors f p ≡ false → onAncestorsOrSelf g p ≡ false
   unfolding onAncestorsOrSelf onAncestors
   none-above [] e = or-none (g []) false (weaker [] e) refl
@@ -31,6 +32,7 @@ module _ (f g : Path → Bool) (weaker : (q : Path) → onAncestors f q ≡ fals
 
 -- where f fails on the path and on all ancestors, what fails without f fails there too
 module _ (f g : Path → Bool) (weaker : (q : Path) → f q ≡ false → g q ≡ false) where
+  -- where f fails on a path and on all its ancestors, so does g
   none-beside : (p : Path) → onAncestorsOrSelf f p ≡ false → onAncestorsOrSelf g p ≡ false
   unfolding onAncestorsOrSelf onAncestors
   none-beside [] e = or-none (g []) false (weaker [] (neither (f []) false e .0)) refl
@@ -38,7 +40,7 @@ module _ (f g : Path → Bool) (weaker : (q : Path) → f q ≡ false → g q �
       let w = neither (f (x ∷ up)) (or (f up) (onAncestors f up)) e in
       or-none (g (x ∷ up)) _ (weaker (x ∷ up) (w .0)) (none-beside up (w .1))
 
--- ---- one step
+-- ---- one step: child, descendant or simple selector
 module _ (f : Path → Bool) where
   -- what fails on all ancestors fails on the parent
   parent-fails : (q : Path) → onAncestors f q ≡ false → onParent f q ≡ false
@@ -66,6 +68,7 @@ module _ (f : Path → Bool) where
 
   -- a simple selector t that the path passes leaves the result of what is left, and fails locally otherwise
   module _ (t g : Path → Bool) (both : (q : Path) → g q ≡ and (t q) (f q)) (p : Path) where
+    -- where the path passes t, the result of what is left is right; where it does not, `FailsLocally` is
     simple-holds : (b : Bool) (r : SelectorMatch) → t p ≡ b → ResultHolds f p r → ResultHolds g p (pick b r FailsLocally)
     unfolding ResultHolds pick
     simple-holds true Matches e h = both p ∙ and-both (t p) (f p) e h
@@ -92,7 +95,7 @@ module _ (f : Path → Bool) (s : Path → SelectorMatch) (holds : (p : Path) �
   unfolding matches step pick
   at-star p = holds p
 
-  -- any other simple selector
+  -- what holds of the result of what is left holds of any other simple selector's
   at-simple : (c : Component) (u : Element → Bool) → ((q : Path) → and (here u q) true ≡ matches (c ∷ []) q) → (p : Path)
       → ResultHolds (λ q. and (here u q) (f q)) p (pick (matches (c ∷ []) p) (s p) FailsLocally)
   at-simple c u e p =

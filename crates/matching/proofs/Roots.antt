@@ -20,6 +20,7 @@ use Rattle.matching.proofs.Selectors.{or-yes}
 
 -- ---- ancestors stand before their rows
 module _ (nodes : List ℕ) (x : ℕ) where
+  -- a row among the ancestors of another stands before it
   above-before : (k row : ℕ) → member x (ancestorsFrom k nodes row) ≡ true → x < row
   unfolding ancestorsFrom member
   above-before zero row e = never e
@@ -31,6 +32,7 @@ module _ (nodes : List ℕ) (x : ℕ) where
       (λ y. let z : x < nodeAt nodes row .parent = above-before k (nodeAt nodes row .parent) y in omega arith))
       (λ t m. never m) e
 
+  -- a row among another and its ancestors is that row or stands before it
   line-before : (row : ℕ) → member x (lineOf nodes row) ≡ true → x ≤ row
   unfolding ancestorsOf member
   line-before row e =
@@ -41,20 +43,24 @@ module _ (nodes : List ℕ) (x : ℕ) where
 -- ---- rows that keep the rules
 module _ (nodes attributes : List ℕ) (n : ℕ) (right : (k : ℕ) → k < n → rowRight nodes attributes k ≡ true)
     (none : (p : ℕ) → p < n → elementChildren nodes p (suc p) ≡ 0) where
+  -- row 0, the document, is no element
   document-kind : 0 < n → ¬ (nodeAt nodes 0 .kind ≡ elementKind)
   unfolding rowRight isDocument
   document-kind h e =
       let k : nodeAt nodes 0 .kind ≡ 0 = is-true (nodeAt nodes 0 .kind) 0 (and-true _ _ (and-true _ _ (right 0 h) .0) .0) in
       omega arith
 
+  -- the parent that a row names is right by the row before it
   parent-right : (b : ℕ) → suc b < n → parentRight nodes b (nodeAt nodes (suc b) .parent) ≡ true
   unfolding rowRight
   parent-right b h = and-true _ _ (right (suc b) h) .0
 
+  -- the row that is named as a parent may be a parent
   parent-parent : (b : ℕ) → suc b < n → isParent nodes (nodeAt nodes (suc b) .parent) ≡ true
   unfolding parentRight
   parent-parent b h = and-true _ _ (parent-right b h) .0
 
+  -- the parent of a row stands before it
   parent-le : (b : ℕ) → suc b < n → nodeAt nodes (suc b) .parent ≤ b
   unfolding parentRight
   parent-le b h = line-before nodes (nodeAt nodes (suc b) .parent) b (and-true _ _ (parent-right b h) .1)
@@ -77,6 +83,7 @@ module _ (nodes attributes : List ℕ) (n : ℕ) (right : (k : ℕ) → k < n �
       let m : p ≤ b = parent-le b h in
       below (parent-kind b e) (omega arith) (none p (omega arith)) (rooted-up-to f p (omega arith) (omega arith) (parent-parent b h))
 
+  -- from every row that may be a parent, parents lead to the document
   pub rooted : (row : ℕ) → row < n → isParent nodes row ≡ true → Rooted nodes row
   rooted row h e = rooted-up-to row row (omega arith) h e
 

@@ -53,6 +53,7 @@ ParentMatches cs p = (q : Path) × (Parent p q × (matches cs q ≡ true))
 abbrev pub AncestorMatches : List Component → Path → Type 0
 AncestorMatches cs p = (q : Path) × (Ancestor p q × (matches cs q ≡ true))
 
+-- where f passes the parent of a path, it passes on the parent
 on-parent : (f : Path → Bool) (p q : Path) → Parent p q → f q ≡ true → onParent f p ≡ true
 unfolding onParent
 on-parent f p q above e = e
@@ -64,6 +65,7 @@ child-step cs [] = ((λ e. never e), (λ w. on-parent (matches cs) [] (w .0) (w 
 child-step cs (e ∷ up) = ((λ h. (up, (above, h))), (λ w. on-parent (matches cs) (e ∷ up) (w .0) (w .1 .0) (w .1 .1)))
 
 module _ (f : Path → Bool) where
+  -- where f is found above a path, some ancestor passes it
   ancestor-found : (p : Path) → onAncestors f p ≡ true → (q : Path) × (Ancestor p q × (f q ≡ true))
   unfolding onAncestors
   ancestor-found [] h = never h
@@ -72,14 +74,17 @@ module _ (f : Path → Bool) where
       (λ m. (up, (parent above, m)))
       (λ m. let w = ancestor-found up m in (w .0, (higher above (w .1 .0), w .1 .1)))
 
+  -- where f passes the parent of a path, it is found above the path
   by-parent : (p q : Path) → Parent p q → f q ≡ true → onAncestors f p ≡ true
   unfolding onAncestors
   by-parent p q (above {up = up}) m = or-left (f up) (onAncestors f up) m
 
+  -- where f is found above the parent, it is found above the path
   by-higher : (p q : Path) → Parent p q → onAncestors f q ≡ true → onAncestors f p ≡ true
   unfolding onAncestors
   by-higher p q (above {up = up}) m = or-yes (f up) (onAncestors f up) m
 
+  -- where f passes some ancestor, it is found above the path
   pub ancestor-seen : (p q : Path) → Ancestor p q → f q ≡ true → onAncestors f p ≡ true
   ancestor-seen p q (parent a) m = by-parent p q a m
   ancestor-seen p q (higher {q = r} a w) m = by-higher p r a (ancestor-seen r q w m)

@@ -24,17 +24,20 @@ difference : (b : Bool) (a c : ℕ) → natAbs (cond b (negsuc (c - suc a)) (pos
 difference true a c = omega arith
 difference false a c = omega arith
 
+-- a number and its negative have the same size
 neg-size : (y : ℤ) → natAbs (negℤ y) ≡ natAbs y
 neg-size (pos zero) = refl
 neg-size (pos (suc n)) = refl
 neg-size (negsuc n) = refl
 
+-- |x + y| is at most |x| + |y| + 1
 add-size : (x y : ℤ) → natAbs (x +ℤ y) ≤ natAbs x + natAbs y + 1
 add-size (pos a) (pos b) = omega arith
 add-size (pos a) (negsuc b) = difference (ltb a (suc b)) a (suc b)
 add-size (negsuc a) (pos b) = let h = difference (ltb b (suc a)) b (suc a) in omega arith
 add-size (negsuc a) (negsuc b) = omega arith
 
+-- a difference is in size at most both sizes and one
 sub-size : (x y : ℤ) → natAbs (x -ℤ y) ≤ natAbs x + natAbs y + 1
 sub-size x y = let h = add-size x (negℤ y) in let k = neg-size y in omega arith
 
@@ -43,12 +46,14 @@ neg-pos : (q : ℕ) → natAbs (negℤ (pos q)) ≡ q
 neg-pos zero = refl
 neg-pos (suc q) = refl
 
+-- a quotient is in size no greater than what is divided
 quot-size : (z d : ℤ) → natAbs (quotZ z d) ≤ natAbs z
 quot-size (pos a) (pos b) = div-le-self a b
 quot-size (pos a) (negsuc b) = rw (neg-pos (a / suc b)) (div-le-self a (suc b))
 quot-size (negsuc a) (pos b) = rw (neg-pos (suc a / b)) (div-le-self (suc a) b)
 quot-size (negsuc a) (negsuc b) = div-le-self (suc a) (suc b)
 
+-- a signed number of a size below 2^63 fits 64 bits
 fits-by-size : (z : ℤ) → natAbs z < 2 ^ 63 → SFits w64 z
 fits-by-size (pos n) h = record { sfits = h }
 fits-by-size (negsuc n) h = record { sfits = omega arith }
@@ -67,12 +72,15 @@ read-back n h = toZ-ofZ {w = w64} {z = pos n} (record { sfits = h })
 
 -- ---- `nth`: x is what `widened` gave
 module _ {a b x : ℤ} {idx : ℕ} (fa : SFits w64 a) (fb : SFits w64 b) (fx : SFits w64 x) (wide : x ≡ pos idx) (small : Small a b idx) where
+  -- the place less b is in size below 2^63
   offset-size : natAbs (pos idx -ℤ b) < 2 ^ 63
   offset-size = omega (arith, sub-size (pos idx) b, small .idx-small, small .b-small)
 
+  -- so the place less b fits 64 bits with its sign
   offset-fits : SFits w64 (pos idx -ℤ b)
   offset-fits = fits-by-size (pos idx -ℤ b) offset-size
 
+  -- so does its quotient by a
   quotient-fits : SFits w64 (quotZ (pos idx -ℤ b) a)
   quotient-fits = fits-by-size (quotZ (pos idx -ℤ b) a) (omega (arith, quot-size (pos idx -ℤ b) a, offset-size))
 
@@ -86,15 +94,19 @@ module _ {a b x : ℤ} {idx : ℕ} (fa : SFits w64 a) (fb : SFits w64 b) (fx : S
   abbrev AA : ℤ
   AA = toZ w64 (ofZ w64 a)
 
+  -- the offset as it is computed is the place less b
   d-is : D ≡ pos idx -ℤ b
   d-is = ap (λ (z : ℤ). z -ℤ toZ w64 (ofZ w64 b)) (toZ-ofZ fx ∙ wide) ∙ ap (λ (y : ℤ). pos idx -ℤ y) (toZ-ofZ fb)
 
+  -- the offset as it is read back from its bits is the place less b
   dd-is : DD ≡ pos idx -ℤ b
   dd-is = ap (λ (z : ℤ). toZ w64 (ofZ w64 z)) d-is ∙ toZ-ofZ offset-fits
 
+  -- the remainder as it is computed is that of the place less b, by a
   rem-is : remZ DD AA ≡ remZ (pos idx -ℤ b) a
   rem-is = ap (λ (z : ℤ). remZ z AA) dd-is ∙ ap (λ (y : ℤ). remZ (pos idx -ℤ b) y) (toZ-ofZ fa)
 
+  -- the quotient as it is computed is that of the place less b, by a
   quot-is : quotZ DD AA ≡ quotZ (pos idx -ℤ b) a
   quot-is = ap (λ (z : ℤ). quotZ z AA) dd-is ∙ ap (λ (y : ℤ). quotZ (pos idx -ℤ b) y) (toZ-ofZ fa)
 
@@ -102,9 +114,11 @@ module _ {a b x : ℤ} {idx : ℕ} (fa : SFits w64 a) (fb : SFits w64 b) (fx : S
   pub offset-computed : SFits w64 D
   offset-computed = subst (SFits w64) (sym d-is) offset-fits
 
+  -- the quotient as it is computed fits 64 bits with its sign
   pub quotient-computed : SFits w64 (quotZ DD AA)
   quotient-computed = subst (SFits w64) (sym quot-is) quotient-fits
 
+  -- the bits of the computed remainder are 0 exactly if the place less b is divided by a without remainder
   rem-test : eqb (ofZ w64 (remZ DD AA)) 0 ≡ isZero (remZ (pos idx -ℤ b) a)
   rem-test =
       ap (λ (z : ℤ). eqb (ofZ w64 z) 0) rem-is
@@ -118,6 +132,7 @@ module _ {a b x : ℤ} {idx : ℕ} (fa : SFits w64 a) (fb : SFits w64 b) (fx : S
       (ap (λ (y : ℤ). eqb (ofZ w64 y) 0) d-is ∙ zero-test (pos idx -ℤ b) offset-fits)
 
   module _ (some : ¬ (ofZ w64 a ≡ 0)) where
+    -- where the bits of a are not 0, a is not 0
     a-some : isZero a ≡ false
     a-some = sym (zero-test a fa) ∙ ne-eqb (ofZ w64 a) 0 some
 
@@ -137,17 +152,21 @@ module _ {a b x : ℤ} {idx : ℕ} (fa : SFits w64 a) (fb : SFits w64 b) (fx : S
         (pick-false _ _ _ (isZero (remZ (pos idx -ℤ b) a)) (sym rem-test ∙ ne-eqb (ofZ w64 (remZ DD AA)) 0 z) refl)
 
 -- ---- `signed_of`: h is what `widened` gave
+-- -1 less k is the negative number that is one greater in size than k
 minus : (k : ℕ) → negsuc 0 -ℤ pos k ≡ negsuc k
 minus zero = refl
 minus (suc k) = ap (λ (j : ℕ). negsuc (suc j)) (zero-add k)
 
 module _ {v : ℕ} {h : ℤ} (fv : Fits w32 v) (fh : SFits w64 h) (e : h ≡ pos (v / 2)) where
+  -- half of a number of 32 bits is below 2^31
   half : v / 2 < 2 ^ 31
   half = let q : v < 2 ^ 32 = fv .fits in omega arith
 
+  -- -1 less the half is the negative number that an odd one stands for
   odd-is : negsuc 0 -ℤ toZ w64 (ofZ w64 h) ≡ negsuc (v / 2)
   odd-is = ap (λ (x : ℤ). negsuc 0 -ℤ x) (toZ-ofZ fh ∙ e) ∙ minus (v / 2)
 
+  -- the half reads back from its bits as it is
   even-is : toZ w64 (ofZ w64 h) ≡ pos (v / 2)
   even-is = toZ-ofZ fh ∙ e
 
@@ -156,6 +175,7 @@ module _ {v : ℕ} {h : ℤ} (fv : Fits w32 v) (fh : SFits w64 h) (e : h ≡ pos
   unfolding signedOf
   signed-even z = pick-true _ _ _ (is (v % 2) 0) (is-yes (v % 2) 0 z) even-is
 
+  -- the number that an even one stands for is in size at most 2^31
   pub even-size : natAbs (toZ w64 (ofZ w64 h)) ≤ 2 ^ 31
   even-size = subst (λ (x : ℤ). natAbs x ≤ 2 ^ 31) (sym even-is) (omega (arith, half))
 
@@ -163,6 +183,7 @@ module _ {v : ℕ} {h : ℤ} (fv : Fits w32 v) (fh : SFits w64 h) (e : h ≡ pos
   pub odd-computed : SFits w64 (negsuc 0 -ℤ toZ w64 (ofZ w64 h))
   odd-computed = subst (SFits w64) (sym odd-is) (record { sfits = omega (arith, half) })
 
+  -- the negative number reads back from its bits as it is
   back-is : toZ w64 (ofZ w64 (negsuc 0 -ℤ toZ w64 (ofZ w64 h))) ≡ negsuc (v / 2)
   back-is = toZ-ofZ odd-computed ∙ odd-is
 
@@ -171,14 +192,17 @@ module _ {v : ℕ} {h : ℤ} (fv : Fits w32 v) (fh : SFits w64 h) (e : h ≡ pos
   unfolding signedOf
   signed-odd z = pick-false _ _ _ (is (v % 2) 0) (is-no (v % 2) 0 z) back-is
 
+  -- the number that an odd one stands for is in size at most 2^31
   pub odd-size : natAbs (toZ w64 (ofZ w64 (negsuc 0 -ℤ toZ w64 (ofZ w64 h)))) ≤ 2 ^ 31
   odd-size = subst (λ (x : ℤ). natAbs x ≤ 2 ^ 31) (sym back-is) (omega (arith, half))
 
 -- ---- `nth` of numbers that calls gave
 module _ (a b : ℤ) (ha : natAbs a ≤ 2 ^ 31) (hb : natAbs b ≤ 2 ^ 31) (idx : ℕ) where
+  -- a, of a size of at most 2^31, fits 64 bits with its sign
   fits-a : SFits w64 a
   fits-a = fits-by-size a (omega arith)
 
+  -- b, of a size of at most 2^31, fits 64 bits with its sign
   fits-b : SFits w64 b
   fits-b = fits-by-size b (omega arith)
 

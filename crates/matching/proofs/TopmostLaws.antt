@@ -66,6 +66,7 @@ found-here true p top row t h k o = sym (lt-ltb t row (⊎-elim (λ (e : t ≡ p
 found-here false p top row t h k o =
     ⊎-elim (λ (e : t ≡ top). le-ltb t p (omega arith) ∙ sym (le-ltb t row (omega arith))) (λ (l : t < p). lt-ltb t p l ∙ sym (lt-ltb t row (omega arith))) o
 
+-- the parent, or what was found further down, is not before the parent, whichever is picked
 pick-most : (b : Bool) (p top row : ℕ) → p < row → row ≤ top → p ≤ pick b p top
 unfolding pick
 pick-most true p top row h k = omega arith
@@ -125,11 +126,13 @@ module _ (f : Path → Bool) where
   Needs g = (q : Path) → onAncestors f q ≡ false → g q ≡ false
 
   module _ (g : Path → Bool) (n : Needs g) where
+    -- where g asks for an ancestor that f passes, so does g asked of the parent
     parent-needs : Needs (onParent g)
     unfolding onAncestors onParent
     parent-needs [] e = refl
     parent-needs (x ∷ up) e = n up (neither (f up) (onAncestors f up) e .1)
 
+    -- where g asks for an ancestor that f passes, so does g asked of all ancestors
     ancestor-needs : Needs (onAncestors g)
     unfolding onAncestors
     ancestor-needs [] e = refl
@@ -192,7 +195,7 @@ module _ (nodes attributes text : List ℕ) (row : ℕ) (r : Rooted nodes row) w
   top-decides (attribute c ∷ cs) at w = test-decides _ _ _ _ (top-decides cs at w)
   top-decides (attributeEqual c v ∷ cs) at w = test-decides _ _ _ _ (top-decides cs at w)
 
-  -- so it is right
+  -- so the topmost row of a selector is the right number for the row
   pub right-top : (cs : List Component) → RightTop nodes attributes text cs row (selectorTop nodes attributes text row cs)
   right-top cs = record { decides = top-decides cs }
 

@@ -29,7 +29,7 @@ use Rattle.matching.proofs.Selectors.{Exactly, or-yes}
 
 -- ---- two things that each follow from the other
 
--- one behind the other
+-- where P holds exactly if Q does, and Q exactly if R does, P holds exactly if R does
 pub exactly-then : (P Q R : Type 0) → Exactly P Q → Exactly Q R → Exactly P R
 exactly-then P Q R f g = ((λ p. g .0 (f .0 p)), (λ r. f .1 (g .1 r)))
 
@@ -52,6 +52,7 @@ no true = false
 no false = true
 
 module _ (f : ℕ → Bool) where
+  -- by whether the first character passes: both parts of a text are the text, where those behind that character are
   joined-by : (t : Bool) (v : ℕ) (vs : List ℕ) → front f vs ++ behind f vs ≡ vs → pick t [] (v ∷ front f vs) ++ pick t (v ∷ vs) (behind f vs) ≡ v ∷ vs
   unfolding pick
   joined-by true v vs e = refl
@@ -71,6 +72,7 @@ module _ (f : ℕ → Bool) where
 
 -- ---- the bytes of a text
 
+-- the bytes of two texts in a row are those of the first and then those of the second
 encode-append : (a b : List ℕ) → encode (a ++ b) ≡ encode a ++ encode b
 unfolding encode
 encode-append [] b = refl
@@ -94,6 +96,7 @@ module _ (f : ℕ → Bool) (u : List ℕ → ℕ) (takes : Takes f u) where
       ∙ ap (λ i. many u i 0 (encode vs)) (omega arith)
       ∙ many-from n u (encode vs) 0 0 ∙ ap (λ m. n + m) e ∙ sym (length-append (utf8 v) (encode (front f vs)))
 
+  -- repeated, the reader takes the bytes of the text up to the first character that passes the test
   repeated : (vs : List ℕ) → Scalars vs → many u 0 0 (encode vs) ≡ length (encode (front f vs))
   unfolding front encode many
   repeated vs none = refl
@@ -103,10 +106,12 @@ module _ (f : ℕ → Bool) (u : List ℕ → ℕ) (takes : Takes f u) where
   seam : (vs : List ℕ) → encode vs ≡ encode (front f vs) ++ encode (behind f vs)
   seam vs = ap encode (sym (joined f vs)) ∙ encode-append (front f vs) (behind f vs)
 
+  -- the bytes that it takes are those of the text up to there
   taken : (vs : List ℕ) → Scalars vs → take (many u 0 0 (encode vs)) (encode vs) ≡ encode (front f vs)
   taken vs h =
       ap (λ n. take n (encode vs)) (repeated vs h) ∙ ap (take (length (encode (front f vs)))) (seam vs) ∙ take-append-seam (encode (front f vs)) (encode (behind f vs))
 
+  -- the bytes that it leaves are those of the text from there on
   left : (vs : List ℕ) → Scalars vs → drop (many u 0 0 (encode vs)) (encode vs) ≡ encode (behind f vs)
   left vs h =
       ap (λ n. drop n (encode vs)) (repeated vs h) ∙ ap (drop (length (encode (front f vs)))) (seam vs) ∙ drop-append-seam (encode (front f vs)) (encode (behind f vs))
@@ -115,13 +120,14 @@ module _ (f : ℕ → Bool) (u : List ℕ → ℕ) (takes : Takes f u) where
 unfoldable isWordCharacter : ℕ → Bool
 isWordCharacter v = no (isWhiteSpace v)
 
--- both readers are such
+-- the reader of a word takes the bytes of one character, unless that is White_Space
 word-takes : Takes isWhiteSpace wordTaken
 unfolding wordTaken wordOf
 word-takes v t s =
     let l = utf8-some v in
     sym (pick-false _ _ _ _ (is-no _ _ (λ z. omega (arith, length-append (utf8 v) t))) refl) ∙ ap wordOf (read-back v t s)
 
+-- the reader of white space takes the bytes of one character, unless that is no White_Space
 white-takes : Takes isWordCharacter whiteTaken
 unfolding whiteTaken whiteOf isWordCharacter
 white-takes v t s = ap whiteOf (read-back v t s) ∙ turned (isWhiteSpace v) (length (utf8 v))
@@ -137,6 +143,7 @@ module _ (white : ℕ → Bool) where
   others [] = []
   others (v ∷ vs) = pick (white v) (pieces white vs) (others vs)
 
+  -- by whether the first character is white: the pieces are the first one, and the others
   split-by : (t : Bool) (v : ℕ) (vs : List ℕ) → pieces white vs ≡ front white vs ∷ others vs
       → pick t ([] ∷ pieces white vs) (longer v (pieces white vs)) ≡ pick t [] (v ∷ front white vs) ∷ pick t (pieces white vs) (others vs)
   unfolding pick longer
@@ -149,6 +156,7 @@ module _ (white : ℕ → Bool) where
   first-piece [] = refl
   first-piece (v ∷ vs) = split-by (white v) v vs (first-piece vs)
 
+  -- by whether the first character is white: the other pieces, the empty ones left out, are the words behind the first piece
   others-by : (t : Bool) (v : ℕ) (vs : List ℕ) → white v ≡ t → withoutEmpty (others vs) ≡ words white (behind white vs)
       → withoutEmpty (pick t (pieces white vs) (others vs)) ≡ words white (pick t (v ∷ vs) (behind white vs))
   unfolding words pieces
@@ -166,9 +174,11 @@ module _ (white : ℕ → Bool) where
   unfolding words
   words-front vs = ap withoutEmpty (first-piece vs)
 
+  -- a text that begins with white space, or is empty, has the words of what stands behind its empty first piece
   no-word-first : (vs : List ℕ) → front white vs ≡ [] → words white vs ≡ words white (behind white vs)
   no-word-first vs e = words-front vs ∙ ap (λ p. withoutEmpty (p ∷ others vs)) e ∙ (unfold withoutEmpty in others-left vs)
 
+  -- a text that does not has its first piece as its first word, and behind it the words of what is left
   word-first : (vs : List ℕ) (x : ℕ) (p : List ℕ) → front white vs ≡ x ∷ p → words white vs ≡ (x ∷ p) ∷ words white (behind white vs)
   word-first vs x p e = words-front vs ∙ ap (λ q. withoutEmpty (q ∷ others vs)) e ∙ (unfold withoutEmpty in ap (λ l. (x ∷ p) ∷ l) (others-left vs))
 
@@ -179,6 +189,7 @@ unfolding pick no
 unspaced-by true v vs e h = h ∙ (unfold words pieces withoutEmpty in rw e)
 unspaced-by false v vs e h = refl
 
+-- white space in front of a text changes none of its words
 unspaced : (vs : List ℕ) → words isWhiteSpace (behind isWordCharacter vs) ≡ words isWhiteSpace vs
 unfolding behind isWordCharacter
 unspaced [] = refl
@@ -194,6 +205,7 @@ ended-by false v vs e h p = absurd (omega (arith, ap length (front-one v vs e �
     front-one : (v : ℕ) (vs : List ℕ) → isWhiteSpace v ≡ false → v ∷ front isWhiteSpace vs ≡ front isWhiteSpace (v ∷ vs)
     front-one v vs e = unfold front in rw e
 
+-- where no word begins behind the white space, nothing is left there
 ended : (vs : List ℕ) → front isWhiteSpace (behind isWordCharacter vs) ≡ [] → behind isWordCharacter vs ≡ []
 unfolding behind isWordCharacter
 ended [] p = refl
@@ -209,6 +221,7 @@ Found w l = Some (λ x. encode x ≡ w) l
 abbrev Right : List ℕ → ℕ → List ℕ → Type 0
 Right w n t = Exactly (wordAmong n w (encode t) ≡ true) (Found w (words isWhiteSpace t))
 
+-- the empty text has no words
 no-words : words isWhiteSpace [] ≡ []
 unfolding words pieces withoutEmpty
 no-words = refl
@@ -218,6 +231,7 @@ module _ (w : List ℕ) (k : ℕ) (vs : List ℕ) (h : Scalars vs) where
   abbrev text : List ℕ
   text = behind isWordCharacter vs
 
+  -- the text from its first word on has scalar values, as the whole has
   text-scalars : Scalars text
   text-scalars = left-scalars isWordCharacter vs h
 
@@ -225,16 +239,18 @@ module _ (w : List ℕ) (k : ℕ) (vs : List ℕ) (h : Scalars vs) where
   abbrev more-text : List ℕ
   more-text = behind isWhiteSpace text
 
+  -- the bytes without White_Space in front are those of the text from its first word on
   trimmed : trimmedStart (encode vs) ≡ encode text
   unfolding trimmedStart
   trimmed = left isWordCharacter whiteTaken white-takes vs h
 
+  -- a test of k + 1 words compares the first one, and asks what is left behind it with k
   opened : wordAmong (suc k) w (encode vs) ≡ pick (is (length (encode (front isWhiteSpace text))) 0) false (or (sameText (encode (front isWhiteSpace text)) w) (wordAmong k w (encode more-text)))
   unfolding wordAmong wordLength
   opened =
       rw (trimmed, taken isWhiteSpace wordTaken word-takes text text-scalars, left isWhiteSpace wordTaken word-takes text text-scalars, repeated isWhiteSpace wordTaken word-takes text text-scalars)
 
-  -- no word is left
+  -- where no word is left, the test finds none, and there is none
   at-end : front isWhiteSpace text ≡ [] → Right w (suc k) vs
   at-end e = ((λ p. never (fails ∙ p)), (λ q. absurd (subst (Found w) none-there q)))
     where
@@ -249,6 +265,7 @@ module _ (w : List ℕ) (k : ℕ) (vs : List ℕ) (h : Scalars vs) where
 
   -- a word, and what is left behind it
   module _ (x : ℕ) (p : List ℕ) (e : front isWhiteSpace text ≡ x ∷ p) where
+    -- a word has at least one byte
     some-bytes : 1 ≤ length (encode (x ∷ p))
     unfolding encode
     some-bytes = omega (arith, utf8-some x, length-append (utf8 x) (encode p))
@@ -260,14 +277,17 @@ module _ (w : List ℕ) (k : ℕ) (vs : List ℕ) (h : Scalars vs) where
         let b = ap length (seam isWhiteSpace wordTaken word-takes text ∙ ap (λ q. encode q ++ encode more-text) e) ∙ length-append (encode (x ∷ p)) (encode more-text) in
         omega (arith, some-bytes)
 
+    -- where a word is left, the test compares it, or asks what is left behind it
     asked : wordAmong (suc k) w (encode vs) ≡ or (sameText (encode (x ∷ p)) w) (wordAmong k w (encode more-text))
     asked =
         opened ∙ ap (λ q. pick (is (length (encode q)) 0) false (or (sameText (encode q) w) (wordAmong k w (encode more-text)))) e
         ∙ sym (pick-false _ _ _ _ (is-no _ _ (λ z. omega (arith, some-bytes))) refl)
 
+    -- the words of the text are that word and those behind it
     listed : words isWhiteSpace vs ≡ (x ∷ p) ∷ words isWhiteSpace more-text
     listed = sym (unspaced vs) ∙ word-first isWhiteSpace text x p e
 
+    -- where the test finds exactly the words of what is left, it finds exactly those of the text
     at-word : Right w k more-text → Right w (suc k) vs
     at-word r = (there, back)
       where
@@ -289,6 +309,7 @@ unfolding encode
 none-found w vs none l q = absurd (subst (Found w) no-words q)
 none-found w vs (more {v = v} {vs = ws} s h) l q = absurd (omega (arith, utf8-some v, length-append (utf8 v) (encode ws)))
 
+-- by whether a word is left: the test finds exactly the words of a text of k + 1 bytes, where it does of k
 found-by : (w : List ℕ) (k : ℕ) (vs : List ℕ) → Scalars vs → length (encode vs) ≤ suc k → ((t : List ℕ) → Scalars t → length (encode t) ≤ k → Right w k t)
     → (q : List ℕ) → front isWhiteSpace (behind isWordCharacter vs) ≡ q → Right w (suc k) vs
 found-by w k vs h l f [] e = at-end w k vs h e
@@ -341,6 +362,7 @@ pieces-scalars white vs (more {v = v} {vs = ws} s h) =
     longer-scalars v s [] h = unfold longer in (more s none, tt)
     longer-scalars v s (p ∷ ps) h = unfold longer in (more s (h .0), h .1)
 
+-- without the empty ones, pieces of scalar values are of scalar values still
 kept-scalars : (ps : List (List ℕ)) → All Scalars ps → All Scalars (withoutEmpty ps)
 unfolding withoutEmpty
 kept-scalars [] h = tt
@@ -365,6 +387,7 @@ unfolding pieces
 same-pieces f g [] h = refl
 same-pieces f g (v ∷ vs) h = ap (λ t. pick t ([] ∷ pieces f vs) (longer v (pieces f vs))) (h .0) ∙ ap (λ ps. pick (g v) ([] ∷ ps) (longer v ps)) (same-pieces f g vs (h .1))
 
+-- tests that agree on the characters of a text give it the same words
 pub same-words : (f g : ℕ → Bool) (vs : List ℕ) → All (λ v. f v ≡ g v) vs → words f vs ≡ words g vs
 unfolding words
 same-words f g vs h = ap withoutEmpty (same-pieces f g vs h)

@@ -19,22 +19,25 @@ unfolding or
 neither true b e = never (sym e)
 neither false b e = (refl, e)
 
--- ---- lengths
+-- ---- whether one of three sheets is too long
 module _ (a u w : ℕ) where
+  -- the return where the agent's sheet is too long: one of the three is
   pub agent-long : sheetLimit < a → true ≡ anyTooLong a u w
   unfolding anyTooLong
   agent-long h = or-gives-true _ _ (lt-ltb sheetLimit a h)
 
   module _ (h : a ≤ sheetLimit) where
+    -- the return where the user's sheet is too long, and the agent's is not
     pub user-long : sheetLimit < u → true ≡ anyTooLong a u w
     unfolding anyTooLong
     user-long k = or-gives _ _ true (le-ltb sheetLimit a h) (or-gives-true _ _ (lt-ltb sheetLimit u k))
 
+    -- the return where neither is: the author's sheet alone decides
     pub author-long : u ≤ sheetLimit → ltb sheetLimit w ≡ anyTooLong a u w
     unfolding anyTooLong
     author-long k = or-gives _ _ (ltb sheetLimit w) (le-ltb sheetLimit a h) (or-gives _ _ (ltb sheetLimit w) (le-ltb sheetLimit u k) refl)
 
-  -- none is too long
+  -- where none of the three is too long, each is within the limit
   pub none-long : anyTooLong a u w ≡ false → (a ≤ sheetLimit) × (u ≤ sheetLimit) × (w ≤ sheetLimit)
   unfolding anyTooLong
   none-long e =
@@ -42,22 +45,26 @@ module _ (a u w : ℕ) where
       let q = neither _ _ (p .1) in
       (ltb-false _ _ (p .0), ltb-false _ _ (q .0), ltb-false _ _ (q .1))
 
--- ---- texts
+-- ---- whether all three sheets are UTF-8
 module _ (a u w : List ℕ) where
+  -- the return where the agent's sheet is no UTF-8: not all three are
   pub agent-invalid : {t : Bool} → t ≡ valid a → t ≡ false → false ≡ allValid a u w
   unfolding allValid
   agent-invalid e f = and-gives-false _ _ (sym e ∙ f)
 
   module _ {t : Bool} (e : t ≡ valid a) (f : t ≡ true) where
+    -- the return where the user's sheet is no UTF-8, and the agent's is
     pub user-invalid : {v : Bool} → v ≡ valid u → v ≡ false → false ≡ allValid a u w
     unfolding allValid
     user-invalid g h = and-gives _ _ false (sym e ∙ f) (and-gives-false _ _ (sym g ∙ h))
 
+    -- the return where both are UTF-8: the author's sheet alone decides
     pub author-valid : {v x : Bool} → v ≡ valid u → v ≡ true → x ≡ valid w → x ≡ allValid a u w
     unfolding allValid
     author-valid {v} {x} g h k = and-gives _ _ x (sym e ∙ f) (and-gives _ _ x (sym g ∙ h) k)
 
 -- ---- no text is too long, and the stores suffice
+-- where both tests are passed, the three sheets and the stores are as a call asks for
 pub lent-by : (agent user author rules tokens brackets texts : List ℕ) → anyTooLong (length agent) (length user) (length author) ≡ false
     → storesSuffice (length agent + length user + length author) (length rules) (length tokens) (length brackets) (length texts) ≡ true
     → Lent agent user author rules tokens brackets texts

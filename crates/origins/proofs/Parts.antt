@@ -9,7 +9,7 @@ use lib.Seq.{sets}
 use Rattle.combinators.specs.Store.{wiped, Zeros}
 use Rattle.combinators.proofs.Lists.{rest}
 
--- behind a first number
+-- storing behind a first number leaves that number, and stores in those behind it
 sets-second : (x : ℕ) (l : List ℕ) (i : ℕ) (vs : List ℕ) → sets (x ∷ l) (suc i) vs ≡ x ∷ sets l i vs
 sets-second x l i [] = refl
 sets-second x l i (v ∷ vs) = sets-second x (set l i v) (suc i) vs
@@ -20,6 +20,7 @@ sets-drop zero l vs h = refl
 sets-drop (suc a) [] vs h = absurd (omega arith)
 sets-drop (suc a) (x ∷ l) vs h = ap (drop (suc a)) (sets-second x l a vs) ∙ sets-drop a l vs (omega arith)
 
+-- the numbers before a place, with what is stored at the start of those behind it, are the whole stored from there on
 sets-take : (a : ℕ) (l vs : List ℕ) → a ≤ length l → take a l ++ sets (drop a l) 0 vs ≡ sets l a vs
 sets-take zero l vs h = refl
 sets-take (suc a) [] vs h = absurd (omega arith)
@@ -30,6 +31,7 @@ module _ (l : List ℕ) (a : ℕ) (h : a ≤ length l) where
   abbrev pub lentPart : List ℕ
   lentPart = take (length l - a) (drop a l)
 
+  -- the part that is lent is as long as what lies from the place on
   pub part-length : length lentPart ≡ length l - a
   part-length = ap length (rest l a) ∙ length-drop a l
 

@@ -23,12 +23,14 @@ use Rattle.origins.specs.declared.reading.RulesRead.the-variants.{Rules,
 use Rattle.origins.proofs.Parts.{lentPart, part-length, part-zeros, part-stored}
 
 -- ---- answers, by the reader's
+-- the reader's answer with sizes is the answer with the same count, numbers and bytes
 answer-reads : (o : Outcome (List RuleSet)) (n c m x : ℕ) → many.Reads n c m x ≡ manyReading length (ruleRows 0) ruleTexts o → Rules c m x ≡ rulesAnswer o
 unfolding manyReading rulesAnswer onOutcome
 answer-reads (reads k rs) n c m x e = cc
 answer-reads fails n c m x e = cc
 answer-reads (panics p) n c m x e = absurd (let z : _≡_ {A = ℕ} 0 1 = cc in omega arith)
 
+-- the reader's panic is the answer's, at the same byte
 answer-panics : (o : Outcome (List RuleSet)) (p : ℕ) → many.Panics p ≡ manyReading length (ruleRows 0) ruleTexts o → Panic p ≡ rulesAnswer o
 unfolding manyReading rulesAnswer onOutcome
 answer-panics (reads k rs) p e = absurd (let z : _≡_ {A = ℕ} 0 1 = cc in omega arith)
@@ -52,6 +54,7 @@ module _ {s rules : List ℕ} {place : ℕ} {tokens brackets texts : List ℕ} {
   pub place-in : place ≤ length rules
   place-in = omega (arith, o .for-rules)
 
+  -- the fill lies within the text store
   pub fill-in : fill ≤ length texts
   fill-in = omega (arith, o .for-texts)
 
@@ -89,14 +92,17 @@ module _ {s rules : List ℕ} {place : ℕ} {tokens brackets texts : List ℕ} {
         × ((putMid fill (length texts - fill) texts z ≡ sets texts fill (written ruleTexts (sheetOf s)))
         × RulesBounds s a))))
 
+    -- with the answer of the sheet and its bounds, what was stored in the lent parts is stored behind what the stores held
     left : (a : RulesRead) → a ≡ rulesAnswer (sheetOf s) → RulesBounds s a → Left a
     left a e h = (e, (part-stored rules place place-in (written (ruleRows 0) (sheetOf s)) y ey, (ex, (eb, (part-stored texts fill fill-in (written ruleTexts (sheetOf s)) z ez, h)))))
 
+    -- the return where the sheet reads: its rules are counted, with the numbers and bytes that they take
     pub rules-read : {n count numbers text : ℕ} → r ≡ many.Reads n count numbers text → Left (Rules count numbers text)
     unfolding RulesBounds
     rules-read {n} {count} {numbers} {text} g =
         left (Rules count numbers text) (answer-reads (sheetOf s) n count numbers text (sym g ∙ er)) (size s n count numbers text (sym g ∙ er))
 
+    -- the return where the crate panics in the sheet, at that byte
     pub rules-panic : {p : ℕ} → r ≡ many.Panics p → Left (Panic p)
     unfolding RulesBounds
     rules-panic {p} g = left (Panic p) (answer-panics (sheetOf s) p (sym g ∙ er)) tt

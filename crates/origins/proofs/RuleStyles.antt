@@ -35,17 +35,20 @@ module _ (rows : List ℕ) (at d place count : ℕ) (e : (texts : List ℕ) → 
   abbrev lent : List ℕ
   lent = take (length rows - place) (drop place rows)
 
+  -- the count that was read is the rule's count of declarations
   count-is : count ≡ getD (drop at rows) ruleDeclarations 0
   count-is = c ∙ sym (getD-drop at rows ruleDeclarations 0)
 
+  -- the rows that are lent are those behind the rule's selectors, with any texts
   lent-is : (texts : List ℕ) → lent ≡ selectorsRead texts (drop at rows) .rest
   lent-is texts = rest rows place ∙ p ∙ ap (λ (n : ℕ). drop n rows) (add-zero d) ∙ e texts
 
+  -- the declarations that are read there are the rule's
   declared-is : (texts : List ℕ) → declarationsAt lent texts count ≡ readRule texts (drop at rows) .value .declarations
   unfolding readRule selectorsRead declarationsAt
   declared-is texts = rw (lent-is texts, count-is)
 
-  -- what is asked for
+  -- a store with room for the rule has room for the styles of its declarations
   pub room : (tokens : List ℕ) → RuleRoom (drop at rows) (length tokens) → StylesRoom lent count tokens
   room tokens o = record { for-declarations = rw (lent-is (o .texts), count-is) (o .declared); for-styles = rw count-is (o .styled) }
 
@@ -55,6 +58,7 @@ module _ (rows : List ℕ) (at d place count : ℕ) (e : (texts : List ℕ) → 
   bits n en h =
       omega (arith, en, h, count-styles [] lent count, styles-few (declarationsAt lent [] count), many-length (readDeclaration []) count lent)
 
+  -- the style numbers of those declarations are the styles of the rule
   numbers-are : styleNumbers lent count ≡ ruleStyles (drop at rows)
   unfolding ruleStyles
   numbers-are = rw (lent-is [], count-is) refl
@@ -107,6 +111,7 @@ declarations-sized : (m l : ℕ) → ruleWidth * m + 64 ≤ l → (r : RuleSet) 
 unfolding ruleSize
 declarations-sized m l h r k = omega arith
 
+-- a store of the least length has room for a style for each declaration of each rule, and one more
 pub styles-few-enough : (s : List ℕ) (stop : ℕ) (rs : List RuleSet) → sheetOf s ≡ reads stop rs → (n l : ℕ) → length s ≤ n → numberLeast n ≤ l
     → All (λ r. styleWidth * (length (r .declarations) + 1) ≤ l) rs
 styles-few-enough s stop rs e n l h k =

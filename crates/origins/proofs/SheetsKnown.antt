@@ -33,6 +33,7 @@ record Followed (o : Outcome (List RuleSet)) (next : List RuleSet → Sheets) (s
   was : o ≡ reads stop read
   then : next read ≡ s
 
+-- a sheet with another behind it was read, where all three came to rules
 followed : (o : Outcome (List RuleSet)) → (o ≡ fails → ⊥) → (which : ℕ) (next : List RuleSet → Sheets) (a u w : List RuleSet)
     → andThen which o next ≡ rules a u w → Followed o next (rules a u w)
 unfolding andThen onOutcome
@@ -48,6 +49,7 @@ pub record Known (agent user author : List ℕ) (a u w : List RuleSet) : Type 0 
   pub user-read : sheetOf user ≡ reads user-stop u
   pub author-read : sheetOf author ≡ reads author-stop w
 
+-- three sheets that were read, and came to the rules a, u and w, were read as these
 known-by : {agent user author : List ℕ} {a u w x y z : List RuleSet} (i j k : ℕ) → sheetOf agent ≡ reads i x → sheetOf user ≡ reads j y → sheetOf author ≡ reads k z
     → rules x y z ≡ rules a u w → Known agent user author a u w
 known-by {agent} {user} {author} {a} {u} {w} {x} {y} {z} i j k p q r e =
@@ -80,11 +82,13 @@ pub record Came (m : Sheets) (s : SheetsRules) : Type 0 where
   pub is : m ≡ rules agent user author
   pub lie : s ≡ sheetsRules agent user author
 
+-- an answer with rules says what the three sheets mean, and where each one's rules lie
 pub came : (m : Sheets) (s : SheetsRules) → all.Rules s ≡ sheetsAnswer m → Came m s
 unfolding sheetsAnswer
 came (rules a u w) s h = record { agent = a; user = u; author = w; is = refl; lie = cc }
 came (panicked which q) s h = absurd (let z : _≡_ {A = ℕ} 0 1 = cc in omega arith)
 
+-- an answer with a panic says in which sheet, and at which byte
 pub panic-known : (s : Sheets) (which p : ℕ) → all.Panic which p ≡ sheetsAnswer s → s ≡ panicked which p
 unfolding sheetsAnswer
 panic-known (rules a u w) which p e = absurd (let z : _≡_ {A = ℕ} 0 1 = cc in omega arith)
@@ -95,12 +99,15 @@ module _ (xs ys zs more : List ℕ) where
   abbrev whole : List ℕ
   whole = (xs ++ (ys ++ zs)) ++ more
 
+  -- from the start on lies all of it, in order
   pub from-first : drop 0 whole ≡ xs ++ ((ys ++ zs) ++ more)
   from-first = append-assoc xs (ys ++ zs) more
 
+  -- from the end of the first on lie the second and the third
   pub from-second : (n : ℕ) → n ≡ length xs → drop n whole ≡ ys ++ (zs ++ more)
   from-second n e = ap (drop n) from-first ∙ drop-at xs ((ys ++ zs) ++ more) n (sym e) ∙ append-assoc ys zs more
 
+  -- from the end of the second on lies the third
   pub from-third : (n : ℕ) → n ≡ length xs + length ys → drop n whole ≡ zs ++ more
   from-third n e =
       ap (λ (r : List ℕ). drop n (r ++ more)) (sym (append-assoc xs ys zs)) ∙ ap (drop n) (append-assoc (xs ++ ys) zs more)
@@ -135,6 +142,7 @@ zeros-of l m e =
     let z : length l - 0 ≡ length m = omega (arith, e) in
     cleared-is 0 l ∙ ap (λ (n : ℕ). replicate n 0) z
 
+-- a store that was cleared is zero from its start on
 pub clear-zeros : (l : List ℕ) → Zeros (cleared 0 l) 0
 clear-zeros l = rw (zeros-of l l refl) (zeros-all (length l) 0)
 
@@ -160,15 +168,19 @@ room-cleared {agent} {user} {author} {rules₀} {tokens} {brackets} {texts} o h 
 -- ---- what lies in the stores is what the sheets mean
 module _ {agent user author rules₀ tokens brackets texts₀ : List ℕ} (o : Lent agent user author rules₀ tokens brackets texts₀)
     {s : SheetsRules} (m : Came (sheetsOf agent user author) s) where
+  -- each of the three sheets was read, up to its stop
   pub known : Known agent user author (m .agent) (m .user) (m .author)
   known = sheets-known agent user author (m .agent) (m .user) (m .author) (m .is)
 
+  -- the agent's rules, with their rows and texts, are within the bounds of its sheet
   pub agent-keeps : SheetKeeps agent (known .agent-stop) (m .agent)
   agent-keeps = sheet-keeps agent (known .agent-stop) (m .agent) (known .agent-read)
 
+  -- the user's rules, with their rows and texts, are within the bounds of its sheet
   pub user-keeps : SheetKeeps user (known .user-stop) (m .user)
   user-keeps = sheet-keeps user (known .user-stop) (m .user) (known .user-read)
 
+  -- the author's rules, with their rows and texts, are within the bounds of its sheet
   pub author-keeps : SheetKeeps author (known .author-stop) (m .author)
   author-keeps = sheet-keeps author (known .author-stop) (m .author) (known .author-read)
 
@@ -178,10 +190,12 @@ module _ {agent user author rules₀ tokens brackets texts₀ : List ℕ} (o : L
   abbrev pub textsHeld : List ℕ
   textsHeld = ruleTexts (m .agent) ++ (ruleTexts (m .user) ++ ruleTexts (m .author))
 
+  -- the rows of all three are as long as those of each together
   pub rows-length : length rowsHeld ≡ length (ruleRows 0 (m .agent)) + length (ruleRows 0 (m .user)) + length (ruleRows 0 (m .author))
   rows-length =
       omega (arith, length-append (ruleRows 0 (m .agent)) (ruleRows 0 (m .user) ++ ruleRows 0 (m .author)), length-append (ruleRows 0 (m .user)) (ruleRows 0 (m .author)))
 
+  -- the texts of all three are as long as those of each together
   pub texts-length : length textsHeld ≡ length (ruleTexts (m .agent)) + length (ruleTexts (m .user)) + length (ruleTexts (m .author))
   texts-length =
       omega (arith, length-append (ruleTexts (m .agent)) (ruleTexts (m .user) ++ ruleTexts (m .author)), length-append (ruleTexts (m .user)) (ruleTexts (m .author)))
@@ -191,6 +205,7 @@ module _ {agent user author rules₀ tokens brackets texts₀ : List ℕ} (o : L
   rows-fit =
       omega (arith, rows-length, agent-keeps .wide, user-keeps .wide, author-keeps .wide, agent-keeps .within, user-keeps .within, author-keeps .within, o .for-rules)
 
+  -- their texts are no longer than the text store
   pub texts-fit : length textsHeld ≤ length texts₀
   texts-fit =
       omega (arith, texts-length, agent-keeps .long, user-keeps .long, author-keeps .long, agent-keeps .within, user-keeps .within, author-keeps .within, o .for-texts)
@@ -206,10 +221,12 @@ module _ {agent user author rules₀ tokens brackets texts₀ : List ℕ} (o : L
     unfoldable pub zt : List ℕ
     zt = replicate (length texts₀ - length textsHeld) 0
 
+    -- the rules store is these rows, and zeros behind them
     pub rows-are : rows ≡ rowsHeld ++ zr
     unfolding padded zr
     rows-are = er ∙ stored rowsHeld rules₀ rows-fit
 
+    -- the text store is these texts, and zeros behind them
     pub texts-are : texts ≡ textsHeld ++ zt
     unfolding padded zt
     texts-are = et ∙ texts-lie
@@ -219,15 +236,18 @@ module _ {agent user author rules₀ tokens brackets texts₀ : List ℕ} (o : L
     unfolding sheetsRules
     place₁ = ap (λ (v : SheetsRules). v .agent) (m .lie)
 
+    -- the user's rules lie behind the agent's rows, and their texts behind the agent's texts
     pub place₂ : s .user ≡ record { count = length (m .user); place = length (ruleRows 0 (m .agent)); from = length (ruleTexts (m .agent)) }
     unfolding sheetsRules
     place₂ = ap (λ (v : SheetsRules). v .user) (m .lie)
 
+    -- the author's rules lie behind the rows of the other two, and their texts behind their texts
     pub place₃ : s .author
         ≡ record { count = length (m .author); place = length (ruleRows 0 (m .agent)) + length (ruleRows 0 (m .user)); from = length (ruleTexts (m .agent)) + length (ruleTexts (m .user)) }
     unfolding sheetsRules
     place₃ = ap (λ (v : SheetsRules). v .author) (m .lie)
 
+    -- the agent's rows and texts lie at the places that the answer has for it
     agent-lies : Lies rows texts (s .agent) (m .agent)
     agent-lies =
         rw place₁
@@ -239,6 +259,7 @@ module _ {agent user author rules₀ tokens brackets texts₀ : List ℕ} (o : L
           texts-at = ap (drop 0) texts-are ∙ from-first (ruleTexts (m .agent)) (ruleTexts (m .user)) (ruleTexts (m .author)) zt;
         })
 
+    -- the user's rows and texts lie at the places that the answer has for it
     user-lies : Lies rows texts (s .user) (m .user)
     user-lies =
         let n = length (ruleRows 0 (m .agent)) in
@@ -252,6 +273,7 @@ module _ {agent user author rules₀ tokens brackets texts₀ : List ℕ} (o : L
           texts-at = ap (drop f) texts-are ∙ from-second (ruleTexts (m .agent)) (ruleTexts (m .user)) (ruleTexts (m .author)) zt f refl;
         })
 
+    -- the author's rows and texts lie at the places that the answer has for it
     author-lies : Lies rows texts (s .author) (m .author)
     author-lies =
         let n = length (ruleRows 0 (m .agent)) + length (ruleRows 0 (m .user)) in
@@ -269,9 +291,11 @@ module _ {agent user author rules₀ tokens brackets texts₀ : List ℕ} (o : L
     pub agent-back : rulesFrom rows texts (s .agent) ≡ m .agent
     agent-back = back agent-lies (agent-keeps .fit)
 
+    -- the rules that are read back at the user's places are the user's
     pub user-back : rulesFrom rows texts (s .user) ≡ m .user
     user-back = back user-lies (user-keeps .fit)
 
+    -- the rules that are read back at the author's places are the author's
     pub author-back : rulesFrom rows texts (s .author) ≡ m .author
     author-back = back author-lies (author-keeps .fit)
 
@@ -279,9 +303,11 @@ module _ {agent user author rules₀ tokens brackets texts₀ : List ℕ} (o : L
     pub agent-styled : RulesRoom (s .agent .count) (drop (s .agent .place) rows) (length tokens)
     agent-styled = styled agent-lies (agent-keeps .fit) (length tokens) (styles-few-enough agent _ _ (known .agent-read) _ _ (omega arith) (o .for-tokens))
 
+    -- the store of tokens has room for the styles of each of the user's rules
     pub user-styled : RulesRoom (s .user .count) (drop (s .user .place) rows) (length tokens)
     user-styled = styled user-lies (user-keeps .fit) (length tokens) (styles-few-enough user _ _ (known .user-read) _ _ (omega arith) (o .for-tokens))
 
+    -- the store of tokens has room for the styles of each of the author's rules
     pub author-styled : RulesRoom (s .author .count) (drop (s .author .place) rows) (length tokens)
     author-styled = styled author-lies (author-keeps .fit) (length tokens) (styles-few-enough author _ _ (known .author-read) _ _ (omega arith) (o .for-tokens))
 

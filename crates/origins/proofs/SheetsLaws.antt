@@ -37,6 +37,7 @@ pub record Came (o : Outcome (List RuleSet)) (c n t : ℕ) : Type 0 where
   pub texts : written ruleTexts o ≡ ruleTexts read
   pub next : (which : ℕ) (f : List RuleSet → Sheets) → andThen which o f ≡ f read
 
+-- an answer with rules says that the sheet reads, what is counted and written of it, and that the next sheet is read
 pub came : (o : Outcome (List RuleSet)) (c n t : ℕ) → one.Rules c n t ≡ rulesAnswer o → Came o c n t
 unfolding rulesAnswer written andThen onOutcome ruleRows ruleTexts rowsMany textsMany
 came (reads k rs) c n t e = record { read = rs; counted = cc; numbers = cc; bytes = cc; rows = refl; texts = refl; next = λ which f. refl }
@@ -49,6 +50,7 @@ pub record Broke (o : Outcome (List RuleSet)) (p : ℕ) : Type 0 where
   pub texts : written ruleTexts o ≡ []
   pub next : (which : ℕ) (f : List RuleSet → Sheets) → andThen which o f ≡ panicked which p
 
+-- an answer with a panic says that nothing is written of the sheet, and that the whole panics there
 pub broke : (o : Outcome (List RuleSet)) (p : ℕ) → one.Panic p ≡ rulesAnswer o → Broke o p
 unfolding rulesAnswer written andThen onOutcome
 broke (reads k rs) p e = absurd (let z : _≡_ {A = ℕ} 0 1 = cc in omega arith)
@@ -56,6 +58,7 @@ broke fails p e = absurd (let z : _≡_ {A = ℕ} 0 1 = cc in omega arith)
 broke (panics q) p e = let z : q ≡ p = cc in record { rows = refl; texts = refl; next = λ which f. ap (panicked which) z }
 
 -- ---- room for a sheet behind what is stored at the start of stores that were zero
+-- where the lengths suffice, there is room for a sheet behind rows and texts that were stored at the start
 behind-room : (xs ts : List ℕ) {s y₀ x₀ b₀ z₀ y x b z : List ℕ} {p f : ℕ} → Zeros y₀ 0 → Zeros x₀ 0 → Zeros b₀ 0 → Zeros z₀ 0
     → y ≡ sets y₀ 0 xs → x ≡ x₀ → b ≡ b₀ → z ≡ sets z₀ 0 ts → p ≡ length xs → f ≡ length ts
     → p + (ruleWidth * length s + ruleWidth) ≤ length y₀ → length y₀ < 2 ^ 64 → tokenWidth * length s ≤ length x₀ → length s ≤ length b₀
@@ -113,6 +116,7 @@ module _ {a u w y₀ x₀ b₀ z₀ : List ℕ} (o : SheetsRoom a u w y₀ x₀ 
   left-panic e ey ex eb ez = rw e (refl, (ey, (ex, (eb, ez))))
 
   -- ---- the agent's sheet
+  -- the stores, zero throughout, have room for the agent's sheet at their start
   pub first-room : ReadRoom a y₀ 0 x₀ b₀ z₀ 0
   first-room =
       record {
@@ -130,6 +134,7 @@ module _ {a u w y₀ x₀ b₀ z₀ : List ℕ} (o : SheetsRoom a u w y₀ x₀ 
 
   module _ {r₁ : RulesRead} {y₁ x₁ b₁ z₁ : List ℕ} (e₁ : r₁ ≡ rulesAnswer (sheetOf a)) (ey₁ : y₁ ≡ sets y₀ 0 (written (ruleRows 0) (sheetOf a))) (ex₁ : x₁ ≡ x₀)
       (eb₁ : b₁ ≡ b₀) (ez₁ : z₁ ≡ sets z₀ 0 (written ruleTexts (sheetOf a))) (k₁ : RulesBounds a r₁) where
+    -- the return where the crate panics in the agent's sheet: the stores are as they were
     pub agent-panics : {p : ℕ} → r₁ ≡ one.Panic p → Left (all.Panic agentText p) y₁ x₁ b₁ z₁
     unfolding sheetsOf
     agent-panics {p} g =
@@ -138,19 +143,24 @@ module _ {a u w y₀ x₀ b₀ z₀ : List ℕ} (o : SheetsRoom a u w y₀ x₀ 
 
     -- ---- the user's sheet
     module _ {c₁ n₁ t₁ : ℕ} (g₁ : r₁ ≡ one.Rules c₁ n₁ t₁) where
+      -- the agent's sheet came to rules, with the counts that are answered
       first : Came (sheetOf a) c₁ n₁ t₁
       first = came (sheetOf a) c₁ n₁ t₁ (sym g₁ ∙ e₁)
 
+      -- its rules, numbers and bytes are within the bounds of the sheet
       first-size : RulesSize a c₁ n₁ t₁
       unfolding RulesBounds
       first-size = subst (RulesBounds a) g₁ k₁
 
+      -- the rules store has the agent's rows at its start
       rows₁ : y₁ ≡ sets y₀ 0 (ruleRows 0 (first .read))
       rows₁ = ey₁ ∙ ap (λ (v : List ℕ). sets y₀ 0 v) (first .rows)
 
+      -- the text store has the agent's texts at its start
       texts₁ : z₁ ≡ sets z₀ 0 (ruleTexts (first .read))
       texts₁ = ez₁ ∙ ap (λ (v : List ℕ). sets z₀ 0 v) (first .texts)
 
+      -- the stores have room for the user's sheet behind the agent's
       pub second-room : ReadRoom u y₁ n₁ x₁ b₁ z₁ t₁
       second-room =
           let h = first-size in
@@ -159,6 +169,7 @@ module _ {a u w y₀ x₀ b₀ z₀ : List ℕ} (o : SheetsRoom a u w y₀ x₀ 
 
       module _ {r₂ : RulesRead} {y₂ x₂ b₂ z₂ : List ℕ} (e₂ : r₂ ≡ rulesAnswer (sheetOf u)) (ey₂ : y₂ ≡ sets y₁ n₁ (written (ruleRows 0) (sheetOf u))) (ex₂ : x₂ ≡ x₁)
           (eb₂ : b₂ ≡ b₁) (ez₂ : z₂ ≡ sets z₁ t₁ (written ruleTexts (sheetOf u))) (k₂ : RulesBounds u r₂) where
+        -- the return where the crate panics in the user's sheet: the agent's rows and texts are wiped, and the stores are as they were
         pub user-panics : {p : ℕ} → r₂ ≡ one.Panic p → {y z : List ℕ} → y ≡ wiped 0 n₁ y₂ → z ≡ wiped 0 t₁ z₂ → Left (all.Panic userText p) y x₂ b₂ z
         unfolding sheetsOf
         user-panics {p} g {y} {z} ey ez =
@@ -171,9 +182,11 @@ module _ {a u w y₀ x₀ b₀ z₀ : List ℕ} (o : SheetsRoom a u w y₀ x₀ 
 
         -- ---- the author's sheet
         module _ {c₂ n₂ t₂ : ℕ} (g₂ : r₂ ≡ one.Rules c₂ n₂ t₂) where
+          -- the user's sheet came to rules, with the counts that are answered
           second : Came (sheetOf u) c₂ n₂ t₂
           second = came (sheetOf u) c₂ n₂ t₂ (sym g₂ ∙ e₂)
 
+          -- its rules, numbers and bytes are within the bounds of the sheet
           second-size : RulesSize u c₂ n₂ t₂
           unfolding RulesBounds
           second-size = subst (RulesBounds u) g₂ k₂
@@ -182,15 +195,19 @@ module _ {a u w y₀ x₀ b₀ z₀ : List ℕ} (o : SheetsRoom a u w y₀ x₀ 
           pub places-fit : n₁ + n₂ < 2 ^ 64
           places-fit = omega (arith, first-size .wide, second-size .wide, o .agent-within, o .user-within)
 
+          -- the fill behind the texts of both sheets fits a word
           pub fills-fit : t₁ + t₂ < 2 ^ 64
           fills-fit = omega (arith, first-size .short, second-size .short, o .agent-within, o .user-within)
 
+          -- the rows of the agent's rules, and then those of the user's
           xs : List ℕ
           xs = ruleRows 0 (first .read) ++ ruleRows 0 (second .read)
 
+          -- the texts of the agent's rules, and then those of the user's
           ts : List ℕ
           ts = ruleTexts (first .read) ++ ruleTexts (second .read)
 
+          -- the rules store has the rows of both sheets at its start
           rows₂ : y₂ ≡ sets y₀ 0 xs
           unfolding xs
           rows₂ =
@@ -199,6 +216,7 @@ module _ {a u w y₀ x₀ b₀ z₀ : List ℕ} (o : SheetsRoom a u w y₀ x₀ 
               ey₂ ∙ ap (λ (v : List ℕ). sets y₁ n₁ v) (second .rows) ∙ ap (λ (v : List ℕ). sets v n₁ m) rows₁
               ∙ ap (λ (i : ℕ). sets (sets y₀ 0 l) i m) (first .numbers ∙ sym (zero-add (length l))) ∙ sym (sets-append y₀ 0 l m)
 
+          -- the text store has the texts of both sheets at its start
           texts₂ : z₂ ≡ sets z₀ 0 ts
           unfolding ts
           texts₂ =
@@ -207,10 +225,12 @@ module _ {a u w y₀ x₀ b₀ z₀ : List ℕ} (o : SheetsRoom a u w y₀ x₀ 
               ez₂ ∙ ap (λ (v : List ℕ). sets z₁ t₁ v) (second .texts) ∙ ap (λ (v : List ℕ). sets v t₁ m) texts₁
               ∙ ap (λ (i : ℕ). sets (sets z₀ 0 l) i m) (first .bytes ∙ sym (zero-add (length l))) ∙ sym (sets-append z₀ 0 l m)
 
+          -- the place behind those rows is the sum of the two answers' numbers
           place-is : n₁ + n₂ ≡ length xs
           unfolding xs
           place-is = omega (arith, first .numbers, second .numbers, length-append (ruleRows 0 (first .read)) (ruleRows 0 (second .read)))
 
+          -- the fill behind those texts is the sum of the two answers' bytes
           fill-is : t₁ + t₂ ≡ length ts
           unfolding ts
           fill-is = omega (arith, first .bytes, second .bytes, length-append (ruleTexts (first .read)) (ruleTexts (second .read)))
@@ -219,6 +239,7 @@ module _ {a u w y₀ x₀ b₀ z₀ : List ℕ} (o : SheetsRoom a u w y₀ x₀ 
           third-texts : t₁ + t₂ + length w + 10 ≤ length z₀
           third-texts = omega (arith, little (length a) t₁ (first-size .short) (first-size .nothing), little (length u) t₂ (second-size .short) (second-size .nothing), o .for-texts)
 
+          -- the stores have room for the author's sheet behind the other two
           pub third-room : ReadRoom w y₂ (n₁ + n₂) x₂ b₂ z₂ (t₁ + t₂)
           third-room =
               behind-room xs ts (o .rules-zeros) (o .tokens-zeros) (o .brackets-zeros) (o .texts-zeros) rows₂ (ex₂ ∙ ex₁) (eb₂ ∙ eb₁) texts₂ place-is fill-is
@@ -226,6 +247,7 @@ module _ {a u w y₀ x₀ b₀ z₀ : List ℕ} (o : SheetsRoom a u w y₀ x₀ 
 
           module _ {r₃ : RulesRead} {y₃ x₃ b₃ z₃ : List ℕ} (e₃ : r₃ ≡ rulesAnswer (sheetOf w)) (ey₃ : y₃ ≡ sets y₂ (n₁ + n₂) (written (ruleRows 0) (sheetOf w)))
               (ex₃ : x₃ ≡ x₂) (eb₃ : b₃ ≡ b₂) (ez₃ : z₃ ≡ sets z₂ (t₁ + t₂) (written ruleTexts (sheetOf w))) (k₃ : RulesBounds w r₃) where
+            -- the return where the crate panics in the author's sheet: the rows and texts of the others are wiped, and the stores are as they were
             pub author-panics : {p : ℕ} → r₃ ≡ one.Panic p → {y z : List ℕ} → y ≡ wiped 0 (n₁ + n₂) y₃ → z ≡ wiped 0 (t₁ + t₂) z₃
                 → Left (all.Panic authorText p) y x₃ b₃ z
             unfolding sheetsOf
@@ -238,6 +260,7 @@ module _ {a u w y₀ x₀ b₀ z₀ : List ℕ} (o : SheetsRoom a u w y₀ x₀ 
                 (taken-back z₀ z₂ z ts (t₁ + t₂) (o .texts-zeros) texts₂ fill-is (ez ∙ ap (wiped 0 (t₁ + t₂)) s₃))
 
             module _ {c₃ n₃ t₃ : ℕ} (g₃ : r₃ ≡ one.Rules c₃ n₃ t₃) where
+              -- the end of all three texts fits a word
               pub texts-fit : t₁ + t₂ + t₃ < 2 ^ 64
               unfolding RulesBounds
               texts-fit =
@@ -254,6 +277,7 @@ module _ {a u w y₀ x₀ b₀ z₀ : List ℕ} (o : SheetsRoom a u w y₀ x₀ 
                     end = t₁ + t₂ + t₃;
                   }
 
+              -- the return where all three read: rows and texts stand one behind the other, and the answer says where
               pub all-read : Left (all.Rules lying) y₃ x₃ b₃ z₃
               unfolding sheetsOf sheetsAnswer sheetsRows sheetsTexts xs ts
               all-read =

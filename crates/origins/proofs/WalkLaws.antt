@@ -20,9 +20,9 @@ module _ {A : Type 0} (u : List ℕ → Read A) where
   many-length zero t = refl
   many-length (suc k) t = ap suc (many-length k (u t .rest))
 
-  -- rows of one width
+  -- values whose rows all have one width
   module _ (w : ℕ) (h : (t : List ℕ) → u t .rest ≡ drop w t) where
-    -- what stands behind them
+    -- behind k values lies what is k widths further
     pub many-rest : (k : ℕ) (t : List ℕ) → readMany u k t .rest ≡ drop (w * k) t
     unfolding readMany
     many-rest zero t = rw (mul-zero w)
@@ -30,7 +30,7 @@ module _ {A : Type 0} (u : List ℕ → Read A) where
         let e : w + w * k ≡ w * suc k = omega (arith, mul-suc w k) in
         many-rest k (u t .rest) ∙ ap (drop (w * k)) (h t) ∙ drop-drop (w * k) w t ∙ ap (λ n. drop n t) e
 
-    -- the last of them
+    -- k + 1 values are the first k, and the one that is read k widths further
     pub many-next : (k : ℕ) (t : List ℕ) → readMany u (k + 1) t .value ≡ readMany u k t .value ++ (u (drop (w * k) t) .value ∷ [])
     unfolding readMany
     many-next k t =
@@ -41,11 +41,12 @@ pub component-rest : (texts : List ℕ) (k : ℕ) (t : List ℕ) → readMany (r
 unfolding readComponent
 component-rest texts k t = many-rest (readComponent texts) componentWidth (λ _. refl) k t
 
+-- behind k declarations lies what is k rows further
 pub declaration-rest : (texts : List ℕ) (k : ℕ) (t : List ℕ) → readMany (readDeclaration texts) k t .rest ≡ drop (declarationWidth * k) t
 unfolding readDeclaration
 declaration-rest texts k t = many-rest (readDeclaration texts) declarationWidth (λ _. refl) k t
 
--- ---- places
+-- ---- places behind a declaration, a selector and a rule
 module _ (rows : List ℕ) (at : ℕ) where
   -- a row's width further lies what is behind the declaration
   pub behind-declaration : (texts : List ℕ) (place : ℕ) → drop place rows ≡ drop (at + declarationWidth) rows → drop place rows ≡ readDeclaration texts (drop at rows) .rest
@@ -86,22 +87,24 @@ module _ {A : Type 0} (u : List ℕ → List ℕ → Read A) (rows : List ℕ) (
   abbrev pub Passing : ℕ → ℕ → Type 0
   Passing left place = (texts : List ℕ) → readMany (u texts) left (drop place rows) .rest ≡ readMany (u texts) count (drop at rows) .rest
 
+  -- passing over one, and then one fewer from behind it, ends where passing over all from here ends
   one-behind : (texts : List ℕ) (left place next : ℕ) → 0 < left → drop next rows ≡ u texts (drop place rows) .rest
       → readMany (u texts) (left - 1) (drop next rows) .rest ≡ readMany (u texts) left (drop place rows) .rest
   unfolding readMany
   one-behind texts zero place next h e = absurd (omega arith)
   one-behind texts (suc k) place next h e = let q : suc k - 1 ≡ k = omega arith in rw (q, e)
 
+  -- with none left to pass over, what is left lies here
   none-behind : (texts : List ℕ) (left place : ℕ) → left ≤ 0 → drop place rows ≡ readMany (u texts) left (drop place rows) .rest
   unfolding readMany
   none-behind texts zero place h = refl
   none-behind texts (suc k) place h = absurd (omega arith)
 
   module _ (left place : ℕ) (c : Passing left place) where
-    -- one is passed over
+    -- with one value passed over, the others are left from behind it
     pub passing-more : 0 < left → (next : ℕ) → ((texts : List ℕ) → drop next rows ≡ u texts (drop place rows) .rest) → Passing (left - 1) next
     passing-more h next e texts = one-behind texts left place next h (e texts) ∙ c texts
 
-    -- all are passed over
+    -- with none left, what lies here is what lies behind all of them
     pub passing-done : left ≤ 0 → (texts : List ℕ) → drop place rows ≡ readMany (u texts) count (drop at rows) .rest
     passing-done h texts = none-behind texts left place h ∙ c texts

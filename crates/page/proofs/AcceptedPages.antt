@@ -48,6 +48,7 @@ module _ (right : ℕ → Bool) (rows : ℕ) where
 numbers : {x y p q : ℕ} → refusedAt x p ≡ refusedAt y q → x ≡ y
 numbers e = ap (λ (r : Refusal). r .number) e
 
+-- two refusals that are the same have the same place
 places : {x y p q : ℕ} → refusedAt x p ≡ refusedAt y q → q ≡ p
 places e = sym (ap (λ (r : Refusal). r .place) e)
 
@@ -68,7 +69,7 @@ accepted-tests true false false true r u e = absurd (let n : badText ≡ 0 = num
 accepted-tests true false false false r u e = (refl, refl, refl, refl)
 accepted-tests false z b t r u e = absurd (let n : tooLarge ≡ 0 = numbers e in omega arith)
 
--- the same of refusal 5
+-- a page that is refused with 5 failed the test of the limits
 limit-tests : (w z b t : Bool) (r u : ℕ) → tested w z b t r u ≡ refused tooLarge → w ≡ false
 unfolding pick
 limit-tests true true b t r u e = absurd (let n : badRow ≡ tooLarge = numbers e in omega arith)
@@ -87,7 +88,7 @@ bad-text-tests true false false true r u row e = (refl, refl, refl, refl, places
 bad-text-tests true false false false r u row e = absurd (let n : 0 ≡ badText = numbers e in omega arith)
 bad-text-tests false z b t r u row e = absurd (let n : tooLarge ≡ badText = numbers e in omega arith)
 
--- and of refusal 6
+-- a page that is refused with 6 has no row, and row 0 is named, or a row against the rules, which is named
 bad-row-tests : (w z b t : Bool) (r u row : ℕ) → tested w z b t r u ≡ refusedAt badRow row
     → (w ≡ true) × (((z ≡ true) × (row ≡ 0)) ⊎ ((b ≡ true) × (row ≡ r)))
 unfolding pick

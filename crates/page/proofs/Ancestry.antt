@@ -73,7 +73,7 @@ module _ (nodes : List ℕ) where
           ∙ sym (pick-true _ _ _ _ (lt-ltb p row l) refl)
           ∙ ap (λ (a : List ℕ). p ∷ a) (enough j p p (omega arith) (omega arith))
 
-      -- and lies one deeper
+      -- a row lies one deeper than its parent
       pub below-depth : depthOf nodes row ≡ suc (depthOf nodes (nodeAt nodes row .parent))
       unfolding depthOf
       below-depth = ap length below-ancestors

@@ -54,9 +54,9 @@ module _ (nodes : List ℕ) (p rows : ℕ) where
     pub count-done : rows ≤ i → (count ≡ elementChildren nodes p rows) × (count ≤ rows)
     count-done h = let e : i ≡ rows = omega (arith, c .le) in (c .so-far ∙ ap (elementChildren nodes p) e, omega (arith, c .few))
 
--- ---- `place_among`
+-- ---- `place_among`: which element child of its parent a row is
 module _ (nodes : List ℕ) (row p r : ℕ) (e : p ≡ nodeAt nodes row .parent) where
-  -- the row is there
+  -- the element children of the parent up to the row are the row's place
   pub place-there : r ≡ elementChildren nodes p (row + 1) → r ≡ placeOf nodes row
   unfolding placeOf
   place-there h = rw (← e) h

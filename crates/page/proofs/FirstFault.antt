@@ -14,12 +14,12 @@ pub record Seeking (right : ℕ → Bool) (rows row : ℕ) : Type 0 where
   pub le : row ≤ rows
 
 module _ (right : ℕ → Bool) (rows : ℕ) where
-  -- at the first row
+  -- before the first row all rows are left to be asked
   pub seek-begin : Seeking right rows 0
   seek-begin = let z : rows - 0 ≡ rows = omega arith in record { work = ap (λ (k : ℕ). firstFault right k 0) z; le = omega arith }
 
   module _ (row : ℕ) (i : Seeking right rows row) where
-    -- no row is left
+    -- with no row left there is no fault, and the answer is the count of rows
     pub seek-done : rows ≤ row → row ≡ firstFault right rows 0
     unfolding firstFault
     seek-done h =

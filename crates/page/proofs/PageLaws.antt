@@ -13,7 +13,7 @@ use Rattle.page.specs.Rows.{nodeWidth, nodeCount, attributeWidth, attrib
 use Rattle.page.specs.Accepted.{nodeLimit, attributeLimit, textLimit, withinLimits, firstBadRow, firstBadText, rowsRefusal, pageRefusal, refusalOf}
 use Rattle.page.specs.declared.check.PageAnswer.the-variants.{Page, TooLarge, BadRow, BadText}
 
--- ---- `within_limits`
+-- ---- `within_limits`: each limit by its own test
 module _ (nodes attributes text : List ℕ) where
   abbrev All : Bool
   All = withinLimits nodes attributes text
@@ -53,7 +53,7 @@ module _ (nodes attributes text : List ℕ) where
         (and-both _ _ (le-leb (nodeCount nodes) nodeLimit ln) (and-both _ _ (le-leb (attributeRows attributes) attributeLimit lm) (le-leb (length text) textLimit ht)))
         (and-gives _ _ _ (is-yes _ _ e) refl)
 
--- ---- `check_page`
+-- ---- `check_page`: limits, rows and texts, the first that fails
 module _ (nodes attributes text : List ℕ) (t : Bool) (et : t ≡ withinLimits nodes attributes text) where
   -- it is over a limit
   pub page-too-large : t ≡ false → refusalOf TooLarge ≡ pageRefusal nodes attributes text
@@ -61,13 +61,13 @@ module _ (nodes attributes text : List ℕ) (t : Bool) (et : t ≡ withinLimits 
   page-too-large e = pick-false _ _ _ _ (sym et ∙ e) refl
 
   module _ (y : t ≡ true) (rows : ℕ) (er : rows ≡ nodeCount nodes) where
-    -- it has no row
+    -- the return where the page has no row: refusal 6 at row 0
     pub page-empty : rows ≡ 0 → refusalOf (BadRow 0) ≡ pageRefusal nodes attributes text
     unfolding pageRefusal rowsRefusal refusalOf
     page-empty e = pick-true _ _ _ _ (sym et ∙ y) (pick-true _ _ _ _ (is-yes _ _ (sym er ∙ e)) refl)
 
     module _ (d : ¬ (rows ≡ 0)) (bad : ℕ) (eb : bad ≡ firstBadRow nodes attributes) where
-      -- there is a row
+      -- the page has a row, so the definition's test for none fails
       none : is (nodeCount nodes) 0 ≡ false
       none = is-no _ _ (λ (e : nodeCount nodes ≡ 0). d (er ∙ e))
 
@@ -83,7 +83,7 @@ module _ (nodes attributes text : List ℕ) (t : Bool) (et : t ≡ withinLimits 
         no-bad : ltb (firstBadRow nodes attributes) (nodeCount nodes) ≡ false
         no-bad = let h : nodeCount nodes ≤ firstBadRow nodes attributes = rw (← eb, ← er) l in le-ltb (firstBadRow nodes attributes) (nodeCount nodes) h
 
-        -- a text is none
+        -- the return where a text cannot be read: refusal 7 at that row
         pub page-bad-text : unread < rows → refusalOf (BadText unread) ≡ pageRefusal nodes attributes text
         unfolding pageRefusal rowsRefusal refusalOf
         page-bad-text m =

@@ -119,7 +119,7 @@ module _ (nodes attributes text : List ℕ) where
     unfolding Long
     path-length row there e = long-below (suc row) row (omega arith) there e
 
--- ---- places
+-- ---- places: which rows count as element children
 module _ (nodes : List ℕ) (p k : ℕ) where
   -- a row that is an element child counts
   pub one-more : isElementChild nodes p k ≡ true → elementChildren nodes p (suc k) ≡ suc (elementChildren nodes p k)

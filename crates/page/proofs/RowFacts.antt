@@ -130,7 +130,7 @@ module _ (nodes attributes text : List ℕ) (ok : Accepted nodes attributes text
       pub parent-open : member (nodeAt nodes row .parent) (lineOf nodes (row - 1)) ≡ true
       parent-open = rules-of .1
 
-      -- so it comes before
+      -- the parent of the row comes before it
       pub parent-before : nodeAt nodes row .parent < row
       parent-before = let l = line-before nodes (row - 1) (nodeAt nodes row .parent) parent-open in omega arith
 
@@ -153,7 +153,7 @@ module _ (nodes attributes text : List ℕ) (ok : Accepted nodes attributes text
 
       -- what follows on in an element: its name, its attributes, and these end within the attribute rows lent
       module _ (element : nodeAt nodes row .kind ≡ elementKind) where
-        -- an element follows on
+        -- an element starts where the texts and attributes of the rows before it end
         follows : elementFollows attributes (nodeAt nodes row) (attributesBefore nodes row) (bytesBefore nodes attributes row) ≡ true
         follows = go kind-of-row
           where

@@ -36,7 +36,7 @@ pub record Following (attributes : List ℕ) (first count start at left end : �
   pub sum : at + left ≡ first + count
 
 module _ (attributes : List ℕ) (first count start at left end : ℕ) (i : Following attributes first count start at left end) where
-  -- no row is left
+  -- with no attribute row left, the texts end here
   pub following-done : left ≤ 0 → End end ≡ attributesAnswer attributes count first start
   unfolding attributesAnswer attributesFollow attributesEnd pick
   following-done h =
@@ -54,7 +54,7 @@ module _ (attributes : List ℕ) (first count start at left end : ℕ) (i : Foll
     name-breaks d = pick-false _ _ _ _ (and-left _ _ (is-no _ _ (λ (e : attributeAt attributes at .nameStart ≡ end). d (es ∙ e)))) refl ∙ here
 
     module _ (y : s ≡ end) (n v : ℕ) (en : n ≡ attributeAt attributes at .nameLength) (ev : v ≡ attributeAt attributes at .valueStart) where
-      -- its value does not
+      -- its value does not start behind its name
       pub value-breaks : ¬ (v ≡ end + n) → Broken ≡ attributesAnswer attributes count first start
       unfolding attributesAnswer attributesFollow
       value-breaks d =
@@ -83,12 +83,13 @@ unfolding pick
 ended true x end e = (refl, cc)
 ended false x end e = absurd (let z : _≡_ {A = ℕ} 0 1 = cc in omega arith)
 
+-- an answer that is broken says that the test failed
 broken : (t : Bool) (x : ℕ) → Broken ≡ pick t (End x) Broken → t ≡ false
 unfolding pick
 broken true x e = absurd (let z : _≡_ {A = ℕ} 0 1 = cc in omega arith)
 broken false x e = refl
 
--- ---- `check_element`
+-- ---- `check_element`: name and attributes, where they start and end
 module _ (attributes : List ℕ) (n : NodeRow) (first start s : ℕ) (es : s ≡ n .nameStart) where
   -- its name does not start where it should
   pub element-start : ¬ (s ≡ start) → Against ≡ elementAnswer attributes n first start
@@ -96,7 +97,7 @@ module _ (attributes : List ℕ) (n : NodeRow) (first start s : ℕ) (es : s ≡
   element-start d = pick-false _ _ _ _ (and-left _ _ (and-left _ _ (is-no _ _ (λ (e : n .nameStart ≡ start). d (es ∙ e))))) refl
 
   module _ (f : ℕ) (ef : f ≡ n .firstAttribute) where
-    -- its attributes do not
+    -- its attributes do not start where those of the rows before end
     pub element-first : ¬ (f ≡ first) → Against ≡ elementAnswer attributes n first start
     unfolding elementAnswer elementFollows
     element-first d = pick-false _ _ _ _ (and-left _ _ (and-right _ _ (is-no _ _ (λ (e : n .firstAttribute ≡ first). d (ef ∙ e))))) refl
@@ -119,7 +120,7 @@ module _ (attributes : List ℕ) (n : NodeRow) (first start s : ℕ) (es : s ≡
         unfolding elementAnswer elementFollows attributesAnswer
         element-breaks e = pick-false _ _ _ _ (and-right _ _ (and-right _ _ (broken _ _ (sym e ∙ follows)))) refl
 
-        -- all is in place
+        -- the return where name and attributes lie in place: the totals go on behind them
         pub element-ends : s ≡ start → f ≡ first → first + k ≤ m → (end : ℕ) → r ≡ End end → Behind (first + k) end ≡ elementAnswer attributes n first start
         unfolding elementAnswer elementFollows attributesAnswer behind textsEnd
         element-ends ys yf h end e =
@@ -130,14 +131,14 @@ module _ (attributes : List ℕ) (n : NodeRow) (first start s : ℕ) (es : s ≡
             (and-both _ _ (and-both _ _ (is-yes _ _ (sym es ∙ ys)) (is-yes _ _ g)) (and-both _ _ (le-leb (first + n .attributeCount) (attributeRows attributes) l) (o .0)))
             (rw (ek, o .1, g))
 
--- ---- `check_kind`
+-- ---- `check_kind`: other content, or an element, from where the rows before leave off
 module _ (attributes : List ℕ) (n : NodeRow) (first start : ℕ) (z : endsInZeros n ≡ true) where
-  -- it has no name
+  -- a row that ends in zeros has no name
   no-name : n .nameLength ≡ 0
   unfolding endsInZeros
   no-name = is-true _ _ (and-true _ _ (and-true _ _ z .0) .1)
 
-  -- it has no attributes
+  -- a row that ends in zeros has no attributes
   no-attributes : n .attributeCount ≡ 0
   unfolding endsInZeros
   no-attributes = is-true _ _ (and-true _ _ (and-true _ _ z .1) .1)
@@ -209,6 +210,7 @@ unfolding pick
 arrived true x d e = (refl, cc)
 arrived false x d e = absurd (let z : _≡_ {A = ℕ} 0 1 = cc in omega arith)
 
+-- an answer that the climb did not arrive says that the test failed
 absent : (t : Bool) (x : ℕ) → NotThere ≡ pick t (Reached x) NotThere → t ≡ false
 unfolding pick
 absent true x e = absurd (let z : _≡_ {A = ℕ} 0 1 = cc in omega arith)
@@ -256,7 +258,7 @@ module _ (nodes : List ℕ) (row depth : ℕ) (h : BehindRow nodes row depth) (p
           let s : depthLimit < depthOf nodes row = omega (arith, own-depth) in
           pick-false _ _ _ _ (and-right _ _ (lt-leb (depthOf nodes row) depthLimit s)) refl
 
--- ---- `check_row`
+-- ---- `check_row`: row 0, or a row by its parent and its kind
 module _ (nodes attributes : List ℕ) where
   -- the rules of a row behind row 0
   pub later-right : (row : ℕ) → 0 < row
@@ -292,6 +294,7 @@ unfolding pick
 behind-right true v x e a b f = (refl, cc)
 behind-right false v x e a b f = absurd (let z : _≡_ {A = ℕ} 0 1 = cc in omega arith)
 
+-- an answer that the row is against the rules says that the test failed
 against-wrong : (t : Bool) (a b : ℕ) → Against ≡ pick t (Behind a b) Against → t ≡ false
 unfolding pick
 against-wrong true a b e = absurd (let z : _≡_ {A = ℕ} 0 1 = cc in omega arith)
@@ -348,6 +351,7 @@ unfolding pick
 righted true d a b own next end e = (refl, cc, cc, cc)
 righted false d a b own next end e = absurd (let z : _≡_ {A = ℕ} 0 1 = cc in omega arith)
 
+-- an answer that the row is wrong says that the test failed
 wronged : (t : Bool) (d a b : ℕ) → Wrong ≡ pick t (Right d a b) Wrong → t ≡ false
 unfolding pick
 wronged true d a b e = absurd (let z : _≡_ {A = ℕ} 0 1 = cc in omega arith)
@@ -362,7 +366,7 @@ module _ (nodes attributes : List ℕ) (rows : ℕ) where
       record { seek = seek-begin (rowRight nodes attributes) rows; here = record { deep = o; attributes-so-far = refl; bytes-so-far = refl } }
 
   module _ (row depth first start : ℕ) (i : Checking nodes attributes rows row depth first start) where
-    -- no row is left
+    -- with no row left, no row is against the rules
     pub checking-done : rows ≤ row → rows ≡ nodeCount nodes → row ≡ firstBadRow nodes attributes
     unfolding firstBadRow
     checking-done h e = rw (← e) (seek-done (rowRight nodes attributes) rows row (i .seek) h)

@@ -14,7 +14,7 @@ use Rattle.page.specs.Rows.{nodeAt, nodeCount, attributeAt}
 use Rattle.page.specs.Accepted.{textRight, attributeTextRight, attributeTextsRight, textsRight, firstBadText}
 use Rattle.page.proofs.FirstFault.{Seeking, seek-done, seek-stop}
 
--- ---- `is_text`
+-- ---- `is_text`: a part of the byte text that lies within it and is UTF-8
 module _ (text : List ℕ) (start n : ℕ) where
   -- it ends past the byte text
   pub text-past : length text < start + n → false ≡ textRight text start n
@@ -26,7 +26,7 @@ module _ (text : List ℕ) (start n : ℕ) where
   unfolding textRight
   text-inside h l p e r f = and-gives _ _ _ (le-leb (start + n) (length text) (omega arith)) (f ∙ ap valid e)
 
--- ---- `attribute_text`
+-- ---- `attribute_text`: the name and the value of an attribute
 module _ (attributes text : List ℕ) (at a b : ℕ) (ea : a ≡ attributeAt attributes at .nameStart) (eb : b ≡ attributeAt attributes at .nameLength)
     (t : Bool) (et : t ≡ textRight text a b) where
   -- what was asked of its name
@@ -39,7 +39,7 @@ module _ (attributes text : List ℕ) (at a b : ℕ) (ea : a ≡ attributeAt att
   unfolding attributeTextRight
   attribute-value-decides y v w ev ew r e = and-gives _ _ _ (name-is ∙ y) (rw (← ev, ← ew) e)
 
-  -- its name is none
+  -- the return where the attribute's name cannot be read
   pub attribute-name-fails : t ≡ false → false ≡ attributeTextRight attributes text at
   unfolding attributeTextRight
   attribute-name-fails f = and-gives-false _ _ (name-is ∙ f)
@@ -50,7 +50,7 @@ pub record Reading (attributes text : List ℕ) (first count at left : ℕ) : Ty
   pub sum : at + left ≡ first + count
 
 module _ (attributes text : List ℕ) (first count at left : ℕ) (i : Reading attributes text first count at left) where
-  -- no row is left
+  -- with no attribute left, all texts can be read
   pub reading-done : left ≤ 0 → true ≡ attributeTextsRight attributes text count first
   unfolding attributeTextsRight
   reading-done h =
@@ -69,11 +69,11 @@ module _ (attributes text : List ℕ) (first count at left : ℕ) (i : Reading a
     pub reading-on : t ≡ true → Reading attributes text first count (at + 1) (left - 1)
     reading-on y = record { work = and-gives _ _ _ y refl ∙ sym more ∙ i .work; sum = omega (arith, i .sum) }
 
-    -- this one is none
+    -- the return where this attribute's texts cannot be read
     pub reading-stop : t ≡ false → false ≡ attributeTextsRight attributes text count first
     reading-stop n = and-gives-false _ _ n ∙ sym more ∙ i .work
 
--- ---- `row_texts`
+-- ---- `row_texts`: the name of a row and the texts of its attributes
 module _ (nodes attributes text : List ℕ) (row a b : ℕ) (ea : a ≡ nodeAt nodes row .nameStart) (eb : b ≡ nodeAt nodes row .nameLength)
     (t : Bool) (et : t ≡ textRight text a b) where
   -- what was asked of its name
@@ -86,14 +86,14 @@ module _ (nodes attributes text : List ℕ) (row a b : ℕ) (ea : a ≡ nodeAt n
   unfolding textsRight
   row-attributes-decide y f k ef ek r e = and-gives _ _ _ (own-name-is ∙ y) (rw (← ef, ← ek) e)
 
-  -- its name is none
+  -- the return where the row's name cannot be read
   pub row-name-fails : t ≡ false → false ≡ textsRight nodes attributes text row
   unfolding textsRight
   row-name-fails n = and-gives-false _ _ (own-name-is ∙ n)
 
--- ---- `first_bad_text`
+-- ---- `first_bad_text`: the rows before it have right texts
 module _ (nodes attributes text : List ℕ) (rows row : ℕ) (e : rows ≡ nodeCount nodes) (i : Seeking (textsRight nodes attributes text) rows row) where
-  -- no row is left
+  -- with no row left, there is no row with a bad text
   pub texts-done : rows ≤ row → row ≡ firstBadText nodes attributes text
   unfolding firstBadText
   texts-done h = rw (← e) (seek-done (textsRight nodes attributes text) rows row i h)

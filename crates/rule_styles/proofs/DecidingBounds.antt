@@ -12,7 +12,7 @@ use Rattle.cascade.specs.Record.{slotCount, Styled}
 use Rattle.rule_styles.specs.Deciding.{Sifted, nothingSifted, sift, listed, siftedStyles, decidingFor, decidingFrom, deciding}
 
 module _ {A : Type 0} where
-  -- one style or none
+  -- a style that is there or not is one style at most
   listed-one : (x : Found A) → length (listed x) ≤ 1
   unfolding listed onFound
   listed-one (found a) = omega arith
@@ -24,7 +24,7 @@ module _ {A : Type 0} where
   listed-found a = refl
 
 module _ {A : Type 0} where
-  -- those of both kinds
+  -- the sifted styles are as many as those of both kinds together
   sifted-long : (s : Sifted A) → length (siftedStyles s) ≡ length (listed (s .normal)) + length (listed (s .important))
   unfolding siftedStyles
   sifted-long s =
@@ -58,7 +58,7 @@ module _ {A : Type 0} where
   countedFrom zero k xs = 0
   countedFrom (suc n) k xs = counted k xs + countedFrom n (suc k) xs
 
--- of no styles none
+-- of no styles none is sifted
 nothing-long : (A : Type 0) → length (siftedStyles (nothingSifted {A = A})) ≡ 0
 unfolding siftedStyles nothingSifted listed onFound pick
 nothing-long A = refl
@@ -69,7 +69,7 @@ unfolding countedFrom counted
 counted-none A zero k = refl
 counted-none A (suc n) k = omega (arith, counted-none A n (suc k))
 
--- what one style counts
+-- a style counts as one for its own slot
 counts-own : (x k : ℕ) → is x k ≡ true → _≡_ {A = ℕ} (pick (is x k) 1 0) 1
 counts-own x k e = sym (pick-true _ _ _ _ e refl)
 
@@ -113,13 +113,14 @@ module _ {A : Type 0} where
   unfolding decidingFor
   for-counted k xs = omega (arith, sift-all k xs nothingSifted, nothing-long A)
 
-  -- nor for n slots
+  -- for n slots no more styles decide than are counted for them
   from-counted : (n k : ℕ) (xs : List (Styled A)) → length (decidingFrom n k xs) ≤ countedFrom n k xs
   unfolding decidingFrom countedFrom
   from-counted zero k xs = omega arith
   from-counted (suc n) k xs = omega (arith, length-append (decidingFor k xs) (decidingFrom n (suc k) xs), for-counted k xs, from-counted n (suc k) xs)
 
   -- ---- each style is counted for one slot at most
+  -- a style of a slot before k is not counted for the slots from k on
   counted-below : (n k : ℕ) (d : Styled A) (xs : List (Styled A)) → d .slot < k → countedFrom n k (d ∷ xs) ≡ countedFrom n k xs
   unfolding countedFrom counted
   counted-below zero k d xs h = refl

@@ -144,7 +144,7 @@ module _ {A : Type 0} (u : Slot A → Styled A → Slot A) where
   unfolding mergedInto
   merged-in p d h = sym (pick-true _ _ _ _ (lt-ltb (d .slot) slotCount h) refl)
 
-  -- one without changes nothing
+  -- a style of a slot that there is not changes nothing in the record
   merged-out : (p : Record A) (d : Styled A) → slotCount ≤ d .slot → mergedInto u p d ≡ p
   unfolding mergedInto
   merged-out p d h = sym (pick-false _ _ _ _ (le-ltb (d .slot) slotCount h) refl)
@@ -172,6 +172,7 @@ module _ {A : Type 0} (u : Slot A → Styled A → Slot A) where
       when-out g = ap (λ (q : Record A). slotOf q k) (merged-out p d g) ∙ sym (offered-other u k (slotOf p k) d (λ e. omega arith))
 
   -- ---- many styles: the record keeps all its slots
+  -- with many styles merged into it, a record has all its slots still
   all-whole : (xs : List (Styled A)) (p : Record A) → Whole p → Whole (foldl (mergedInto u) p xs)
   all-whole [] p w = w
   all-whole (d ∷ xs) p w = all-whole xs (mergedInto u p d) (merged-whole p d w)

@@ -45,7 +45,7 @@ sifted-same : (n m i j : Found (Styled Value)) (b c : Bool) → n ≡ m → i �
     → _≡_ {A = Sifted Value} (record { normal = n; important = i; behind = b }) (record { normal = m; important = j; behind = c })
 sifted-same n m i j b c e f g = rw (e, f, g)
 
--- ---- one style
+-- ---- one style, sifted for a slot
 module _ (s : code.Sifted) (k : ℕ) (x : StyleNumbers) where
   -- it is for another slot
   pub sifted-away : ¬ (x .slot ≡ k) → siftedIn s ≡ sift k (siftedIn s) (inNumbers x)
@@ -107,12 +107,12 @@ module _ (rows : List ℕ) (k : ℕ) where
       ∙ a
 
 -- ---- rows written
--- the row of one style
+-- the row of one style is four numbers
 pub styled-long : (x : Styled Value) → length (styledRow x) ≡ styleWidth
 unfolding styledRow
 styled-long x = length-style (record { slot = x .slot; important = x .important; value = x .value })
 
--- and the rows of many
+-- the rows of many styles are four numbers for each
 pub styles-long : (xs : List (Styled Value)) → length (textsMany styledRow xs) ≡ length xs * styleWidth
 unfolding textsMany
 styles-long [] = refl
@@ -127,7 +127,7 @@ pub found-written : (rows left : List ℕ) (at : ℕ) (t : Bool) (x : StyleNumbe
 unfolding textsMany listed onFound foundIn pick styledRow inNumbers rowOfNumbers valueNumbers
 found-written rows left at t x e f = rw e (f, (refl, omega arith))
 
--- one that is not
+-- a style that is not there writes nothing
 pub missing-written : (rows : List ℕ) (at : ℕ) (t : Bool) (x : StyleNumbers) → t ≡ false → Written rows rows at 0 1 (listed (foundIn t x))
 unfolding textsMany listed onFound foundIn pick
 missing-written rows at t x e = rw e (refl, (refl, omega arith))
@@ -146,7 +146,7 @@ both-written rows one left at n m xs ys p q =
 
 -- the order of the two kinds
 module _ (rows left : List ℕ) (at n : ℕ) (s : code.Sifted) where
-  -- the important one behind
+  -- where it lies behind, the important style is written behind the normal one
   pub sifted-behind : s .behind ≡ true → Written rows left at n 2 (listed (foundIn (s .«has_normal») (s .normal)) ++ listed (foundIn (s .«has_important») (s .important)))
       → Written rows left at n 2 (siftedStyles (siftedIn s))
   unfolding siftedStyles siftedIn
@@ -225,6 +225,7 @@ module _ (rows₀ : List ℕ) (at count place : ℕ) where
 
     -- the styles of one slot
     module _ (s : code.Sifted) (e : siftedIn s ≡ foldl (sift slot) nothingSifted (stylesFrom rows at count)) where
+      -- the styles sifted for the slot are those that decide in it, of the styles as they lay
       styles-now : siftedStyles (siftedIn s) ≡ decidingFor slot xs
       unfolding decidingFor
       styles-now = ap siftedStyles (e ∙ ap (λ (t : List ℕ). foldl (sift slot) nothingSifted (readMany readStyled count t .value)) (k .unread))

@@ -44,16 +44,18 @@ module _ {A : Type 0} (c : Cascade) (o r : ℕ) (p : Specificity) where
   into = mergedInto (updateFrom c o p)
 
   -- ---- no such record: nothing changes
+  -- one style of a record that there is not leaves the computed style as it is
   one-nowhere : recordCount ≤ r → (s : ComputedStyle A) (d : Styled A) → one s d ≡ s
   unfolding mergeBy fromRule ruleStyle
   one-nowhere h s d = sym (pick-false _ _ _ _ (no-record r (d .slot) h) refl)
 
-  -- nor by many styles
+  -- many styles of a record that there is not leave the computed style as it is, too
   all-nowhere : recordCount ≤ r → (xs : List (Styled A)) (s : ComputedStyle A) → foldl (mergeBy (updateBy c)) s (declaredIn o r p xs) ≡ s
   all-nowhere h [] s = refl
   all-nowhere h (d ∷ xs) s = all-nowhere h xs (one s d) ∙ one-nowhere h s d
 
   -- ---- a record that there is: only its slots decide
+  -- one style updates its slot where there is such a slot, and else leaves the computed style as it is
   one-there : r < recordCount → (s : ComputedStyle A) (d : Styled A)
       → one s d ≡ pick (ltb (d .slot) slotCount) (updateStyle r (d .slot) (λ x. updateFrom c o p x d) s) s
   unfolding mergeBy fromRule ruleStyle updateFrom candidateOf isNamed
@@ -76,7 +78,7 @@ module _ {A : Type 0} (c : Cascade) (o r : ℕ) (p : Specificity) where
         go true = updated (d .slot) (λ x. updateFrom c o p x d) s
         go false = sym (put-get s)
 
-    -- and so do many
+    -- many styles of a record are merged in that record alone, too
     all-put : (xs : List (Styled A)) (s : ComputedStyle A) → foldl (mergeBy (updateBy c)) s (declaredIn o r p xs) ≡ put (foldl into (get s) xs) s
     all-put [] s = sym (put-get s)
     all-put (d ∷ xs) s =
@@ -104,7 +106,7 @@ module _ {A : Type 0} (c : Cascade) (o r : ℕ) (p : Specificity) where
       go h (isAfter e) =
           same-put (λ q t. record { main = t .main; before = t .before; after = q }) (λ t. t .after) (λ k u t. update-after r k u t e) (λ t. refl) (λ q t. refl) (λ q v t. refl) h s (f .after) xs
 
--- ---- rows
+-- ---- the same of rows: styles that decide, merged, leave the row that all leave
 module _ (c : Cascade) (o : ℕ) where
   -- a row that a rule's styles are merged into
   pub deciding-row : (r : ℕ) (p : Specificity) (s : ComputedStyle Value) → Formed s → (xs : List (Styled Value))
@@ -126,7 +128,7 @@ module _ {A : Type 0} (c : Cascade) (o : ℕ) (p : Path) where
   left-append s [] ys = refl
   left-append s (x ∷ xs) ys = left-append (mergeBy (updateBy c) s (fromRule o x)) xs ys
 
-  -- the style stays whole
+  -- with the styles of many rules merged, a style has all its slots still
   left-formed : (s : ComputedStyle A) (xs : List (RuleStyle A)) → Formed s → Formed (left s xs)
   left-formed s xs f = merges-formed (updateBy c) (map (fromRule o) xs) s f
 

@@ -95,7 +95,7 @@ module _ {A : Type 0} (k : ℕ) where
   unfolding sift
   sift-important s d h e = sym (pick-true _ _ _ _ (is-yes (d .slot) k h) (pick-true _ _ _ _ e refl))
 
-  -- a normal one is
+  -- a normal style for the slot becomes its normal one
   sift-normal : (s : Sifted A) (d : Styled A) → d .slot ≡ k → d .important ≡ false
       → sift k s d ≡ record { normal = found d; important = s .important; behind = s .behind }
   unfolding sift

@@ -56,7 +56,7 @@ less-self p =
     (then-equal (p .class) (p .class) _ false refl
     (sym (le-ltb (p .typ) (p .typ) (omega arith))))))
 
--- normal values rank low
+-- a normal value ranks no higher than a normal author one
 rank-normal : (o : ℕ) → rank o false ≤ normalAuthor
 unfolding rank pick
 rank-normal o = pick-holds (λ n. n ≤ normalAuthor) (is o agentOrigin) _ _ (λ e. omega arith) (λ e. pick-holds (λ n. n ≤ normalAuthor) (is o userOrigin) _ _ (λ f. omega arith) (λ f. omega arith))
@@ -117,7 +117,7 @@ module _ {A : Type 0} (c : Cascade) (o : ℕ) (p : Specificity) where
       go true e = stay (λ y f. keeps c z y (ap (stays c (z .weight)) f ∙ e))
       go false e = give (λ y f. takes c z y (ap (stays c (z .weight)) f ∙ e))
 
-  -- two of a kind
+  -- of two candidates of one weight the second alone decides
   again : (i : Bool) (x : Slot A) (a b : Candidate A) → a .weight ≡ weightOf o p i → b .weight ≡ weightOf o p i → u (u x a) b ≡ u x b
   again i empty a b e f = rw (fills c a, fills c b) (takes c a b (rw (e, f) (yields-alike o p c i)))
   again i (held z) a b e f = go (answer z (weightOf o p i))

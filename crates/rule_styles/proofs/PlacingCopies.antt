@@ -50,7 +50,7 @@ copied-step l s d k h i =
     ap (λ (r : List ℕ). sets (set l d (getD l s 0)) (suc d) r) (part-set l d (getD l s 0) (suc s) k (omega arith)) ∙ ap (sets l d) (part-first l s k i)
 
 module _ (store₀ : List ℕ) (from n to : ℕ) (store : List ℕ) (i : ℕ) (c : Copying store₀ from n to store i) where
-  -- a byte is copied
+  -- with one byte copied, the bytes behind it are left to copy
   pub copying-more : Upward store₀ from n to → i < n → Copying store₀ from n to (set store (to + i) (getD store (from + i) 0)) (i + 1)
   copying-more r h =
       let a : to + (i + 1) ≡ suc (to + i) = omega arith in
@@ -62,7 +62,7 @@ module _ (store₀ : List ℕ) (from n to : ℕ) (store : List ℕ) (i : ℕ) (c
         long = length-set store (to + i) (getD store (from + i) 0) ∙ c .long;
       }
 
-  -- all n are copied
+  -- with all n copied, the part lies at its new place too
   pub copying-done : n ≤ i → store ≡ sets store₀ to (part store₀ from n)
   unfolding part
   copying-done h =
@@ -93,7 +93,7 @@ module _ (texts : List ℕ) (from end start n fill : ℕ) (found : List ℕ) (e 
   unfolding sheetText
   same = ap length e
 
-  -- it has no byte
+  -- a part without bytes copies nothing, and the texts stay
   pub part-empty : length found ≡ 0 → (texts ≡ sets texts (end + fill) copied) × (0 ≡ length copied)
   part-empty z =
       let q : copied ≡ [] = nil-of copied (omega (arith, same, z)) in

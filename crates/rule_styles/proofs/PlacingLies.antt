@@ -68,7 +68,7 @@ module _ (text : List ℕ) where
       (rule-lies f r q x, rw (rule-back text f r q (u .0) x) (each-lies rs g t (u .1) (held-right text f (ruleText r) (textsMany ruleText rs) h)))
 
   module _ (rs : List RuleSet) (f : ℕ) (t : List ℕ) (u : RulesFit rs) (h : Held text f (ruleTexts rs)) where
-    -- what lies behind them
+    -- behind the rows of rules lies what stood behind them
     pub written-rest : readMany (readRule text) (length rs) (ruleRows f rs ++ t) .rest ≡ t
     written-rest = ap (λ (r : Read (List RuleSet)). r .rest) (rules-read text rs f t u h)
 

@@ -54,7 +54,7 @@ styled-back (x ∷ xs) t =
     let others = textsMany rowOfNumbers xs ++ t in
     rw (append-assoc (rowOfNumbers x) (textsMany rowOfNumbers xs) t, row-numbers-back x others, row-numbers-rest x others, styled-back xs t)
 
--- as many are placed
+-- as many styles are placed as there were
 pub placed-long : (text : List ℕ) (xs : List StyleNumbers) (f : ℕ) → length (placedAll text f xs) ≡ length xs
 unfolding placedAll
 placed-long text [] f = refl
@@ -136,7 +136,7 @@ module _ (t tokens : List ℕ) (place : ℕ) (o : RuleKeptRoom t tokens place) w
       module _ (y₂ z : List ℕ) (g : ℕ) (ey₂ : y₂ ≡ sets store made (textsMany rowOfNumbers (placedAll text fill (numbersOf count (drop made store)))))
           (ez : z ≡ sets texts (end + fill) (contentsOf text (numbersOf count (drop made store))))
           (eg : g ≡ fill + length (contentsOf text (numbersOf count (drop made store)))) where
-        -- their rows
+        -- the rows of the rule's styles, each content at its new place
         abbrev rows : List ℕ
         rows = textsMany rowOfNumbers (placedAll text fill (lyingStyles t))
 

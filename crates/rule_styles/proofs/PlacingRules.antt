@@ -82,7 +82,7 @@ module _ (text : List ℕ) where
 
   -- ---- room, for the first rule and for those behind it
   module _ (n : ℕ) (t tokens : List ℕ) (place : ℕ) (o : RulesKeptRoom text (suc n) t tokens place) where
-    -- the first is there
+    -- of rules that lie in the rows, the first does
     first-lies : RuleLies text t
     unfolding EachLies
     first-lies = o .lie .0
@@ -92,7 +92,7 @@ module _ (text : List ℕ) where
     unfolding EachLies
     others-lie = o .lie .1
 
-    -- room for the first
+    -- the store has room for what is kept of the first rule
     pub first-room : RuleKeptRoom t tokens place
     first-room =
         record {
@@ -131,12 +131,12 @@ module _ (text : List ℕ) where
   unfolding keptRules styledRules textsMany
   none-kept f t = refl
 
-  -- it has no content
+  -- no rules have no contents
   none-content : (t : List ℕ) → rulesContentsAt text zero t ≡ []
   unfolding rulesContentsAt
   none-content t = refl
 
-  -- and takes no number
+  -- reading no rules takes no number
   pub none-rest : (t : List ℕ) → readMany (readRule text) zero t .rest ≡ t
   unfolding readMany
   none-rest t = refl
@@ -151,7 +151,7 @@ module _ (rules : List ℕ) (at count : ℕ) (tokens₀ : List ℕ) (place : ℕ
   abbrev keptFrom : ℕ → ℕ → ℕ → List ℕ
   keptFrom f rows n = keptRules (styledRules sheet f n (drop rows rules))
 
-  -- their contents
+  -- the contents of n rules from a place on, one behind the other
   abbrev contentsFrom : ℕ → ℕ → List ℕ
   contentsFrom rows n = rulesContentsAt sheet n (drop rows rules)
 
@@ -172,7 +172,7 @@ module _ (rules : List ℕ) (at count : ℕ) (tokens₀ : List ℕ) (place : ℕ
     pub text-length : length texts ≡ length texts₀
 
   module _ (o : RulesKeptRoom sheet count (drop at rules) tokens₀ place) (r : ContentsRoom texts₀ from end fill (contentsFrom at count)) where
-    -- nothing is kept yet
+    -- before the first rule nothing is kept, and all rules are left
     pub styling-begin : Styling tokens₀ texts₀ at place fill count
     styling-begin =
         record {
@@ -200,7 +200,7 @@ module _ (rules : List ℕ) (at count : ℕ) (tokens₀ : List ℕ) (place : ℕ
           let d : f + length (contentsAt sheet t) < 2 ^ 32 = omega (arith, e, r .bits, c .fill-left) in
           (first-room sheet k t tokens p (c .room), rw (c .same) (record { ordered = r .ordered; room = b; bits = d }))
 
-      -- a rule is kept
+      -- with one rule kept, the rules behind it are left
       next-kept : (k : ℕ) → Styling tokens texts rows p f (suc k) → (w z : List ℕ) → w ≡ sets tokens p (kept (deciding (stylesPlaced sheet f t)))
           → z ≡ sets texts (end + f) (contentsAt sheet t) → (next : ℕ) → drop next rules ≡ readRule sheet t .rest
           → Styling w z next (p + length (kept (deciding (stylesPlaced sheet f t)))) (f + length (contentsAt sheet t)) k
@@ -227,7 +227,7 @@ module _ (rules : List ℕ) (at count : ℕ) (tokens₀ : List ℕ) (place : ℕ
       styling-room zero c h = absurd (omega arith)
       styling-room (suc k) c h = next-room k c
 
-      -- the next is kept
+      -- a turn: the next rule is kept, with its contents, and the rules behind it are left
       pub styling-more : (n : ℕ) → Styling tokens texts rows p f n → 0 < n → (w z : List ℕ) (x : Placed)
           → w ≡ sets tokens p (kept (deciding (stylesPlaced (sheetText texts from end) f t))) → z ≡ sets texts (end + f) (contentsAt (sheetText texts from end) t)
           → x ≡ record { place = p + length (kept (deciding (stylesPlaced (sheetText texts from end) f t))); fill = f + length (contentsAt (sheetText texts from end) t) }

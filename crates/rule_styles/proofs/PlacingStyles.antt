@@ -17,9 +17,9 @@ use Rattle.rule_styles.specs.Placing.{sheetText, readNumbers, numbersOf,
 use Rattle.rule_styles.specs.PlacingRoom.{ContentsRoom, StyleRowsRoom}
 use Rattle.rule_styles.proofs.PlacingCopies.{sheet-text-kept}
 
--- ---- one style
+-- ---- one style, whose content is placed at the fill
 module _ (text : List ℕ) (fill : ℕ) (x : StyleNumbers) where
-  -- a content: its text
+  -- the content of a style of the content slot is the text that its numbers name
   content-is : x .slot ≡ contentSlot → part text (x .value .number) (x .value .second) ≡ contentOf text x
   unfolding contentOf
   content-is h = pick-true _ _ _ _ (is-yes _ _ h) refl
@@ -47,13 +47,13 @@ module _ (tokens texts : List ℕ) (at from end fill : ℕ) (style : StyleNumber
   abbrev text : List ℕ
   text = sheetText texts from end
 
-  -- what it leaves
+  -- what it leaves: the style's row with its new place, its content at the fill, and the fill behind it
   abbrev Left : List ℕ → List ℕ → ℕ → Type 0
   Left t z r =
       (t ≡ sets tokens at (rowOfNumbers (placedNumbers text fill (numbersAt (drop at tokens)))))
       × ((z ≡ sets texts (end + fill) (contentOf text (numbersAt (drop at tokens)))) × (r ≡ fill + length (contentOf text (numbersAt (drop at tokens)))))
 
-  -- a content
+  -- the style is a content, whose text is copied
   module _ (h : style .slot ≡ contentSlot) where
     -- that there is room for it
     pub content-room : ContentsRoom texts from end fill (contentOf text (numbersAt (drop at tokens)))
@@ -125,7 +125,7 @@ module _ (tokens₀ : List ℕ) (at count : ℕ) (texts₀ : List ℕ) (from end
   abbrev rowsFrom : List ℕ → ℕ → ℕ → ℕ → List ℕ
   rowsFrom tokens f place n = textsMany rowOfNumbers (placedAll sheet f (numbersOf n (drop place tokens)))
 
-  -- their contents
+  -- the contents of n styles from a place on, one behind the other
   abbrev contentsFrom : List ℕ → ℕ → ℕ → List ℕ
   contentsFrom tokens place n = contentsOf sheet (numbersOf n (drop place tokens))
 
@@ -140,16 +140,16 @@ module _ (tokens₀ : List ℕ) (at count : ℕ) (texts₀ : List ℕ) (from end
     pub text-length : length texts ≡ length texts₀
 
   module _ (s : StyleRowsRoom tokens₀ at count) (r : ContentsRoom texts₀ from end fill (contentsFrom tokens₀ at count)) where
-    -- none is placed yet
+    -- before the first style none is placed, and all are left
     pub placing-begin : Placing tokens₀ texts₀ fill at count
     placing-begin = record { rows-left = refl; texts-left = refl; fill-left = refl; same = refl; row-room = s .room; row-length = refl; text-length = refl }
 
     module _ (tokens texts : List ℕ) (f place : ℕ) where
-      -- the next style
+      -- the numbers of the next style that is to be placed
       abbrev x : StyleNumbers
       x = numbersAt (drop place tokens)
 
-      -- room for the next
+      -- there is room for the next style's row, and for its content
       next-room : (k : ℕ) → Placing tokens texts f place (suc k) → StyleRowRoom tokens place × ContentsRoom texts from end f (contentOf (sheetText texts from end) x)
       next-room k c =
           let e = ap length (one-content sheet k (drop place tokens)) ∙ length-append (contentOf sheet x) (contentsOf sheet (numbersOf k (drop styleWidth (drop place tokens)))) in
@@ -190,7 +190,7 @@ module _ (tokens₀ : List ℕ) (at count : ℕ) (texts₀ : List ℕ) (from end
       placing-room zero c h = absurd (omega arith)
       placing-room (suc k) c h = next-room k c
 
-      -- the next is placed
+      -- a turn: the next style is placed, with its content, and the styles behind it are left
       pub placing-more : (n : ℕ) → Placing tokens texts f place n → 0 < n → (t z : List ℕ) (g : ℕ)
           → t ≡ sets tokens place (rowOfNumbers (placedNumbers (sheetText texts from end) f x)) → z ≡ sets texts (end + f) (contentOf (sheetText texts from end) x)
           → g ≡ f + length (contentOf (sheetText texts from end) x) → Placing t z g (place + styleWidth) (n - 1)

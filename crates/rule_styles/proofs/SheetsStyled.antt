@@ -32,6 +32,7 @@ use Rattle.rule_styles.proofs.PlacingLies.{written-room, written-rest, 
 use Rattle.rule_styles.proofs.Written.{rules-contents, rules-styled}
 
 -- ---- contents are among the texts of their rules
+-- the text of the style of a declaration is no longer than the text of the declaration
 own-short : (i : Bool) (d : Decl) → length (styleTexts (styleOf i d)) ≤ length (declText d)
 unfolding styleTexts textsMany styleText styleTextOf styleOf one declText pick
 own-short i (color c) = omega arith
@@ -46,22 +47,26 @@ own-short i (whiteSpace w) = omega arith
 own-short i (content b) = omega (arith, length-append b [])
 own-short i (unknown b) = omega arith
 
+-- the texts of two lists of styles are as long as those of each together
 texts-length : (xs ys : List StyleDecl) → length (styleTexts (xs ++ ys)) ≡ length (styleTexts xs) + length (styleTexts ys)
 unfolding styleTexts textsMany
 texts-length [] ys = omega arith
 texts-length (x ∷ xs) ys = omega (arith, length-append (styleText x) (textsMany styleText (xs ++ ys)), length-append (styleText x) (textsMany styleText xs), texts-length xs ys)
 
+-- the contents of the declarations' own styles are no longer than the texts of the declarations
 owns-short : (ds : List Declaration) → length (styleTexts (ownStyles ds)) ≤ length (declarationTexts ds)
 unfolding ownStyles declarationTexts textsMany declarationText
 owns-short [] = unfold styleTexts in omega arith
 owns-short (d ∷ ds) =
     omega (arith, texts-length (styleOf (d .important) (d .decl)) (ownStyles ds), own-short (d .important) (d .decl), owns-short ds, length-append (declText (d .decl)) (declarationTexts ds))
 
+-- the style that is added has no content
 added-short : (z : Bool) → length (styleTexts (pick z (one false style.displayNone) [])) ≡ 0
 unfolding pick one styleTexts textsMany styleText styleTextOf
 added-short true = refl
 added-short false = refl
 
+-- the contents of a rule's styles are no longer than the rule's texts
 rule-short : (r : RuleSet) → length (ruleContents r) ≤ length (ruleText r)
 unfolding ruleContents said.ruleStyles stylesOf ruleText
 rule-short r =
@@ -69,6 +74,7 @@ rule-short r =
     let z = and (anyDecl zeroHeight ds) (anyDecl hidesOverflow ds) in
     omega (arith, texts-length (ownStyles ds) (pick z (one false style.displayNone) []), added-short z, owns-short ds, length-append (selectorTexts (r .selectors)) (declarationTexts ds))
 
+-- the contents of all rules' styles are no longer than the rules' texts
 pub contents-short : (rs : List RuleSet) → length (rulesContents rs) ≤ length (ruleTexts rs)
 unfolding rulesContents ruleTexts textsMany
 contents-short [] = omega arith
@@ -87,16 +93,19 @@ module _ {rows texts : List ℕ} {end : ℕ} {x : SheetRules} {rs : List RuleSet
   abbrev its : List ℕ
   its = sheetText texts (x .from) end
 
-  -- room for its styles
+  -- where the store is zero from a place on and long enough, it has room for what is kept of the sheet
   pub sheet-room : (tokens : List ℕ) (place : ℕ) → Zeros tokens place → place + length (ruleRows 0 rs) + 64 ≤ length tokens → RulesKeptRoom its (x .count) (drop (x .place) rows) tokens place
   sheet-room tokens place z h = rw (l .counted, l .rows-at) (written-room its rs 0 (l .behind) (l .fit) (l .held) tokens place z (omega arith))
 
+  -- the contents that are read of the sheet are those of its rules
   contents-are : rulesContentsAt its (x .count) (drop (x .place) rows) ≡ rulesContents rs
   contents-are = rw (l .counted, l .rows-at) (rules-contents its rs 0 (l .behind) (l .fit) (l .held))
 
+  -- the styles that are read of the sheet are those of its rules, with contents placed from the fill on
   styled-are : (fill : ℕ) → styledRules its fill (x .count) (drop (x .place) rows) ≡ placedRules fill rs
   styled-are fill = rw (l .counted, l .rows-at) (rules-styled its rs 0 fill (l .behind) (l .fit) (l .held))
 
+  -- where its contents fit behind the texts, the text store has the room that making its styles asks for
   pub sheet-contents-room : (fill : ℕ) → end + fill + length (rulesContents rs) ≤ length texts → fill + length (rulesContents rs) < 2 ^ 32
       → ContentsRoom texts (x .from) end fill (rulesContentsAt its (x .count) (drop (x .place) rows))
   sheet-contents-room fill h b = rw contents-are (record { ordered = l .ordered; room = h; bits = b })
@@ -105,15 +114,19 @@ module _ {rows texts : List ℕ} {end : ℕ} {x : SheetRules} {rs : List RuleSet
   pub sheet-kept : (tokens t : List ℕ) (place fill : ℕ) → t ≡ sets tokens place (keptRules (styledRules its fill (x .count) (drop (x .place) rows))) → t ≡ sets tokens place (keptRules (placedRules fill rs))
   sheet-kept tokens t place fill e = e ∙ ap (λ k. sets tokens place (keptRules k)) (styled-are fill)
 
+  -- the place behind what is kept of the sheet is the one by its rules
   pub sheet-place : (place r fill : ℕ) → r ≡ place + length (keptRules (styledRules its fill (x .count) (drop (x .place) rows))) → r ≡ place + length (keptRules (placedRules fill rs))
   sheet-place place r fill e = e ∙ ap (λ k. place + length (keptRules k)) (styled-are fill)
 
+  -- what is written behind the texts is the contents of its rules
   pub sheet-contents : (t : List ℕ) (fill : ℕ) → t ≡ sets texts (end + fill) (rulesContentsAt its (x .count) (drop (x .place) rows)) → t ≡ sets texts (end + fill) (rulesContents rs)
   sheet-contents t fill e = e ∙ ap (sets texts (end + fill)) contents-are
 
+  -- the fill behind its contents is the one by its rules
   pub sheet-fill : (r fill : ℕ) → r ≡ fill + length (rulesContentsAt its (x .count) (drop (x .place) rows)) → r ≡ fill + length (rulesContents rs)
   sheet-fill r fill e = e ∙ ap (λ (k : List ℕ). fill + length k) contents-are
 
+  -- the place where reading its rules ends is the place behind their rows
   pub sheet-end : (r : ℕ) → drop r rows ≡ readMany (readRule its) (x .count) (drop (x .place) rows) .rest → x .place + length (ruleRows 0 rs) < length rows → r ≡ x .place + length (ruleRows 0 rs)
   sheet-end r e h =
       let left : readMany (readRule its) (x .count) (drop (x .place) rows) .rest ≡ l .behind = rw (l .counted, l .rows-at) (written-rest its rs 0 (l .behind) (l .fit) (l .held)) in

@@ -33,11 +33,12 @@ use Rattle.styles.specs.StyleCall.{ruleContents, rulesContents, inNumbers, plac
 use Rattle.rule_styles.specs.Placing.{readNumbers, numbersOf, contentOf, placedValue, placedNumbers, contentsOf, placedAll, lyingStyles, contentsAt, stylesPlaced, styledRule, rulesContentsAt, styledRules}
 
 -- ---- lists of styles in numbers
+-- styles in numbers, of two lists in a row, are those of the first and then those of the second
 numbers-append : (xs ys : List StyleNumbers) → map inNumbers (xs ++ ys) ≡ map inNumbers xs ++ map inNumbers ys
 numbers-append [] ys = refl
 numbers-append (x ∷ xs) ys = rw (numbers-append xs ys)
 
--- rows are read back
+-- styles in numbers are read back from their rows
 pub numbers-back : (xs : List StyleNumbers) (t : List ℕ) → numbersOf (length xs) (textsMany rowOfNumbers xs ++ t) ≡ xs
 unfolding numbersOf readNumbers readMany textsMany
 numbers-back [] t = refl
@@ -56,6 +57,7 @@ module _ (t : List ℕ) where
   unfolding contentsOf
   contents-append xs ys = texts-append (λ _ (x : StyleNumbers). rowOfNumbers x) (contentOf t) xs ys
 
+  -- styles and those behind them are placed one behind the other, the second from where the contents of the first end
   pub placed-append : (xs ys : List StyleNumbers) (f : ℕ) → placedAll t f (xs ++ ys) ≡ placedAll t f xs ++ placedAll t (f + length (contentsOf t xs)) ys
   unfolding placedAll contentsOf textsMany
   placed-append [] ys f = rw (add-zero f)
@@ -71,6 +73,7 @@ styles-append (d ∷ xs) ys f =
     let e : f + length (styleText d ++ textsMany styleText xs) ≡ f + length (styleText d) + length (textsMany styleText xs) = omega (arith, length-append (styleText d) (textsMany styleText xs)) in
     rw (e, styles-append xs ys (f + length (styleText d)))
 
+-- the texts of styles behind styles are those of the first and then of the second
 texts-behind : (xs ys : List StyleDecl) → styleTexts (xs ++ ys) ≡ styleTexts xs ++ styleTexts ys
 unfolding styleTexts
 texts-behind xs ys = texts-append (λ _ (d : StyleDecl). []) styleText xs ys
@@ -110,6 +113,7 @@ module _ (t : List ℕ) where
   own-content h i (content b) k = ap (λ (l : List ℕ). l ++ []) (held-part t h b k)
   own-content h i (unknown b) k = refl
 
+  -- the style of a declaration, placed, is the placed style that it asks for
   own-placed : (h f : ℕ) (i : Bool) (d : Decl) → Held t h (declText d) → map inNumbers (placedAll t f (own-numbers h i d)) ≡ placedStyles f (styleOf i d)
   unfolding own-numbers placedAll placedNumbers placedValue contentOf styleOf one numbersFrom styleSlotOf valueFrom placedStyles inNumbers declText pick is
   own-placed h f i (color c) k = refl
@@ -149,14 +153,17 @@ lying-rows (d ∷ ds) h t =
 added : List Declaration → List StyleNumbers
 added ds = pick (and (anyDecl zeroHeight ds) (anyDecl hidesOverflow ds)) (addedStyle ∷ []) []
 
+-- the styles of declarations whose texts lie from h on, in numbers, with the one that is added
 lying : ℕ → List Declaration → List StyleNumbers
 lying h ds = lying-own h ds ++ added ds
 
+-- the row of the style that is added is the row of its numbers
 added-rows : (z : Bool) → pick z (rowOfNumbers addedStyle) [] ≡ textsMany rowOfNumbers (pick z (addedStyle ∷ []) [])
 unfolding pick textsMany
 added-rows true = sym (append-nil (rowOfNumbers addedStyle))
 added-rows false = refl
 
+-- the style rows of declarations that lie in rows are the rows of those numbers
 style-rows : (ds : List Declaration) (h : ℕ) (t : List ℕ) → styleNumbers (declarationRows h ds ++ t) (length ds) ≡ textsMany rowOfNumbers (lying h ds)
 unfolding styleNumbers lying added
 style-rows ds h t =
@@ -179,6 +186,7 @@ module _ (t : List ℕ) where
       ∙ ap (λ (l : List ℕ). styleTexts (styleOf (d .important) (d .decl)) ++ l) (lying-contents ds (h + length (declarationText d)) (held-right t h (declarationText d) (declarationTexts ds) k))
       ∙ sym (texts-behind (styleOf (d .important) (d .decl)) (ownStyles ds))
 
+  -- the own styles of declarations, placed, are those that the definitions place
   lying-placed : (ds : List Declaration) (h f : ℕ) → Held t h (declarationTexts ds) → map inNumbers (placedAll t f (lying-own h ds)) ≡ placedStyles f (ownStyles ds)
   unfolding lying-own ownStyles declarationTexts textsMany
   lying-placed [] h f k = unfold placedAll placedStyles in refl
@@ -201,17 +209,20 @@ module _ (t : List ℕ) where
   added-content true = refl
   added-content false = refl
 
+  -- the style that is added, placed, is the one that the definitions place
   added-placed : (z : Bool) (f : ℕ) → map inNumbers (placedAll t f (pick z (addedStyle ∷ []) [])) ≡ placedStyles f (pick z (one false style.displayNone) [])
   unfolding placedAll placedNumbers placedValue placedStyles inNumbers numbersFrom styleSlotOf valueFrom one pick is
   added-placed true f = refl
   added-placed false f = refl
 
+  -- the contents of all styles of declarations are the texts of these styles
   all-contents : (ds : List Declaration) (h : ℕ) → Held t h (declarationTexts ds) → contentsOf t (lying h ds) ≡ styleTexts (stylesOf ds)
   unfolding lying added stylesOf
   all-contents ds h k =
       let z = and (anyDecl zeroHeight ds) (anyDecl hidesOverflow ds) in
       rw (contents-append t (lying-own h ds) (pick z (addedStyle ∷ []) []), lying-contents ds h k, added-content z) (sym (texts-behind (ownStyles ds) (pick z (one false style.displayNone) [])))
 
+  -- all styles of declarations, placed, are those that the definitions place
   all-placed : (ds : List Declaration) (h f : ℕ) → Held t h (declarationTexts ds) → map inNumbers (placedAll t f (lying h ds)) ≡ placedStyles f (stylesOf ds)
   unfolding lying added stylesOf
   all-placed ds h f k =
@@ -231,6 +242,7 @@ selector-rest : (s t rows : List ℕ) → readSelector s rows .rest ≡ readSele
 unfolding readSelector
 selector-rest s t rows = component-rest s _ _ ∙ sym (component-rest t _ _)
 
+-- where many selectors end does not depend on their texts either
 selectors-rest : (s t : List ℕ) (n : ℕ) (rows : List ℕ) → readMany (readSelector s) n rows .rest ≡ readMany (readSelector t) n rows .rest
 unfolding readMany
 selectors-rest s t zero rows = refl
@@ -240,9 +252,11 @@ module _ (text : List ℕ) (g : ℕ) (r : RuleSet) (more : List ℕ) (h : Held t
   abbrev declared : ℕ
   declared = g + length (selectorTexts (r .selectors))
 
+  -- the texts of the rule's selectors lie where the rule's texts do
   held-selectors : Held text g (selectorTexts (r .selectors))
   held-selectors = unfold ruleText in held-left text g (selectorTexts (r .selectors)) (declarationTexts (r .declarations)) h
 
+  -- the texts of its declarations lie behind those of its selectors
   held-declarations : Held text declared (declarationTexts (r .declarations))
   held-declarations = unfold ruleText in held-right text g (selectorTexts (r .selectors)) (declarationTexts (r .declarations)) h
 
@@ -254,6 +268,7 @@ module _ (text : List ℕ) (g : ℕ) (r : RuleSet) (more : List ℕ) (h : Held t
       ∙ ap (λ (l : List ℕ). readMany (readSelector text) (length (r .selectors)) l .rest) (append-assoc (selectorRows g (r .selectors)) (declarationRows declared (r .declarations)) more)
       ∙ ap (λ q. q .rest) (selectors-back text (r .selectors) g (declarationRows declared (r .declarations) ++ more) held-selectors)
 
+  -- the style rows of a written rule are those of its declarations' styles, by where their texts lie
   rule-rows : ruleStyles (ruleRow g r ++ more) ≡ textsMany rowOfNumbers (lying declared (r .declarations))
   unfolding ruleStyles
   rule-rows =
@@ -268,16 +283,19 @@ module _ (text : List ℕ) (g : ℕ) (r : RuleSet) (more : List ℕ) (h : Held t
       let n : length (textsMany rowOfNumbers xs) / styleWidth ≡ length xs = omega (arith, numbers-long xs) in
       rw (rule-rows, n) (ap (numbersOf (length xs)) (sym (append-nil (textsMany rowOfNumbers xs))) ∙ numbers-back xs [])
 
+  -- the contents that are read of a written rule are those of its styles
   pub rule-contents : contentsAt text (ruleRow g r ++ more) ≡ ruleContents r
   unfolding contentsAt ruleContents said.ruleStyles
   rule-contents = ap (contentsOf text) rule-lying ∙ all-contents text (r .declarations) declared held-declarations
 
+  -- the styles that are read of a written rule, placed, are those of the rule
   pub rule-styles : (f : ℕ) → stylesPlaced text f (ruleRow g r ++ more) ≡ placedStyles f (said.ruleStyles r)
   unfolding stylesPlaced said.ruleStyles
   rule-styles f = ap (λ (l : List StyleNumbers). map inNumbers (placedAll text f l)) rule-lying ∙ all-placed text (r .declarations) declared f held-declarations
 
--- ---- rules
+-- ---- rules one behind the other
 module _ (text : List ℕ) where
+  -- the contents that are read of written rules are those of their styles
   pub rules-contents : (rs : List RuleSet) (g : ℕ) (more : List ℕ) → RulesFit rs → Held text g (ruleTexts rs)
       → rulesContentsAt text (length rs) (ruleRows g rs ++ more) ≡ rulesContents rs
   unfolding rulesContentsAt ruleRows rowsMany ruleTexts textsMany rulesContents
@@ -289,6 +307,7 @@ module _ (text : List ℕ) where
       rw (append-assoc (ruleRow g r) (rowsMany ruleRow ruleText g′ rs) more, rule-contents text g r q here, rule-back text g r q (fit .0) here)
       (ap (λ (l : List ℕ). ruleContents r ++ l) (rules-contents rs g′ more (fit .1) (held-right text g (ruleText r) (textsMany ruleText rs) h)))
 
+  -- the styles that are read of written rules, placed one behind the other, are those of the rules
   pub rules-styled : (rs : List RuleSet) (g f : ℕ) (more : List ℕ) → RulesFit rs → Held text g (ruleTexts rs)
       → styledRules text f (length rs) (ruleRows g rs ++ more) ≡ placedRules f rs
   unfolding styledRules styledRule ruleRows rowsMany ruleTexts textsMany placedRules

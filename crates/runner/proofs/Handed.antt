@@ -19,12 +19,12 @@ use Rattle.styles.specs.Lent.{Page}
 use Rattle.runner.specs.Run.{handedFrom, handedAt}
 use Rattle.runner.proofs.StateParts.{part-number}
 
--- ---- the row
+-- ---- the row of a node, as it is handed
 module _ (nodes : List ℕ) (i : ℕ) where
   abbrev own : List ℕ
   own = part nodes (i * nodeWidth) nodeWidth
 
-  -- a number of it
+  -- a number of the node row that is handed is that of the page's row
   pub node-number : (column : ℕ) → column < nodeWidth → nodeNumber own 0 column ≡ nodeNumber nodes i column
   unfolding nodeNumber
   node-number column h =
@@ -36,7 +36,7 @@ module _ (nodes : List ℕ) (i : ℕ) where
   unfolding nameOf
   node-name text = ap₂ (part text) (node-number 2 (omega arith)) (node-number 3 (omega arith))
 
--- ---- its attributes
+-- ---- the attributes of a node, as they are handed
 module _ (attributes text : List ℕ) (first count : ℕ) where
   abbrev owned : List ℕ
   owned = part attributes (first * attributeWidth) (count * attributeWidth)

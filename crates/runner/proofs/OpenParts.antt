@@ -127,7 +127,7 @@ module _ (code nodes attributes text : List ℕ) where
     open-kept l b t t state (opened state (partPlace code (length l)) blocks) bl (λ r q. refl) (opened-above code some state (length l) r blocks n) h,
   )
 
--- ---- the steps
+-- ---- what each step leaves in the parts of open rows
 module _ (code : List ℕ) (few : length code ≤ compiledLimit) (some : 0 < length code) (nodes attributes text : List ℕ) (ok : Accepted nodes attributes text) where
   abbrev OpenAt : ℕ → List ℕ → List ℕ → Type 0
   OpenAt t state l = Open code nodes attributes text t state l

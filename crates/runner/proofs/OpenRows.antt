@@ -26,7 +26,7 @@ pub weaken : (l : List ℕ) (a b : ℕ) → a ≤ b → Below a l → Below b l
 weaken [] a b h u = tt
 weaken (r ∷ l) a b h u = (omega (arith, u .0), weaken l a b h (u .1))
 
--- ---- element children
+-- ---- element children, counted up to a row and up to the next
 module _ (nodes : List ℕ) (p k : ℕ) where
   -- a row that is no element child adds none
   pub children-same : (nodeAt nodes k .kind ≡ elementKind → nodeAt nodes k .parent ≡ p → ⊥) → elementChildren nodes p (suc k) ≡ elementChildren nodes p k

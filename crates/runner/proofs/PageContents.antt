@@ -42,7 +42,7 @@ module _ (settings : Settings) (g : Page) where
   before-short zero = omega arith
   before-short (suc i) = omega (arith, length-append (contentsBefore settings g i) (rowContents settings g i), row-short i, before-short i)
 
-  -- of an accepted page
+  -- the contents of an accepted page are no longer than the texts that a run is lent room for
   pub contents-short : pageRefusal (g .nodes) (g .attributes) (g .text) ≡ noRefusal → length (pageContents settings g) ≤ runTextBytes g
   unfolding pageContents
   contents-short e =

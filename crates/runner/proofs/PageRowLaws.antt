@@ -76,7 +76,7 @@ module _ (code : List ℕ) (settings : Settings) (g : Page) where
       ∙ element-line (suc i) (lineOf (g .nodes) (nodeAt (g .nodes) (suc i) .parent)) e
 
   -- ---- one row
-  -- it is whole
+  -- the style row of a page's row has the width of a row
   pub page-whole : (i : ℕ) → length (pageRow code settings g i) ≡ styleRowWidth
   unfolding pageRow
   page-whole i = row-long (pageStyle i) (style-formed i)

@@ -44,11 +44,11 @@ module _ (code : List ℕ) (few : length code ≤ compiledLimit) (sheet : bytesR
   abbrev ReadyAt : ℕ → List ℕ → Type 0
   ReadyAt i state = Ready code (g .nodes) (g .attributes) (g .text) i state
 
-  -- there are bytes
+  -- bytes that are a sheet are not empty
   some : 0 < length code
   some = some-bytes code sheet
 
-  -- before row i
+  -- what holds before row i: stores as long as lent, a state that is right for the open rows, and the rows and texts of those before
   record Before (i : ℕ) (r : Running) : Type 0 where
     rows-long : length (r .rows) ≡ length rows₀
     state-long : length (r .state) ≡ length state₀
@@ -71,7 +71,7 @@ module _ (code : List ℕ) (few : length code ≤ compiledLimit) (sheet : bytesR
   state-room : (i : ℕ) (r : Running) → Before i r → depths * partWidth code ≤ length (r .state)
   state-room i r b = omega (arith, lent .for-state, b .state-long)
 
-  -- one row further
+  -- what holds before a row holds before the next, if the row's step is right
   next : (i : ℕ) (r : Running) (s : Stepped) → i < count → Before i r → After i r s
       → Before (suc i) (record { rows = sets (r .rows) (i * styleRowWidth) (s .row); state = s .state; texts = s .texts })
   unfolding contentsBefore
@@ -106,7 +106,7 @@ module _ (code : List ℕ) (few : length code ≤ compiledLimit) (sheet : bytesR
   nothing-new : (i : ℕ) (l : List ℕ) → ¬ (kindAt i ≡ elementKind) → l ≡ l ++ rowContents settings g i
   nothing-new i l d = rw (no-contents settings g i d) (sym (append-nil l))
 
-  -- the document
+  -- the document's step is right: no style, no texts, and a state for its children
   document-after : (r : Running) → Before 0 r → After 0 r (stepAt 0 r)
   unfolding documentStep
   document-after r b =
@@ -123,7 +123,7 @@ module _ (code : List ℕ) (few : length code ≤ compiledLimit) (sheet : bytesR
     abbrev p : ℕ
     p = nodeAt (g .nodes) (suc i) .parent
 
-    -- other content
+    -- the step of other content is right: an empty row, and all else as it was
     other-after : kindAt (suc i) ≡ otherKind → After (suc i) r (stepAt (suc i) r)
     other-after e =
         let no-element : ¬ (kindAt (suc i) ≡ elementKind) = λ (z : kindAt (suc i) ≡ elementKind). omega (arith, e, z) in
@@ -135,7 +135,7 @@ module _ (code : List ℕ) (few : length code ≤ compiledLimit) (sheet : bytesR
           texts = nothing-new (suc i) (r .texts) no-element;
         })
 
-    -- an element
+    -- an element, whose parent's row is written before it
     module _ (element : kindAt (suc i) ≡ elementKind) where
       abbrev e : Element
       e = elementAt (g .nodes) (g .attributes) (g .text) (suc i)
@@ -169,7 +169,7 @@ module _ (code : List ℕ) (few : length code ≤ compiledLimit) (sheet : bytesR
           })
 
   -- ---- every row
-  -- one
+  -- the step of every row is right, if the rows before it are
   step-after : (i : ℕ) → i < count → (r : Running) → Before i r → After i r (stepAt i r)
   step-after zero there r b = document-after r b
   step-after (suc i) there r b = go (kinds (g .nodes) (g .attributes) (g .text) ok i there)
@@ -178,7 +178,7 @@ module _ (code : List ℕ) (few : length code ≤ compiledLimit) (sheet : bytesR
       go (inl e) = other-after i there r b e
       go (inr e) = element-after i there r b e
 
-  -- all that follow
+  -- k steps from row i on, up to the last, leave what has to hold behind the last row
   run-after : (k i : ℕ) (r : Running) → i + k ≡ count → Before i r → Before count (runFrom code settings g k i r)
   unfolding runFrom runStep
   run-after zero i r e b = let z : i ≡ count = omega arith in subst (λ (n : ℕ). Before n r) z b

@@ -10,7 +10,7 @@ use Rattle.combinators.specs.Choice.{pick}
 use Rattle.combinators.specs.Part.{part}
 use Rattle.segments.specs.Parts.{partSet, partSets}
 use Rattle.segments.specs.Sweep.{pairAt, pairBytes}
-use Rattle.segments.proofs.CodeBlockLaws.{own-sets, behind-sets}
+use Rattle.segments.proofs.PartSetLaws.{own-sets, behind-sets}
 use Rattle.segments.proofs.DownLaws.{blocksBegin}
 use Rattle.runner.specs.State.{raised, opened}
 
@@ -75,7 +75,7 @@ module _ (state : List ℕ) (at n c : ℕ) (h : blocksBegin ≤ n) where
       ∙ ap (λ (x : List ℕ). part x at n) (sym (sets-own (pairBytes c) state at n 0 h))
       ∙ own-sets (pairBytes c) state at n 0
 
--- one element child more
+-- counting one element child more changes the first two bytes of the part, and nothing else
 pub raised-part : (state : List ℕ) (at n : ℕ) → blocksBegin ≤ n → part (raised state at) at n ≡ sets (part state at n) 0 (pairBytes (pairAt state at + 1))
 unfolding raised
 raised-part state at n h = part-count state at n (pairAt state at + 1) h

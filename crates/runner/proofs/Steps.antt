@@ -19,7 +19,7 @@ use Rattle.runner.proofs.Handed.{handed-kind, handed-right}
 use Rattle.runner.specs.PageRows.{noStyle, rowContents}
 use Rattle.runner.specs.Run.{Stepped, documentStep, elementStep, openStep, stepOn, handedAt}
 
--- ---- contents
+-- ---- which contents a row has
 module _ (settings : Settings) (g : Page) where
   -- the contents of an element's row are those of its inline styles, of which there are none with the switch off
   pub element-contents : (i : ℕ) → nodeAt (g .nodes) i .kind ≡ elementKind → rowContents settings g i ≡ inlineContents settings (elementAt (g .nodes) (g .attributes) (g .text) i)
@@ -31,7 +31,7 @@ module _ (settings : Settings) (g : Page) where
   unfolding rowContents
   no-contents i d = sym (pick-false _ _ _ _ (is-no _ _ d) refl)
 
--- ---- steps
+-- ---- the step of each kind of row
 module _ (code : List ℕ) (settings : Settings) (g : Page) (parent state texts : List ℕ) where
   abbrev stepAt : ℕ → Stepped
   stepAt i = stepOn code settings (handedAt g i) (depthOf (g .nodes) i) parent state texts

@@ -20,17 +20,18 @@ module _ (compiled nodes rows state n rules tokens brackets texts : ℕ) {t : Bo
   abbrev Suffices : Bool → Type 0
   Suffices r = r ≡ and (leb (nodes * styleRowWidth) rows) (and (leb (depths * (compiled + 1)) state) (storesSuffice n rules tokens brackets texts))
 
+  -- the test that the code made of the rows is the definition's
   rows-told : {b : Bool} → t ≡ b → leb (nodes * styleRowWidth) rows ≡ b
   rows-told e = let z : nodes * styleRowWidth ≡ styleRowWidth * nodes + 0 = omega arith in ap (λ (m : ℕ). leb m rows) z ∙ sym et ∙ e
 
-  -- rows that are too few
+  -- the return where the rows are too few for the page
   pub few-rows : t ≡ false → Suffices false
   few-rows e = and-gives-false _ _ (rows-told e)
 
-  -- a state that is too short
+  -- the return where the state is too short for the compiled bytes
   pub short-state : t ≡ true → state < depths * (compiled + 1) → Suffices false
   short-state e h = and-gives _ _ false (rows-told e) (and-gives-false _ _ (lt-leb (depths * (compiled + 1)) state h))
 
-  -- the stores for texts tell
+  -- the return where both are long enough: the stores decide
   pub by-texts : t ≡ true → depths * (compiled + 1) ≤ state → (k : Bool) → k ≡ storesSuffice n rules tokens brackets texts → Suffices k
   by-texts e h k d = and-gives _ _ k (rows-told e) (and-gives _ _ k (le-leb (depths * (compiled + 1)) state h) d)

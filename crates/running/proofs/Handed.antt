@@ -55,6 +55,7 @@ module _ (attributes text : List ℕ) (first count : ℕ) where
       length-take-le (count * attributeWidth) (drop (first * attributeWidth) attributes) (omega (arith, length-drop (first * attributeWidth) attributes)) in
       omega (arith, l)
 
+  -- the attribute rows that are lent are the attributes that the node row names
   pub own-are : first + count ≤ attributeRows attributes → attributesFrom own text (attributeRows own) 0 ≡ attributesFrom attributes text count first
   own-are h =
       let z : first + 0 ≡ first = omega arith in
@@ -82,9 +83,11 @@ module _ {code : List ℕ} {g : Page} {rows state rules₀ tokens brackets texts
   abbrev pub row : NodeRow
   row = nodeAt (g .nodes) i
 
+  -- the page is accepted, as its refusal is none
   pub ok : Accepted (g .nodes) (g .attributes) (g .text)
   ok = accepted (g .nodes) (g .attributes) (g .text) (r .ready .page)
 
+  -- the attribute rows that the row names lie within those of the page
   pub attributes-inside : row .firstAttribute + row .attributeCount ≤ attributeRows (g .attributes)
   attributes-inside = rows-lent g ok i (r .there)
 
@@ -110,6 +113,7 @@ module _ {code : List ℕ} {g : Page} {rows state rules₀ tokens brackets texts
         attributes-before-within (g .nodes) (g .attributes) (g .text) ok (suc i) (omega (arith, r .there)),
       )
 
+  -- the stores have room for the attributes of the row, behind the texts of the rows before
   pub attributes-room : InlineRoom given (length code) fill rules₀ tokens brackets texts
   attributes-room =
       let l = r .ready .lengths .least in

@@ -43,20 +43,25 @@ module _ (nodes rows : List ℕ) (i p : ℕ) (ep : p ≡ nodeAt nodes i .parent)
   unfolding withParent styleRowAt
   parent-placed h ys e = pick-true _ _ _ _ (rw (← ep) (lt-ltb p i h)) (e ∙ ap (λ (n : ℕ). sets rows (i * styleRowWidth) (take styleRowWidth (drop (n * styleRowWidth) rows))) ep)
 
+-- a row and a parent before it lie apart in the rows, and the row has its place there
 pub two-rooms : (rows : List ℕ) (i p : ℕ) → PlaceRoom i rows → p < i → TwoRooms rows (p * styleRowWidth) (i * styleRowWidth)
 two-rooms rows i p r h = record { apart = omega (arith, h); room = r .room }
 
 -- ---- numbers stored where as many were stored before
 module _ (l : List ℕ) (a : ℕ) (xs : List ℕ) (h : a + length xs ≤ length l) where
+  -- numbers stored at a place stand between what lies before and behind them
   stored : sets l a xs ≡ take a l ++ (xs ++ drop (a + length xs) l)
   stored = sets-eq xs l a h ∙ append-assoc (take a l) xs (drop (a + length xs) l)
 
+  -- what lies before the place stays
   front : take a (sets l a xs) ≡ take a l
   front = ap (take a) stored ∙ take-at (take a l) (xs ++ drop (a + length xs) l) a (length-take-le a l (omega (arith, h)))
 
+  -- from the place on stand the numbers that were stored, and what lies behind them
   at-place : drop a (sets l a xs) ≡ xs ++ drop (a + length xs) l
   at-place = ap (drop a) stored ∙ drop-at (take a l) (xs ++ drop (a + length xs) l) a (length-take-le a l (omega (arith, h)))
 
+  -- what lies behind them stays
   behind : drop (a + length xs) (sets l a xs) ≡ drop (a + length xs) l
   behind =
       ap (drop (a + length xs)) (sets-eq xs l a h)
@@ -67,6 +72,7 @@ module _ (code : List ℕ) (settings : Settings) (x : Handed) (parent state text
   abbrev Short : Stepped → Type 0
   Short s = length (s .texts) ≤ length texts + valuesOf (x .attributes) + 2 * length (x .attributes)
 
+  -- an open row's step adds no more texts than its values, and two bytes for each attribute
   open-short : (depth : ℕ) → Short (openStep code settings x depth parent state texts)
   unfolding openStep documentStep elementStep
   open-short zero = omega arith
@@ -87,41 +93,50 @@ module _ (code : List ℕ) (settings : Settings) (x : Handed) (parent state text
   unfolding stepOn openStep
   no-parent other = refl
 
--- ---- a row
+-- ---- a row: the parent's row copied to its place, and its step
 module _ {code : List ℕ} {g : Page} {rows₀ state₀ rules₀ tokens₀ brackets₀ texts₀ : List ℕ} {i fill : ℕ} (r : RowReady code g rows₀ state₀ rules₀ tokens₀ brackets₀ texts₀ i fill) where
   abbrev place : ℕ
   place = i * styleRowWidth
 
+  -- the style row of row i lies within the rows
   place-inside : place + styleRowWidth ≤ length rows₀
   place-inside = omega (arith, r .there, r .ready .lengths .for-rows)
 
+  -- the row is below the limit of nodes
   few : i < nodeLimit
   few = omega (arith, r .there, handed.ok r .few)
 
+  -- so there is a place for its style row
   pub place-room : PlaceRoom i rows₀
   place-room = record { few = few; room = place-inside }
 
+  -- the attribute rows that the node names lie within those of the page
   pub attribute-rows-inside : (first count : ℕ) → first ≡ nodeAt (g .nodes) i .firstAttribute → count ≡ nodeAt (g .nodes) i .attributeCount
       → first * attributeWidth + count * attributeWidth ≤ length (g .attributes)
   attribute-rows-inside first count ef ec = omega (arith, handed.attributes-inside r, ef, ec)
 
+  -- the numbers of the node lie within those of the page
   pub node-inside : i * nodeWidth + nodeWidth ≤ length (g .nodes)
   node-inside = omega (arith, r .there)
 
   module _ {rows₁ : List ℕ} (e₁ : rows₁ ≡ withParent (g .nodes) i rows₀) where
+    -- the parent's row copied, the rows are as long as before
     long₁ : length rows₁ ≡ length rows₀
     unfolding withParent
     long₁ = ap length e₁ ∙ pick-holds (λ (l : List ℕ). length l ≡ length rows₀) _ _ _ (λ _. length-sets rows₀ place (styleRowAt rows₀ (nodeAt (g .nodes) i .parent))) (λ _. refl)
 
+    -- the place of the row lies within them still
     pub place-still : place + styleRowWidth ≤ length rows₁
     place-still = omega (arith, place-inside, long₁)
 
     abbrev lent : List ℕ
     lent = take (place + styleRowWidth - place) (drop place rows₁)
 
+    -- the part that is lent is one style row long
     lent-long : length lent ≡ styleRowWidth
     lent-long = ap length (lent-row rows₁ place place-still) ∙ length-take-le styleRowWidth (drop place rows₁) (omega (arith, place-still, length-drop place rows₁))
 
+    -- the parent's style row is one style row long, where the parent comes before
     parent-long : nodeAt (g .nodes) i .parent < i → length (styleRowAt rows₀ (nodeAt (g .nodes) i .parent)) ≡ styleRowWidth
     unfolding styleRowAt
     parent-long h =
@@ -170,12 +185,14 @@ module _ {code : List ℕ} {g : Page} {rows₀ state₀ rules₀ tokens₀ brack
       abbrev node : List ℕ
       node = take (i * nodeWidth + nodeWidth - i * nodeWidth) (drop (i * nodeWidth) (g .nodes))
 
+      -- the attribute rows that are lent are the part which the node names
       own-part : own ≡ part (g .attributes) (nodeAt (g .nodes) i .firstAttribute * attributeWidth) (nodeAt (g .nodes) i .attributeCount * attributeWidth)
       own-part =
           part-whole (g .attributes) (first * attributeWidth) (count * attributeWidth)
           ∙ ap (λ (n : ℕ). part (g .attributes) (n * attributeWidth) (count * attributeWidth)) ef
           ∙ ap (λ (n : ℕ). part (g .attributes) (nodeAt (g .nodes) i .firstAttribute * attributeWidth) (n * attributeWidth)) ec
 
+      -- the attributes that are read of them are those of the row
       own-given : attributesFrom own (g .text) (attributeRows own) 0 ≡ handed.given r
       own-given =
           ap (λ (l : List ℕ). attributesFrom l (g .text) (attributeRows l) 0) own-part
@@ -188,6 +205,7 @@ module _ {code : List ℕ} {g : Page} {rows₀ state₀ rules₀ tokens₀ brack
           ap (λ (l : List ℕ). handedFrom l own (g .text)) (part-whole (g .nodes) (i * nodeWidth) nodeWidth)
           ∙ ap (λ (l : List ℕ). handedFrom (part (g .nodes) (i * nodeWidth) nodeWidth) l (g .text)) own-part
 
+      -- what is lent to the step is what it asks for
       pub step-lent : StepLent code own (g .text) depth lent state₀ rules₀ tokens₀ brackets₀ texts₀ fill
       step-lent =
           record {
@@ -241,10 +259,11 @@ module _ {code : List ℕ} {g : Page} {rows₀ state₀ rules₀ tokens₀ brack
             let la : length (attributesFrom own (g .text) (attributeRows own) 0) ≡ length (handed.given r) = ap (λ (l : List Attribute). length l) own-given in
             rw z (omega (arith, a, b, c, f, va, la, r .filled, handed.texts-grow r))
 
+        -- with the row put back, the rows are as long as before
         pub row-long : length (putMid place (place + styleRowWidth - place) rows₁ ys) ≡ length rows₀
         row-long = ap length (row-back ys (long ∙ lent-long)) ∙ length-sets rows₀ place ys
 
--- ---- the loop
+-- ---- the loop over the rows of a page
 module _ (code : List ℕ) (settings : Settings) (g : Page) where
   -- one row less is left
   pub run-more : (i : ℕ) (x y z : Running) → i < nodeCount (g .nodes) → y ≡ runStep code settings g i x → runFrom code settings g (nodeCount (g .nodes) - i) i x ≡ z
@@ -257,7 +276,7 @@ module _ (code : List ℕ) (settings : Settings) (g : Page) where
       let k′ : runFrom code settings g (suc (n - (i + 1))) i x ≡ z = ap (λ (m : ℕ). runFrom code settings g m i x) (sym a) ∙ k in
       ap (λ (j : ℕ). runFrom code settings g (n - (i + 1)) j y) b ∙ ap (runFrom code settings g (n - (i + 1)) (suc i)) e ∙ k′
 
-  -- no row is left
+  -- with no row left, what the loop has is the whole run
   pub run-done : (i : ℕ) (x z : Running) → nodeCount (g .nodes) ≤ i → runFrom code settings g (nodeCount (g .nodes) - i) i x ≡ z → x ≡ z
   unfolding runFrom
   run-done i x z h k =
@@ -265,7 +284,7 @@ module _ (code : List ℕ) (settings : Settings) (g : Page) where
       let k′ : runFrom code settings g 0 i x ≡ z = ap (λ (m : ℕ). runFrom code settings g m i x) (sym a) ∙ k in
       k′
 
-  -- all rows are left
+  -- before the first row the whole run is left
   pub run-begins : (rows state texts : List ℕ) → runFrom code settings g (nodeCount (g .nodes) - 0) 0 (record { rows = rows; state = state; texts = take 0 texts }) ≡ runOf code settings g rows state
   unfolding runOf
   run-begins rows state texts =
@@ -308,7 +327,7 @@ pub record Looping (code : List ℕ) (settings : Settings) (g : Page) (rows₀ s
   pub brackets-long : length brackets ≡ length brackets₀
   pub texts-long : length texts ≡ length texts₀
 
--- before the first row
+-- before the first row nothing is filled, and the whole run is left
 pub begins : (code : List ℕ) (settings : Settings) (g : Page) (rows state rules₀ tokens brackets texts : List ℕ)
     → Looping code settings g rows state rules₀ tokens brackets texts rows state rules₀ tokens brackets texts 0 0
 begins code settings g rows state rules₀ tokens brackets texts =
@@ -354,6 +373,6 @@ module _ {code : List ℕ} {settings : Settings} {g : Page} {rows₀ state₀ ru
         texts-long = ex ∙ v .texts-long;
       }
 
-  -- behind the last row
+  -- behind the last row what the loop has is the whole run
   pub ends : (count : ℕ) → count ≡ nodeCount (g .nodes) → count ≤ i → record { rows = rows₁; state = state₁; texts = take fill texts₁ } ≡ runOf code settings g rows₀ state₀
   ends count ec h = run-done code settings g i (record { rows = rows₁; state = state₁; texts = take fill texts₁ }) (runOf code settings g rows₀ state₀) (omega (arith, ec, h)) (v .left)

@@ -37,6 +37,7 @@ use Rattle.running.specs.Ready.{Lengths, RunReady}
 use Rattle.running.specs.RunAnswer.{RunLeft, unchanged, ran, runSuffices, runBy, runCall}
 
 -- ---- the answer and the six buffers, one by one
+-- what is left is the same where the answer and each of the six buffers are
 left-by : {a a′ : RunAnswer} {r r′ t t′ s s′ u u′ k k′ b b′ : List ℕ} → a ≡ a′ → r ≡ r′ → t ≡ t′ → s ≡ s′ → u ≡ u′ → k ≡ k′ → b ≡ b′
     → _≡_ {A = RunLeft} (record { answer = a; rows = r; texts = t; state = s; rules = u; tokens = k; brackets = b }) (record { answer = a′; rows = r′; texts = t′; state = s′; rules = u′; tokens = k′; brackets = b′ })
 left-by ea er et es eu ek eb = rw (ea, er, et, es, eu, ek, eb) refl
@@ -47,7 +48,7 @@ cleared-throughout l m z e h = let n : length l - 0 ≡ length m = omega (arith,
 
 -- ---- a page that was styled
 module _ (settings : Settings) {code : List ℕ} {g : Page} {rows₀ state₀ rules₀ tokens₀ brackets₀ texts₀ : List ℕ} (r : RunReady code g rows₀ state₀ rules₀ tokens₀ brackets₀ texts₀) where
-  -- where its rows end
+  -- the end of the page's rows lies within the rows
   pub rows-fit : (count : ℕ) → count ≡ nodeCount (g .nodes) → count * styleRowWidth < 2 ^ 64
   rows-fit count e = omega (arith, e, accepted (g .nodes) (g .attributes) (g .text) (r .page) .few)
 
@@ -68,7 +69,7 @@ module _ (settings : Settings) {code : List ℕ} {g : Page} {rows₀ state₀ ru
       let zeros : length (run .rows) - rowsLeast g ≡ length rows₀ - length (rowsBefore code settings g (nodeCount (g .nodes))) = omega (arith, long, left-rows .1) in
       cleared-is (rowsLeast g) (run .rows) ∙ ap₂ (λ (l : List ℕ) (i : ℕ). l ++ replicate i 0) (left-rows .0) zeros
 
-  -- what is left of it
+  -- with the stores cleared, what is left of the page is its style rows, its contents and zeros
   pub page-left : (rows₁ state₁ rules₁ tokens₁ brackets₁ texts₁ : List ℕ) (n count : ℕ) → record { rows = rows₁; state = state₁; texts = take n texts₁ } ≡ run → n ≤ length texts₁
       → length state₁ ≡ length state₀ → length rules₁ ≡ length rules₀ → length tokens₁ ≡ length tokens₀ → length brackets₁ ≡ length brackets₀ → length texts₁ ≡ length texts₀
       → count ≡ nodeCount (g .nodes)
@@ -94,6 +95,7 @@ module _ (settings : Settings) {code : List ℕ} {g : Page} {rows₀ state₀ ru
 unfoldable Quiet : Refusal → Type 0
 Quiet r = r .number ≡ 0 → r ≡ noRefusal
 
+-- a refusal whose number is not 0 is quiet: nothing is asked of it
 loud : (n place : ℕ) → Quiet (record { number = suc n; text = 0; place = place })
 unfolding Quiet
 loud n place e = absurd (omega (arith, e))
@@ -119,6 +121,7 @@ module _ (rows₀ texts₀ state₀ rules₀ tokens₀ brackets₀ code : List �
   abbrev refuses : RunAnswer → RunLeft
   refuses a = record { answer = a; rows = rows₀; texts = texts₀; state = state₀; rules = rules₀; tokens = tokens₀; brackets = brackets₀ }
 
+  -- a refusal leaves all buffers as they were, by an answer with that refusal and no texts
   refused-as : {a : RunAnswer} {q q′ : Refusal} → q ≡ q′ → a ≡ record { refusal = q; texts = 0 } → refuses a ≡ unchanged rows₀ texts₀ state₀ rules₀ tokens₀ brackets₀ q′
   unfolding unchanged
   refused-as eq ea = left-by (ea ∙ ap (λ (z : Refusal). record { refusal = z; texts = 0 }) eq) refl refl refl refl refl refl
@@ -128,27 +131,33 @@ module _ (rows₀ texts₀ state₀ rules₀ tokens₀ brackets₀ code : List �
     abbrev Checked : RunLeft → Type 0
     Checked z = z ≡ runBy rows₀ texts₀ state₀ rules₀ tokens₀ brackets₀ code settings g (pageRefusal (g .nodes) (g .attributes) (g .text)) (bytesRefusal code)
 
+    -- the return where the page is refused
     pub page-refused : ¬ (p .number ≡ 0) → {a : RunAnswer} → a ≡ record { refusal = p; texts = 0 } → Checked (refuses a)
     unfolding runBy
     page-refused h ea = pick-false _ _ _ _ (is-no _ _ (λ e. h (ap (λ (q : Refusal). q .number) ep ∙ e))) (refused-as ep ea)
 
     module _ (h : p .number ≡ 0) {b : Refusal} (eb : b ≡ bytesRefusal code) where
+      -- the definition refuses the page with number 0 too
       page-number : pageRefusal (g .nodes) (g .attributes) (g .text) .number ≡ 0
       page-number = ap (λ (q : Refusal). q .number) (sym ep) ∙ h
 
+      -- the return where the page is not refused, and the bytes are
       pub bytes-refused : ¬ (b .number ≡ 0) → {a : RunAnswer} → a ≡ record { refusal = b; texts = 0 } → Checked (refuses a)
       unfolding runBy
       bytes-refused k ea =
           pick-true _ _ _ _ (is-yes _ _ page-number) (pick-false _ _ _ _ (is-no _ _ (λ e. k (ap (λ (q : Refusal). q .number) eb ∙ e))) (refused-as eb ea))
 
       module _ (k : b .number ≡ 0) where
+        -- the definition refuses the bytes with number 0 too
         bytes-number : bytesRefusal code .number ≡ 0
         bytes-number = ap (λ (q : Refusal). q .number) (sym eb) ∙ k
 
+        -- with neither refused, what a run asks for is there
         pub all-ready : RunReady code g rows₀ state₀ rules₀ tokens₀ brackets₀ texts₀
         unfolding Quiet
         all-ready = record { sheet = bytes-quiet code bytes-number; page = page-quiet (g .nodes) (g .attributes) (g .text) page-number; lengths = l }
 
+        -- the return where neither is refused: the run of the page is what is left
         pub page-run : {z : RunLeft} → z ≡ ran rows₀ texts₀ state₀ rules₀ tokens₀ brackets₀ code settings g → Checked z
         unfolding runBy
         page-run e = pick-true _ _ _ _ (is-yes _ _ page-number) (pick-true _ _ _ _ (is-yes _ _ bytes-number) e)
@@ -157,23 +166,27 @@ module _ (rows₀ texts₀ state₀ rules₀ tokens₀ brackets₀ code : List �
   abbrev Called : RunLeft → Type 0
   Called z = z ≡ runCall rows₀ texts₀ state₀ rules₀ tokens₀ brackets₀ code settings g
 
+  -- the return where the compiled bytes are too long
   pub too-long : compiledLimit < length code → {a : RunAnswer} {q : Refusal} → q ≡ refused tooLong → a ≡ record { refusal = q; texts = 0 } → Called (refuses a)
   unfolding runCall
   too-long h eq ea = pick-true _ _ _ _ (lt-ltb compiledLimit (length code) h) (refused-as eq ea)
 
   module _ (h : length code ≤ compiledLimit) (count : ℕ) (ec : count ≡ nodeCount (g .nodes)) {v : Bool}
       (ev : v ≡ and (leb (count * styleRowWidth) (length rows₀)) (and (leb (depths * (length code + 1)) (length state₀)) (storesSuffice (length (g .text) + 2 * (length (g .attributes) / attributeWidth)) (length rules₀) (length tokens₀) (length brackets₀) (length texts₀)))) where
+    -- the code's test of rows, state and stores is the definition's
     told : v ≡ runSuffices rows₀ texts₀ state₀ rules₀ tokens₀ brackets₀ code g
     unfolding runSuffices
     told =
         ev
         ∙ ap (λ (n : ℕ). and (leb (n * styleRowWidth) (length rows₀)) (and (leb (depths * (length code + 1)) (length state₀)) (storesSuffice (length (g .text) + 2 * (length (g .attributes) / attributeWidth)) (length rules₀) (length tokens₀) (length brackets₀) (length texts₀)))) ec
 
+    -- the return where what is lent is too short
     pub short-store : v ≡ false → {a : RunAnswer} {q : Refusal} → q ≡ refused shortStore → a ≡ record { refusal = q; texts = 0 } → Called (refuses a)
     unfolding runCall
     short-store f eq ea = pick-false _ _ _ _ (le-ltb compiledLimit (length code) h) (pick-false _ _ _ _ (sym told ∙ f) (refused-as eq ea))
 
     module _ (f : v ≡ true) where
+      -- where the test holds, rows, state and stores have the least lengths
       pub long-enough : Lengths code g rows₀ state₀ rules₀ tokens₀ brackets₀ texts₀
       unfolding runSuffices
       long-enough =
@@ -181,6 +194,7 @@ module _ (rows₀ texts₀ state₀ rules₀ tokens₀ brackets₀ code : List �
           let b = and-true _ _ (a .1) in
           record { few = h; for-rows = leb-true _ _ (a .0); for-state = leb-true _ _ (b .0); least = least refl (b .1) }
 
+      -- behind both tests, what the page and the bytes decide is what the call leaves
       pub called : {z : RunLeft} → z ≡ runBy rows₀ texts₀ state₀ rules₀ tokens₀ brackets₀ code settings g (pageRefusal (g .nodes) (g .attributes) (g .text)) (bytesRefusal code) → Called z
       unfolding runCall
       called e = pick-false _ _ _ _ (le-ltb compiledLimit (length code) h) (pick-true _ _ _ _ (sym told ∙ f) e)

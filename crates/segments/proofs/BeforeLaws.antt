@@ -52,7 +52,7 @@ unfolding segmentPlace
 place-less code x ws k i n e h =
     sym (pick-false _ _ _ _ (is-no (steps (x ∷ ws)) k (λ e. omega arith)) (ap (segmentPlace code k ws) (sym (behind-piece code i n x e))))
 
--- there it lies
+-- at the place of a segment its pieces lie in the bytes
 pub segment-lies : (code : List ℕ) (k : ℕ) (ws : List Piece) (i : ℕ) → Lies code i ws → Lies code (segmentPlace code k ws i) (segment k ws)
 unfolding segmentPlace segment pick
 segment-lies code k [] i s = tt
@@ -88,7 +88,7 @@ unfoldable pub behindAll : List ℕ → List Piece → ℕ → ℕ
 behindAll code [] i = i
 behindAll code (x ∷ ws) i = behindAll code ws (behind code i)
 
--- one piece more
+-- the place behind a piece and others is the place behind the others, from the end of the piece on
 pub behind-more : (code : List ℕ) (x : Piece) (ws : List Piece) (i n : ℕ) → pieceAt code i ≡ read n x → behindAll code (x ∷ ws) i ≡ behindAll code ws n
 unfolding behindAll
 behind-more code x ws i n e = rw (behind-piece code i n x e)
@@ -142,7 +142,7 @@ module _ (code : List ℕ) where
   unfolding Next
   next-first k ws i l h = before-first k ws (beginning i) i l h ∙ rw (← h, place-all code ws i, segment-all ws)
 
-  -- of both
+  -- where segment k is not the first of the pieces: either the next begins them, or it stands further behind
   either : (k : ℕ) (ws : List Piece) (i : ℕ) → Lies code i ws → k < steps ws → (suc k < steps ws → Next k ws (beginning i) i) → Next k ws (beginning i) i
   either k ws i l h f = go (lt-or-ge (suc k) (steps ws))
     where
@@ -173,6 +173,7 @@ module _ (code : List ℕ) where
   next-segment k ws i l h = either k ws i l h (next-later k ws (beginning i) i l)
 
   -- ---- the leftmost, before no place
+  -- pieces without a descendant step are one segment, which is read whole where no place is sought
   leftmost-first : (ws : List Piece) (s : Segment) (i : ℕ) → Lies code i ws → steps ws ≡ 0 → segmentBefore code noPlace (length ws) s i ≡ reading s ws
   unfolding segmentBefore onDecoded onPiece reading
   leftmost-first [] s i l h = refl

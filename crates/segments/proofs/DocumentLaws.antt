@@ -32,12 +32,12 @@ module _ (code : List ℕ) (k i : ℕ) where
     unfolding placedFrom onDecoded
     placed-fault = rw e
 
-    -- none is next
+    -- so no selector with a style is next
     styled-fault : styledFrom code (suc k) i ≡ noPlace
     unfolding styledFrom onDecoded
     styled-fault = rw e
 
-    -- the part stays
+    -- and the part is told of none: it stays as it was
     fresh-fault : (part : List ℕ) → freshFrom code (suc k) i part ≡ part
     unfolding freshFrom onDecoded
     fresh-fault part = rw e
@@ -133,7 +133,7 @@ module _ (code : List ℕ) (c : length code ≤ pairValues) (k i : ℕ) (part : 
       rw (fresh-fault code k i q e part) (record { told = rw (placed-fault code k i q e) (styled-fault code k i q e); before = λ m h. refl; long = refl })
 
   module _ (n : ℕ) (s : CompiledSelector) (e : selectorAt code agentOrigin i ≡ read n s) where
-    -- at a selector without styles
+    -- a selector without styles is passed over: the document is told of those behind it
     fresh-at-bare : hasStyle (s .styles) ≡ false → Fresh code k n part (freshFrom code k n part) → Fresh code (suc k) i part (freshFrom code (suc k) i part)
     fresh-at-bare h r =
         let a = selector-ends code k i n s e in

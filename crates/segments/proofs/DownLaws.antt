@@ -39,7 +39,7 @@ module _ (code part other : List ℕ) (f : SameBlocks code part other) (q : Path
   unfolding pairAt
   pair-kept j l h = rw (f j l (omega arith), f (j + 1) (omega arith) h)
 
-  -- one selector
+  -- what tells right of one selector still does
   told-at-kept : (from : ℕ) (s : Placed) → 0 < from → Lying code from s → ToldAt code part s q → ToldAt code other s q
   told-at-kept from s p y t =
       let a = y .after in
@@ -54,7 +54,7 @@ module _ (code part other : List ℕ) (f : SameBlocks code part other) (q : Path
         held = held-between (t .flags) part other (s .place + toFlags) blocksBegin (length code + 1) (omega arith) (omega arith) f (t .held);
       }
 
-  -- all
+  -- what tells right of all selectors still does
   told-all-kept : (ss : List Placed) (from p : ℕ) → 0 < from → Laid code from ss → ToldAll code part p ss q → ToldAll code other p ss q
   told-all-kept [] from p h y t = t
   told-all-kept (s ∷ others) from p h y t =
@@ -66,7 +66,7 @@ module _ (code part other : List ℕ) (f : SameBlocks code part other) (q : Path
         rw (pair-kept (s .place + toNext) (omega arith) (omega arith)) (told-all-kept others (s .end) _ (omega arith) (y .1) (t .2)),
       )
 
--- ---- a sheet
+-- ---- the selectors of a whole sheet, at a node and down a path
 module _ (code : List ℕ) where
   -- a part tells right of all selectors of a sheet
   unfoldable pub ToldIn : List ℕ → Path → Type 0
@@ -112,7 +112,7 @@ module _ (code : List ℕ) where
         go (fault q) n = rw n refl
         go (read i k) n = rw n (document-told code c k i part l)
 
-    -- down a path
+    -- down a path, whatever the parts of its nodes and the spare one hold
     module _ (own : Path → List ℕ) (spare : List ℕ) (l : (q : Path) → length code < length (own q)) (m : length code < length spare) where
       -- every node is told right by the one above it
       pub passed-down : (path : Path) (e : Element) → PassedAt path e (own path) (passedDown code own spare path)

@@ -55,7 +55,7 @@ pass-once code part other path c (s ∷ others) (suc k) from p own f y t u =
     )
     (ap (λ (r : Passed). record { part = r .part; matched = matchedHere v (s .place) ++ r .matched }) ih)
 
--- so over a sheet
+-- over a sheet, two parts that tell right of all selectors lead to the same pass
 pub pass-at-once : (code : List ℕ) → length code ≤ pairValues → (part other : List ℕ) (path : Path) (own : List ℕ) → ToldIn code part path → ToldIn code other path
     → passAt code (alone path) part own ≡ passAt code (alone path) other own
 unfolding ToldIn passAt placedIn styledIn onDecoded
@@ -69,14 +69,14 @@ pass-at-once code c part other path own = go (numberAt code 0) refl
 
 -- ---- the own part: which selectors match
 
--- the same of either answer
+-- answers that match the same on both branches of a test do so whichever is taken
 either-matched : (t : Bool) (a b c d : Passed) → a .matched ≡ c .matched → b .matched ≡ d .matched → pick t a b .matched ≡ pick t c d .matched
 unfolding pick
 either-matched true a b c d e f = e
 either-matched false a b c d e f = f
 
 module _ (code : List ℕ) (row : Path) (above : List ℕ) where
-  -- of a pass
+  -- which selectors of a pass match does not depend on the own part
   pub matched-free : (k p : ℕ) (own other : List ℕ) → passFrom code row above k p own .matched ≡ passFrom code row above k p other .matched
   unfolding passFrom
   matched-free zero p own other = refl
@@ -84,7 +84,7 @@ module _ (code : List ℕ) (row : Path) (above : List ℕ) where
       let v : Visited = visitAt code row above p in
       either-matched (is p noPlace) _ _ _ _ refl (ap (λ (l : List ℕ). matchedHere v p ++ l) (matched-free k (pairAt above (p + toNext)) _ _))
 
-  -- over a sheet
+  -- nor does it over a whole sheet
   pub matched-at-free : (own other : List ℕ) → passAt code row above own .matched ≡ passAt code row above other .matched
   unfolding passAt onDecoded
   matched-at-free own other = go (numberAt code 0) refl
@@ -111,7 +111,7 @@ module _ (code : List ℕ) (row : Path) (above : List ℕ) where
       let next : ℕ = pairAt above (p + toNext) in
       either-long (is p noPlace) _ _ (length own) refl (pass-long k next (blockSet v next p own) ∙ length-block v next p own)
 
-  -- over a sheet
+  -- over a whole sheet, too, a pass leaves the own part as long as it was
   pub pass-at-long : (own : List ℕ) → length (passAt code row above own .part) ≡ length own
   unfolding passAt onDecoded
   pass-at-long own = go (numberAt code 0) refl
@@ -145,20 +145,20 @@ module _ (m : ℕ) (own other : List ℕ) where
           inl (rw e (getD-set-same left m b 0 (omega arith) ∙ sym (getD-set-same right m b 0 (omega arith))))
       go (inr k) (inr t) (inr u) = rw (set-out left j b u, set-out right j b (let z : length right ≤ j = omega arith in z)) h
 
-  -- the same bytes
+  -- where the same bytes are stored in two parts, they stay alike
   pub sets-alike : (bs left right : List ℕ) (j : ℕ) → length left ≡ length right → Alike m own other left right → Alike m own other (sets left j bs) (sets right j bs)
   sets-alike [] left right j l h = h
   sets-alike (b ∷ bs) left right j l h =
       sets-alike bs (set left j b) (set right j b) (suc j) (length-set left j b ∙ l ∙ sym (length-set right j b)) (set-alike left right j b l h)
 
-  -- either answer
+  -- parts that are alike on both branches of a test are so whichever is taken
   either-alike : (t : Bool) (a b c d : Passed) → Alike m own other (a .part) (c .part) → Alike m own other (b .part) (d .part) → Alike m own other (pick t a b .part) (pick t c d .part)
   unfolding pick
   either-alike true a b c d e f = e
   either-alike false a b c d e f = f
 
   module _ (code : List ℕ) (row : Path) (above : List ℕ) where
-    -- the blocks of a pass
+    -- parts of one length that are alike stay so through a pass
     pass-alike : (k p : ℕ) (left right : List ℕ) → length left ≡ length right → Alike m own other left right
         → Alike m own other (passFrom code row above k p left .part) (passFrom code row above k p right .part)
     unfolding passFrom
@@ -170,7 +170,7 @@ module _ (m : ℕ) (own other : List ℕ) where
         (pass-alike k next (blockSet v next p left) (blockSet v next p right) (length-block v next p left ∙ l ∙ sym (length-block v next p right))
         (unfold blockSet in sets-alike (blockBytes next (v .awaited) (v .flags)) left right (p + toNext) l h))
 
-    -- over a sheet
+    -- over a whole sheet, two own parts of one length are alike after a pass
     pub pass-at-alike : length own ≡ length other → Alike m own other (passAt code row above own .part) (passAt code row above other .part)
     unfolding passAt onDecoded
     pass-at-alike l = go (numberAt code 0) refl

@@ -55,6 +55,6 @@ length-told (test c ∷ ws) p = let h = length-told ws p in (λ n. let l = h .0 
 length-told (direct ∷ ws) p = let h = length-told ws p .1 in (λ n. omega arith, omega arith)
 length-told (anywhere ∷ ws) p = (λ n. let l = length-mark n in omega arith, unfold markBytes in omega arith)
 
--- of a segment
+-- the flags of a segment take at most two bytes more than it has pieces
 pub length-flags : (ws : List Piece) (p : Path) → length (told 0 ws p) ≤ 2 + length ws
 length-flags ws p = length-told ws p .1

@@ -121,6 +121,7 @@ module _ (code : List ℕ) where
       }
 
   -- ---- all of them
+  -- selectors that are laid out from n on are laid out from any earlier place on
   pub laid-from : (i n : ℕ) (ss : List Placed) → i ≤ n → Laid code n ss → Laid code i ss
   laid-from i n [] h y = tt
   laid-from i n (s ∷ others) h y =

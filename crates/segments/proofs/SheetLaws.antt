@@ -54,7 +54,7 @@ head-origin t o m n h e =
     let v = source (λ (count : ℕ). record { origin = o; pseudo = w .value; count = count }) (numberAt t (w .place)) n h (w .rest) in
     ap (λ (x : Head). x .origin) (v .made)
 
--- the numbers before the components
+-- the numbers before the components read the same where less is asked of the origin
 pub head-lower : (t : List ℕ) (least i n : ℕ) (h : Head) → agentOrigin ≤ least → headAt t least i ≡ read n h → (headAt t agentOrigin i ≡ read n h) × (least ≤ h .origin)
 unfolding headAt andThen
 head-lower t least i n h l e =
@@ -64,7 +64,7 @@ head-lower t least i n h l e =
     let a = r .1 in
     (rw (r .0) (w .rest), omega arith)
 
--- the selector
+-- a selector reads the same where less is asked of its origin
 pub selector-lower : (t : List ℕ) (least i n : ℕ) (s : CompiledSelector) → agentOrigin ≤ least → selectorAt t least i ≡ read n s → (selectorAt t agentOrigin i ≡ read n s) × (agentOrigin ≤ s .origin)
 unfolding selectorAt andThen selectorOf
 selector-lower t least i n s l e =
@@ -123,7 +123,7 @@ matching-read u f (x ∷ xs) (s ∷ ss) path r = go (matches (f s) path) refl (m
     go true h t = unfold readIn matchingPlaces matchingBy onDecoded pick in rw (r .1, h, r .0, t)
     go false h t = unfold readIn matchingPlaces matchingBy onDecoded pick in rw (r .1, h, t)
 
--- the selectors of a sheet
+-- the selectors of a sheet that have a style are read at their places
 pub sheet-read : (code : List ℕ) (m : ℕ) (ss : List CompiledSelector) → decode code ≡ read m ss → ReadAt code (placedIn code) (withStyle ss)
 unfolding placedIn onDecoded
 sheet-read code m ss e =
@@ -161,7 +161,7 @@ style-count code i n s e =
     let c = styles-counted code (w .behind-components) n (s .styles) (w .styles-read) in
     record { place = c .0; told = rw (w .head-read, w .components-read) (c .1); none-behind = c .2 }
 
--- by the count
+-- a list of styles has one exactly if its count is not 0
 pub has-style : (ds : List StyleDecl) → hasStyle ds ≡ pick (is (length ds) 0) false true
 unfolding hasStyle
 has-style [] = pick-true _ _ _ _ (is-yes 0 0 refl) refl

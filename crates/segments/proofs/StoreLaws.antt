@@ -11,7 +11,7 @@ use Rattle.combinators.specs.Part.{part}
 use Rattle.combinators.proofs.Wiped.{sets-apart}
 use Rattle.segments.proofs.PartLaws.{sets-before}
 
--- a byte of the part
+-- a byte of a part written into a store stands in the store at the part's place and its own
 pub part-byte : (l store : List ℕ) (o j : ℕ) → j < length l → o + length l ≤ length store → getD (sets store o l) (o + j) 0 ≡ getD l j 0
 part-byte [] store o j h r = absurd (omega arith)
 part-byte (x ∷ l) store o zero h r =
@@ -21,7 +21,7 @@ part-byte (x ∷ l) store o (suc j) h r =
     let e : o + suc j ≡ suc o + j = omega arith in
     rw e (part-byte l (set store o x) (suc o) j (omega arith) (let z = length-set store o x in omega arith))
 
--- a byte written into it
+-- a byte written into the part in the store is the part with that byte, written whole
 pub part-write : (l store : List ℕ) (o j b : ℕ) → j < length l → set (sets store o l) (o + j) b ≡ sets store o (set l j b)
 part-write [] store o j b h = absurd (omega arith)
 part-write (x ∷ l) store o zero b h =
@@ -49,7 +49,7 @@ pub record SameOutside (store other : List ℕ) (o n : ℕ) : Type 0 where
   pub behind : drop (o + n) store ≡ drop (o + n) other
   pub long : length store ≡ length other
 
--- nothing was done
+-- where nothing was done, a store is the same outside
 pub outside-same : (store : List ℕ) (o n : ℕ) → SameOutside store store o n
 outside-same store o n = record { before = refl; behind = refl; long = refl }
 

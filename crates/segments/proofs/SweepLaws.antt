@@ -91,7 +91,7 @@ last-test code p i m n c ws e l =
       value = λ h. rw (e, l .value h);
     }
 
--- and before another
+-- a test more before a compound that is not the leftmost
 more-test : (code : List ℕ) (p : Path) (i m n k : ℕ) (c : Component) (ws : List Piece) → pieceAt code i ≡ read m (test c) → More code p m (suc n) k ws → More code p i n (suc k) (test c ∷ ws)
 unfolding told compoundAt onDecoded onPiece left asks meets
 more-test code p i m n k c ws e l =
@@ -107,7 +107,7 @@ more-test code p i m n k c ws e l =
       value = rw (l .value) (sym (and-assoc (tested (alone p) c) (l .passes) (onParent (asks (l .rest)) p)));
     }
 
--- at a child step
+-- at a child step a compound ends that is not the leftmost, with what lies left of the step
 at-step : (code : List ℕ) (p : Path) (i n k : ℕ) (ws : List Piece) (m : ℕ) → pieceAt code i ≡ read m direct → Lies code m ws → More code p i n (suc k) (direct ∷ ws)
 unfolding told compoundAt onDecoded onPiece left asks meets and
 at-step code p i n k ws m e s =
@@ -163,7 +163,7 @@ module _ (code part : List ℕ) (p : Path) (e : Element) where
   Right : ℕ → ℕ → ℕ → List Piece → Type 0
   Right k j i ws = sweepAt code (alone p) part k j i ≡ flag (asks ws p) ∷ told 0 ws (e ∷ p)
 
-  -- the leftmost compound
+  -- at the leftmost compound the sweep says what it asks, and keeps its mark
   sweep-last : (ws : List Piece) (k j i : ℕ) → length ws < pairValues → asks (left ws) p ≡ true → Holds part j (told 0 ws p) → Last code p i 0 ws → Right (suc k) j i ws
   unfolding Right sweepAt
   sweep-last ws k j i f b s l =
@@ -171,7 +171,7 @@ module _ (code part : List ℕ) (p : Path) (e : Element) where
       let m = marked-back part j (0 + l .tests) (omega arith) (rw (l .bytes p) at s) in
       sym (pick-true _ _ _ _ (m .0) (rw (l .bytes (e ∷ p), m .1) (ap (λ (b : Bool). flag b ∷ markBytes (0 + l .tests)) (sym (rw (let z : 0 + l .tests ≡ l .tests = omega arith in z) (l .value b))))))
 
-  -- another
+  -- at another compound the sweep says what it asks, if the sweep of those left of it is right
   sweep-more : (ws : List Piece) (k j i : ℕ) → Holds part j (told 0 ws p) → (l : More code p i 0 (length code) ws)
       → (Holds part (j + 1) (told 0 (l .rest) p) → Right k (j + 1) (l .place) (l .rest)) → Right (suc k) j i ws
   unfolding Right sweepAt

@@ -94,7 +94,7 @@ module _ (code : List ℕ) (p awaited : ℕ) (flags : List ℕ) where
   decided-no = sym (pick-false _ _ _ _ (flag-back false) refl)
 
   module _ (first : ℕ) (head : Head) (e : headAt code agentOrigin p ≡ read first head) where
-    -- it does
+    -- where the segment ends here, it is decided by the head of the selector
     decided-yes : decided code p awaited (flag true ∷ flags) ≡ endedBy code awaited flags first (head .count)
     unfolding decided endedAt onDecoded
     decided-yes = sym (pick-true _ _ _ _ (flag-back true) (rw e))
@@ -104,7 +104,7 @@ module _ (code : List ℕ) (p awaited : ℕ) (flags : List ℕ) where
     unfolding endedBy
     decided-last h = decided-yes ∙ sym (pick-true _ _ _ _ (is-yes awaited first h) refl)
 
-    -- or another
+    -- where another follows, the segment before it in the bytes is awaited
     decided-next : ¬ (awaited ≡ first) → decided code p awaited (flag true ∷ flags) ≡ awaits (segmentBefore code awaited (head .count) (beginning first) first)
     unfolding endedBy
     decided-next h = decided-yes ∙ sym (pick-false _ _ _ _ (is-no awaited first h) refl)
@@ -122,7 +122,7 @@ module _ (code : List ℕ) (s : Placed) (p : Path) (e : Element) (from : ℕ) (y
   abbrev swept : Bool → List ℕ
   swept b = flag b ∷ told 0 (segment k (piecesOf s)) (e ∷ p)
 
-  -- where it begins
+  -- the place where the segment begins that is awaited
   abbrev begins : ℕ
   begins = segmentPlace code k (piecesOf s) (s .first)
 
@@ -139,7 +139,7 @@ module _ (code : List ℕ) (s : Placed) (p : Path) (e : Element) (from : ℕ) (y
       let d : k ≡ steps (piecesOf s) = omega arith in
       rw decided-no (right-stays false (sym h ∙ asks-last (piecesOf s) _ p a d) (λ _. h))
 
-  -- it does
+  -- where the segment holds here, what is decided is right, be it the last or not
   right-yes : asks (segment k (piecesOf s)) p ≡ true → (k < steps (piecesOf s)) ⊎ (steps (piecesOf s) ≤ k) → Right code s p e (decided code (s .place) begins (swept true))
   right-yes h (inl l) =
       let z = place-past code k (piecesOf s) (s .first) (y .lies) l in
@@ -154,7 +154,7 @@ module _ (code : List ℕ) (s : Placed) (p : Path) (e : Element) (from : ℕ) (y
       rw (decided-last code (s .place) begins (told 0 (segment k (piecesOf s)) (e ∷ p)) (s .first) (y .head) (y .head-read) (ap (λ (n : ℕ). segmentPlace code n (piecesOf s) (s .first)) d ∙ place-all code (piecesOf s) (s .first)))
       (right-stays true (sym h ∙ asks-last (piecesOf s) _ p a d) (λ m. absurd (omega arith)))
 
-  -- either way
+  -- whether or not the segment holds here, what is decided by the sweep is right
   right-swept : (b : Bool) → asks (segment k (piecesOf s)) p ≡ b → Right code s p e (decided code (s .place) begins (swept b))
   right-swept true h = right-yes h (lt-or-ge k (steps (piecesOf s)))
   right-swept false h = right-no h (lt-or-ge k (steps (piecesOf s)))

@@ -6,12 +6,5 @@ pub mod Pass
 pub mod Placed
 pub mod Document
 pub mod Down
-pub mod Met
 pub mod Parts
-pub mod Swept
-pub mod Visiting
-pub mod Passing
-pub mod Hints
-pub mod Skipping
-pub mod Telling
 pub mod Cases

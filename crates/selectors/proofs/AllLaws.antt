@@ -54,7 +54,7 @@ pub reads-no : {A : Type 0} {n : ℕ} {a : A} → reads n a ≡ fails → ⊥
 unfolding readCode
 reads-no e = absurd (let z : _≡_ {A = ℕ} 1 0 = ap readCode e in omega arith)
 
--- a panic is none
+-- a panic is no failure
 pub panics-no : {A : Type 0} {p : ℕ} → _≡_ {A = Outcome A} (panics p) fails → ⊥
 unfolding readCode
 panics-no {A} e = absurd (let z : _≡_ {A = ℕ} 2 0 = ap (readCode {A = A}) e in omega arith)
@@ -65,7 +65,7 @@ Where m P (reads n a) = P n a
 Where m P fails = Unit
 Where m P (panics p) = p ≤ m
 
--- by what was read
+-- what holds where an outcome reads holds of what it read
 pub where-read : {A : Type 0} (m : ℕ) (P : ℕ → A → Type 0) (o : Outcome A) (n : ℕ) (a : A) → o ≡ reads n a → Where m P o → P n a
 where-read m P o n a e w = subst (Where m P) e w
 

@@ -50,7 +50,7 @@ use Rattle.selectors.proofs.ComponentLaws.{Left, left-none, or-fails, o
 
 -- ---- the returns of `closed`
 module _ (s st : List ℕ) (n m fill : ℕ) (t : Bool) (et : t ≡ is (getD s n 0) ascii.rightSquareBracket) where
-  -- the bracket is there
+  -- the return where the bracket closes the value: it is taken, and the store stays
   pub bracket-closes : t ≡ true → (Text (n + 1) m ≡ closedAnswer s n m) × (st ≡ closedStore s n m fill st)
   unfolding closedAnswer closedStore
   bracket-closes e = (pick-true _ _ _ _ (told _ _ _ et e) refl, pick-true _ _ _ _ (told _ _ _ et e) refl)
@@ -65,7 +65,7 @@ abbrev StringLike : Parsed Token → Type 0
 StringLike (ok n k) = ((k ≡ string (textOf k)) ⊎ (k ≡ badString (textOf k))) × (length (textOf k) ≤ n)
 StringLike err = Unit
 
--- by how it ends
+-- a string token, however it ends, is a string or a bad one, with a text no longer than what it takes
 string-from : (q : ℕ) (r : List ℕ) → StringLike (stringFrom q r (stringEnd q r) (stringText q r))
 unfolding stringFrom textOf
 string-from q r =
@@ -73,7 +73,7 @@ string-from q r =
     pick-holds StringLike _ _ _ (λ _. (inl refl, omega arith))
     (λ _. pick-holds StringLike _ _ _ (λ _. (inl refl, omega arith)) (λ _. (inr refl, omega arith)))
 
--- so of every text
+-- so is the string token of every text
 string-like : (s : List ℕ) → StringLike (stringOf s)
 unfolding stringOf
 string-like s = pick-holds StringLike _ _ _ (λ _. string-from (getD s 0 0) (drop 1 s)) (λ _. tt)
@@ -84,7 +84,7 @@ unfolding isKind kindOf coded columnsOf is
 string-kind b = (refl, refl)
 
 module _ (s : List ℕ) where
-  -- a string is one
+  -- a string token that is a string is a quoted string
   quoted-string : (n : ℕ) (b : List ℕ) → stringOf s ≡ ok n (string b) → quotedOf s ≡ ok n b
   unfolding quotedOf onParsed pick textOf
   quoted-string n b e = rw (e, string-kind b .0)
@@ -165,7 +165,7 @@ module _ (s st z : List ℕ) (fill : ℕ) (x : TokenAnswer) (w : (x ≡ tokenAns
     unfolding coded
     code-string b = refl
 
-    -- and a bad one
+    -- the code's bad string has the length of its text
     code-bad : (b : List ℕ) → coded (badString b) ≡ code.BadString (length b)
     unfolding coded
     code-bad b = refl
@@ -196,7 +196,7 @@ module _ (s : List ℕ) (p : Parsed (List ℕ)) where
   closed-err e = rw e
 
   module _ (n : ℕ) (b : List ℕ) (e : p ≡ ok n b) where
-    -- the bracket is there
+    -- a text with the closing bracket behind it is a value
     closed-yes : is (getD s n 0) ascii.rightSquareBracket ≡ true → closedBy s p ≡ ok (n + 1) b
     unfolding closedBy onParsed pick
     closed-yes t = rw (e, t)
@@ -261,7 +261,7 @@ module _ (s st z : List ℕ) (fill : ℕ) (x : Name) (w : idents.Named (closedBy
       value-first b e = unfold attrValueOf parsing.orElse in rw e
 
   module _ (h : x ≡ NoName) where
-    -- none, and nothing was written
+    -- no quoted string with its bracket reads
     none : closedBy s (quotedOf s) ≡ err
     none = unnamed-from _ (sym h ∙ w .0)
 
@@ -270,12 +270,12 @@ module _ (s st z : List ℕ) (fill : ℕ) (x : Name) (w : idents.Named (closedBy
     unfolding nameText
     value-same = w .1 ∙ ap (λ (o : Parsed (List ℕ)). sets st fill (nameText o)) none
 
-    -- the definition goes on
+    -- without a quoted string, the value is a name with its bracket
     value-second : closedBy s (identOf s) ≡ attrValueOf s
     unfolding attrValueOf parsing.orElse
     value-second = rw none
 
-    -- or else a name
+    -- the return where a name with its bracket is tried
     pub value-named : (r : Name) (y : List ℕ) → idents.Named (closedBy s (identOf s)) z fill r y → idents.Named (attrValueOf s) st fill r y
     value-named r y v = rw (← value-second, ← value-same) v
 
@@ -392,7 +392,7 @@ module _ (s st : List ℕ) (fill : ℕ) (t : Bool) (et : t ≡ is (getD s 0 0) a
   attr-missing e = left-none _ (pick-false _ _ _ _ (told _ _ _ et e) refl) st fill
 
   module _ (e : t ≡ true) (z : List ℕ) (x : Name) (w : idents.Named (identOf (take (length s - 1) (drop 1 s))) st fill x z) where
-    -- of the rest of the text
+    -- the name that was read is that of the rest of the text
     lent : idents.Named (identOf (drop 1 s)) st fill x z
     lent = rw (rest s 1) at w
 
@@ -414,7 +414,7 @@ module _ (s st : List ℕ) (fill : ℕ) (t : Bool) (et : t ≡ is (getD s 0 0) a
       name : NameRead (identOf (drop 1 s)) n m
       name = named-from _ n m (sym h ∙ lent .0)
 
-      -- what it keeps to
+      -- the name takes no more than there is, and its text is bounded
       fits : Fits (drop 1 s) n (name .name)
       fits = ident-fits (drop 1 s) n (name .name) (name .reads)
 
@@ -448,7 +448,7 @@ module _ (s st : List ℕ) (fill : ℕ) (t : Bool) (et : t ≡ is (getD s 0 0) a
             attribute-left _ (1 + n + 1) (name .name) (sym (or-reads _ _ _ _ (sym (closed-there f))) ∙ attr-by) m (name .long) st z fill stored-name
 
         module _ (f : u ≡ false) (v : Bool) (ev : v ≡ is (getD s (1 + n) 0) ascii.equalsSign) where
-          -- the first alternative fails
+          -- without the closing bracket there is no attribute without a value
           closed-fails : closed s (1 + n) (attribute (name .name)) ≡ fails
           unfolding closed
           closed-fails = sym (pick-false _ _ _ _ (told _ _ _ eu f) refl)
@@ -459,7 +459,7 @@ module _ (s st : List ℕ) (fill : ℕ) (t : Bool) (et : t ≡ is (getD s 0 0) a
               let q : y ≡ st = ey ∙ ap (wiped fill m) stored-name ∙ zeros-back st fill c (name .name) m (omega (arith, name .long)) in
               rw q (left-none _ (pick-false _ _ _ _ (told _ _ _ ev g) refl ∙ sym (or-fails _ _ closed-fails) ∙ attr-by) st fill)
 
-          -- a `=`
+          -- an `=` stands behind the name: a value is looked for
           module _ (g : v ≡ true) where
             -- it lies within the text
             pub equal-before : 1 + n < length s
@@ -474,6 +474,7 @@ module _ (s st : List ℕ) (fill : ℕ) (t : Bool) (et : t ≡ is (getD s 0 0) a
                   room = omega (arith, c .room, name .long, b, equal-before, ap length stored-name, length-sets st fill (name .name));
                 }
 
+            -- the return behind an `=`: an attribute with its value, or none where no value reads
             pub attr-equal : Zeros st fill → (r : ComponentAnswer) (y : List ℕ)
                 → (r ≡ equalAnswer (attrValueOf (drop (1 + n + 1) s)) (1 + n) m) × (y ≡ equalStore (attrValueOf (drop (1 + n + 1) s)) m fill z) → Left (attrOf s) st fill r y
             attr-equal c r y q =

@@ -43,6 +43,7 @@ blank-text (attributeEqual n v) e = never e
 
 -- ---- what is kept of a component: how many, their row and their text
 module _ (c : Component) (f : ℕ) where
+  -- by whether it is a blank and stands at the start: how many rows a component has, which, and that its text is the same
   by-kept : (start d : Bool) → isDescendant c ≡ d
       → (pick start (pick d 0 1) 1 ≡ length (pick start (pick d [] (c ∷ [])) (c ∷ [])))
       × (pick (is (length (pick start (pick d [] (c ∷ [])) (c ∷ []))) 0) [] (componentRow f c) ≡ rowsMany componentRow componentText f (pick start (pick d [] (c ∷ [])) (c ∷ [])))
@@ -73,6 +74,7 @@ pub data Ended (ds : List Component) : Type 0 where
   empty : ds ≡ [] → Ended ds
   ends : (xs : List Component) (c : Component) → ds ≡ xs ++ c ∷ [] → Ended ds
 
+-- a list with one more in front has a last one
 one-more : (d : Component) (ds : List Component) → Ended ds → Ended (d ∷ ds)
 one-more d ds (empty e) = ends [] d (ap (λ (cs : List Component). d ∷ cs) e)
 one-more d ds (ends xs c e) = ends (d ∷ xs) c (ap (λ (cs : List Component). d ∷ cs) e)
@@ -83,6 +85,7 @@ ended [] = empty refl
 ended (d ∷ ds) = one-more d ds (ended ds)
 
 -- ---- a blank at the end has no texts
+-- components with a last one have the same texts without it, where it is a blank
 by-end : (xs : List Component) (c : Component) (b : Bool) → isDescendant c ≡ b → componentTexts (xs ++ pick b [] (c ∷ [])) ≡ componentTexts (xs ++ c ∷ [])
 unfolding pick componentTexts
 by-end xs c true e = rw (append-nil xs) (sym (texts-append componentRow componentText xs (c ∷ []) ∙ rw (one-text componentRow componentText c, blank-text c e) (append-nil (textsMany componentText xs))))
@@ -98,6 +101,7 @@ kept-texts : (c : Component) (cs : List Component) → componentTexts (keptOf tr
 unfolding componentTexts textsMany
 kept-texts c cs = texts-append componentRow componentText (keptOf true c) cs ∙ ap (λ (l : List ℕ). l ++ textsMany componentText cs) (kept-text c 0 true)
 
+-- dropping a blank at the start changes no texts
 pub first-texts : (cs : List Component) → componentTexts (withoutFirst cs) ≡ componentTexts cs
 first-texts [] = ap componentTexts first-none
 first-texts (c ∷ cs) = ap componentTexts (without-first c cs) ∙ kept-texts c cs

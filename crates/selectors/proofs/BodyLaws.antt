@@ -36,6 +36,7 @@ unfolding keptOf
 kept-first c = sym (pick-true _ _ _ _ refl refl)
 
 -- ---- a blank at the start
+-- of components with a first one, that first one is dropped where it is a blank
 pub without-first : (c : Component) (cs : List Component) → withoutFirst (c ∷ cs) ≡ keptOf true c ++ cs
 unfolding withoutFirst
 without-first c cs =
@@ -53,10 +54,12 @@ pub first-none : withoutFirst [] ≡ []
 unfolding withoutFirst withoutBlank
 first-none = refl
 
+-- one component alone is dropped at the end where it is a blank
 one-end : (c : Component) → withoutBlank (c ∷ []) ≡ pick (isDescendant c) [] (c ∷ [])
 unfolding withoutBlank
 one-end c = refl
 
+-- dropping at the end leaves the first of two or more as it is
 more-end : (c d : Component) (cs : List Component) → withoutBlank (c ∷ d ∷ cs) ≡ c ∷ withoutBlank (d ∷ cs)
 unfolding withoutBlank
 more-end c d cs = refl
@@ -72,6 +75,7 @@ unfolding pick
 either-end true c e = first-none ∙ sym no-end
 either-end false c e = e
 
+-- a component in front of others, kept or not, changes nothing of what is dropped at the end
 longer : (b : Bool) (c d : Component) (cs : List Component) → pick b [] (c ∷ []) ++ withoutBlank (d ∷ cs) ≡ withoutBlank (pick b [] (c ∷ []) ++ d ∷ cs)
 unfolding pick withoutBlank
 longer true c d cs = refl
@@ -87,6 +91,7 @@ both-ends (c ∷ d ∷ cs) =
     ∙ ap withoutBlank (sym (without-first c (d ∷ cs)))
 
 -- ---- reading components never fails: where none reads there are none
+-- reading components, in any number of turns, reads or panics
 pub never-fail : (l : ℕ) (t : List ℕ) → componentsOf l t ≡ fails → ⊥
 unfolding componentsOf
 never-fail zero t e = reads-no e
@@ -119,7 +124,7 @@ or-fails : {A : Type 0} (o p : Outcome A) → o ≡ fails → orElse o p ≡ p
 unfolding orElse
 or-fails o p e = rw e
 
--- one component or more
+-- components with a first one are some components
 some-more : (n : ℕ) (o : Outcome (List Component)) (c : Component) → someOf (behind n o (λ cs. c ∷ cs)) ≡ behind n o (λ cs. c ∷ cs)
 unfolding someOf behind onOutcome pick
 some-more n (reads m cs) c = rw (is-no (suc (length cs)) 0 (λ e. absurd (omega arith)))
@@ -147,22 +152,25 @@ unfolding withoutElementOf componentsFrom componentsOf someOf onOutcome
 without-panic [] p e = absurd (panics-no (sym e ∙ none-left))
 without-panic (x ∷ t) p e = rw e
 
+-- where nothing reads, nothing reads without a blank at the start
 nothing-behind : behind {A = List Component} 0 fails withoutFirst ≡ fails
 unfolding behind onOutcome
 nothing-behind = refl
 
+-- where the crate panics, it panics without a blank at the start at the same byte
 panic-behind : (p : ℕ) → behind {A = List Component} 0 (panics p) withoutFirst ≡ panics p
 unfolding behind onOutcome
 panic-behind p =
     let e : 0 + p ≡ p = omega arith in
     rw e
 
+-- an element is no blank: as the first component it is kept in front of those behind it
 element-behind : (n : ℕ) (name : List ℕ) (more : ℕ → Outcome (List Component))
     → behind n (more n) (λ cs. keptOf true (element name) ++ cs) ≡ firstBehind (reads n (element name)) more
 unfolding firstBehind onOutcome
 element-behind n name more = refl
 
--- without a type selector
+-- components without a type selector are the first one that reads, and those behind it
 by-first : (t : List ℕ) (o : Outcome Component) → componentOf t ≡ o → behind 0 (withoutElementOf t) withoutFirst ≡ firstBehind o (λ n. componentsFrom (drop n t))
 unfolding firstBehind onOutcome
 by-first t (reads n c) e = ap (λ (o : Outcome (List Component)). behind 0 o withoutFirst) (without-read t n c e) ∙ behind-first n (componentsFrom (drop n t)) c
@@ -186,7 +194,7 @@ first-other : (t : List ℕ) → identOf t ≡ err → firstOf t ≡ componentOf
 unfolding firstOf parsed orElse
 first-other t e = rw e
 
--- behind a type selector
+-- a selector that begins with a type selector is it and the components behind it
 with-name : (t : List ℕ) (n : ℕ) (name : List ℕ) → identOf t ≡ ok n name → withElementOf t ≡ behind n (componentsFrom (drop n t)) (λ cs. element name ∷ cs)
 unfolding withElementOf onParsed
 with-name t n name e = rw e

@@ -22,11 +22,13 @@ pub component-some : (t : List ℕ) (n : ℕ) (c : Component) → componentOf t 
 component-some t n c e = where-read (length t) _ (componentOf t) n c e (component-keeps t) .0 .some
 
 -- ---- at the end of the text there is none
+-- of the empty text no component reads
 pub none-left : componentOf [] ≡ fails
 unfolding componentOf marked blankOf classOf attrOf hashOf pseudoClassOf orElse outcome.parsed identOf name.nameOf name.nameFrom name.dash name.nmstartOf name.nmstartCharOf name.foldedChar name.either name.identEscapeOf name.isNmstart skipWhitespace many parsed.behind pick or within is and
 none-left = refl
 
 -- ---- turns beyond the bytes there are change nothing
+-- by what reads first: one turn more changes nothing, where the turns behind a component change nothing
 by-component : (l m : ℕ) (t : List ℕ) → ((n : ℕ) → 1 ≤ n → componentsOf l (drop n t) ≡ componentsOf m (drop n t)) → (o : Outcome Component) → componentOf t ≡ o
     → componentsOf (suc l) t ≡ componentsOf (suc m) t
 unfolding componentsOf onOutcome
@@ -34,6 +36,7 @@ by-component l m t h (reads n c) e = rw (e, h n (component-some t n c e))
 by-component l m t h fails e = rw e
 by-component l m t h (panics p) e = rw e
 
+-- at the end of the text no components are read, however many turns there are
 at-end : (m : ℕ) (t : List ℕ) → length t ≤ 0 → componentsOf m t ≡ reads 0 []
 unfolding componentsOf onOutcome
 at-end zero t h = refl

@@ -43,7 +43,7 @@ Small (nth a b) = (signedNumber a ≤ greatestSigned) × (signedNumber b ≤ gre
 Small (attribute n) = Unit
 Small (attributeEqual n v) = Unit
 
--- where it reads or panics
+-- where a component reads, its text and its numbers fit; where the crate panics, it does within the text
 abbrev pub ComponentKeeps : List ℕ → Outcome Component → Type 0
 ComponentKeeps s o = Where (length s) (λ n c. Fits s n (componentText c) × Small c) o
 
@@ -114,7 +114,7 @@ one-value-keeps s j name h l n v f =
     (short-fits s (j + n + 1) (name ++ v) (omega arith) (omega arith) (omega (arith, length-append name v)), tt))
     (λ _. tt)
 
--- either form of it
+-- a value keeps to the bounds as a quoted string and as a name
 form-keeps : (s : List ℕ) (j : ℕ) (name : List ℕ) → j ≤ length s → length name ≤ j → (p : Parsed (List ℕ)) → NameKeeps (drop j s) p
     → ComponentKeeps s (onParsed p (λ n v. closed s (j + n) (attributeEqual name v)) fails)
 unfolding onParsed
@@ -196,6 +196,7 @@ module _ (s : List ℕ) (bits : length s + 2 < 2 ^ 32) (n : ℕ) where
   text-bits : (t b : List ℕ) → Fits s n b → length t ≤ length b → length t < 2 ^ 32
   text-bits t b f h = omega (arith, bound-two (f .bound), f .within-text)
 
+  -- the two numbers of a component that keeps to the bounds fit 32 bits
   pub row-numbers : (c : Component) → Fits s n (componentText c) → Small c → (componentFirst c < 2 ^ 32) × (componentSecond c < 2 ^ 32)
   unfolding componentText componentFirst componentSecond
   row-numbers star f h = (omega arith, omega arith)

@@ -65,6 +65,7 @@ answer-bare : (o : Outcome syntax.Component) (n : ℕ) (c : syntax.Component) (k
 unfolding componentAnswer onOutcome
 answer-bare o n c kind b e = rw (← e, b .kind-is, b .first-is, b .second-is)
 
+-- what does not read is answered as no component
 pub answer-none : (o : Outcome syntax.Component) → fails ≡ o → NoComponent ≡ componentAnswer o
 unfolding componentAnswer onOutcome
 answer-none o e = rw (← e)
@@ -81,16 +82,16 @@ module _ {A : Type 0} (o o′ : Outcome A) where
   unfolding orElse
   or-reads n a e = rw e
 
--- brackets do not matter
+-- of three alternatives it does not matter which two are taken together
 pub or-assoc : {A : Type 0} (o o′ o″ : Outcome A) → orElse (orElse o o′) o″ ≡ orElse o (orElse o′ o″)
 unfolding orElse
 or-assoc (reads n a) o′ o″ = refl
 or-assoc fails o′ o″ = refl
 or-assoc (panics p) o′ o″ = refl
 
--- ---- `mark_taken`
+-- ---- `mark_taken`: white space or none, and a mark
 module _ (s : List ℕ) (mark w : ℕ) (ew : w ≡ skipWhitespace s) (t : Bool) (et : t ≡ is (getD s w 0) mark) where
-  -- the mark is there
+  -- a mark that is found stands before the end of the text
   pub mark-before : 1 ≤ mark → t ≡ true → w + 1 ≤ length s
   mark-before h e = let l = byte-there s w mark (omega arith) (told _ _ _ et e) in omega arith
 
@@ -128,7 +129,7 @@ module _ (s : List ℕ) (i : ℕ) (ei : i ≡ markTaken s ascii.greaterThanSign)
   mark-child h = answer-bare _ i child childKind child-bare (sym (or-reads _ _ i child (sym (marked-some s ascii.greaterThanSign child i ei h))))
 
   module _ (h : i ≤ 0) (j : ℕ) (ej : j ≡ markTaken s ascii.asterisk) where
-    -- what stands behind it
+    -- where `>` takes no bytes, `*` or white space decides
     no-child : (o : Outcome syntax.Component) → o ≡ orElse (marked s ascii.asterisk star) (blankOf s) → o ≡ markOf s
     unfolding markOf
     no-child o e = e ∙ sym (or-fails _ _ (sym (marked-none s ascii.greaterThanSign child i ei h)))
@@ -138,7 +139,7 @@ module _ (s : List ℕ) (i : ℕ) (ei : i ≡ markTaken s ascii.greaterThanSign)
     mark-star l = answer-bare _ j star starKind star-bare (no-child _ (sym (or-reads _ _ j star (sym (marked-some s ascii.asterisk star j ej l)))))
 
     module _ (l : j ≤ 0) (k : ℕ) (ek : k ≡ skipWhitespace s) where
-      -- what stands behind it
+      -- where `*` takes none either, white space decides
       no-star : (o : Outcome syntax.Component) → o ≡ blankOf s → o ≡ markOf s
       no-star o e = no-child o (e ∙ sym (or-fails _ _ (sym (marked-none s ascii.asterisk star j ej l))))
 
@@ -185,7 +186,7 @@ module _ (k : ℕ) (p : Parsed (List ℕ)) (con : List ℕ → syntax.Component)
   left-text : (n m : ℕ) → x ≡ Text n m → Left o st fill (Component (k + n) kind m 0) z
   left-text n m h = let q = named-from p n m (sym h ∙ w .0) in rw (← eo) (text-by n m (q .name) (q .reads) (q .long))
 
-  -- no name was read
+  -- where no name was read there is no component, and the store is as it was
   none-by : p ≡ err → Left (parsed k p con) st fill NoComponent z
   unfolding parsed componentAnswer written onOutcome nameText
   none-by e = (rw e, w .1 ∙ rw e)

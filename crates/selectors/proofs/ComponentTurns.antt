@@ -57,7 +57,7 @@ pub record Read (o : Outcome Component) (n k a b : ℕ) : Type 0 where
   pub first : a ≡ componentFirst component
   pub second : b ≡ componentSecond component
 
--- a component that was read
+-- an answer with numbers says that a component was read, and these are its numbers
 pub read-by : (o : Outcome Component) (n k a b : ℕ) → answer.Component n k a b ≡ componentAnswer o → Read o n k a b
 unfolding componentAnswer onOutcome
 read-by (reads m c) n k a b e = let q : n ≡ m = cc in record { component = c; reads-it = rw q; kind = cc; first = cc; second = cc }
@@ -104,22 +104,25 @@ unfoldable pub restOf : List ℕ → ℕ → ℕ → Outcome (List Component)
 restOf s turns taken = pick (is taken 0) (startedOf s) (componentsOf turns (drop taken s))
 
 module _ (s : List ℕ) (turns taken : ℕ) (enough : length s ≤ taken + turns) where
-  -- one more
+  -- a component of n bytes is read: what is to be read is it and what stands behind it, in turns that suffice
   record Step (n : ℕ) (c : Component) : Type 0 where
     others : ℕ
     suffice : length s ≤ taken + n + others
     rest-is : restOf s turns taken ≡ behind n (restOf s others (taken + n)) (λ more. keptOf (is taken 0) c ++ more)
 
   module _ (n : ℕ) (c : Component) (some : 1 ≤ n) (inside : taken + n ≤ length s) where
+    -- behind at least one byte what is to be read is components, with no first one
     later : (t : ℕ) → restOf s t (taken + n) ≡ componentsOf t (drop (taken + n) s)
     unfolding restOf pick
     later t = rw (is-no (taken + n) 0 (λ e. absurd (omega arith)))
 
+    -- at the start: the first component is read, and behind it components in turns for all bytes
     first-turn : is taken 0 ≡ true → firstOf s ≡ reads n c → taken + n ≡ n
         → restOf s turns taken ≡ behind n (componentsOf (length (drop (taken + n) s)) (drop (taken + n) s)) (λ more. keptOf true c ++ more)
     unfolding restOf firstBehind componentsFrom onOutcome pick
     first-turn b e z = rw (b, z) (started s ∙ rw e)
 
+    -- behind the start: a component is read, and components behind it in one turn fewer
     later-turn : (t : ℕ) → length s ≤ taken + t → is taken 0 ≡ false → componentOf (drop taken s) ≡ reads n c
         → restOf s t taken ≡ behind n (componentsOf (t - 1) (drop (taken + n) s)) (λ more. keptOf false c ++ more)
     unfolding restOf componentsOf keptOf onOutcome pick
@@ -128,6 +131,7 @@ module _ (s : List ℕ) (turns taken : ℕ) (enough : length s ≤ taken + turns
         let d : suc t - 1 ≡ t = omega arith in
         rw (b, e, d, drop-drop n taken s)
 
+    -- whether at the start or behind it, a component that reads is one turn
     step : (b : Bool) → is taken 0 ≡ b → nextOf b (drop taken s) ≡ reads n c → Step n c
     unfolding nextOf pick
     step true b e =
@@ -149,6 +153,7 @@ module _ (s : List ℕ) (turns taken : ℕ) (enough : length s ≤ taken + turns
       let f : nextOf true (drop taken s) ≡ fails = ap (λ (i : Bool). nextOf i (drop taken s)) (sym b) ∙ e in
       started s ∙ rw (ap (λ (i : ℕ). firstOf (drop i s)) (sym z) ∙ f)
 
+  -- where no further component reads, what is left to be read is no components
   later-none : (t : ℕ) → is taken 0 ≡ false → nextOf (is taken 0) (drop taken s) ≡ fails → restOf s t taken ≡ reads 0 []
   unfolding restOf nextOf componentsOf onOutcome pick
   later-none zero b e = rw b
@@ -202,15 +207,17 @@ module _ {s rules₀ : List ℕ} {place : ℕ} {store₀ : List ℕ} {fill : ℕ
   abbrev lent : List ℕ
   lent = take (length s - taken) (drop taken s)
 
-  -- room for the next
+  -- the store has room for the next component, behind the texts so far
   pub next-room : Clean (length lent) (fill + text) store
   next-room =
       rw (rest s taken)
       (record { zeros = store-zeros (i .gathered) (q .zeros); room = omega (arith, q .for-texts, i .long, i .within, length-drop taken s, store-long (i .gathered)) })
 
+  -- the place behind the rows so far fits a word
   pub place-fits : place + numbers < 2 ^ 64
   place-fits = omega (arith, r .bits, i .wide, i .counted, i .within)
 
+  -- the fill behind the texts so far fits a word
   pub fill-fits : fill + text < 2 ^ 64
   fill-fits = omega (arith, q .bits, i .long, i .within)
 
@@ -222,9 +229,11 @@ module _ {s rules₀ : List ℕ} {place : ℕ} {store₀ : List ℕ} {fill : ℕ
     abbrev found : Outcome Component
     found = nextOf (is taken 0) (drop taken s)
 
+    -- the answer is that of the next component in the text from `taken` on
     answered : components.Left found store (fill + text) a store₁
     answered = rw (← rest s taken) e
 
+    -- where nothing was written the store is as it was
     unwritten : written componentText found ≡ [] → store₁ ≡ store
     unwritten w = answered .1 ∙ ap (sets store (fill + text)) w
 
@@ -232,11 +241,13 @@ module _ {s rules₀ : List ℕ} {place : ℕ} {store₀ : List ℕ} {fill : ℕ
     pub texts-long : length store₁ ≡ length store → length store₁ ≡ length store₀
     texts-long l = l ∙ store-long (i .gathered)
 
-    -- one more
+    -- no component reads here
     module _ (told : a ≡ answer.NoComponent) where
+      -- no component reads from here on
       none : found ≡ fails
       none = fails-by found (sym told ∙ answered .0)
 
+      -- the store is as it was before the component was tried
       same : store₁ ≡ store
       unfolding written onOutcome
       same = unwritten (rw none)
@@ -252,35 +263,42 @@ module _ {s rules₀ : List ℕ} {place : ℕ} {store₀ : List ℕ} {fill : ℕ
       unfolding componentRows componentTexts
       stops n = rw same (all-read (i .gathered) 0 taken (later-none s (i .turns) taken (i .enough) (i .turns) (is-no taken 0 n) none) (omega arith))
 
-    -- one more
+    -- the crate panics in the component: what was read before is wiped
     module _ {p : ℕ} (told : a ≡ answer.Panic p) where
+      -- the next component panics, at the answer's byte
       panic : found ≡ panics p
       panic = panics-by found p (sym told ∙ answered .0)
 
+      -- the panic lies within the text
       pub panic-within : taken + p ≤ length s
       panic-within = omega (arith, where-panics (length (drop taken s)) _ found p panic (next-keeps (is taken 0) (drop taken s)), length-drop taken s, i .within)
 
+      -- the store is as it was before the component that panics
       panic-same : store₁ ≡ store
       unfolding written onOutcome
       panic-same = unwritten (rw panic)
 
+      -- the return where the crate panics: rows and texts are wiped, and the byte is counted from the start of the selector
       pub panics-left : {y z : List ℕ} → y ≡ wiped place numbers rules → z ≡ wiped fill text store₁ → Ends s rules₀ place store₀ fill (Panics (taken + p)) y z
       unfolding componentRows componentTexts
       panics-left ey ez =
           all-panics (i .gathered) (r .zeros) (q .zeros) ey (ez ∙ ap (wiped fill text) panic-same) p (taken + p)
           (panics-at s (i .turns) taken (i .enough) (is taken 0) refl p panic (i .turns) (i .enough)) refl
 
-    -- one more
+    -- a component reads, of n bytes and the kind k
     module _ {n k f g : ℕ} (told : a ≡ answer.Component n k f g) where
+      -- the answer's numbers are those of the component that reads
       one : Read found n k f g
       one = read-by found n k f g (sym told ∙ answered .0)
 
       abbrev c : Component
       c = one .component
 
+      -- the component takes no more than there is, its text is bounded, and its numbers are small
       keeps : Fits (drop taken s) n (componentText c) × Small c
       keeps = where-read (length (drop taken s)) _ found n c (one .reads-it) (next-keeps (is taken 0) (drop taken s))
 
+      -- the length of its text is told by its numbers
       text-is : textLength k f g ≡ length (componentText c)
       text-is = length-told c k f g (one .kind) (one .first) (one .second)
 
@@ -292,7 +310,7 @@ module _ {s rules₀ : List ℕ} {place : ℕ} {store₀ : List ℕ} {fill : ℕ
       pub taken-more : taken < taken + n
       taken-more = omega (arith, keeps .0 .some)
 
-      -- the texts stay short
+      -- the texts so far are at most two bytes longer than what was taken
       pub text-short : text + textLength k f g ≤ taken + n + 2
       text-short = omega (arith, bound-two (keeps .0 .bound), i .sharp (omega (arith, taken-more, taken-within)), text-is)
 
@@ -302,20 +320,24 @@ module _ {s rules₀ : List ℕ} {place : ℕ} {store₀ : List ℕ} {fill : ℕ
           let b = row-numbers (drop taken s) (omega (arith, q .bits, length-drop taken s)) n c (keeps .0) (keeps .1) in
           record { first-fits = omega (arith, b .0, one .first); second-fits = omega (arith, b .1, one .second); fill-fits = omega (arith, q .bits, i .long, i .within) }
 
-      -- kept or not
+      -- its row is kept, but for a blank at the start of the selector
       module _ {kept : ℕ} (ek : kept ≡ pick (is taken 0) (pick (is k descendantKind) 0 1) 1) where
+        -- as many rows are kept as the definition keeps of the component
         kept-is : kept ≡ length (keptOf (is taken 0) c)
         kept-is = ek ∙ ap (λ (j : ℕ). pick (is taken 0) (pick (is j descendantKind) 0 1) 1) (one .kind) ∙ kept-count c 0 (is taken 0)
 
+        -- none or one is kept, at the start or not, of a blank or not
         few : (start d : Bool) → pick start (pick d 0 1) 1 ≤ 1
         unfolding pick
         few true true = omega arith
         few true false = omega arith
         few false d = omega arith
 
+        -- at most one row is kept of a component
         pub kept-few : kept ≤ 1
         kept-few = rw ek (few (is taken 0) (is k descendantKind))
 
+        -- the count of rows stays within the bytes taken
         pub count-fits : count + kept ≤ taken + n
         count-fits = omega (arith, i .counted, kept-few, taken-more)
 

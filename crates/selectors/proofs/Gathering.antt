@@ -15,7 +15,7 @@ use Rattle.selectors.specs.declared.readings.ManyReading.the-variants as
 use Rattle.selectors.proofs.ReadingLaws.{Left, LeftMany, left-reads, left-many, left-panics, left-many-panics}
 use Rattle.combinators.proofs.ZeroLaws.{zeros-behind, zeros-back}
 
--- a list without items
+-- a list of length 0 is empty
 no-items : {A : Type 0} (l : List A) → length l ≤ 0 → l ≡ []
 no-items [] h = refl
 no-items (a ∷ l) h = absurd (omega arith)
@@ -125,41 +125,47 @@ module _ {A : Type 0} {w : ℕ → A → List ℕ} {x : A → List ℕ} {whole :
       let e : g .done ≡ [] = no-items (g .done) (omega (arith, g .count-is)) in
       (g .rules-are ∙ rw e, g .store-is ∙ rw e)
 
-  -- the same by other numbers
+  -- what was gathered is told as well by numbers that are equal
   pub gathered-as : {k′ count′ numbers′ text′ : ℕ} → k ≡ k′ → count ≡ count′ → numbers ≡ numbers′ → text ≡ text′
       → Gathered w x whole rest rules₀ place store₀ fill k′ rules store count′ numbers′ text′
   gathered-as p q r s = rw (← p, ← q, ← r, ← s) g
 
-  -- nothing more is read
+  -- where nothing more is read, the whole is what was gathered
   end-is : (n : ℕ) → rest ≡ reads n [] → whole ≡ reads (k + n) (g .done)
   unfolding behind onOutcome
   end-is n e = g .whole-is ∙ rw (e, append-nil (g .done))
 
-  -- what is left then
+  -- the return where nothing more is read: what was gathered is left
   pub all-read : (n m : ℕ) → rest ≡ reads n [] → m ≡ k + n
       → Left length (rowsMany w x fill) (textsMany x) whole rules₀ place store₀ fill (Reads m count numbers text) rules store
   all-read n m e h = left-reads length (rowsMany w x fill) (textsMany x) whole rules₀ place store₀ fill (end-is n e ∙ rw h) (g .count-is) (g .numbers-are) (g .text-is) (g .rules-are) (g .store-is)
 
+  -- where nothing more is read, a reader that never fails leaves what was gathered
   pub many-read : (n m : ℕ) → rest ≡ reads n [] → m ≡ k + n
       → LeftMany length (rowsMany w x fill) (textsMany x) whole rules₀ place store₀ fill (many.Reads m count numbers text) rules store
   many-read n m e h = left-many length (rowsMany w x fill) (textsMany x) whole rules₀ place store₀ fill (end-is n e ∙ rw h) (g .count-is) (g .numbers-are) (g .text-is) (g .rules-are) (g .store-is)
 
   -- what was written is taken back
   module _ (u : Zeros rules₀ place) (v : Zeros store₀ fill) {y z : List ℕ} (ey : y ≡ wiped place numbers rules) (ez : z ≡ wiped fill text store) where
+    -- the rows are as they were before anything was gathered
     rules-back : y ≡ rules₀
     rules-back = ey ∙ rw (g .rules-are) (zeros-back rules₀ place u (rowsMany w x fill (g .done)) numbers (omega (arith, g .numbers-are)))
 
+    -- the texts are as they were before anything was gathered
     store-back : z ≡ store₀
     store-back = ez ∙ rw (g .store-is) (zeros-back store₀ fill v (textsMany x (g .done)) text (omega (arith, g .text-is)))
 
-    -- the crate panics
+    -- the crate panics: rows and texts are wiped, and the whole panics at that byte
     module _ (p m : ℕ) (e : rest ≡ panics p) (h : m ≡ k + p) where
+      -- the whole panics where what is left panics, counted from the start
       panic-is : whole ≡ panics m
       unfolding behind onOutcome
       panic-is = g .whole-is ∙ rw (e, h)
 
+      -- the return where the crate panics: both stores are as they were
       pub all-panics : Left length (rowsMany w x fill) (textsMany x) whole rules₀ place store₀ fill (Panics m) y z
       all-panics = left-panics length (rowsMany w x fill) (textsMany x) whole rules₀ place store₀ fill panic-is rules-back store-back
 
+      -- the same return of a reader that never fails
       pub many-panics : LeftMany length (rowsMany w x fill) (textsMany x) whole rules₀ place store₀ fill (many.Panics m) y z
       many-panics = left-many-panics length (rowsMany w x fill) (textsMany x) whole rules₀ place store₀ fill panic-is rules-back store-back

@@ -97,6 +97,7 @@ one : pick {A = ℕ} true 1 0 ≡ 1
 unfolding pick
 one = refl
 
+-- no sign takes no byte
 none : pick {A = ℕ} false 1 0 ≡ 0
 unfolding pick
 none = refl
@@ -114,10 +115,12 @@ module _ (s : List ℕ) (x : SignedInteger) (ex : x ≡ integerOf s) where
   unfolding integerOf
   sign-is = ap (λ (r : SignedInteger). r .sign) ex
 
+  -- the number takes its sign and its digits
   taken-is : x .taken ≡ i + n
   unfolding integerOf
   taken-is = ap (λ (r : SignedInteger). r .taken) ex
 
+  -- its value is that of the digits behind the sign, negative where the sign is a minus
   value-is : x .value ≡ integerBy s i n (isMinus s 0)
   unfolding integerOf
   value-is = ap (λ (r : SignedInteger). r .value) ex
@@ -128,7 +131,7 @@ module _ (s : List ℕ) (x : SignedInteger) (ex : x ≡ integerOf s) where
     letter : (v : Bool) → t ≡ v → is (getD s (i + n) 0) ascii.smallN ≡ v
     letter v e = ap (λ (k : ℕ). is (getD s k 0) ascii.smallN) (sym taken-is) ∙ told _ _ _ et e
 
-    -- the letter is there
+    -- a letter `n` that is found stands before the end of the text
     pub letter-there : t ≡ true → x .taken + 1 ≤ length s
     letter-there e = let h = byte-there s (x .taken) ascii.smallN (omega arith) (told _ _ _ et e) in omega arith
 
@@ -182,7 +185,7 @@ module _ (s : List ℕ) (p : ℕ) (x : SignedInteger) (ex : x ≡ integerOf (tak
   abbrev u : List ℕ
   u = drop p s
 
-  -- of what was lent
+  -- the number is that of the text from p on
   at-rest : x ≡ integerOf u
   at-rest = ex ∙ ap integerOf (rest s p)
 
@@ -206,7 +209,7 @@ module _ (s : List ℕ) (p : ℕ) (x : SignedInteger) (ex : x ≡ integerOf (tak
   unfolding signTaken
   sign-by b e = rest-sign ∙ rw e
 
-  -- it has no sign
+  -- where no byte is taken for a sign, there is none at p
   no-sign : x .sign ≡ 0 → isSign s p ≡ false
   no-sign z = sign-of-rest false (go (isSign u 0) refl)
     where
@@ -268,7 +271,7 @@ unfolding bothOf
 both-is s e h p q = rw (q, h)
 
 module _ (s : List ℕ) (x : SignedInteger) (ex : x ≡ integerOf s) (t : Bool) (et : t ≡ is (getD s (x .taken) 0) ascii.smallN) where
-  -- the letter is missing
+  -- the return where no `n` follows the first number
   pub both-none : t ≡ false → NoNth ≡ nthAnswer (bothOf s)
   both-none e =
       (answer-none _ (pick-false _ _ _ _ (and-left _ _ (told _ _ _ et e)) refl ∙ sym (both-is s (x .taken) (taken-is s x ex) _ refl)))
@@ -280,22 +283,22 @@ module _ (s : List ℕ) (x : SignedInteger) (ex : x ≡ integerOf s) (t : Bool) 
     both : bothOf s ≡ bothAt s (x .taken) p
     both = both-is s (x .taken) (taken-is s x ex) p ep
 
-    -- no sign behind it
+    -- the return where no sign stands behind the `n`
     pub both-no-sign : y .sign ≡ 0 → NoNth ≡ nthAnswer (bothOf s)
     both-no-sign z = answer-none _ (pick-false _ _ _ _ (and-right _ _ (and-left _ _ (no-sign s p y ey z))) refl ∙ sym both)
 
     module _ (d : ¬ (y .sign ≡ 0)) where
-      -- the sign is there
+      -- the sign at p is there, and takes one byte
       q : (isSign s p ≡ true) × (y .sign ≡ 1)
       q = a-sign s p y ey d
 
-      -- no digits behind that
+      -- the return where no digits stand behind that sign
       pub both-no-digits : y .taken ≡ y .sign → NoNth ≡ nthAnswer (bothOf s)
       both-no-digits z =
           (answer-none _ (pick-false _ _ _ _ (and-right _ _ (and-right _ _ (lt-leb 1 (digits (drop (p + 1) s)) (omega (arith, q .1, rest-taken s p y ey (q .1)))))) refl ∙ sym both))
 
       module _ (f : ¬ (y .taken ≡ y .sign)) where
-        -- all parts are there
+        -- the `n`, the sign and a digit behind it are all there
         all : and (is (getD s (x .taken) 0) ascii.smallN) (and (isSign s p) (leb 1 (digits (drop (p + 1) s)))) ≡ true
         all = and-both _ _ (told _ _ _ et e) (and-both _ _ (q .0) (le-leb _ _ (rest-digits s p y ey (q .1) f)))
 
@@ -305,7 +308,7 @@ module _ (s : List ℕ) (x : SignedInteger) (ex : x ≡ integerOf s) (t : Bool) 
             rw (sign-is s x ex) (answer-panic _ _ (pick-true _ _ _ _ all (stops s (i-of s) (n-of s) _ _ (number-over s (i-of s) (n-of s) _ _ (value-is s x ex) h)) ∙ sym both))
 
         module _ (a : ℕ) (ha : x .value ≡ Number a) where
-          -- the first number fits
+          -- the first number is within its limit, and a is that number with its sign
           fa : (leb (digitsWorth s (i-of s) (n-of s)) greatest ≡ true) × (a ≡ signedNumber (signed (isMinus s 0) (digitsWorth s (i-of s) (n-of s))))
           fa = number-fits s (i-of s) (n-of s) _ _ (value-is s x ex) a ha
 
@@ -385,11 +388,11 @@ module _ (s : List ℕ) (t : Bool) (et : t ≡ startsWith (0x65 ∷ 0x76 ∷ 0x6
       (ap (λ (n : ℕ). Nth n 4 0) (sym (ap length even-bytes)) ∙ word-there s (text "even") (pos 2) (pos 0) t even-test e 4 0 (signed-numbers .2) (signed-numbers .0)) (hit some _ tt)
 
   module _ (e : t ≡ false) (q : Bool) (eq : q ≡ startsWith (0x6f ∷ 0x64 ∷ 0x64 ∷ []) s) where
-    -- the same of `odd`
+    -- the code's test of `odd` is the definition's
     odd-test : q ≡ startsWith (text "odd") s
     odd-test = eq ∙ ap (λ (w : List ℕ). startsWith w s) (sym odd-bytes)
 
-    -- what stands behind `even`
+    -- where the text is not `even`, the other forms decide
     no-even : (r : NthAnswer) → r ≡ nthAnswer (orElse (worded s (text "odd") (pos 2) (pos 1)) (orElse (bothOf s) (orElse (justA s) (justB s)))) → r ≡ nthAnswer (nthOf s)
     unfolding nthOf
     no-even r h = or-second _ _ (word-missing s (text "even") (pos 2) (pos 0) t even-test e) r h
@@ -402,7 +405,7 @@ module _ (s : List ℕ) (t : Bool) (et : t ≡ startsWith (0x65 ∷ 0x76 ∷ 0x6
         (ap (λ (n : ℕ). Nth n 4 2) (sym (ap length odd-bytes)) ∙ word-there s (text "odd") (pos 2) (pos 1) q odd-test f 4 2 (signed-numbers .2) (signed-numbers .1)) (hit some _ tt))
 
     module _ (f : q ≡ false) (r : NthAnswer) (er : r ≡ nthAnswer (bothOf s)) where
-      -- what stands behind `odd`
+      -- where it is no word, an+b, an or b decides
       no-word : (x : NthAnswer) → x ≡ nthAnswer (orElse (bothOf s) (orElse (justA s) (justB s))) → x ≡ nthAnswer (nthOf s)
       no-word x h = no-even x (or-second _ _ (word-missing s (text "odd") (pos 2) (pos 1) q odd-test f) x h)
 
@@ -411,7 +414,7 @@ module _ (s : List ℕ) (t : Bool) (et : t ≡ startsWith (0x65 ∷ 0x76 ∷ 0x6
       nth-both h = no-word r (or-first _ _ r er h)
 
       module _ (n : r ≡ NoNth) (r′ : NthAnswer) (er′ : r′ ≡ nthAnswer (justA s)) where
-        -- what stands behind them
+        -- where it is not an+b either, an or b decides
         no-both : (x : NthAnswer) → x ≡ nthAnswer (orElse (justA s) (justB s)) → x ≡ nthAnswer (nthOf s)
         no-both x h = no-word x (or-second _ _ (sym n ∙ er) x h)
 
@@ -430,7 +433,7 @@ module _ (s : List ℕ) (t : Bool) (et : t ≡ is (getD s 0 0) ascii.leftParenth
   unfolding nthArgsOf
   args-none e = answer-none _ (pick-false _ _ _ _ (told _ _ _ et e) refl)
 
-  -- a bracket is there
+  -- an opening bracket that is found stands before the end of the text
   pub bracket-there : t ≡ true → 1 ≤ length s
   bracket-there e = let h = byte-there s 0 ascii.leftParenthesis (omega arith) (told _ _ _ et e) in omega arith
 
@@ -446,7 +449,7 @@ module _ (s : List ℕ) (t : Bool) (et : t ≡ is (getD s 0 0) ascii.leftParenth
     unfolding nthArgsOf onOutcome pick
     args-fail h = rw (told _ _ _ et e, ← ew, h)
 
-    -- where the crate panics
+    -- where the crate panics in the argument, it panics in the brackets, counted from the first
     args-panics : (p : ℕ) → nthOf (drop w s) ≡ panics p → panics (w + p) ≡ nthArgsOf s
     unfolding nthArgsOf onOutcome pick
     args-panics p h = rw (told _ _ _ et e, ← ew, h)

@@ -89,7 +89,7 @@ module _ (d : List ℕ) (x : NumberAnswer) (ex : x ≡ numberAnswer (digitsIn (i
     converted-number v h w ew = pick-false _ _ _ _ (is-no _ _ n) (rw (number-found x _ decimal v h, ew))
 
 -- ---- the digits that a text begins with are digits
--- by the first byte
+-- by whether the first byte is a digit: the bytes of a run of digits are digits
 run-by : (x : ℕ) (r : List ℕ) (i : ℕ) → allOf isDigit (take (many oneDigit (i + 1) 0 r - (i + 1)) r) ≡ true → (t : Bool) → isDigit x ≡ t
     → allOf isDigit (take (many oneDigit i 0 (x ∷ r) - i) (x ∷ r)) ≡ true
 unfolding allOf many took oneDigit pick
@@ -105,7 +105,7 @@ unfolding allOf
 run-all [] i = rw (take-nil {A = ℕ} (many oneDigit i 0 [] - i))
 run-all (x ∷ r) i = run-by x r i (run-all r (i + 1)) (isDigit x) refl
 
--- of the whole text
+-- the bytes that are taken as digits at the start of a text are digits
 digits-all : (s : List ℕ) → allOf isDigit (take (digits s) s) ≡ true
 unfolding digits
 digits-all s = let q : many oneDigit 0 0 s - 0 ≡ many oneDigit 0 0 s = omega arith in rw q at (run-all s 0)
@@ -148,7 +148,7 @@ module _ (t : List ℕ) (i : ℕ) (minus : Bool) where
       all-converted (take (suc n) (drop i t)) minus (λ z. absurd (omega arith)) e
       ∙ ap (λ (v : ℕ). pick (leb v greatest) (Number (signedNumber (signed minus v))) NoNumber) (some-worth n)
 
-  -- all that there are
+  -- all digits that stand there are converted as the definition does
   integer-lent : convertedAnswer (take (digits (drop i t)) (drop i t)) minus ≡ integerBy t i (digits (drop i t)) minus
   integer-lent = count-converted (digits (drop i t)) (digits-le (drop i t)) (digits-all (drop i t))
 

@@ -182,7 +182,7 @@ module _ (u : List ℕ) (k : ℕ) where
   unfolding nthChildArgs behind onOutcome
   args-panic p e = rw (e, zero-add p)
 
--- the answer of numbers
+-- nth with its two numbers is answered with both as numbers of 32 bits
 answer-nth : (o : Outcome syntax.Component) (n : ℕ) (x : selector.Nth) → o ≡ reads n (syntax.nth (x .a) (x .b)) → (a b : ℕ) → a ≡ signedNumber (x .a) → b ≡ signedNumber (x .b)
     → answer.Component n nthKind a b ≡ componentAnswer o
 unfolding componentAnswer onOutcome componentKind componentFirst componentSecond
@@ -224,7 +224,7 @@ module _ (s st : List ℕ) (t : Bool) (et : t ≡ is (getD s 0 0) ascii.colon) w
       unfolding pseudoClassOf onParsed pick
       pseudo-is = rw (told _ _ _ et e, q .reading, q .same-name)
 
-      -- by the arguments
+      -- by the answer for the arguments, which stand behind the name
       module _ (r : NthAnswer) (er : r ≡ nthAnswer (nthArgsOf (take (length s - (1 + k)) (drop (1 + k) s)))) where
         -- of the rest of the text
         read : r ≡ nthAnswer (nthArgsOf (drop (1 + k) s))

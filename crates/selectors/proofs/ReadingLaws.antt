@@ -21,6 +21,7 @@ module _ {A : Type 0} (c : A → ℕ) (w : A → List ℕ) (x : A → List ℕ) 
     pub rows : numbers ≡ length (w value)
     pub texts : text ≡ length (x value)
 
+  -- an answer with sizes says that the outcome reads, and these are the sizes of what was read
   pub read-by : (o : Outcome A) (n count numbers text : ℕ) → Reads n count numbers text ≡ reading c w x o → ReadAs o n count numbers text
   unfolding reading onOutcome
   read-by (reads m a) n count numbers text e =
@@ -29,7 +30,7 @@ module _ {A : Type 0} (c : A → ℕ) (w : A → List ℕ) (x : A → List ℕ) 
   read-by fails n count numbers text e = absurd (let z : _≡_ {A = ℕ} 0 1 = cc in omega arith)
   read-by (panics p) n count numbers text e = absurd (let z : _≡_ {A = ℕ} 0 1 = cc in omega arith)
 
-  -- it does not read
+  -- an answer that it fails says that nothing reads
   pub fails-by : (o : Outcome A) → Fails ≡ reading c w x o → o ≡ fails
   unfolding reading onOutcome
   fails-by (reads m a) e = absurd (let z : _≡_ {A = ℕ} 0 1 = cc in omega arith)
@@ -54,6 +55,7 @@ module _ {A : Type 0} (c : A → ℕ) (w : A → List ℕ) (x : A → List ℕ) 
   many-by fails n count numbers text never e = absurd (never refl)
   many-by (panics p) n count numbers text never e = absurd (let z : _≡_ {A = ℕ} 0 1 = cc in omega arith)
 
+  -- of a reader that never fails, too, an answer with a panic says where the crate panics
   pub many-panics-by : (o : Outcome A) (p : ℕ) → many.Panics p ≡ manyReading c w x o → o ≡ panics p
   unfolding manyReading onOutcome
   many-panics-by (reads m a) p e = absurd (let z : _≡_ {A = ℕ} 0 1 = cc in omega arith)
@@ -88,6 +90,7 @@ module _ {A : Type 0} (c : A → ℕ) (w x : A → List ℕ) (o : Outcome A) (ru
   unfolding reading written onOutcome
   left-reads e p q t ey ez = (rw (e, p, q, t), (ey ∙ rw e, ez ∙ rw e))
 
+  -- the same return of a reader that never fails: the answer says the sizes, and row and texts are stored
   pub left-many : {n count numbers text : ℕ} {a : A} → o ≡ reads n a → count ≡ c a → numbers ≡ length (w a) → text ≡ length (x a)
       → y ≡ sets rules place (w a) → z ≡ sets store fill (x a) → LeftMany c w x o rules place store fill (many.Reads n count numbers text) y z
   unfolding manyReading written onOutcome
@@ -103,20 +106,23 @@ module _ {A : Type 0} (c : A → ℕ) (w x : A → List ℕ) (o : Outcome A) (ru
   unfolding reading written onOutcome
   left-panics e ey ez = (rw e, (ey ∙ rw e, ez ∙ rw e))
 
+  -- where such a reader panics, the answer says the place and both stores are as they were
   pub left-many-panics : {p : ℕ} → o ≡ panics p → y ≡ rules → z ≡ store → LeftMany c w x o rules place store fill (many.Panics p) y z
   unfolding manyReading written onOutcome
   left-many-panics e ey ez = (rw e, (ey ∙ rw e, ez ∙ rw e))
 
   -- ---- what a caller is told
-  -- by what it is
+  -- what was read, with stores that have its row and texts, is found there
   pub found-as : {n count numbers text : ℕ} → ReadAs c w x o n count numbers text → y ≡ sets rules place (written w o) → z ≡ sets store fill (written x o) → Found c w x o rules place store fill y z n count numbers text
   unfolding written onOutcome
   found-as a ey ez =
       record { value = a .value; reads-it = a .reads-it; counts = a .counts; rows = a .rows; texts = a .texts; rules-are = ey ∙ rw (a .reads-it); store-is = ez ∙ rw (a .reads-it) }
 
+  -- a caller whose answer has sizes is told what was read, how large it is and where it lies
   pub found : {r : Reading} {n count numbers text : ℕ} → Left c w x o rules place store fill r y z → r ≡ Reads n count numbers text → Found c w x o rules place store fill y z n count numbers text
   found {r} {n} {count} {numbers} {text} l e = found-as (read-by c w x o n count numbers text (sym e ∙ l .0)) (l .1 .0) (l .1 .1)
 
+  -- a caller of a reader that never fails is told the same
   pub found-many : {r : ManyReading} {n count numbers text : ℕ} → (o ≡ fails → ⊥) → LeftMany c w x o rules place store fill r y z → r ≡ many.Reads n count numbers text
       → Found c w x o rules place store fill y z n count numbers text
   found-many {r} {n} {count} {numbers} {text} never l e = found-as (many-by c w x o n count numbers text never (sym e ∙ l .0)) (l .1 .0) (l .1 .1)
@@ -126,6 +132,7 @@ module _ {A : Type 0} (c : A → ℕ) (w x : A → List ℕ) (o : Outcome A) (ru
   unfolding written onOutcome
   nothing-as e ey ez = (ey ∙ rw e, ez ∙ rw e)
 
+  -- a caller whose answer is a failure is told that nothing reads, and that both stores are as they were
   pub nothing : {r : Reading} → Left c w x o rules place store fill r y z → r ≡ Fails → (o ≡ fails) × ((y ≡ rules) × (z ≡ store))
   nothing l e =
       let h = fails-by c w x o (sym e ∙ l .0) in
@@ -136,11 +143,13 @@ module _ {A : Type 0} (c : A → ℕ) (w x : A → List ℕ) (o : Outcome A) (ru
   unfolding written onOutcome
   panicked-as e ey ez = (ey ∙ rw e, ez ∙ rw e)
 
+  -- a caller whose answer is a panic is told where, and that both stores are as they were
   pub panicked : {r : Reading} {p : ℕ} → Left c w x o rules place store fill r y z → r ≡ Panics p → (o ≡ panics p) × ((y ≡ rules) × (z ≡ store))
   panicked {r} {p} l e =
       let h = panics-by c w x o p (sym e ∙ l .0) in
       (h, panicked-as h (l .1 .0) (l .1 .1))
 
+  -- a caller of a reader that never fails is told the same of a panic
   pub panicked-many : {r : ManyReading} {p : ℕ} → LeftMany c w x o rules place store fill r y z → r ≡ many.Panics p → (o ≡ panics p) × ((y ≡ rules) × (z ≡ store))
   panicked-many {r} {p} l e =
       let h = many-panics-by c w x o p (sym e ∙ l .0) in

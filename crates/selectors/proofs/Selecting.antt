@@ -39,9 +39,11 @@ module _ (rules₀ : List ℕ) (p fill : ℕ) (z : Zeros rules₀ p) where
     abbrev row : List ℕ
     row = componentRow (fill + length (componentTexts xs)) c
 
+    -- the rows of the components before the last are a component's width each
     rows-long : length rows ≡ componentWidth * length xs
     rows-long = length-components fill xs
 
+    -- the rows of all are those before the last, and behind them the row of the last
     parted : sets rules₀ p (componentRows fill (xs ++ c ∷ [])) ≡ sets (sets rules₀ p rows) (p + componentWidth * length xs) row
     unfolding componentRows componentTexts
     parted =
@@ -49,6 +51,7 @@ module _ (rules₀ : List ℕ) (p fill : ℕ) (z : Zeros rules₀ p) where
         ∙ sets-append rules₀ p (rowsMany componentRow componentText fill xs) (componentRow (fill + length (textsMany componentText xs)) c)
         ∙ ap (λ (n : ℕ). sets (sets rules₀ p (rowsMany componentRow componentText fill xs)) (p + n) (componentRow (fill + length (textsMany componentText xs)) c)) rows-long
 
+    -- the last row has the kind of the last component
     kind-there : getD (sets rules₀ p (componentRows fill (xs ++ c ∷ []))) (p + componentWidth * length xs + componentKindAt) 0 ≡ componentKind c
     unfolding componentRow
     kind-there =
@@ -57,6 +60,7 @@ module _ (rules₀ : List ℕ) (p fill : ℕ) (z : Zeros rules₀ p) where
         ∙ ap (λ (l : List ℕ). getD l componentKindAt 0)
         (sets-drop (sets rules₀ p rows) (p + componentWidth * length xs) row (omega (arith, room, length-sets rules₀ p rows)))
 
+    -- wiping the last row leaves the rows of those before it
     taken-back : wiped (p + componentWidth * length xs) componentWidth (sets rules₀ p (componentRows fill (xs ++ c ∷ []))) ≡ sets rules₀ p rows
     taken-back =
         ap (wiped (p + componentWidth * length xs) componentWidth) parted
@@ -72,6 +76,7 @@ module _ (rules₀ : List ℕ) (p fill : ℕ) (z : Zeros rules₀ p) where
         ∙ ap (λ (n : ℕ). is (getD (sets rules₀ p (componentRows fill (xs ++ c ∷ []))) (p + componentWidth * n + componentKindAt) 0) descendantKind) e
         ∙ ap (λ (k : ℕ). is k descendantKind) kind-there ∙ blank-told c
 
+    -- the count and the rows without the last component, where it is dropped, and with it, where it is not
     by-last : (b : Bool)
         → (pick b (length xs + 1 - 1) (length xs + 1) ≡ length (xs ++ pick b [] (c ∷ [])))
         × (pick b (wiped (p + componentWidth * (length xs + 1 - 1)) componentWidth (sets rules₀ p (componentRows fill (xs ++ c ∷ [])))) (sets rules₀ p (componentRows fill (xs ++ c ∷ [])))
@@ -89,10 +94,12 @@ module _ (rules₀ : List ℕ) (p fill : ℕ) (z : Zeros rules₀ p) where
       × (pick (blankLast (sets rules₀ p (componentRows fill ds)) p (length ds)) (wiped (p + componentWidth * (length ds - 1)) componentWidth (sets rules₀ p (componentRows fill ds))) (sets rules₀ p (componentRows fill ds))
       ≡ sets rules₀ p (componentRows fill (withoutBlank ds)))
 
+  -- of no components nothing is dropped
   nothing-dropped : Dropped []
   unfolding Dropped blankLast withoutBlank pick is
   nothing-dropped = (refl, refl)
 
+  -- where a last row of a blank is dropped, the count and the rows are those without a blank at the end
   dropped-by : (xs : List Component) (c : Component) (b : Bool) (n : ℕ) → p + componentWidth * (length xs + 1) ≤ length rules₀ → n ≡ length xs + 1
       → b ≡ blankLast (sets rules₀ p (componentRows fill (xs ++ c ∷ []))) p n
       → (pick b (n - 1) n ≡ length (withoutBlank (xs ++ c ∷ [])))
@@ -102,7 +109,7 @@ module _ (rules₀ : List ℕ) (p fill : ℕ) (z : Zeros rules₀ p) where
       let t : b ≡ isDescendant c = h ∙ ap (blankLast (sets rules₀ p (componentRows fill (xs ++ c ∷ []))) p) e ∙ last-told xs c room in
       rw (t, e, blank-last xs c) (by-last xs c room (isDescendant c))
 
-  -- of the rows of components
+  -- of rows of components in reading order, the last one is dropped where it is a blank
   pub dropped : (ds : List Component) → p + componentWidth * length ds ≤ length rules₀ → Ended ds → Dropped ds
   unfolding Dropped
   dropped ds room (empty e) = rw e (nothing-dropped)
@@ -125,6 +132,7 @@ module _ (n : ℕ) (ds : List Component) where
     pub is-read : o ≡ reads n all
     pub without : withoutFirst all ≡ ds
 
+  -- where the components without a blank at the start read, so did the body, and they are its components but for that
   body-by : (o : Outcome (List Component)) → behind 0 o withoutFirst ≡ reads n ds → Body o
   unfolding behind onOutcome
   body-by (reads m cs) e =
@@ -134,12 +142,14 @@ module _ (n : ℕ) (ds : List Component) where
   body-by fails e = absurd (let z : _≡_ {A = ℕ} 0 1 = cc in omega arith)
   body-by (panics p) e = absurd (let z : _≡_ {A = ℕ} 0 1 = cc in omega arith)
 
+-- where the components without a blank at the start fail, so did the body
 body-fails : (o : Outcome (List Component)) → behind 0 o withoutFirst ≡ fails → o ≡ fails
 unfolding behind onOutcome
 body-fails (reads m cs) e = absurd (let z : _≡_ {A = ℕ} 0 1 = cc in omega arith)
 body-fails fails e = refl
 body-fails (panics p) e = absurd (let z : _≡_ {A = ℕ} 0 1 = cc in omega arith)
 
+-- where the components without a blank at the start panic, so did the body, at the same byte
 body-panics : (o : Outcome (List Component)) (p : ℕ) → behind 0 o withoutFirst ≡ panics p → o ≡ panics p
 unfolding behind onOutcome
 body-panics (reads m cs) p e = absurd (let z : _≡_ {A = ℕ} 0 1 = cc in omega arith)
@@ -150,15 +160,18 @@ body-panics (panics r) p e =
     rw q
 
 module _ (t : List ℕ) where
+  -- where no components read, no selector does
   selector-fails : startedOf t ≡ fails → selectorOf t ≡ fails
   unfolding startedOf selectorOf onOutcome
   selector-fails e = rw (body-fails (bodyOf t) e)
 
+  -- where reading the components panics, reading the selector panics at the same byte
   selector-panics : (p : ℕ) → startedOf t ≡ panics p → selectorOf t ≡ panics p
   unfolding startedOf selectorOf onOutcome
   selector-panics p e = rw (body-panics (bodyOf t) p e)
 
   module _ (n : ℕ) (ds : List Component) (e : startedOf t ≡ reads n ds) where
+    -- the body was read, and its components without a blank at the start are ds
     body : Body n ds (bodyOf t)
     unfolding startedOf
     body = body-by n ds (bodyOf t) e
@@ -180,12 +193,13 @@ module _ (t : List ℕ) where
         ap (λ (o : Outcome (List Component)). onOutcome o (λ m cs. reads (m + pseudoTaken (pseudoOf (drop m t))) (record { components = withoutBlank (reverse (withoutBlank cs)); pseudo = pseudoOf (drop m t) })) fails (λ p. panics p)) (body .is-read)
         ∙ ap (λ (cs : List Component). reads (n + pseudoTaken pseudo) (record { components = cs; pseudo = pseudo })) in-order
 
+-- the head of a selector's row is two numbers, in front of its components
 two-more : (a b : ℕ) → a ≡ b → selectorHead + b ≡ suc (suc a)
 two-more a b e = omega arith
 
 -- ---- what is left
 module _ {s rules₀ : List ℕ} {place : ℕ} {store₀ : List ℕ} {fill : ℕ} (r : RowRoom selectorHead s rules₀ place) (q : TextRoom 4 s store₀ fill) where
-  -- room for the components
+  -- the rows have room for the components behind the selector's head
   pub body-rows : RowRoom 0 s rules₀ (place + selectorHead)
   body-rows =
       record { zeros = zeros-later rules₀ place (r .zeros) selectorHead; for-rows = omega (arith, r .for-rows); bits = omega (arith, r .bits) }
@@ -208,12 +222,14 @@ module _ {s rules₀ : List ℕ} {place : ℕ} {store₀ : List ℕ} {fill : ℕ
         left-panics _ _ _ _ _ _ _ _ (selector-panics s p (n .0)) (n .1 .0) (n .1 .1)
 
     module _ {n count numbers text′ : ℕ} (told : b ≡ Reads n count numbers text′) where
+      -- the components that were read, their sizes and where they lie
       list : Found length (componentRows fill) componentTexts (startedOf s) rules₀ (place + selectorHead) store₀ fill rules₁ store₁ n count numbers text′
       list = found _ _ _ _ _ _ _ _ e told
 
       abbrev ds : List Component
       ds = list .value
 
+      -- their count and their texts are within the bounds of the bytes taken
       keeps : ComponentsKeep s n ds
       keeps = where-read (length s) (BodyKeeps s) (startedOf s) n ds (list .reads-it) (started-keeps s) .keeps
 
@@ -228,6 +244,7 @@ module _ {s rules₀ : List ℕ} {place : ℕ} {store₀ : List ℕ} {fill : ℕ
       -- without a blank at the end
       module _ {kept : ℕ} {rules₂ : List ℕ} (h₁ : kept ≡ pick (blankLast rules₁ (place + selectorHead) count) (count - 1) count)
           (h₂ : rules₂ ≡ pick (blankLast rules₁ (place + selectorHead) count) (wiped (place + selectorHead + componentWidth * (count - 1)) componentWidth rules₁) rules₁) where
+        -- with a blank at the end dropped, count and rows are those of the components without it
         without-it : (pick (blankLast rules₁ (place + selectorHead) count) (count - 1) count ≡ length (withoutBlank ds))
             × (pick (blankLast rules₁ (place + selectorHead) count) (wiped (place + selectorHead + componentWidth * (count - 1)) componentWidth rules₁) rules₁
             ≡ sets rules₀ (place + selectorHead) (componentRows fill (withoutBlank ds)))
@@ -235,9 +252,11 @@ module _ {s rules₀ : List ℕ} {place : ℕ} {store₀ : List ℕ} {fill : ℕ
             dropped-as rules₀ (place + selectorHead) fill (body-rows .zeros) ds rules₁ count
             (dropped rules₀ (place + selectorHead) fill (body-rows .zeros) ds (omega (arith, keeps .within, keeps .counted, r .for-rows)) (ended ds)) (list .rules-are) (list .counts)
 
+        -- as many components are kept as there are without a blank at the end
         kept-is : kept ≡ length (withoutBlank ds)
         kept-is = h₁ ∙ without-it .0
 
+        -- the rows are those of the components without a blank at the end
         rules-are : rules₂ ≡ sets rules₀ (place + selectorHead) (componentRows fill (withoutBlank ds))
         rules-are = h₂ ∙ without-it .1
 
@@ -248,9 +267,11 @@ module _ {s rules₀ : List ℕ} {place : ℕ} {store₀ : List ℕ} {fill : ℕ
         -- with its pseudo element
         module _ {taken pseudo : ℕ}
             (i : (taken ≡ pseudoTaken (pseudoOf (take (length s - n) (drop n s)))) × (pseudo ≡ pseudoNumber (pseudoOf (take (length s - n) (drop n s))))) where
+          -- the bytes taken are those of the pseudo element in the text behind the components
           taken-is : taken ≡ pseudoTaken (pseudoOf (drop n s))
           taken-is = i .0 ∙ ap (λ (t : List ℕ). pseudoTaken (pseudoOf t)) (rest s n)
 
+          -- the pseudo element's number is that of the text behind the components
           pseudo-is : pseudo ≡ pseudoNumber (pseudoOf (drop n s))
           pseudo-is = i .1 ∙ ap (λ (t : List ℕ). pseudoNumber (pseudoOf t)) (rest s n)
 
@@ -261,13 +282,16 @@ module _ {s rules₀ : List ℕ} {place : ℕ} {store₀ : List ℕ} {fill : ℕ
           abbrev selector : Selector
           selector = record { components = reverse (withoutBlank ds); pseudo = pseudoOf (drop n s) }
 
+          -- the selector reads: those components from the right, and the pseudo element
           reads-it : selectorOf s ≡ reads (n + taken) selector
           reads-it = selector-reads s n ds (list .reads-it) ∙ ap (λ (k : ℕ). reads (n + k) selector) (sym taken-is)
 
+          -- count, pseudo element and component rows are the selector's row
           row-is : kept ∷ pseudo ∷ componentRows fill (withoutBlank ds) ≡ selectorRow fill selector
           unfolding selectorRow
           row-is = rw (kept-is, pseudo-is, reverse-reverse (withoutBlank ds), length-reverse (withoutBlank ds))
 
+          -- the selector's text is that of all components, as a blank has none
           text-is : selectorText selector ≡ componentTexts ds
           unfolding selectorText
           text-is = ap componentTexts (reverse-reverse (withoutBlank ds)) ∙ end-texts ds (ended ds)

@@ -68,7 +68,7 @@ next-component s n m c cs f h k =
       small = (h, k .small);
     }
 
--- as many as read
+-- components one behind the other keep to the bounds, in any number of turns
 components-keep : (l : ℕ) (s : List ℕ) → Where (length s) (ComponentsKeep s) (componentsOf l s)
 unfolding componentsOf
 components-keep zero s = no-components s
@@ -78,7 +78,7 @@ components-keep (suc l) s =
     (λ m cs k. next-component s n m c cs (h .0) (h .1) k) (omega (arith, h .0 .within-text, length-drop n s)) (components-keep l (drop n s)))
     (no-components s) (λ p h. h) (component-keeps s)
 
--- of a whole text
+-- the components of a whole text keep to the bounds
 components-from : (s : List ℕ) → Where (length s) (ComponentsKeep s) (componentsFrom s)
 unfolding componentsFrom
 components-from s = components-keep (length s) s
@@ -104,7 +104,7 @@ with-element s =
     (omega (arith, f .within-text, length-drop n s)) (components-from (drop n s)))
     (λ _. tt)
 
--- one component or more
+-- components without a type selector keep to the bounds
 without-element : (s : List ℕ) → Where (length s) (BodyKeeps s) (withoutElementOf s)
 unfolding withoutElementOf someOf
 without-element s =
@@ -122,7 +122,7 @@ unfolding bodyOf
 body-keeps s = where-else (length s) (BodyKeeps s) _ _ (with-element s) (without-element s)
 
 -- ---- a blank dropped at either end
--- leaves no more components
+-- dropping a blank at the end leaves no more components
 pub fewer : (cs : List Component) → length (withoutBlank cs) ≤ length cs
 unfolding withoutBlank
 fewer [] = omega arith
@@ -181,12 +181,12 @@ module _ (cs : List Component) (p : PseudoElement) where
   abbrev made : Selector
   made = record { components = withoutBlank (reverse (withoutBlank cs)); pseudo = p }
 
-  -- it has their texts
+  -- the selector has the texts of the components that it was made of
   made-texts : selectorText made ≡ componentTexts cs
   unfolding selectorText withoutFirst
   made-texts = first-texts (withoutBlank cs) ∙ end-texts cs (ended cs)
 
-  -- and no more components
+  -- the selector has no more components than it was made of
   made-fewer : length (made .components) ≤ length cs
   made-fewer = omega (arith, fewer (reverse (withoutBlank cs)), length-reverse (withoutBlank cs), fewer cs)
 
@@ -208,7 +208,7 @@ module _ (cs : List Component) (p : PseudoElement) where
         small = made-small (c .small);
       }
 
--- every selector that reads
+-- every selector that reads keeps to the bounds
 pub selector-keeps : (s : List ℕ) → Where (length s) (SelectorKeeps s) (selectorOf s)
 unfolding selectorOf
 selector-keeps s =
@@ -257,7 +257,7 @@ first-selector s n m x xs f k =
     let z : 0 + n ≡ n = omega arith in
     rw z at (next-selector selectorHead s 0 n m x xs (omega arith) (omega arith) f (rw z k))
 
--- behind a first one
+-- selectors behind a first one keep to the bounds
 more-keep : (l : ℕ) (s : List ℕ) → Where (length s) (SelectorsKeep 0 s) (moreSelectors l s)
 unfolding moreSelectors
 more-keep zero s = no-selectors 0 s

@@ -31,7 +31,7 @@ text-both k a b n = pick-false _ _ _ _ (is-no k nthKind n) refl
 pub text-fits : (k a b m : ℕ) → (k ≡ nthKind → ⊥) → textLength k a b < m → a + b < m
 text-fits k a b m n h = subst (λ (t : ℕ). t < m) (sym (text-both k a b n)) h
 
--- ---- `drop_blank`
+-- ---- `kept_of`: how many rows a component has
 module _ (start k : ℕ) where
   -- a blank at the start is not kept
   pub kept-none : start ≡ 0 → k ≡ descendantKind → _≡_ {A = ℕ} 0 (pick (is start 0) (pick (is k descendantKind) 0 1) 1)
@@ -53,9 +53,9 @@ put-none kept row rules place e = ap (sets rules place) (pick-true _ _ _ _ (is-y
 pub put-one : (kept : ℕ) (row rules rules′ : List ℕ) (place : ℕ) → (kept ≡ 0 → ⊥) → rules′ ≡ sets rules place row → rules′ ≡ sets rules place (pick (is kept 0) [] row)
 put-one kept row rules rules′ place n e = e ∙ ap (sets rules place) (pick-false _ _ _ _ (is-no kept 0 n) refl)
 
--- ---- `drop_blank`
+-- ---- `drop_blank`: a blank at the end is dropped
 module _ (rules : List ℕ) (place count : ℕ) where
-  -- there is no component
+  -- with no component, none is a blank at the end
   none-last : count ≡ 0 → blankLast rules place count ≡ false
   unfolding blankLast
   none-last e = sym (pick-true _ _ _ _ (is-yes count 0 e) refl)
@@ -66,6 +66,7 @@ module _ (rules : List ℕ) (place count : ℕ) where
   dropped-none e = (pick-false _ _ _ _ (none-last e) refl, pick-false _ _ _ _ (none-last e) refl)
 
   module _ (n : count ≡ 0 → ⊥) where
+    -- where there is some component, the last is a blank exactly if the kind in its row is
     last-is : blankLast rules place count ≡ is (getD rules (place + componentWidth * (count - 1) + componentKindAt) 0) descendantKind
     unfolding blankLast
     last-is = sym (pick-false _ _ _ _ (is-no count 0 n) refl)
@@ -93,48 +94,59 @@ beforeBytes = 0x3a ∷ 0x3a ∷ 0x62 ∷ 0x65 ∷ 0x66 ∷ 0x6f ∷ 0x72 ∷ 0x6
 abbrev pub afterBytes : List ℕ
 afterBytes = 0x3a ∷ 0x3a ∷ 0x61 ∷ 0x66 ∷ 0x74 ∷ 0x65 ∷ 0x72 ∷ []
 
+-- the bytes of `::before`, as the code compares them
 before-text : text "::before" ≡ beforeBytes
 unfolding text utf8 continuation pick
 before-text = refl
 
+-- the bytes of `::after`, as the code compares them
 after-text : text "::after" ≡ afterBytes
 unfolding text utf8 continuation pick
 after-text = refl
 
 module _ (s : List ℕ) where
+  -- a text that begins with `::before` has that pseudo element
   before-is : startsWith beforeBytes s ≡ true → pseudoOf s ≡ before
   unfolding pseudoOf
   before-is e = rw before-text (sym (pick-true _ _ _ _ e refl))
 
+  -- a text that begins with `::after` has that one
   after-is : startsWith beforeBytes s ≡ false → startsWith afterBytes s ≡ true → pseudoOf s ≡ after
   unfolding pseudoOf
   after-is e h = rw (before-text, after-text) (sym (pick-false _ _ _ _ e (pick-true _ _ _ _ h refl)))
 
+  -- a text that begins with neither has none
   none-is : startsWith beforeBytes s ≡ false → startsWith afterBytes s ≡ false → pseudoOf s ≡ none
   unfolding pseudoOf
   none-is e h = rw (before-text, after-text) (sym (pick-false _ _ _ _ e (pick-false _ _ _ _ h refl)))
 
 module _ (p : PseudoElement) where
+  -- `::before` takes eight bytes
   taken-before : p ≡ before → _≡_ {A = ℕ} 8 (pseudoTaken p)
   unfolding pseudoTaken
   taken-before e = rw (e, before-text)
 
+  -- `::before` is number 1
   number-before : p ≡ before → _≡_ {A = ℕ} 1 (pseudoNumber p)
   unfolding pseudoNumber
   number-before e = rw e
 
+  -- `::after` takes seven bytes
   taken-after : p ≡ after → _≡_ {A = ℕ} 7 (pseudoTaken p)
   unfolding pseudoTaken
   taken-after e = rw (e, after-text)
 
+  -- `::after` is number 2
   number-after : p ≡ after → _≡_ {A = ℕ} 2 (pseudoNumber p)
   unfolding pseudoNumber
   number-after e = rw e
 
+  -- no pseudo element takes no bytes
   taken-none : p ≡ none → _≡_ {A = ℕ} 0 (pseudoTaken p)
   unfolding pseudoTaken
   taken-none e = rw e
 
+  -- no pseudo element is number 0
   number-none : p ≡ none → _≡_ {A = ℕ} 0 (pseudoNumber p)
   unfolding pseudoNumber
   number-none e = rw e

@@ -45,30 +45,36 @@ first-by (reads n x) f = rw (zero-add n)
 first-by fails f = refl
 first-by (panics p) f = rw (zero-add p)
 
+-- a list is what may be read at its start, with no gap before it
 first-is : (s : List ℕ) → selectorsOf s ≡ nextOf s (λ n. length (drop (0 + n) s)) 0 0
 unfolding selectorsOf moreFrom nextOf
 first-is s = first-by (selectorOf s) (λ n. moreSelectors (length (drop n s)) (drop n s))
 
--- behind a ','
+-- whether a ',' stands behind so many bytes, and what follows it
 module _ (s : List ℕ) (taken : ℕ) {b : Bool} (eb : b ≡ is (getD s taken 0) ascii.comma) where
+  -- without a ',' no more selectors are read, however many turns there are
   none-follows : b ≡ false → (t : ℕ) → moreSelectors t (drop taken s) ≡ reads 0 []
   unfolding moreSelectors pick
   none-follows f zero = refl
   none-follows f (suc t) = rw (first s taken, sym eb ∙ f)
 
+  -- a ',' that is found stands before the end of the text
   comma-there : b ≡ true → taken < length s
   comma-there f = byte-there s taken ascii.comma (omega arith) (sym eb ∙ f)
 
   module _ (f : b ≡ true) {next : ℕ} (en : next ≡ taken + 1 + skipWhitespace (drop (taken + 1) s)) where
+    -- the bytes of the ',' and of the white space behind it
     gap : ℕ
     gap = 1 + skipWhitespace (drop 1 (drop taken s))
 
+    -- the next selector may start behind those bytes
     gap-is : next ≡ taken + gap
     unfolding gap
     gap-is =
         let e : skipWhitespace (drop 1 (drop taken s)) ≡ skipWhitespace (drop (taken + 1) s) = ap skipWhitespace (drop-drop 1 taken s) in
         omega (arith, en, e)
 
+    -- by what reads there: the rest behind that selector is the same, counted from the ',' or from the start of the text
     by-next : (g t : ℕ) → next ≡ taken + g → (o : Outcome Selector)
         → onOutcome o (λ n x. behind (g + n) (moreSelectors t (drop (g + n) (drop taken s))) (λ xs. x ∷ xs)) (reads 0 []) (λ p. panics (g + p))
         ≡ onOutcome o (λ n x. behind (g + n) (moreSelectors t (drop (next + n) s)) (λ xs. x ∷ xs)) (reads 0 []) (λ p. panics (g + p))
@@ -79,6 +85,7 @@ module _ (s : List ℕ) (taken : ℕ) {b : Bool} (eb : b ≡ is (getD s taken 0)
     by-next g t e fails = refl
     by-next g t e (panics p) = refl
 
+    -- what is read behind the gap is what may be read at `next`
     by-gap : (g t : ℕ) → next ≡ taken + g
         → onOutcome (selectorOf (drop g (drop taken s))) (λ n x. behind (g + n) (moreSelectors t (drop (g + n) (drop taken s))) (λ xs. x ∷ xs)) (reads 0 []) (λ p. panics (g + p))
         ≡ nextOf s (λ _. t) g next
@@ -87,6 +94,7 @@ module _ (s : List ℕ) (taken : ℕ) {b : Bool} (eb : b ≡ is (getD s taken 0)
         (λ (l : List ℕ). onOutcome (selectorOf l) (λ n x. behind (g + n) (moreSelectors t (drop (next + n) s)) (λ xs. x ∷ xs)) (reads 0 []) (λ p. panics (g + p)))
         (drop-drop g taken s ∙ ap (λ (k : ℕ). drop k s) (sym e))
 
+    -- with a ',' there, what is left is a selector behind it, or none, in one turn fewer
     one-follows : (t : ℕ) → length s ≤ taken + t → moreSelectors t (drop taken s) ≡ nextOf s (λ _. t - 1) gap next
     unfolding moreSelectors pick gap
     one-follows zero l = absurd (omega (arith, comma-there f))
@@ -133,13 +141,15 @@ module _ {s rules₀ : List ℕ} {place : ℕ} {store₀ : List ℕ} {fill : ℕ
   abbrev lent : List ℕ
   lent = take (length s - next) (drop next s)
 
+  -- the rest that is lent is the text from `next` on
   lent-is : lent ≡ drop next s
   lent-is = rest s next
 
+  -- the rest that is lent has the bytes from `next` on
   lent-long : length lent ≡ length s - next
   lent-long = ap length lent-is ∙ length-drop next s
 
-  -- room for the next
+  -- the rows have room for the rest, behind those so far
   pub next-rows : RowRoom selectorHead lent rules (place + numbers)
   next-rows =
       record {
@@ -148,6 +158,7 @@ module _ {s rules₀ : List ℕ} {place : ℕ} {store₀ : List ℕ} {fill : ℕ
         bits = omega (arith, u .bits, i .wide, i .within, lent-long);
       }
 
+  -- the text store has room for the rest, behind the texts so far
   pub next-texts : TextRoom 4 lent store (fill + text)
   next-texts =
       record {
@@ -156,9 +167,11 @@ module _ {s rules₀ : List ℕ} {place : ℕ} {store₀ : List ℕ} {fill : ℕ
         bits = omega (arith, v .bits, i .long, i .within, lent-long);
       }
 
+  -- the place behind the rows so far fits a word
   pub place-fits : place + numbers < 2 ^ 64
   place-fits = omega (arith, u .bits, i .wide, i .within)
 
+  -- the fill behind the texts so far fits a word
   pub fill-fits : fill + text < 2 ^ 64
   fill-fits = omega (arith, v .bits, i .long, i .within)
 
@@ -166,6 +179,7 @@ module _ {s rules₀ : List ℕ} {place : ℕ} {store₀ : List ℕ} {fill : ℕ
   pub rules-kept : length rules ≡ length rules₀
   rules-kept = rules-long (i .gathered)
 
+  -- the text store is as long as it was
   pub store-kept : length store ≡ length store₀
   store-kept = store-long (i .gathered)
 
@@ -177,11 +191,13 @@ module _ {s rules₀ : List ℕ} {place : ℕ} {store₀ : List ℕ} {fill : ℕ
         let n = nothing _ _ _ _ _ _ _ _ e g in
         rw (n .1 .0, n .1 .1) (many-read (i .gathered) 0 taken (rw (← lent-is, n .0)) (omega arith))
 
-    -- a first
+    -- the crate panics in the selector: what was read before is wiped
     module _ {p : ℕ} (g : r ≡ Panics p) where
+      -- the panic lies within the text
       pub panic-within : next + p ≤ length s
       panic-within = omega (arith, where-panics (length lent) _ (selectorOf lent) p (panicked _ _ _ _ _ _ _ _ e g .0) (selector-keeps lent), lent-long, i .within)
 
+      -- the return where the crate panics: rows and texts are wiped, and the byte is counted from the start of the list
       pub panics-left : {y′ z′ : List ℕ} → y′ ≡ wiped place numbers y → z′ ≡ wiped fill text z → Ends s rules₀ place store₀ fill (many.Panics (next + p)) y′ z′
       unfolding nextOf onOutcome selectorRows selectorTexts
       panics-left ey ez =
@@ -189,27 +205,34 @@ module _ {s rules₀ : List ℕ} {place : ℕ} {store₀ : List ℕ} {fill : ℕ
           many-panics (i .gathered) (u .zeros) (v .zeros) (ey ∙ ap (wiped place numbers) (n .1 .0)) (ez ∙ ap (wiped fill text) (n .1 .1))
           (i .gap + p) (next + p) (rw (← lent-is, n .0)) (omega (arith, i .next-is))
 
-    -- a first
+    -- a selector reads: it is gathered with those before it
     module _ {n o row more : ℕ} (g : r ≡ Reads n o row more) where
+      -- the selector that was read, its sizes and where it lies
       one : Found (λ _. 1) (selectorRow (fill + text)) selectorText (selectorOf lent) rules (place + numbers) store (fill + text) y z n o row more
       one = found _ _ _ _ _ _ _ _ e g
 
+      -- what it takes, its components and its texts are within their bounds
       keeps : SelectorKeeps lent n (one .value)
       keeps = where-read (length lent) (SelectorKeeps lent) (selectorOf lent) n (one .value) (one .reads-it) (selector-keeps lent)
 
+      -- the selector ends within the text
       pub taken-within : next + n ≤ length s
       taken-within = omega (arith, keeps .within, lent-long, i .within)
 
+      -- there are no more selectors than bytes taken
       pub count-few : count + 1 ≤ next + n
       count-few = omega (arith, i .counted, keeps .some)
 
+      -- their rows stay within a component's width for each byte taken, and one head
       pub numbers-few : numbers + row ≤ componentWidth * (next + n) + selectorHead
       unfolding selectorSize
       numbers-few = omega (arith, i .wide, one .rows, length-selector (fill + text) (one .value), keeps .counted)
 
+      -- their texts are at most two bytes longer than what was taken
       pub text-few : text + more ≤ next + n + 2
       text-few = omega (arith, i .long, one .texts, keeps .long)
 
+      -- the selector is gathered with those before it, and what is left stands behind it
       read-on : Gathered selectorRow selectorText (selectorsOf s) (moreSelectors (i .turns n) (drop (next + n) s)) rules₀ place store₀ fill (next + n) y z (count + 1) (numbers + row) (text + more)
       unfolding nextOf onOutcome
       read-on =
@@ -226,11 +249,13 @@ module _ {s rules₀ : List ℕ} {place : ℕ} {store₀ : List ℕ} {fill : ℕ
         pub comma-within : b ≡ true → next + n < length s
         comma-within f = comma-there s (next + n) eb f
 
-        -- all of them
+        -- a ',' follows: the list goes on behind it and the white space there
         module _ (f : b ≡ true) {next′ : ℕ} (en : next′ ≡ next + n + 1 + skipWhitespace (drop (next + n + 1) s)) (l : next′ ≤ length s) where
+          -- the next selector may start further on than this one did
           pub later : next < next′
           later = omega (arith, en)
 
+          -- with the ',' passed, the reader goes on at the next selector
           pub goes : Reading-on s rules₀ place store₀ fill y z (next + n) (count + 1) (numbers + row) (text + more) next′
           goes =
               let there = comma-there s (next + n) eb f in
@@ -250,6 +275,7 @@ module _ {s rules₀ : List ℕ} {place : ℕ} {store₀ : List ℕ} {fill : ℕ
               }
 
 -- ---- reading selectors never fails
+-- reading further selectors, in any number of turns, reads or panics
 more-never : (l : ℕ) (t : List ℕ) → moreSelectors l t ≡ fails → ⊥
 unfolding moreSelectors
 more-never zero t e = reads-no e
@@ -257,6 +283,7 @@ more-never (suc l) t e =
     pick-holds (λ (o : Outcome (List Selector)). o ≡ fails → ⊥) (is (getD t 0 0) ascii.comma) _ _
     (λ _. then-never (selectorOf (drop (1 + skipWhitespace (drop 1 t)) t)) _ (reads 0 []) _ (λ n x. behind-never _ _ _ (more-never l _)) reads-no) (λ _. reads-no) e
 
+-- a list of selectors always reads or panics
 pub selectors-never : (t : List ℕ) → selectorsOf t ≡ fails → ⊥
 unfolding selectorsOf moreFrom
 selectors-never t e = then-never (selectorOf t) _ (reads 0 []) _ (λ n x. behind-never n _ _ (more-never _ (drop n t))) reads-no e

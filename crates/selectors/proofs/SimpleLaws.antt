@@ -62,13 +62,13 @@ module _ (s st : List ℕ) (fill : ℕ) (r : ComponentAnswer) (z : List ℕ) (w 
   unfolding namedOf
   named-class h = left-first _ _ st fill r z w h
 
-  -- no class
+  -- no class was read: an attribute is tried
   module _ (h : r ≡ NoComponent) where
     -- the store is as it was
     pub same-class : z ≡ st
     same-class = tried _ st fill r z w h .1
 
-    -- what stands behind it
+    -- where no class reads, the alternatives behind it decide
     no-class : (x : ComponentAnswer) (y : List ℕ) → Left (orElse (attrOf s) (orElse (hashOf s) (orElse (parsed 0 (identOf s) element) (pseudoClassOf s)))) st fill x y → Left (namedOf s) st fill x y
     unfolding namedOf
     no-class x y v = left-second _ _ st fill (tried _ st fill r z w h .0) x y v
@@ -82,13 +82,13 @@ module _ (s st : List ℕ) (fill : ℕ) (r : ComponentAnswer) (z : List ℕ) (w 
       pub named-attr : OneOf some (tagOf the-type r₂) → Left (namedOf s) st fill r₂ z₂
       named-attr k = no-class r₂ z₂ (left-first _ _ st fill r₂ z₂ from-attr k)
 
-      -- no attribute
+      -- no attribute was read: a hash is tried
       module _ (h₂ : r₂ ≡ NoComponent) where
         -- the store is as it was
         pub same-attr : z₂ ≡ st
         same-attr = tried _ st fill r₂ z₂ from-attr h₂ .1
 
-        -- what stands behind it
+        -- where no attribute reads either, the alternatives behind it decide
         no-attr : (x : ComponentAnswer) (y : List ℕ) → Left (orElse (hashOf s) (orElse (parsed 0 (identOf s) element) (pseudoClassOf s))) st fill x y → Left (namedOf s) st fill x y
         no-attr x y v = no-class x y (left-second _ _ st fill (tried _ st fill r₂ z₂ from-attr h₂ .0) x y v)
 
@@ -101,13 +101,13 @@ module _ (s st : List ℕ) (fill : ℕ) (r : ComponentAnswer) (z : List ℕ) (w 
           pub named-hash : OneOf some (tagOf the-type r₃) → Left (namedOf s) st fill r₃ z₃
           named-hash k = no-attr r₃ z₃ (left-first _ _ st fill r₃ z₃ from-hash k)
 
-          -- no hash
+          -- no hash was read: a type selector is tried
           module _ (h₃ : r₃ ≡ NoComponent) where
             -- the store is as it was
             same-hash : z₃ ≡ st
             same-hash = tried _ st fill r₃ z₃ from-hash h₃ .1
 
-            -- what stands behind it
+            -- where no hash reads either, the alternatives behind it decide
             no-hash : (x : ComponentAnswer) (y : List ℕ) → Left (orElse (parsed 0 (identOf s) element) (pseudoClassOf s)) st fill x y → Left (namedOf s) st fill x y
             no-hash x y v = no-attr x y (left-second _ _ st fill (tried _ st fill r₃ z₃ from-hash h₃ .0) x y v)
 
@@ -120,13 +120,13 @@ module _ (s st : List ℕ) (fill : ℕ) (r : ComponentAnswer) (z : List ℕ) (w 
               pub named-element : OneOf some (tagOf the-type r₄) → Left (namedOf s) st fill r₄ z₄
               named-element k = no-hash r₄ z₄ (left-first _ _ st fill r₄ z₄ from-element k)
 
-              -- no element
+              -- no type selector was read: a pseudo-class is tried
               module _ (h₄ : r₄ ≡ NoComponent) where
                 -- the store is as it was
                 pub same-element : z₄ ≡ st
                 same-element = tried _ st fill r₄ z₄ from-element h₄ .1
 
-                -- a pseudo-class, or nothing
+                -- the return where a pseudo-class was tried, as the last alternative
                 pub named-pseudo : (x : ComponentAnswer) (y : List ℕ) → (x ≡ componentAnswer (pseudoClassOf s)) × (y ≡ z₄) → Left (namedOf s) st fill x y
                 named-pseudo x y v =
                     no-hash x y (left-second _ _ st fill (tried _ st fill r₄ z₄ from-element h₄ .0) x y (v .0, v .1 ∙ same-element ∙ sym (ap (sets st fill) (pseudo-textless s))))
@@ -196,11 +196,13 @@ module _ (start : ℕ) (s st : List ℕ) (fill : ℕ) where
     unfolding nextOf firstOf pick
     next-element k = rw (is-yes start 0 h) (left-first _ _ st fill r z w k)
 
-    -- none: any component
+    -- no type selector was read: any component is tried
     module _ (e : r ≡ NoComponent) where
+      -- where no type selector was read the store is as it was
       pub next-same : z ≡ st
       next-same = tried _ st fill r z w e .1
 
+      -- where none was read, what the reader of any component leaves is left
       pub next-other : (x : ComponentAnswer) (y : List ℕ) → Left (componentOf s) z fill x y → Left (nextOf (is start 0) s) st fill x y
       unfolding nextOf firstOf pick
       next-other x y v = rw (is-yes start 0 h) (left-second _ _ st fill (tried _ st fill r z w e .0) x y (rw next-same at v))

@@ -56,7 +56,7 @@ unfolding pick
 unsaid-by true p q u n k t e = absurd (let z : _≡_ {A = ℕ} 0 1 = cc in omega arith)
 unsaid-by false p q u n k t e = (refl, cc, cc, cc)
 
--- ---- `parse_statement_end`
+-- ---- `parse_statement_end`: the tokens of the statement are wiped again, and the stores are as they were
 module _ (s : List ℕ) (n : ℕ) (tokens brackets store : List ℕ) (fill : ℕ) (o : WorkRoom s tokens brackets store fill) (h : n ≤ length s) where
   -- the rest as the code lends it
   abbrev lent : List ℕ
@@ -88,7 +88,7 @@ module _ (s : List ℕ) (n : ℕ) (tokens brackets store : List ℕ) (fill : ℕ
     left-is : record { answer = a; rows = x; brackets = b; store = z } ≡ left stated tokens brackets store fill
     left-is = e ∙ ap (λ l. left (statementOf true l) tokens brackets store fill) (rest s n)
 
-    -- the rows of its tokens
+    -- the store has the rows of its tokens from the start on
     tokens-are : x ≡ sets tokens 0 (rowsOf fill (stated .tokens))
     unfolding left
     tokens-are = ap (λ (l : Left). l .rows) left-is
@@ -147,7 +147,7 @@ module _ (s : List ℕ) (n : ℕ) (tokens brackets store : List ℕ) (fill : ℕ
     abbrev pub Ended : Reading → List ℕ → List ℕ → List ℕ → Type 0
     Ended r x′ b′ z′ = (r ≡ reading length (ruleRows fill) ruleTexts (statementEnd s n)) × ((x′ ≡ tokens) × ((b′ ≡ brackets) × (z′ ≡ store)))
 
-    -- a statement
+    -- the statement ends: its brackets match
     module _ {m k t : ℕ} (ea : a ≡ answer.Statement m k t) where
       -- its tokens have room
       pub some-count : tokenWidth * k < 2 ^ 64
@@ -177,7 +177,7 @@ module _ (s : List ℕ) (n : ℕ) (tokens brackets store : List ℕ) (fill : ℕ
           let q = unsaid ea in
           (rw (q .balanced), (tokens-back q ex, (brackets-back q eb, store-back q ez)))
 
--- ---- `parse_at_rule`
+-- ---- `parse_at_rule`: an '@', a name and the end of the statement; the stores are as they were
 module _ (s tokens brackets store : List ℕ) (fill : ℕ) (o : WorkRoom s tokens brackets store fill) where
   -- what the function ensures
   abbrev pub Told : Reading → List ℕ → List ℕ → List ℕ → Type 0
@@ -200,7 +200,7 @@ module _ (s tokens brackets store : List ℕ) (fill : ℕ) (o : WorkRoom s token
 
       -- a name from i on
       module _ {i : ℕ} (ei : i ≡ a + 1 + skipWhitespace (drop (a + 1) s)) (hi : i ≤ length s) where
-        -- the meaning, from there on
+        -- behind the '@' an at-rule is a name, and a statement from its end on
         rule-is : atRuleOf s ≡ onParsed (identOf (drop i s)) (λ n name. statementEnd s (i + n)) fails
         unfolding atRuleOf pick spaced
         rule-is = rw (← ea, ← et, f, ← ei)

@@ -40,7 +40,7 @@ use Rattle.sheets.proofs.DigitPlaces.{AtDigit, digit-behind, digit-clos
 unfoldable pub valueBefore : List ℕ → ℕ → List ℕ → Outcome Component
 valueBefore t j name = pick (leb (length t) j) (panics (j - 1)) (valueOf t j name)
 
--- `parse_attr`
+-- an attribute in brackets, by `parse_attr` as it was
 unfoldable pub attrBefore : List ℕ → Outcome Component
 attrBefore t =
     pick (is (getD t 0 0) ascii.leftSquareBracket)
@@ -55,7 +55,7 @@ componentWith a t =
     (orElse (marked t ascii.asterisk star)
     (orElse (blankOf t) (orElse (classOf t) (orElse a (orElse (hashOf t) (orElse (parsed 0 (identOf t) element) (pseudoClassOf t)))))))
 
--- `parse_simple_selector_component`
+-- a component, by `parse_simple_selector_component` as it was
 unfoldable pub componentBefore : List ℕ → Outcome Component
 componentBefore t = componentWith (attrBefore t) t
 
@@ -71,7 +71,7 @@ bodyBefore t =
     orElse (onParsed (identOf t) (λ n name. behind n (componentsBefore (length (drop n t)) (drop n t)) (λ cs. element name ∷ cs)) fails)
     (someOf (componentsBefore (length t) t))
 
--- `parse_selector`
+-- a selector with its pseudo element, by `parse_selector` as it was
 unfoldable pub selectorBefore : List ℕ → Outcome Selector
 selectorBefore t =
     onOutcome (bodyBefore t)
@@ -87,23 +87,23 @@ moreBefore (suc l) t =
     (onOutcome (selectorBefore (drop w t)) (λ n s. behind (w + n) (moreBefore l (drop (w + n) t)) (λ ss. s ∷ ss)) (reads 0 []) (λ p. panics (w + p)))
     (reads 0 [])
 
--- one and more
+-- a list of selectors: the first, and further ones behind commas
 unfoldable pub selectorsBefore : List ℕ → Outcome (List Selector)
 selectorsBefore t =
     onOutcome (selectorBefore t) (λ n s. behind n (moreBefore (length (drop n t)) (drop n t)) (λ ss. s ∷ ss)) (reads 0 []) (λ p. panics p)
 
--- `parse_ruleset`
+-- a rule: its selectors and its block, by `parse_ruleset` as it was
 unfoldable pub rulesetBefore : List ℕ → Outcome RuleSet
 rulesetBefore t =
     let w = skipWhitespace t in
     onOutcome (selectorsBefore (drop w t)) (λ n ss. behind 0 (blockOf t (w + n)) (λ ds. record { selectors = ss; declarations = ds; start = w })) fails
     (λ p. panics (w + p))
 
--- `parse_statement`
+-- a statement: a rule, or else an at-rule, by `parse_statement` as it was
 unfoldable pub statementsBefore : List ℕ → Outcome (List RuleSet)
 statementsBefore t = orElse (behind 0 (rulesetBefore t) (λ r. r ∷ [])) (atRuleOf t)
 
--- `parse_stylesheet`
+-- statements as long as they read, by `parse_stylesheet` as it was
 unfoldable pub sheetFromBefore : ℕ → List ℕ → ℕ → Outcome (List RuleSet)
 sheetFromBefore zero t at = reads at []
 sheetFromBefore (suc l) t at =
@@ -153,7 +153,7 @@ cut-from S S′ t w p q o o′ e h c =
 module _ {A B : Type 0} (S : Outcome A → Type 0) (S′ : Outcome B → Type 0) (t : List ℕ) (w : ℕ) (f f′ : ℕ → A → Outcome B) (b : Outcome B) (g : ℕ → ℕ)
     (eg : (p : ℕ) → g p ≡ w + p) (kf : (n : ℕ) (a : A) → Compared S′ t (f n a) (f′ n a)) (kb : Compared S′ t b b)
     (ks : (o : Outcome A) → S o → S′ (onOutcome o f′ b (λ p. panics (g p)))) where
-  -- both ways
+  -- if the readings before and now compare, so does what follows them
   then-compared : (o o′ : Outcome A) → Compared S (drop w t) o o′ → Compared S′ t (onOutcome o f b (λ p. panics (g p))) (onOutcome o′ f′ b (λ p. panics (g p)))
   unfolding onOutcome
   then-compared (reads n a) o′ h = rw h (kf n a)
@@ -161,7 +161,7 @@ module _ {A B : Type 0} (S : Outcome A → Type 0) (S′ : Outcome B → Type 0)
   then-compared (panics p) o′ (inl h) = rw (h .0) (inl (refl, ap (λ (k : ℕ). isDigit (getD t k 0)) (eg p) ∙ ap isDigit (sym (getD-drop w t p 0)) ∙ h .1))
   then-compared (panics p) o′ (inr c) = inr (cut-from S S′ t w p (g p) o′ _ (eg p) (ks o′) c)
 
--- the same behind w bytes
+-- if the readings behind w bytes compare, so do those of the whole text
 behind-compared : {A B : Type 0} (S : Outcome A → Type 0) (S′ : Outcome B → Type 0) (t : List ℕ) (w : ℕ) (f : A → B) → ((o : Outcome A) → S o → S′ (behind w o f))
     → (o o′ : Outcome A) → Compared S (drop w t) o o′ → Compared S′ t (behind w o f) (behind w o′ f)
 unfolding behind
@@ -176,14 +176,14 @@ else-compared S S′ t fails o′ q q′ h c d = rw c d
 else-compared S S′ t (panics p) o′ q q′ h (inl c) d = inl (rw (c .0) refl, c .1)
 else-compared S S′ t (panics p) o′ q q′ h (inr c) d = inr (cut-from S S′ t 0 p p o′ _ (omega arith) (h o′) c)
 
--- by a test
+-- if both branches of a test compare, so does what the test picks
 pick-compared : {A : Type 0} (S : Outcome A → Type 0) (t : List ℕ) (b : Bool) (x y x′ y′ : Outcome A) → (b ≡ true → Compared S t x x′) → (b ≡ false → Compared S t y y′)
     → Compared S t (pick b x y) (pick b x′ y′)
 unfolding pick
 pick-compared S t true x y x′ y′ h k = h refl
 pick-compared S t false x y x′ y′ h k = k refl
 
--- behind a name
+-- if what follows a name compares, so does the name with it; without a name both fail
 on-compared : {A : Type 0} (S : Outcome A → Type 0) (t : List ℕ) (p : Parsed (List ℕ)) (f f′ : ℕ → List ℕ → Outcome A) → ((n : ℕ) (a : List ℕ) → Compared S t (f n a) (f′ n a))
     → Compared S t (onParsed p f fails) (onParsed p f′ fails)
 unfolding onParsed
@@ -209,7 +209,7 @@ value-compared t j name b e l =
     inr (record { last = omega arith; equals = let q : 2 + j - 1 ≡ 1 + j = omega arith in rw q e; goes-on = (no-value t (2 + j) name (drop-of-length-le t m), b) }))
     (λ _. same (NoneRead t) t (valueOf t (2 + j) name) (digit-value t (2 + j) name))
 
--- an attribute
+-- an attribute reads as before; where it was cut, none is read now
 attr-compared : (t : List ℕ) → Compared (NoneRead t) t (attrBefore t) (attrOf t)
 unfolding attrBefore attrOf
 attr-compared t =
@@ -242,7 +242,7 @@ component-with : (t : List ℕ) → componentWith (attrOf t) t ≡ componentOf t
 unfolding componentWith componentOf
 component-with t = refl
 
--- a component
+-- a component reads as before; where it was cut, none is read now
 component-compared : (t : List ℕ) → Compared (NoneRead t) t (componentBefore t) (componentOf t)
 unfolding componentBefore
 component-compared t = go (is (getD t 0 0) ascii.leftSquareBracket) refl
@@ -312,7 +312,7 @@ some-compared t o o′ c =
     then-compared (ComponentsTo t) (StopsAt Opening t) t 0 _ _ fails (λ p. p) (λ p. omega arith)
     (λ n cs. same (StopsAt Opening t) t (pick (is (length cs) 0) fails (reads n cs)) (pick-holds (AtDigit t) _ _ _ (λ _. tt) (λ _. tt))) refl (some-stops t) o o′ c
 
--- behind a type selector
+-- components that end before a `[` do so behind a type selector
 element-reads : (t : List ℕ) (n : ℕ) (name : List ℕ) (o : Outcome (List Component)) → ComponentsTo (drop n t) o → ReadsTo Opening t (behind n o (λ cs. element name ∷ cs))
 unfolding behind onOutcome
 element-reads t n name (reads m cs) h = sym (getD-drop n t m 0) ∙ h .0
@@ -359,7 +359,7 @@ selector-stops t (reads n cs) h =
 selector-stops t fails h = h
 selector-stops t (panics p) h = h
 
--- a selector
+-- a selector reads as before; where it was cut, reading now stops at a `[`
 selector-compared : (t : List ℕ) → Compared (StopsAt Opening t) t (selectorBefore t) (selectorOf t)
 unfolding selectorBefore selectorOf
 selector-compared t =
@@ -369,7 +369,7 @@ selector-compared t =
 abbrev Barring : ℕ → Type 0
 Barring x = (x ≡ ascii.leftSquareBracket) ⊎ (x ≡ ascii.comma)
 
--- behind k bytes
+-- what reads up to a `[` or a ',' behind k bytes does so in the whole text
 bar-behind : {A B : Type 0} (t : List ℕ) (k : ℕ) (f : A → B) (o : Outcome A) → ReadsTo Barring (drop k t) o → ReadsTo Barring t (behind k o f)
 unfolding behind onOutcome
 bar-behind t k f (reads n a) h = subst Barring (getD-drop k t n 0) h
@@ -395,7 +395,7 @@ more-reads l t w e (reads n x) h = last-reads l t (w + n) x (sym (getD-drop w t 
 more-reads l t w e fails h = inr e
 more-reads l t w e (panics p) h = absurd h
 
--- further selectors
+-- further selectors read as before; where they were cut, reading now ends before a `[` or a ','
 more-compared : (l : ℕ) (t : List ℕ) → Compared (ReadsTo Barring t) t (moreBefore l t) (moreSelectors l t)
 unfolding moreBefore moreSelectors
 more-compared zero t = refl
@@ -415,7 +415,7 @@ first-reads t (reads n x) h = last-reads (length (drop n t)) t n x h
 first-reads t fails h = inl h
 first-reads t (panics p) h = absurd h
 
--- a list of selectors
+-- a list of selectors reads as before; where it was cut, reading now ends before a `[` or a ','
 selectors-compared : (t : List ℕ) → Compared (ReadsTo Barring t) t (selectorsBefore t) (selectorsOf t)
 unfolding selectorsBefore selectorsOf moreFrom
 selectors-compared t =
@@ -509,7 +509,7 @@ failing-behind : {A B : Type 0} (f : A → B) (o : Outcome A) → Failing o → 
 unfolding behind onOutcome
 failing-behind f o h = rw h
 
--- a statement
+-- a statement reads as before; where it was cut, none is read now
 statements-compared : (t : List ℕ) → Compared Failing t (statementsBefore t) (statementsOf t)
 unfolding statementsBefore statementsOf
 statements-compared t = go (is (getD t (skipWhitespace t) 0) ascii.commercialAt) refl
@@ -533,7 +533,7 @@ Calm (reads n a) = Unit
 Calm fails = Unit
 Calm (panics p) = ⊥
 
--- behind 0 bytes
+-- what does not panic does not panic behind 0 bytes
 calm-behind : {A B : Type 0} (f : A → B) (o : Outcome A) → Calm o → Calm (behind 0 o f)
 unfolding behind onOutcome
 calm-behind f (reads n a) h = tt
@@ -554,7 +554,7 @@ from-compared (suc l) s at =
     (λ n rs. behind-compared Calm Calm s 0 _ (calm-behind _) _ _ (rw (drop-drop n at s) (from-compared l s (at + n))))
     refl (calm-end at [] _ _) _ _ (statements-compared (drop at s))
 
--- a sheet
+-- a whole sheet reads as before; where it was cut, reading now does not panic
 sheet-compared : (s : List ℕ) → Compared Calm s (sheetBefore s) (sheetOf s)
 unfolding sheetBefore sheetOf
 sheet-compared s = from-compared (length s) s 0
@@ -571,7 +571,7 @@ unfolding isDigit within and
 no-digit x e = rw e
 
 module _ (s : List ℕ) (p : ℕ) (e : sheetBefore s ≡ panics p) where
-  -- by where it panicked
+  -- a sheet that panicked did so at a digit, where it still panics, or was cut
   was : ((sheetOf s ≡ panics p) × (isDigit (getD s p 0) ≡ true)) ⊎ Cut Calm s p (sheetOf s)
   was = subst (λ (o : Outcome (List RuleSet)). Compared Calm s o (sheetOf s)) e (sheet-compared s)
 

@@ -29,13 +29,13 @@ use Rattle.selectors.specs.Reading.{written}
 use Rattle.combinators.proofs.ZeroLaws.{zeros-back}
 use Rattle.selectors.proofs.ReadingLaws.{ReadAs}
 
--- ---- `parse_block`
+-- ---- `parse_block`: the place behind a ';', if there is one, and behind white space
 module _ (s : List ℕ) (e : ℕ) (h : e ≤ length s) {t : Bool} (et : t ≡ is (getD s e 0) ascii.semicolon) where
   -- a ';' is within the text
   pub semicolon-there : t ≡ true → e < length s
   semicolon-there f = byte-there s e ascii.semicolon (omega arith) (sym et ∙ f)
 
-  -- the place behind it
+  -- a ';' is passed, and the place behind it lies within the text
   pub semicolon-past : t ≡ true → (e + 1 ≡ pick (is (getD s e 0) ascii.semicolon) (e + 1) e) × (e + 1 ≤ length s)
   unfolding pick
   semicolon-past f = (rw (← et, f), omega (arith, semicolon-there f))
@@ -85,7 +85,7 @@ kept-starts at d (x ∷ ds) =
     let e : at + d + x .start ≡ at + (d + x .start) = omega arith in
     rw (named-same (x .decl), e, kept-starts at d ds)
 
--- ---- `parse_block`
+-- ---- `parse_block`: what it ensures, return by return
 module _ (s : List ℕ) (n at : ℕ) (rules : List ℕ) (place : ℕ) (tokens brackets store : List ℕ) (fill : ℕ)
     (o : BlockRoom s n at rules place tokens brackets store fill) where
   -- what the function ensures
@@ -124,7 +124,7 @@ module _ (s : List ℕ) (n at : ℕ) (rules : List ℕ) (place : ℕ) (tokens br
         abbrev ds : List Declaration
         ds = map (startsAt at) (map (startsAt d) (found .declarations))
 
-        -- what `parse_rules` left
+        -- what `parse_rules` left: the declarations of the block, written at the place
         module _ {r : RulesRead} {y x b z : List ℕ}
             (e : record { answer = r; rules = y; tokens = x; brackets = b; store = z } ≡ rulesLeft true (at + d) lent rules place tokens brackets store fill) where
           -- what was left is what these declarations leave
@@ -139,12 +139,12 @@ module _ (s : List ℕ) (n at : ℕ) (rules : List ℕ) (place : ℕ) (tokens br
           unfolding leaves rulesAnswer
           taken-is = ap (λ (l : Leaves RulesRead). l .answer .taken) left-is
 
-          -- the count of declarations
+          -- as many declarations are counted as there are
           count-is : r .count ≡ length ds
           unfolding leaves rulesAnswer
           count-is = ap (λ (l : Leaves RulesRead). l .answer .count) left-is
 
-          -- the bytes of their texts
+          -- as many bytes are counted as their texts have
           text-is : r .text ≡ length (declarationTexts ds)
           unfolding leaves rulesAnswer
           text-is = ap (λ (l : Leaves RulesRead). l .answer .text) left-is
@@ -236,12 +236,14 @@ Calm (reads n ds) = Unit
 Calm fails = Unit
 Calm (panics p) = ⊥
 
+-- moving the starts of declarations adds no panic
 calm-moved : (at : ℕ) (o : Outcome (List Declaration)) → Calm o → Calm (behind 0 o (map (startsAt at)))
 unfolding behind onOutcome
 calm-moved at (reads n ds) h = tt
 calm-moved at fails h = tt
 calm-moved at (panics p) h = h
 
+-- reading a block does not panic
 calm-block : (s : List ℕ) (n : ℕ) → Calm (blockOf s n)
 unfolding blockOf
 calm-block s n = pick-holds Calm _ _ _ (λ _. pick-holds Calm _ _ _ (λ _. tt) (λ _. tt)) (λ _. tt)

@@ -29,7 +29,7 @@ AtDigit t fails = Unit
 AtDigit t (panics p) = isDigit (getD t p 0) ≡ true
 
 -- ---- by the parts of the definitions
--- of two alternatives
+-- two alternatives panic at digits alone, if each does
 digit-else : {A : Type 0} (t : List ℕ) (o q : Outcome A) → AtDigit t o → AtDigit t q → AtDigit t (orElse o q)
 unfolding orElse
 digit-else t (reads n a) q h k = tt
@@ -80,34 +80,34 @@ digit-converted : (t : List ℕ) (i : ℕ) (minus : Bool) (f : ℤ → Outcome N
 unfolding converted
 digit-converted t i minus f h = pick-holds (AtDigit t) _ _ _ (λ _. h _) (λ e. digit-first t i e)
 
--- an+b
+-- `an+b` panics only at a digit, that of either number
 digit-both : (t : List ℕ) → AtDigit t (bothOf t)
 unfolding bothOf
 digit-both t = pick-holds (AtDigit t) _ _ _ (λ _. digit-converted t _ _ _ (λ a. digit-converted t _ _ _ (λ b. tt))) (λ _. tt)
 
--- an
+-- `an` panics only at a digit
 digit-a : (t : List ℕ) → AtDigit t (justA t)
 unfolding justA
 digit-a t = pick-holds (AtDigit t) _ _ _ (λ _. digit-converted t _ _ _ (λ a. tt)) (λ _. tt)
 
--- b
+-- `b` alone panics only at a digit
 digit-b : (t : List ℕ) → AtDigit t (justB t)
 unfolding justB
 digit-b t = pick-holds (AtDigit t) _ _ _ (λ _. digit-converted t _ _ _ (λ b. tt)) (λ _. tt)
 
--- `even` and `odd`
+-- `even` and `odd` never panic
 digit-worded : (t word : List ℕ) (a b : ℤ) → AtDigit t (worded t word a b)
 unfolding worded
 digit-worded t word a b = pick-holds (AtDigit t) _ _ _ (λ _. tt) (λ _. tt)
 
--- each of these
+-- whichever form it has, an nth panics only at a digit
 digit-nth : (t : List ℕ) → AtDigit t (nthOf t)
 unfolding nthOf
 digit-nth t =
     digit-else t _ _ (digit-worded t _ _ _)
     (digit-else t _ _ (digit-worded t _ _ _) (digit-else t _ _ (digit-both t) (digit-else t _ _ (digit-a t) (digit-b t))))
 
--- in brackets
+-- an nth in round brackets panics only at a digit
 digit-args : (t : List ℕ) → AtDigit t (nthArgsOf t)
 unfolding nthArgsOf
 digit-args t =
@@ -115,12 +115,12 @@ digit-args t =
     pick-holds (AtDigit t) _ _ _
     (λ _. digit-then t w (nthOf (drop w t)) _ (digit-nth (drop w t)) (λ n x. pick-holds (AtDigit t) _ _ _ (λ _. tt) (λ _. tt))) (λ _. tt)
 
--- as a component
+-- the arguments of `nth-child`, made a component, panic only at a digit
 digit-child : (t : List ℕ) → AtDigit t (nthChildArgs t)
 unfolding nthChildArgs
 digit-child t = digit-behind t 0 (nthArgsOf t) _ (digit-args t)
 
--- a pseudo-class
+-- a pseudo-class panics only at a digit, that of its `nth-child`
 digit-pseudo : (t : List ℕ) → AtDigit t (pseudoClassOf t)
 unfolding pseudoClassOf
 digit-pseudo t =
@@ -130,18 +130,18 @@ digit-pseudo t =
     (λ _. tt)
 
 -- ---- attributes never panic
--- by their bracket
+-- the end of an attribute, its bracket, never panics
 pub digit-closed : (t : List ℕ) (j : ℕ) (c : Component) → AtDigit t (closed t j c)
 unfolding closed
 digit-closed t j c = pick-holds (AtDigit t) _ _ _ (λ _. tt) (λ _. tt)
 
--- a value
+-- a value, quoted or a name, never panics
 pub digit-value : (t : List ℕ) (j : ℕ) (name : List ℕ) → AtDigit t (valueOf t j name)
 unfolding valueOf
 digit-value t j name =
     digit-else t _ _ (on-holds (AtDigit t) _ _ _ (λ n v _. digit-closed t (j + n) _) (λ _. tt)) (on-holds (AtDigit t) _ _ _ (λ n v _. digit-closed t (j + n) _) (λ _. tt))
 
--- one in brackets
+-- an attribute in square brackets never panics
 digit-attr : (t : List ℕ) → AtDigit t (attrOf t)
 unfolding attrOf
 digit-attr t =
@@ -151,22 +151,22 @@ digit-attr t =
     (λ _. tt)
 
 -- ---- every component
--- a mark
+-- a mark never panics, be it `>` or `*`
 digit-marked : (t : List ℕ) (mark : ℕ) (c : Component) → AtDigit t (marked t mark c)
 unfolding marked
 digit-marked t mark c = pick-holds (AtDigit t) _ _ _ (λ _. tt) (λ _. tt)
 
--- white space
+-- white space as a combinator never panics
 digit-blank : (t : List ℕ) → AtDigit t (blankOf t)
 unfolding blankOf
 digit-blank t = pick-holds (AtDigit t) _ _ _ (λ _. tt) (λ _. tt)
 
--- a class
+-- a class never panics
 digit-class : (t : List ℕ) → AtDigit t (classOf t)
 unfolding classOf
 digit-class t = pick-holds (AtDigit t) _ _ _ (λ _. digit-parsed t 1 _ _) (λ _. tt)
 
--- a hash
+-- a hash never panics
 digit-hash : (t : List ℕ) → AtDigit t (hashOf t)
 unfolding hashOf
 digit-hash t = pick-holds (AtDigit t) _ _ _ (λ _. digit-parsed t 1 _ _) (λ _. tt)

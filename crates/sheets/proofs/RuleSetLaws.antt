@@ -70,7 +70,7 @@ moved-block at w ss (reads n ds) = refl
 moved-block at w ss fails = refl
 moved-block at w ss (panics p) = refl
 
--- ---- `parse_ruleset`
+-- ---- `parse_ruleset`: selectors, block and head, and what each return leaves
 module _ (s : List ℕ) (at : ℕ) (rules : List ℕ) (place : ℕ) (tokens brackets store : List ℕ) (fill : ℕ) (o : RuleRoom s at rules place tokens brackets store fill) where
   -- the meaning: the rule, by where it starts in the whole text
   abbrev meant : Outcome RuleSet
@@ -104,7 +104,7 @@ module _ (s : List ℕ) (at : ℕ) (rules : List ℕ) (place : ℕ) (tokens brac
           bits = omega (arith, o .for-rules, o .row-bits);
         }
 
-    -- and for their texts
+    -- there is room for the texts of the selectors
     pub texts-room : TextRoom 4 lent store fill
     texts-room =
         let l = lent-long in
@@ -114,14 +114,14 @@ module _ (s : List ℕ) (at : ℕ) (rules : List ℕ) (place : ℕ) (tokens brac
     abbrev list : Outcome (List Selector)
     list = selectorsOf (drop w s)
 
-    -- the rule, by its selectors
+    -- the rule is what its selectors and the block behind them make of it
     ruleset-is : rulesetOf s ≡ onOutcome list (λ n ss. behind 0 (blockOf s (w + n)) (ruleAt w ss)) fails (λ p. panics (w + p))
     unfolding rulesetOf
     ruleset-is = rw (← ew)
 
-    -- what `parse_selectors` left
+    -- what `parse_selectors` left: the selectors, written behind the head of the rule
     module _ {r : ManyReading} {y z : List ℕ} (e : LeftMany length (selectorRows fill) selectorTexts (selectorsOf lent) rules (place + ruleHead) store fill r y z) where
-      -- the answer, by their meaning
+      -- what was left is what the selectors of the text behind white space leave
       said : LeftMany length (selectorRows fill) selectorTexts list rules (place + ruleHead) store fill r y z
       said = rw (← rest s w) e
 
@@ -139,13 +139,13 @@ module _ (s : List ℕ) (at : ℕ) (rules : List ℕ) (place : ℕ) (tokens brac
             let k : 0 + (w + p) ≡ w + p = omega arith in
             ruled (left-panics _ _ _ _ _ _ _ _ (rw (ruleset-is, n .0, k)) (n .1 .0) (n .1 .1)) refl refl
 
-      -- they read
+      -- the selectors read, up to n
       module _ {n count numbers text : ℕ} (h : r ≡ many.Reads n count numbers text) where
         -- the selectors that were read, with their counts
         got : Found length (selectorRows fill) selectorTexts list rules (place + ruleHead) store fill y z n count numbers text
         got = found-many _ _ _ _ _ _ _ _ (selectors-never (drop w s)) said h
 
-        -- the declarations that the text behind them means
+        -- the selectors that were read
         abbrev ss : List Selector
         ss = got .value
 
@@ -153,9 +153,11 @@ module _ (s : List ℕ) (at : ℕ) (rules : List ℕ) (place : ℕ) (tokens brac
         keeps : SelectorsKeep selectorHead (drop w s) n ss
         keeps = where-read (length (drop w s)) (SelectorsKeep selectorHead (drop w s)) list n ss (got .reads-it) (selectors-keep (drop w s))
 
+        -- their rows have no more numbers than a component's row for each byte taken, and a selector's head
         wide : numbers ≤ componentWidth * n + selectorHead
         wide = omega (arith, got .rows, length-selectors fill ss, keeps .wide)
 
+        -- their texts are at most two bytes longer than what they take
         long : text ≤ n + 2
         long = omega (arith, got .texts, keeps .long)
 
@@ -198,13 +200,13 @@ module _ (s : List ℕ) (at : ℕ) (rules : List ℕ) (place : ℕ) (tokens brac
         abbrev block : Outcome (List Declaration)
         block = blockAt at s (w + n)
 
-        -- the rule, by its block
+        -- the rule, by where it starts in the whole text, is its block with its selectors
         meant-is : meant ≡ behind 0 block (ruleAt (at + w) ss)
         unfolding onOutcome blockAt
         meant-is =
             ap (λ (q : Outcome RuleSet). behind 0 q (movedBy at)) (ruleset-is ∙ rw (got .reads-it)) ∙ moved-block at w ss (blockOf s (w + n))
 
-        -- what `parse_block` left
+        -- what `parse_block` left: the declarations, written behind the selectors
         module _ {q : BlockAnswer} {y₂ x₂ b₂ z₂ : List ℕ} (e₂ : (q ≡ blockAnswer (fill + text) block)
             × ((y₂ ≡ sets y (place + ruleHead + numbers) (written (declarationRows (fill + text)) block))
             × ((x₂ ≡ tokens) × ((b₂ ≡ brackets) × (z₂ ≡ sets z (fill + text) (written declarationTexts block)))))) where
@@ -227,7 +229,7 @@ module _ (s : List ℕ) (at : ℕ) (rules : List ℕ) (place : ℕ) (tokens brac
               let n = nothing-as length (declarationRows (fill + text)) declarationTexts block y (place + ruleHead + numbers) z (fill + text) e (e₂ .1 .0) (e₂ .1 .1 .1 .1) in
               ruled (left-fails _ _ _ _ _ _ _ _ (meant-is ∙ rw e) (rules-back (n .0) ey₃) (store-back (n .1) ez₃)) (e₂ .1 .1 .0) (e₂ .1 .1 .1 .0)
 
-          -- it reads
+          -- the block reads, up to its end
           module _ {end declarations more kept : ℕ} (hq : q ≡ Block end declarations more kept) where
             -- the declarations that were read, with their counts
             got₂ : Found length (declarationRows (fill + text)) declarationTexts block y (place + ruleHead + numbers) z (fill + text) y₂ z₂ end declarations more kept

@@ -43,6 +43,7 @@ module _ (s rules tokens brackets texts : List ℕ) where
   not-refused : {n : ℕ} {A : Type 0} → 0 < n → refused n ≡ noRefusal → A
   not-refused {n} h e = absurd (let z : n ≡ 0 = ap (λ (r : Refusal). r .number) e in omega arith)
 
+  -- what `read_sheet` leaves without a refusal reads back as the rules that the sheet means
   pub sheet-back : Back (readSheet s rules tokens brackets texts)
   unfolding readSheet unchanged sheetLeft
   sheet-back =

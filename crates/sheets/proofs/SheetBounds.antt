@@ -186,12 +186,13 @@ rule-keeps s =
     tt (λ p h. omega (arith, skip-le s, length-drop w s)) (selectors-keep (drop w s))
 
 -- ---- at-rules, of which nothing is kept
+-- no rules, kept of some bytes of a text, are within the bounds of that text
 no-rules : (s : List ℕ) (n : ℕ) → 1 ≤ n → n ≤ length s → RulesKeep s n []
 unfolding ruleTexts textsMany sizes
 no-rules s n h i =
     record { within = i; some = h; counted = omega arith; wide = omega arith; long = omega arith; small = tt; fit = tt }
 
--- the end of a statement
+-- the end of a statement lies within the text, and keeps no rules
 end-keeps : (s : List ℕ) (n : ℕ) → 1 ≤ n → n ≤ length s → Where (length s) (RulesKeep s) (statementEnd s n)
 unfolding statementEnd
 end-keeps s n h i =
@@ -211,6 +212,7 @@ at-rule-keeps s =
     (λ _. tt)
 
 -- ---- every statement that reads
+-- every statement that reads, a rule or an at-rule, keeps rules within the bounds of its text
 pub statements-keep : (s : List ℕ) → Where (length s) (RulesKeep s) (statementsOf s)
 unfolding statementsOf
 statements-keep s =

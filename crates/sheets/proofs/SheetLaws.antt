@@ -30,7 +30,7 @@ use Rattle.sheets.specs.declared.sheet.SheetAnswer.the-variants.{Sheet, 
 use Rattle.combinators.proofs.ZeroLaws.{zeros-all}
 
 -- ---- zeros
--- a store cleared throughout
+-- a store cleared throughout is as many zeros
 all-cleared : (l : List ℕ) → cleared 0 l ≡ replicate (length l) 0
 all-cleared l =
     let e : length l - 0 ≡ length l = omega arith in
@@ -70,6 +70,7 @@ answer-reads fails stop count numbers bytes e =
     ap numbersOf same
 answer-reads (panics p) stop count numbers bytes e = absurd (let z : _≡_ {A = ℕ} 0 1 = cc in omega arith)
 
+-- where it panics, the answer has the byte where
 answer-panics : (o : Outcome (List RuleSet)) (p : ℕ) → many.Panics p ≡ manyReading length (ruleRows 0) ruleTexts o → numbersOf (Panic p) ≡ sheetNumbers o
 unfolding manyReading sheetNumbers numbersOf onOutcome
 answer-panics (reads n rs) p e = absurd (let z : _≡_ {A = ℕ} 0 1 = cc in omega arith)
@@ -83,9 +84,11 @@ left-by p q r s t = rw (p, q, r, s, t) refl
 
 module _ {s rules tokens brackets texts : List ℕ} (o : SheetLent s rules tokens brackets texts)
     {y x b z : List ℕ} (cy : y ≡ cleared 0 rules) (cx : x ≡ cleared 0 tokens) (cb : b ≡ cleared 0 brackets) (cz : z ≡ cleared 0 texts) where
+  -- a cleared store is zero from its start on
   zeros-of : (l : List ℕ) → Zeros (cleared 0 l) 0
   zeros-of l = rw (all-cleared l) (zeros-all (length l) 0)
 
+  -- a cleared store is as long as it was
   long-of : (l : List ℕ) → length (cleared 0 l) ≡ length l
   long-of l = ap length (all-cleared l) ∙ length-replicate (length l) 0
 
@@ -120,12 +123,15 @@ module _ {s rules tokens brackets texts : List ℕ} (o : SheetLent s rules token
     fits-by fails e = (omega arith, omega arith)
     fits-by (panics p) e = (omega arith, omega arith)
 
+    -- the rows of the sheet's rules fit the store
     rows-fit : length (written (ruleRows 0) (sheetOf s)) ≤ length rules
     rows-fit = fits-by (sheetOf s) refl .0
 
+    -- the texts of the sheet's rules fit the store
     texts-fit : length (written ruleTexts (sheetOf s)) ≤ length texts
     texts-fit = fits-by (sheetOf s) refl .1
 
+    -- with the right answer, the stores are left as the definition says
     left : (a : SheetNumbers) → a ≡ sheetNumbers (sheetOf s)
         → _≡_ {A = SheetLeft} (record { answer = a; rules = y′; tokens = x′; brackets = b′; texts = z′ }) (sheetLeft s rules tokens brackets texts)
     unfolding sheetLeft
@@ -134,34 +140,41 @@ module _ {s rules tokens brackets texts : List ℕ} (o : SheetLent s rules token
         (ex ∙ cx ∙ all-cleared tokens) (eb ∙ cb ∙ all-cleared brackets)
         (ez ∙ ap (λ (l : List ℕ). sets l 0 (written ruleTexts (sheetOf s))) cz ∙ stored (written ruleTexts (sheetOf s)) texts texts-fit)
 
+    -- the return where the sheet reads
     pub sheet-read : {stop count numbers bytes : ℕ} → r ≡ many.Reads stop count numbers bytes
         → _≡_ {A = SheetLeft} (record { answer = numbersOf (Sheet count stop numbers bytes); rules = y′; tokens = x′; brackets = b′; texts = z′ }) (sheetLeft s rules tokens brackets texts)
     sheet-read {stop} {count} {numbers} {bytes} g = left (numbersOf (Sheet count stop numbers bytes)) (answer-reads (sheetOf s) stop count numbers bytes (sym g ∙ er))
 
+    -- the return where the crate panics
     pub sheet-panics : {p : ℕ} → r ≡ many.Panics p
         → _≡_ {A = SheetLeft} (record { answer = numbersOf (Panic p); rules = y′; tokens = x′; brackets = b′; texts = z′ }) (sheetLeft s rules tokens brackets texts)
     sheet-panics {p} g = left (numbersOf (Panic p)) (answer-panics (sheetOf s) p (sym g ∙ er))
 
 -- ---- `read_sheet`, in the order of the refusals
 module _ (s rules tokens brackets texts : List ℕ) where
+  -- a sheet that is too long is refused, and the stores stay
   pub too-long : sheetLimit < length s → _≡_ {A = SheetLeft} (record { answer = numbersOf TooLong; rules = rules; tokens = tokens; brackets = brackets; texts = texts }) (readSheet s rules tokens brackets texts)
   unfolding readSheet unchanged numbersOf
   too-long h = pick-true _ _ _ _ (lt-ltb sheetLimit (length s) h) refl
 
   module _ (h : length s ≤ sheetLimit) {t : Bool} (et : t ≡ storesSuffice (length s) (length rules) (length tokens) (length brackets) (length texts)) where
+    -- stores that are too short are refused, and stay
     pub short-store : t ≡ false → _≡_ {A = SheetLeft} (record { answer = numbersOf ShortStore; rules = rules; tokens = tokens; brackets = brackets; texts = texts }) (readSheet s rules tokens brackets texts)
     unfolding readSheet unchanged numbersOf
     short-store e = pick-false _ _ _ _ (le-ltb sheetLimit (length s) h) (pick-false _ _ _ _ (sym et ∙ e) refl)
 
     module _ (e : t ≡ true) where
+      -- behind both tests a sheet is within its limit and the stores have the least lengths
       pub lent : SheetLent s rules tokens brackets texts
       lent = record { within = h; least = least et e }
 
       module _ {v : Bool} (ev : v ≡ valid s) where
+        -- a sheet that is no UTF-8 is refused, and the stores stay
         pub not-utf8 : v ≡ false → _≡_ {A = SheetLeft} (record { answer = numbersOf NotUtf8; rules = rules; tokens = tokens; brackets = brackets; texts = texts }) (readSheet s rules tokens brackets texts)
         unfolding readSheet unchanged numbersOf
         not-utf8 f = pick-false _ _ _ _ (le-ltb sheetLimit (length s) h) (pick-true _ _ _ _ (sym et ∙ e) (pick-false _ _ _ _ (sym ev ∙ f) refl))
 
+        -- a sheet that passes all tests leaves what reading leaves
         pub read : v ≡ true → {a : SheetNumbers} {y x b z : List ℕ}
             → record { answer = a; rules = y; tokens = x; brackets = b; texts = z } ≡ sheetLeft s rules tokens brackets texts
             → record { answer = a; rules = y; tokens = x; brackets = b; texts = z } ≡ readSheet s rules tokens brackets texts
@@ -169,12 +182,14 @@ module _ (s rules tokens brackets texts : List ℕ) where
         read f p = pick-false _ _ _ _ (le-ltb sheetLimit (length s) h) (pick-true _ _ _ _ (sym et ∙ e) (pick-true _ _ _ _ (sym ev ∙ f) p))
 
 -- ---- reading a sheet never fails
+-- reading statements, in any number of turns, reads or panics
 never-fails : (t : ℕ) (s : List ℕ) (at : ℕ) → sheetFrom t s at ≡ fails → ⊥
 unfolding sheetFrom
 never-fails zero s at e = reads-no e
 never-fails (suc t) s at e =
     then-never (statementsOf s) _ (reads at []) _ (λ n rs. behind-never 0 (sheetFrom t (drop n s) (at + n)) _ (never-fails t (drop n s) (at + n))) reads-no e
 
+-- the reading of a whole sheet reads or panics, it never fails
 pub sheet-never-fails : (s : List ℕ) → sheetOf s ≡ fails → ⊥
 unfolding sheetOf
 sheet-never-fails s e = never-fails (length s) s 0 e

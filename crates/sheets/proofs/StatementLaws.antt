@@ -65,7 +65,7 @@ module _ (at : ℕ) (k : Outcome (List RuleSet)) where
   either-reads fails n x e = absurd (let z : _≡_ {A = ℕ} 0 1 = cc in omega arith)
   either-reads (panics p) n x e = absurd (let z : _≡_ {A = ℕ} 0 1 = cc in omega arith)
 
-  -- the crate panics in it
+  -- where the crate panics in the rule, it panics in the statement, at the same byte
   either-panics : (o : Outcome RuleSet) (p : ℕ) → behind 0 o (movedBy at) ≡ panics p → either-of o ≡ panics p
   unfolding behind onOutcome orElse
   either-panics (reads m a) p e = absurd (let z : _≡_ {A = ℕ} 0 1 = cc in omega arith)
@@ -83,6 +83,7 @@ module _ (at : ℕ) (k : Outcome (List RuleSet)) where
   either-second (panics p) e = absurd (let z : _≡_ {A = ℕ} 0 1 = cc in omega arith)
 
 -- ---- one rule as a list
+-- the row of one rule is that of a list of that rule alone
 one-rule : (f : ℕ) (r : RuleSet) → ruleRow f r ≡ ruleRows f (r ∷ [])
 unfolding ruleRows rowsMany
 one-rule f r = sym (append-nil (ruleRow f r))
@@ -92,7 +93,7 @@ one-text : (r : RuleSet) → ruleText r ≡ ruleTexts (r ∷ [])
 unfolding ruleTexts textsMany
 one-text r = sym (append-nil (ruleText r))
 
--- ---- `parse_statement`
+-- ---- `parse_statement`: a rule, or else an at-rule, return by return
 module _ (s : List ℕ) (at : ℕ) (rules : List ℕ) (place : ℕ) (tokens brackets store : List ℕ) (fill : ℕ) (o : RuleRoom s at rules place tokens brackets store fill) where
   -- that of a rule
   abbrev meant : Outcome (List RuleSet)
@@ -112,10 +113,10 @@ module _ (s : List ℕ) (at : ℕ) (rules : List ℕ) (place : ℕ) (tokens brac
   abbrev first : Outcome RuleSet
   first = behind 0 (rulesetOf s) (movedBy at)
 
-  -- what `parse_ruleset` left
+  -- what `parse_ruleset` left: the rule, written at the place
   module _ {r : Reading} {y x b z : List ℕ} (e : (r ≡ reading (λ _. 1) (ruleRow fill) ruleText first)
       × ((y ≡ sets rules place (written (ruleRow fill) first)) × ((x ≡ tokens) × ((b ≡ brackets) × (z ≡ sets store fill (written ruleText first)))))) where
-    -- of rows and texts
+    -- its answer, rows and texts, without the other stores
     left : Left (λ _. 1) (ruleRow fill) ruleText first rules place store fill r y z
     left = (e .0, (e .1 .0, e .1 .1 .1 .1))
 
@@ -135,7 +136,7 @@ module _ (s : List ℕ) (at : ℕ) (rules : List ℕ) (place : ℕ) (tokens brac
         let g = panicked _ _ _ _ _ _ _ _ left h in
         stated (left-panics _ _ _ _ _ _ _ _ (either-panics at (atRuleOf s) (rulesetOf s) p (g .0)) (g .1 .0) (g .1 .1)) (e .1 .1 .0) (e .1 .1 .1 .0)
 
-    -- no rule
+    -- no rule stands here: the stores are as they were, and an at-rule is looked for
     module _ (h : r ≡ Fails) where
       -- it does not read, and the stores are as they were
       none : (first ≡ fails) × ((y ≡ rules) × (z ≡ store))

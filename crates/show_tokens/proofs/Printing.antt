@@ -30,7 +30,7 @@ module _ (t : Texts) (m : ℕ) (h : textsLength t ≤ m) where
   unfolding textsLength
   one-fits n e = rw e at h
 
-  -- two texts that do
+  -- where a token has two texts, both together are within the m bytes
   pub two-fit : (n u : ℕ) → t ≡ Two n u → n + u ≤ m
   unfolding textsLength
   two-fit n u e = rw e at h

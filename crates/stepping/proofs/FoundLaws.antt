@@ -31,7 +31,7 @@ use Rattle.stepping.proofs.ReadingLaws.{listed-is, listed-none}
 use Rattle.stepping.proofs.WeightLaws.{weights-read, weights-fault}
 use Rattle.stepping.proofs.StyleLaws.{unmerged}
 
--- ---- one selector
+-- ---- what is merged of one selector
 module _ (code : List ℕ) (p : ℕ) (row : List ℕ) where
   -- what is merged of it
   abbrev pub FoundMerged : List ℕ → Type 0
@@ -50,16 +50,17 @@ module _ (code : List ℕ) (p : ℕ) (row : List ℕ) where
 
 -- ---- returns of `merge_found`
 module _ (code : List ℕ) (p : ℕ) (r : HeadAnswer) (er : r ≡ headAnswer (headAt code agentOrigin p)) where
-  -- no head
+  -- where no head is read at the place, the row stays: no selector is found there
   pub head-none : (q : ℕ) → r ≡ head.Fault q → (row : List ℕ) → FoundMerged code p row row
   unfolding walkedSelectorAt
   head-none q e row = none-found code p row q (then-fault (headAt code agentOrigin p) _ q (head-fault _ r er q e))
 
   module _ (n origin pseudo count : ℕ) (h : r ≡ head.Head n origin pseudo count) (c : Weight) (ec : c ≡ weightsAt code count n) where
-    -- behind the head
+    -- the head that was read: origin, pseudo element and number of components
     abbrev told : Head
     told = record { origin = origin; pseudo = pseudo; count = count }
 
+    -- with its head read, the selector is what its parts behind it make of it
     behind-head : walkedSelectorAt code agentOrigin p ≡ walkedPartsAt code told n
     unfolding walkedSelectorAt
     behind-head = then-read (headAt code agentOrigin p) _ n told (head-read _ r er n origin pseudo count h)

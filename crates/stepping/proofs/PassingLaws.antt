@@ -30,20 +30,20 @@ use Rattle.compiled.proofs.Walking.{sheet-steps}
 use Rattle.segments.specs.Before.{noPlace}
 use Rattle.segments.specs.Document.{styledFrom, freshFrom, SelectorsRead}
 use Rattle.segments.specs.Down.{passAt, freshIn, readIn}
-use Rattle.segments.specs.Met.{rowAlone}
+use Rattle.sweeps.specs.Met.{rowAlone}
 use Rattle.segments.specs.Parts.{pairLimit}
 use Rattle.segments.specs.Pass.{Passed, matchedHere, blockSet, passFrom}
-use Rattle.segments.specs.Passing.{nextFrom, visitStored, passStored}
-use Rattle.segments.specs.Skipping.{Skips}
+use Rattle.visits.specs.Passing.{nextFrom, visitStored, passStored}
+use Rattle.hints.specs.Skipping.{Skips}
 use Rattle.segments.specs.Sweep.{pairAt}
-use Rattle.segments.specs.Telling.{freshStored, TellLent}
-use Rattle.segments.specs.Visiting.{VisitLent, blockStored}
+use Rattle.visits.specs.Telling.{freshStored, TellLent}
+use Rattle.visits.specs.Visiting.{VisitLent, blockStored}
 use Rattle.segments.specs.Visits.{toNext, Visited, visitAt}
-use Rattle.segments.proofs.CodeBlockLaws.{block-own, block-above}
-use Rattle.segments.proofs.CodePassLaws as stored
-use Rattle.segments.proofs.CodePassLaws.{Passing, pass-whole}
-use Rattle.segments.proofs.CodeStyledLaws.{sheet-selectors}
-use Rattle.segments.proofs.CodeTellLaws.{fresh-own, fresh-outside, fresh-whole}
+use Rattle.visits.proofs.CodeBlockLaws.{block-own, block-above}
+use Rattle.visits.proofs.CodePassLaws as stored
+use Rattle.visits.proofs.CodePassLaws.{Passing, pass-whole}
+use Rattle.visits.proofs.CodeStyledLaws.{sheet-selectors}
+use Rattle.visits.proofs.CodeTellLaws.{fresh-own, fresh-outside, fresh-whole}
 use Rattle.segments.proofs.PassLaws.{pass-none, pass-more}
 use Rattle.runner.specs.PageRows.{selectorsDeclare}
 use Rattle.runner.specs.Run.{foundAt}
@@ -59,7 +59,7 @@ module _ (code : List ℕ) where
   abbrev declaredAt : List ℕ → List (Declared Value)
   declaredAt ps = selectorsDeclare (foundAt code ps)
 
-  -- the first, then the others
+  -- what selectors at places declare is what the first declares, then what the others do
   first-declared : (p : ℕ) (ps : List ℕ) → declaredAt (p ∷ ps) ≡ declaredAt (p ∷ []) ++ declaredAt ps
   unfolding readIn
   first-declared p ps =
@@ -79,7 +79,7 @@ module _ (code : List ℕ) where
 module _ (code : List ℕ) (e : Element) (above own width p : ℕ) (state row : List ℕ) (m : Bool) (em : m ≡ visitAt code (rowAlone true e) (part state above width) p .matched)
     (state₁ : List ℕ) (es : state₁ ≡ blockStored state own width (visitAt code (rowAlone true e) (part state above width) p) (pairAt (part state above width) (p + toNext)) p)
     (next : ℕ) (en : (next ≡ pairAt (part state above width) (p + toNext)) × (next < pairLimit)) where
-  -- what is left
+  -- what the return owes: the block is stored, what the selector declares is merged if it matches, and the next place is told
   abbrev Visits : List ℕ → Type 0
   Visits z =
       (state₁ ≡ visitStored code (e ∷ []) above own width p state)
@@ -132,7 +132,7 @@ module _ (code : List ℕ) (row : Path) (above own width : ℕ) where
           merging = subst (Merging out₀ (declaredFrom state₀ count first) out) (ap (declaredAt code) (sym (s .matched))) (v .merging);
         }
 
-    -- none is left
+    -- where none is left to visit, state and row are those behind all of them
     pub find-end : left ≤ 0 → Found
     find-end h =
         let d : left ≡ 0 = omega arith in
@@ -165,7 +165,7 @@ module _ (code : List ℕ) (row : Path) (above own width : ℕ) where
       unfolding nextFrom
       next-is = en
 
-      -- by its block
+      -- and its block is what the state has now
       block-is : state₁ ≡ blockStored state own width visited following p
       unfolding visitStored nextFrom
       block-is = es
@@ -186,7 +186,7 @@ module _ (code : List ℕ) (row : Path) (above own width : ℕ) where
           ∙ here-declared code visited p _
           ∙ ap (λ (r : Passed). declaredAt code (matchedHere visited p) ++ declaredAt code (r .matched)) (sym others-are)
 
-      -- the next one
+      -- what the visited selector declares was merged: the loop goes on at the next, with one fewer left
       pub find-more : (out₁ : List ℕ) → out₁ ≡ mergedRow Crate out (declaredAt code (matchedHere (visitAt code row (part state above width) p) p))
           → Finding state₀ out₀ first count place state₁ out₁ next (left - 1)
       find-more out₁ eo =
@@ -211,17 +211,17 @@ module _ (code : List ℕ) (sheet : bytesRefusal code ≡ noRefusal) (r : Number
       let d = decoded code sheet in
       no-fault (numberAt code 0) _ p _ (sheet-steps code (d .0) (d .1) (d .2) .count-read) (number-fault (numberAt code 0) r er p q)
 
-  -- behind it the selectors
+  -- behind the count that was read, as many selectors read
   pub selectors-there : (n count : ℕ) → r ≡ number.Number n count → SelectorsRead code count n
   selectors-there n count h = let d = decoded code sheet in sheet-selectors code (d .0) (d .1) (d .2) n count (number-read (numberAt code 0) r er n count h)
 
 -- ---- what `pass_element` asks for, and its return
 module _ (code state : List ℕ) (above own width place : ℕ) (l : SheetLent code state above own width place) where
-  -- a visit of the first
+  -- the first selector, which lies within the bytes, may be visited
   pub element-lent : (first : ℕ) → first ≤ length code → VisitLent code state above own width first place
   element-lent first f = record { room = l .room; apart = l .apart; few-bytes = l .few-bytes; near = omega (arith, f, l .few-bytes); few = l .few }
 
-  -- all are passed
+  -- what the loop left is what the pass over the whole sheet makes of the own part, with all that match merged
   pub element-passed : (r : NumberAnswer) → r ≡ numberAnswer (numberAt code 0) → (n count : ℕ) → r ≡ number.Number n count → (first : ℕ) → first ≡ styledFrom code count n
       → (row : Path) (out state₁ out₁ : List ℕ) → (state₁ ≡ passStored code row above own width count first state)
       × (out₁ ≡ mergedRow Crate out (declaredAt code (passFrom code row (part state above width) count first (part state own width) .matched)))
@@ -258,7 +258,7 @@ module _ (code state : List ℕ) (l : DocumentLent code state) where
           few = omega arith;
         }
 
-    -- what is told
+    -- the next part, set afresh for the selectors of the sheet
     abbrev fresh : List ℕ
     fresh = freshFrom code k n (part state width width)
 
@@ -280,7 +280,7 @@ module _ (code state : List ℕ) (l : DocumentLent code state) where
           let none : partPlace code 0 ≡ 0 = omega arith in
           rw (one, none, number-read (numberAt code 0) r er n k h, ← ef)
 
-      -- all are passed
+      -- the state is that of the document's pass: the next part set afresh, the own part by all selectors at a row without element
       pub document-is : (e : Element) (state₂ : List ℕ) → state₂ ≡ passStored code (rowAlone false e) (length code + 1) 0 (length code + 1) k first state₁ → state₂ ≡ documentPassed code state
       unfolding rowAlone
       document-is e state₂ e₂ =

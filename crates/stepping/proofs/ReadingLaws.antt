@@ -44,7 +44,7 @@ module _ {A : Type 0} (u : ℕ → Decoded A) (left i end : ℕ) (others : List 
       let d : left ≡ suc (left - 1) = omega arith in
       counted-first u (left - 1) i end others (ap (λ (k : ℕ). counted u k i) (sym d) ∙ e)
 
-  -- the others behind it
+  -- where the first of them is known, the others are read behind it
   pub counted-next : (n : ℕ) (a : A) → 0 < left → u i ≡ read n a → (rest : List A) × (counted u (left - 1) n ≡ read end rest) × (others ≡ a ∷ rest)
   counted-next n a h f =
       let w = counted-left h in
@@ -57,7 +57,7 @@ module _ {A : Type 0} (u : ℕ → Decoded A) (left i end : ℕ) (others : List 
   pub counted-there : (p : ℕ) → 0 < left → u i ≡ fault p → ⊥
   counted-there p h f = no-fault (u i) _ p _ (counted-left h .first) f
 
-  -- none is left
+  -- where none is left to read, the list of the others is empty
   pub counted-end : left ≤ 0 → others ≡ []
   counted-end h =
       let d : left ≡ 0 = omega arith in

@@ -25,11 +25,11 @@ use Rattle.styles.specs.Said.{countedAttributes}
 use Rattle.styles.specs.StyleCall.{attributesContents, inlineContents, placedAttributes}
 use Rattle.styles.proofs.Merging.{merged-none, merged-long, late-none}
 use Rattle.segments.specs.Down.{passAt}
-use Rattle.segments.specs.Met.{handedElement}
+use Rattle.sweeps.specs.Met.{handedElement}
 use Rattle.segments.specs.Parts.{partSets, flagsLimit, pairLimit}
 use Rattle.segments.specs.Pass.{Passed}
 use Rattle.segments.specs.Sweep.{pairAt, pairBytes}
-use Rattle.segments.proofs.CodeBlockLaws.{length-sets-own}
+use Rattle.segments.proofs.PartSetLaws.{length-sets-own}
 use Rattle.runner.specs.PageRows.{noStyle, selectorsDeclare}
 use Rattle.runner.specs.Run.{Handed, Stepped, handedFrom, rowBelow, foundAt, documentStep, elementStep, openStep, stepOn}
 use Rattle.runner.specs.State.{depths, partPlace, partOf, raised, opened}
@@ -68,7 +68,7 @@ parts-fit d w n h l =
 
 -- ---- what opening a row knows
 module _ (code out state : List ℕ) (l : OpenLent code out state) where
-  -- a row for a style
+  -- the buffer that is lent has room for a row
   pub row-there : RowRoom out
   row-there = record { room = omega (arith, l .one-row) }
 
@@ -190,11 +190,11 @@ module _ (settings : Settings) (attributes text : List ℕ) (base fill : ℕ) (o
   abbrev rowAttributes : List Attribute
   rowAttributes = attributesFrom attributes text (attributeRows attributes) 0
 
-  -- those that count
+  -- those that count: all where the document's styles are on, else none
   abbrev counting : List Attribute
   counting = pick (settings .«document_styles») rowAttributes []
 
-  -- they do
+  -- where the document's styles are on, what merging all attributes of the row left is what those that count leave
   pub inline-on : settings .«document_styles» ≡ true → fill ≤ length texts → (n : ℕ) → n ≡ attributeRows attributes → (out₁ texts₁ : List ℕ) (r : ℕ)
       → (out₁ ≡ mergedRow Crate out (lateDeclared Crate (placedAttributes (base + fill) (attributesFrom attributes text n 0))))
       × ((r ≡ fill + length (attributesContents (attributesFrom attributes text n 0)))
@@ -216,7 +216,7 @@ module _ (settings : Settings) (attributes text : List ℕ) (base fill : ℕ) (o
         ),
       )
 
-  -- they do not
+  -- where they are off, row, fill and texts stay as they are: no attribute counts
   pub inline-off : settings .«document_styles» ≡ false → fill ≤ length texts
       → (out ≡ mergedRow Crate out (lateDeclared Crate (placedAttributes (base + fill) counting)))
       × ((take fill texts ≡ take fill texts ++ attributesContents counting)
@@ -261,7 +261,7 @@ stepped row row₁ state state₁ texts texts₁ a b c = rw (a, b, c)
 
 -- an element below a row of the depth d
 module _ (settings : Settings) (code node attributes text out state texts : List ℕ) (fill d : ℕ) (f : fill ≤ length texts) where
-  -- the element itself
+  -- the element of the row, its place among its parent's children by what the state keeps of the parent
   abbrev childAt : Element
   childAt = childElement node attributes text state (partPlace code d)
 
@@ -293,7 +293,7 @@ module _ (settings : Settings) (code node attributes text : List ℕ) (depth : �
   abbrev fits : fill ≤ length texts
   fits = filled code attributes text depth out state rules tokens brackets texts fill l
 
-  -- other content
+  -- the step of other content leaves an empty row, and state and texts as they were
   pub other-step : (kind : ℕ) → kind ≡ nodeAt node 0 .kind → kind ≡ otherKind → (out₁ : List ℕ) → Emptied out out₁
       → (record { row = out₁; state = state; texts = take fill texts } ≡ stepOn code settings handed depth out state (take fill texts)) × (fill ≤ length texts)
   unfolding stepOn handedFrom
@@ -306,14 +306,14 @@ module _ (settings : Settings) (code node attributes text : List ℕ) (depth : �
     unfolding stepOn handedFrom
     opens x q = pick-false _ _ _ _ (is-no _ _ (λ z. h (e ∙ z))) q
 
-    -- the document
+    -- at depth 0 the step is the document's: no style, its state, no texts added
     pub document-step : depth ≡ 0 → (out₁ state₁ : List ℕ) → (out₁ ≡ noStyle) × (state₁ ≡ documentStep code state [] .state)
         → (record { row = out₁; state = state₁; texts = take fill texts } ≡ stepOn code settings handed depth out state (take fill texts)) × (fill ≤ length texts)
     unfolding openStep documentStep
     document-step d out₁ state₁ p =
         (opens _ (stepped _ _ _ _ _ _ (p .0) (p .1) refl ∙ ap (λ (x : ℕ). openStep code settings handed x out state (take fill texts)) (sym d)), fits)
 
-    -- an element
+    -- below depth 0 the step is an element's: opened below its parent, then its attributes merged and their contents added
     pub element-step : ¬ (depth ≡ 0) → (out₁ state₁ : List ℕ)
         → ElementOpened code (childElement node attributes text state (partPlace code (depth - 1))) (depth - 1) out state out₁ state₁ → (out₂ texts₂ : List ℕ) (r : ℕ)
         → (out₂ ≡ mergedRow Crate out₁ (lateDeclared Crate (placedAttributes (length code + fill) (counting settings attributes text (length code) fill out texts))))

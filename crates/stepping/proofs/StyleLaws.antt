@@ -50,7 +50,7 @@ module _ (row₀ : List ℕ) (all : List (Declared Value)) where
   merging-begin r = record { left = refl; long = refl; room = r }
 
   module _ (row : List ℕ) (others : List (Declared Value)) (m : Merging row others) where
-    -- some are merged
+    -- some of the others are merged: what stands behind them is left to merge
     pub merging-more : (ds behind : List (Declared Value)) → others ≡ ds ++ behind → (z : List ℕ) → z ≡ mergedRow Crate row ds → Merging z behind
     merging-more ds behind e z ez =
         let same : length z ≡ length row = ap length ez ∙ merged-long Crate ds row in
@@ -60,13 +60,13 @@ module _ (row₀ : List ℕ) (all : List (Declared Value)) where
           room = room-kept row z same (m .room);
         }
 
-    -- all are merged
+    -- where none is left, the row is the first one with all merged
     pub merging-done : others ≡ [] → row ≡ mergedRow Crate row₀ all
     merging-done e = sym (merged-none Crate row) ∙ sym (ap (mergedRow Crate row) e) ∙ m .left
 
--- ---- one style
+-- ---- what the answer for one style says of the bytes
 module _ (d : Decoded StyleNumbers) (r : StyleAnswer) (e : r ≡ styleAnswer d) where
-  -- it was read
+  -- an answer with a style: these numbers were read, up to that place
   style-read : (n : ℕ) (x : StyleNumbers) → r ≡ style.Style n x → d ≡ read n x
   unfolding styleAnswer
   style-read n x p = go d (sym p ∙ e)
@@ -109,7 +109,7 @@ module _ (code : List ℕ) (count at origin pseudo : ℕ) (spec : Specificity) (
   unfolding stylesDeclare fromRule ruleStyle inNumbers
   style-merged row z x m = m .numbers ∙ sym (merged-more Crate row (fromRule origin (ruleStyle pseudo spec (inNumbers x))) [] ∙ merged-none Crate _)
 
-  -- the first, and the others
+  -- what styles declare is what the first declares, then what the others do
   one-declared : (others rest : List (Styled Value)) (x : Styled Value) → others ≡ x ∷ rest
       → stylesDeclare origin pseudo spec others ≡ stylesDeclare origin pseudo spec (x ∷ []) ++ stylesDeclare origin pseudo spec rest
   unfolding stylesDeclare
@@ -135,16 +135,17 @@ module _ (code : List ℕ) (count at origin pseudo : ℕ) (spec : Specificity) (
           merging = merging-more row₀ _ row _ (m .merging) _ _ (one-declared (m .others) (w .0) (inNumbers x) (w .2)) z (style-merged row z x d);
         }
 
-    -- there is one
+    -- while some are left, the reading of a style does not fail
     pub styles-there : 0 < left → (r : StyleAnswer) → r ≡ styleAnswer (styleNumbersAt code i) → (p : ℕ) → r ≡ style.Fault p → ⊥
     styles-there h r e p q =
         counted-there (walkedStyleAt code) left i (m .end) (m .others) (m .told) p h (mapped-fault inNumbers (styleNumbersAt code i) p (style-fault (styleNumbersAt code i) r e p q))
 
-    -- all are merged
+    -- when none is left, all styles of the selector are merged into the row
     pub styles-done : left ≤ 0 → row ≡ mergedRow Crate row₀ (stylesDeclare origin pseudo spec all)
     styles-done h = merging-done row₀ _ row _ (m .merging) (none-declared (m .others) (counted-end (walkedStyleAt code) left i (m .end) (m .others) (m .told) h))
 
 -- ---- where nothing is read, nothing is merged
+-- no styles, merged into a row, leave it as it is
 pub unmerged : (origin pseudo : ℕ) (spec : Specificity) (row : List ℕ) (xs : List (Styled Value)) → xs ≡ [] → row ≡ mergedRow Crate row (stylesDeclare origin pseudo spec xs)
 unfolding stylesDeclare
 unmerged origin pseudo spec row xs e = rw e (sym (merged-none Crate row))
@@ -159,7 +160,7 @@ module _ (code : List ℕ) (at origin pseudo : ℕ) (spec : Specificity) (row : 
       let u = mapped-read inNumbers (styleNumbersAt code at) n x (style-read (styleNumbersAt code at) r e n x p) in
       style-merged code 1 at origin pseudo spec row row z x m ∙ ap (λ xs. mergedRow Crate row (stylesDeclare origin pseudo spec xs)) (sym (one-read (walkedStyleAt code) at n (inNumbers x) u))
 
-  -- there is none
+  -- where no style is read, the row stays: nothing is declared
   pub one-unmerged : (p : ℕ) → r ≡ style.Fault p → row ≡ mergedRow Crate row (stylesDeclare origin pseudo spec (listed (counted (walkedStyleAt code) 1 at)))
   one-unmerged p q =
       let u = mapped-fault inNumbers (styleNumbersAt code at) p (style-fault (styleNumbersAt code at) r e p q) in
@@ -174,17 +175,17 @@ module _ (code : List ℕ) (at : ℕ) (r : NumberAnswer) (e : r ≡ numberAnswer
   count-none p q origin pseudo spec row = unmerged origin pseudo spec row _ (listed-none _ p (then-fault (numberAt code at) _ p (number-fault (numberAt code at) r e p q)))
 
   module _ (n k : ℕ) (p : r ≡ number.Number n k) where
-    -- behind it the styles
+    -- behind the count that was read, as many styles are read
     styles-behind : walkedStylesAt code at ≡ counted (walkedStyleAt code) k n
     unfolding walkedStylesAt
     styles-behind = then-read (numberAt code at) (λ n count. counted (walkedStyleAt code) count n) n k (number-read (numberAt code at) r e n k p)
 
-    -- which are merged
+    -- what merging those styles leaves is what merging the styles at the place leaves, their count read with them
     pub styles-merged : (origin pseudo : ℕ) (spec : Specificity) (row z : List ℕ)
         → z ≡ mergedRow Crate row (stylesDeclare origin pseudo spec (listed (counted (walkedStyleAt code) k n))) → z ≡ mergedRow Crate row (stylesDeclare origin pseudo spec (listed (walkedStylesAt code at)))
     styles-merged origin pseudo spec row z h = rw styles-behind h
 
-    -- there is one
+    -- a count of one: merging that one style is merging all
     pub style-alone : k ≡ 1 → (origin pseudo : ℕ) (spec : Specificity) (row z : List ℕ)
         → z ≡ mergedRow Crate row (stylesDeclare origin pseudo spec (listed (counted (walkedStyleAt code) 1 n))) → z ≡ mergedRow Crate row (stylesDeclare origin pseudo spec (listed (walkedStylesAt code at)))
     style-alone one origin pseudo spec row z h = styles-merged origin pseudo spec row z (rw one h)
@@ -196,7 +197,7 @@ module _ (code : List ℕ) (at : ℕ) (r : NumberAnswer) (e : r ≡ numberAnswer
           let w = place-read (walkedStylesAt code at) d (ed ∙ styles-place code at) m hd in
           record { few = omega (arith, l); reads = record { end = m; value = w .0; told = sym styles-behind ∙ w .1 } }
 
-      -- one does not
+      -- where one of the styles does not read, the row stays: none is declared
       pub styles-none : (q : ℕ) → d ≡ place.Fault q → (origin pseudo : ℕ) (spec : Specificity) (row : List ℕ)
           → row ≡ mergedRow Crate row (stylesDeclare origin pseudo spec (listed (walkedStylesAt code at)))
       styles-none q hd origin pseudo spec row = unmerged origin pseudo spec row _ (listed-none _ q (place-fault (walkedStylesAt code at) d (ed ∙ styles-place code at) q hd))

@@ -33,6 +33,7 @@ nothing = record { inline = false; id = 0; class = 0; typ = 0 }
 abbrev AddsNothing : Component → Type 0
 AddsNothing c = nothing ≡ added c
 
+-- a component that is its kind alone adds nothing, whichever it is
 mark-adds : (kind : ℕ) → AddsNothing (markOf kind)
 unfolding markOf added noSpecificity specificityOf
 mark-adds kind = pick-holds AddsNothing (is kind starKind) _ _ (λ _. refl) (λ _. pick-holds AddsNothing (is kind childKind) _ _ (λ _. refl) (λ _. refl))
@@ -52,6 +53,7 @@ module _ (kind : ℕ) (x : List ℕ) where
   abbrev AddsClass : Component → Type 0
   AddsClass c = specificityOf 0 1 0 ≡ added c
 
+  -- a text that is neither an element's name nor an id adds one to the classes
   class-adds : ¬ (kind ≡ elementKind) → ¬ (kind ≡ hashKind) → AddsClass (namedOf kind x)
   unfolding namedOf added
   class-adds no-element no-hash =
@@ -69,15 +71,15 @@ module _ (kind : ℕ) (s : Specificity) where
   abbrev Named : Type 0
   Named = (x : List ℕ) → s ≡ added (namedOf kind x)
 
-  -- an element's name
+  -- an element's name adds one to the type names, whatever it is
   pub element-weight : kind ≡ elementKind → s ≡ specificityOf 0 0 1 → Named
   element-weight e q = λ x. q ∙ element-adds kind x e
 
-  -- an id
+  -- an id adds one to the ids, whatever it is
   pub hash-weight : kind ≡ hashKind → s ≡ specificityOf 1 0 0 → Named
   hash-weight e q = λ x. q ∙ hash-adds kind x e
 
-  -- a class or an attribute
+  -- a class or an attribute adds one to the classes, whatever it is
   pub class-weight : ¬ (kind ≡ elementKind) → ¬ (kind ≡ hashKind) → s ≡ specificityOf 0 1 0 → Named
   class-weight no-element no-hash q = λ x. q ∙ class-adds kind x no-element no-hash
 
@@ -87,25 +89,25 @@ module _ (code : List ℕ) (at : ℕ) (r : ComponentAnswer) (er : r ≡ componen
   abbrev Is : Weight → Type 0
   Is w = w ≡ weightAt code at
 
-  -- star and combinators
+  -- star and combinators add nothing to the weight
   pub mark-weight : (n kind : ℕ) → r ≡ component.Mark n kind → Is (weight.Added n nothing)
   mark-weight n kind p = weight-read code at n _ _ (at-mark code at r er n kind p) (mark-adds kind)
 
-  -- a component of one text
+  -- a component of one text adds what its kind adds
   pub name-weight : (n kind start size : ℕ) → r ≡ component.Name n kind start size → (s : Specificity) → Named kind s → Is (weight.Added n s)
   name-weight n kind start size p s q = weight-read code at n _ s (at-name code at r er n kind start size p) (q _)
 
-  -- an nth-child
+  -- an nth-child adds one to the classes
   pub numbers-weight : (n a b : ℕ) → r ≡ component.Numbers n a b → (s : Specificity) → s ≡ specificityOf 0 1 0 → Is (weight.Added n s)
   unfolding added
   numbers-weight n a b p s q = weight-read code at n _ s (at-numbers code at r er n a b p) q
 
-  -- an attribute of a value
+  -- an attribute of a value adds one to the classes
   pub names-weight : (n a b f g : ℕ) → r ≡ component.Names n a b f g → (s : Specificity) → s ≡ specificityOf 0 1 0 → Is (weight.Added n s)
   unfolding added
   names-weight n a b f g p s q = weight-read code at n _ s (at-names code at r er n a b f g p) q
 
-  -- a fault
+  -- where no component is read, the fault is at the same place
   pub fault-weight : (p : ℕ) → r ≡ component.Fault p → Is (weight.Fault p)
   unfolding weightAt onDecoded
   fault-weight p q = rw (at-fault code at r er p q)
@@ -127,12 +129,12 @@ unfolding sum
 sum-assoc a b c =
     rw (← or-assoc (a .inline) (b .inline) (c .inline), add-assoc (a .id) (b .id) (c .id), add-assoc (a .class) (b .class) (c .class), add-assoc (a .typ) (b .typ) (c .typ))
 
--- nothing before
+-- a sum whose first part is nothing is its second
 sum-first : (s : Specificity) → sum nothing s ≡ s
 unfolding sum or
 sum-first s = rw (zero-add (s .id), zero-add (s .class), zero-add (s .typ))
 
--- nothing behind
+-- a sum whose second part is nothing is its first
 sum-last : (s : Specificity) → sum s noSpecificity ≡ s
 unfolding sum noSpecificity specificityOf
 sum-last s = rw (or-false (s .inline) false refl, add-zero (s .id), add-zero (s .class), add-zero (s .typ))
@@ -160,14 +162,14 @@ unfolding weighing onDecoded
 weighing-begin (read n cs) = ap (weight.Added n) (sum-first (specificity cs))
 weighing-begin (fault p) = refl
 
--- a component before the others
+-- a component before the others is added to what was added before
 weighing-more : (s : Specificity) (c : Component) (d : Decoded (List Component)) → weighing (sum s (added c)) d ≡ weighing s (mapped (λ r. c ∷ r) d)
 unfolding weighing onDecoded mapped specificity
 weighing-more s c (read n cs) = ap (weight.Added n) (sum-assoc s (added c) (specificity cs))
 weighing-more s c (fault p) = refl
 
 module _ (code : List ℕ) (s : Specificity) (i : ℕ) where
-  -- none is left
+  -- where no component is left, what was added is the whole sum
   weighing-end : (left : ℕ) → left ≤ 0 → weight.Added i s ≡ weighing s (counted (componentAt code) left i)
   unfolding weighing onDecoded counted specificity
   weighing-end zero h = ap (weight.Added i) (sym (sum-last s))
@@ -190,7 +192,7 @@ module _ (code : List ℕ) (s : Specificity) (i : ℕ) where
 
 -- ---- what a weight says that was read
 module _ {A : Type 0} (f : A → Specificity) (d : Decoded A) (q : Weight) (eq : q ≡ onDecoded d (λ n a. weight.Added n (f a)) (λ p. weight.Fault p)) where
-  -- something was read
+  -- a weight was answered: a value was read up to that place, and the weight is its own
   weight-of : (n : ℕ) (x : Specificity) → q ≡ weight.Added n x → (a : A) × (d ≡ read n a) × (x ≡ f a)
   unfolding onDecoded
   weight-of n x e = go d (sym eq ∙ e)
@@ -199,7 +201,7 @@ module _ {A : Type 0} (f : A → Specificity) (d : Decoded A) (q : Weight) (eq :
       go (read m a) z = let p : m ≡ n = cc in (a, ap (λ (k : ℕ). read k a) p, cc)
       go (fault p) z = absurd (let w : _≡_ {A = ℕ} 0 1 = cc in omega arith)
 
-  -- nothing was
+  -- a fault was answered: the reading failed at that place
   fault-of : (p : ℕ) → q ≡ weight.Fault p → d ≡ fault p
   unfolding onDecoded
   fault-of p e = go d (sym eq ∙ e)
@@ -227,7 +229,7 @@ add-begin code at count =
     }
 
 module _ (code : List ℕ) (at count : ℕ) (s : Specificity) (i left : ℕ) (v : Adding code at count s i left) where
-  -- all is added
+  -- where no component is left, the answer is the sum of all components
   pub add-end : left ≤ 0 → weight.Added i s ≡ weightsAt code count at
   add-end h = weighing-end code s i left h ∙ v .total
 
@@ -243,6 +245,7 @@ module _ (code : List ℕ) (at count : ℕ) (s : Specificity) (i left : ℕ) (v 
       unfolding weightAt
       one = weight-of added (componentAt code i) q eq n x e
 
+      -- it adds at most one to each count
       few : (x .id ≤ 1) × ((x .class ≤ 1) × (x .typ ≤ 1))
       few = rw (one .2) (added-few (one .0))
 
@@ -255,6 +258,7 @@ module _ (code : List ℕ) (at count : ℕ) (s : Specificity) (i left : ℕ) (v 
             type-fits = omega (arith, few .1 .1, v .types);
           }
 
+      -- with it added, what is left to add makes the same total
       added-on : Adding code at count (sum s x) n (left - 1)
       unfolding sum
       added-on =
@@ -265,7 +269,7 @@ module _ (code : List ℕ) (at count : ℕ) (s : Specificity) (i left : ℕ) (v 
             types = omega (arith, few .1 .1, v .types);
           }
 
-      -- one component more
+      -- the component that was read is added, and the loop goes on behind it with one fewer left
       pub add-more : (t : Specificity) → t ≡ sum s x → Adding code at count t n (left - 1)
       add-more t p = rw p added-on
 

@@ -13,7 +13,7 @@ use Rattle.styles.specs.Merged.{mergedRow}
 use Rattle.compiled.specs.Answer.{bytesRefusal}
 use Rattle.compiled.specs.Sheet.{compiledLimit}
 use Rattle.segments.specs.Down.{passAt}
-use Rattle.segments.specs.Met.{handedElement}
+use Rattle.sweeps.specs.Met.{handedElement}
 use Rattle.segments.specs.Pass.{Passed}
 use Rattle.segments.specs.Sweep.{pairAt}
 use Rattle.runner.specs.LeastLengths.{stateLeast}

@@ -8,7 +8,7 @@ use Rattle.combinators.specs.Refusal.{noRefusal}
 use Rattle.compiled.specs.Answer.{bytesRefusal}
 use Rattle.compiled.specs.Sheet.{compiledLimit}
 use Rattle.segments.specs.Down.{passAt, freshIn}
-use Rattle.segments.specs.Met.{placeLimit}
+use Rattle.sweeps.specs.Met.{placeLimit}
 use Rattle.segments.specs.Parts.{Apart}
 use Rattle.runner.specs.State.{partWidth, partPlace, partOf}
 

@@ -44,6 +44,7 @@ module _ {A : Type 0} where
         rw (crate-folds (cascaded Crate above) x r k (cascaded-formed Crate above) h l)
         (holds-after P (declaredFor r k x) (slotIn (cascaded Crate above) r k) (holds-down P above (a .1)) (a .0))
 
+    -- whatever is declared down a path is the agent's, the user's or the author's
     all-known : (xs : List (Sources A)) → All (λ z. All (λ c. KnownOrigin (c .weight)) (declaredFor r k z)) xs
     all-known [] = tt
     all-known (x ∷ xs) = (known-origins r k x, all-known xs)
@@ -83,7 +84,7 @@ module _ {A : Type 0} where
   presence-down [] r h = refl
   presence-down (x ∷ above) r h = same-presence (cascaded Crate above) (cascaded Book above) x r h (presence-down above r h)
 
--- ---- computed styles
+-- ---- the computed styles of both cascades
 module _ (rules : Rules RuleSet) (settings : Settings) (p : Path) where
   -- both cascades show the same in every slot where all that is declared for it, of the element and of those above it, is decided alike
   pub styles-show-same : ((r k : ℕ) → r < recordCount → k < slotCount → AgreesDown r k (sourcesAlong rules settings p))

@@ -28,6 +28,7 @@ use Rattle.styles.proofs.Lying.{Lies, lies-left, lies-right, lies-at, l
 use Rattle.styles.proofs.Placed.{sources-same, sheets-placed, attributes-placed}
 
 -- ---- the row of the empty style
+-- a row of zeros is the row of the style in which nothing is declared
 pub empty-row : replicate styleRowWidth 0 ≡ rowOf emptyStyle
 unfolding rowOf emptyStyle emptyRecord recordNumbers slotsNumbers slotNumbers flag
 empty-row = refl
@@ -52,6 +53,7 @@ book-style-decides rules settings e up r k h l = book-decides (cascaded Book (so
 
 -- ---- along a path: where t has the contents of the sheets, and those of the path behind them
 module _ (t : List ℕ) (c : Cascade) (rules : Rules RuleSet) (settings : Settings) (sheets : Lies t 0 (sheetsContents rules)) where
+  -- what sheets and attributes say of an element by numbers, over the texts in t, is what they mean
   said-here : (e : Element) (up : Path) → Lies t (length (sheetsContents rules) + length (pathContents settings up)) (inlineContents settings e)
       → SameSources (Says t) (sourcesFrom (placedSheets rules) (placedAttributes (length (sheetsContents rules) + length (pathContents settings up)) (countedAttributes settings e)) (e ∷ up))
       (sourcesFrom (meantRules rules) (attributesSay (countedAttributes settings e)) (e ∷ up))

@@ -41,22 +41,25 @@ module _ (c : Cascade) where
 
 -- ---- what attributes declare, one behind the other
 module _ {A : Type 0} where
+  -- the colour attributes of two lists declare one behind the other
   colours-append : (xs ys : List (AttributeStyle A)) → colourAttributes (xs ++ ys) ≡ colourAttributes xs ++ colourAttributes ys
   unfolding colourAttributes
   colours-append [] ys = refl
   colours-append (x ∷ xs) ys = rw (colours-append xs ys) (sym (append-assoc (pick (x .isStyle) [] (fromAttribute false noSpecificity x ∷ [])) (colourAttributes xs) (colourAttributes ys)))
 
+  -- the `style` attributes of two lists declare one behind the other
   styles-append : (xs ys : List (AttributeStyle A)) → styleAttributes (xs ++ ys) ≡ styleAttributes xs ++ styleAttributes ys
   unfolding styleAttributes
   styles-append [] ys = refl
   styles-append (x ∷ xs) ys = rw (styles-append xs ys) (sym (append-assoc (pick (x .isStyle) (fromAttribute (x .style .important) inlineSpecificity x ∷ []) []) (styleAttributes xs) (styleAttributes ys)))
 
+  -- a function over two lists in a row is that over the first, and then over the second
   map-append : {B : Type 0} (f : A → B) (xs ys : List A) → map f (xs ++ ys) ≡ map f xs ++ map f ys
   map-append f [] ys = refl
   map-append f (x ∷ xs) ys = rw (map-append f xs ys)
 
 module _ {A : Type 0} where
-  -- before the author's rules
+  -- what two lists of attributes declare before the author's rules is one behind the other
   pub early-append : (c : Cascade) (xs ys : List (AttributeStyle A)) → earlyDeclared c (xs ++ ys) ≡ earlyDeclared c xs ++ earlyDeclared c ys
   unfolding earlyDeclared
   early-append Crate xs ys = refl
@@ -68,11 +71,13 @@ module _ {A : Type 0} where
   late-append Crate xs ys = map-append _ xs ys
   late-append Book xs ys = styles-append xs ys
 
+  -- no attributes declare nothing before the author's rules
   pub early-none : (c : Cascade) → earlyDeclared {A = A} c [] ≡ []
   unfolding earlyDeclared colourAttributes
   early-none Crate = refl
   early-none Book = refl
 
+  -- no attributes declare nothing behind the author's rules
   pub late-none : (c : Cascade) → lateDeclared {A = A} c [] ≡ []
   unfolding lateDeclared styleAttributes
   late-none Crate = refl

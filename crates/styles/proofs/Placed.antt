@@ -39,18 +39,20 @@ module _ {A B : Type 0} (R : A → B → Type 0) where
     pub users : Each SameStyledRule (x .user) (y .user)
     pub authors : Each SameStyledRule (x .author) (y .author)
 
-  -- a style of a selector
+  -- a style of a selector is said the same, where the styles are the same
   pub rule-style-same : (n : ℕ) (c : Specificity) (x : Styled A) (y : Styled B) → SameStyled R x y → SameRule R (ruleStyle n c x) (ruleStyle n c y)
   unfolding ruleStyle
   rule-style-same n c x y h = record { pseudos = refl; specs = refl; styles = h }
 
   module _ (p : Path) where
+    -- styles that are the same are said the same by one selector, where it matches the path
     selector-same : (xs : List (Styled A)) (ys : List (Styled B)) (s : Selector) → Each (SameStyled R) xs ys → Each (SameRule R) (selectorSays p xs s) (selectorSays p ys s)
     unfolding selectorSays
     selector-same xs ys s h =
         let say = rule-style-same (pseudoNumber (s .pseudo)) (specificity (s .components)) in
         pick-same (Each (SameRule R)) (matches (s .components) p) (matches (s .components) p) _ [] _ [] refl (each-map (SameStyled R) (SameRule R) _ _ say h) none
 
+    -- styles that are the same are said the same by all selectors of a rule
     selectors-same : (xs : List (Styled A)) (ys : List (Styled B)) (ss : List Selector) → Each (SameStyled R) xs ys → Each (SameRule R) (selectorsSay p xs ss) (selectorsSay p ys ss)
     unfolding selectorsSay
     selectors-same xs ys [] h = none
@@ -74,6 +76,7 @@ module _ {A B : Type 0} (R : A → B → Type 0) where
 
 module _ (t : List ℕ) where
   -- ---- a style in numbers, whose text lies at f if it is a content
+  -- the value of a style in numbers says the style, where the text of a content lies at f
   pub value-says : (f : ℕ) (s : Style) → ((x : List ℕ) → s ≡ style.content x → Lies t f x) → Says t (valueFrom f s) s
   unfolding Says valueFrom
   value-says f (style.colour c) h = refl
@@ -82,14 +85,17 @@ module _ (t : List ℕ) where
   value-says f (style.whiteSpace w) h = refl
   value-says f (style.content x) h = let l = h x refl in record { long = refl; within = l .within; named = held-part t f x (l .there) }
 
+  -- a style in numbers says the style, where its text lies at f if it is a content
   pub style-says : (f : ℕ) (d : StyleDecl) → ((x : List ℕ) → d .style ≡ style.content x → Lies t f x) → SameStyled (Says t) (inNumbers (numbersFrom f d)) (meant d)
   unfolding inNumbers numbersFrom meant
   style-says f d h = record { slots = refl; importances = refl; values = value-says f (d .style) h }
 
+  -- the text of a style that is a content is that content
   content-text : (d : StyleDecl) (x : List ℕ) → d .style ≡ style.content x → styleText d ≡ x
   unfolding styleText styleTextOf
   content-text d x e = rw e
 
+  -- a style in numbers says the style, where its text, empty for others than contents, lies at f
   style-placed : (f : ℕ) (d : StyleDecl) → Lies t f (styleText d) → SameStyled (Says t) (inNumbers (numbersFrom f d)) (meant d)
   style-placed f d h = style-says f d (λ x e. rw (content-text d x e) at h)
 
@@ -101,6 +107,7 @@ module _ (t : List ℕ) where
       next (style-placed f d (lies-left t f (styleText d) (styleTexts ds) h)) (styles-placed ds (f + length (styleText d)) (lies-right t f (styleText d) (styleTexts ds) h))
 
   -- ---- the rules of a sheet
+  -- the rules of a sheet, by numbers over the contents that lie from f on, say what the rules mean
   pub rules-placed : (rs : List RuleSet) (f : ℕ) → Lies t f (rulesContents rs) → Each (SameStyledRule (Says t)) (placedRules f rs) (map meantRule rs)
   unfolding placedRules meantRule ruleContents rulesContents textsMany
   rules-placed [] f h = none
@@ -123,10 +130,12 @@ module _ (t : List ℕ) where
       }
 
   -- ---- what attributes say
+  -- an attribute's style that is the same is the same as said by the attribute
   attribute-same : (i : Bool) (x : Styled Value) (y : Styled Style) → SameStyled (Says t) x y → SameAttribute (Says t) (attributeStyle i x) (attributeStyle i y)
   unfolding attributeStyle
   attribute-same i x y h = record { kinds = refl; styles = h }
 
+  -- what an attribute says by numbers, over the contents in t, is what it means
   pub attribute-placed : (a : Attribute) (f : ℕ) → Lies t f (attributeContents a) → Each (SameAttribute (Says t)) (attributeSays (placedStyles f) a) (attributeSays (map meant) a)
   unfolding attributeSays attributeContents
   attribute-placed a f h =

@@ -51,6 +51,7 @@ colour-short slot missing e = omega arith
 abbrev short : Attribute → List StyleDecl → Type 0
 short a ds = length (styleTexts ds) ≤ length (a .value) + 2
 
+-- no styles have no texts
 no-styles : (a : Attribute) → short a []
 unfolding styleTexts textsMany
 no-styles a = omega arith
@@ -78,6 +79,7 @@ attributes-short (a ∷ xs) =
       attributes-short xs,
     )
 
+-- no attributes have no contents, however many the element has
 no-attributes : (e : Element) → length (attributesContents []) ≤ valuesOf (e .attributes) + 2 * length (e .attributes)
 unfolding attributesContents textsMany
 no-attributes e = omega arith
@@ -132,6 +134,7 @@ module _ (nodes attributes text : List ℕ) where
       let n = nodeAt nodes row in
       omega (arith, values-short attributes text (n .attributeCount) (n .firstAttribute) (bytesBefore nodes attributes row + n .nameLength))
 
+  -- an element has no more attributes than its row adds to those before it
   own-attributes : (row : ℕ) → attributesBefore nodes row + length (elementAt nodes attributes text row .attributes) ≤ attributesBefore nodes (suc row)
   unfolding attributesBefore elementAt
   own-attributes row = let n = nodeAt nodes row in omega (arith, attributes-counted attributes text (n .attributeCount) (n .firstAttribute))
@@ -141,10 +144,12 @@ module _ (nodes attributes text : List ℕ) where
   bytes-grow m zero = let e : 0 + m ≡ m = omega arith in rw e (omega arith)
   bytes-grow m (suc k) = let e : suc k + m ≡ suc (k + m) = omega arith in rw e (omega (arith, own-values (k + m), bytes-grow m k))
 
+  -- the attributes before a row are no fewer than those before an earlier one
   attributes-grow : (m k : ℕ) → attributesBefore nodes m ≤ attributesBefore nodes (k + m)
   attributes-grow m zero = let e : 0 + m ≡ m = omega arith in rw e (omega arith)
   attributes-grow m (suc k) = let e : suc k + m ≡ suc (k + m) = omega arith in rw e (omega (arith, own-attributes (k + m), attributes-grow m k))
 
+  -- the values along the path of a row are no longer than the bytes of the rows up to it
   pub path-values : (row : ℕ) → Rooted nodes row → valuesAlong (pathOf nodes attributes text row) ≤ bytesBefore nodes attributes (suc row)
   unfolding valuesAlong
   path-values row (document d) = rw (top-path nodes attributes text 0 (document d) refl) (omega arith)
@@ -154,6 +159,7 @@ module _ (nodes attributes text : List ℕ) where
       rw (some-element-path nodes attributes text row (below k l n r) k)
       (omega (arith, own-values row, path-values p r, rw e at (bytes-grow (suc p) (row - suc p))))
 
+  -- the attributes along the path of a row are no more than those of the rows up to it
   pub path-attributes : (row : ℕ) → Rooted nodes row → attributesAlong (pathOf nodes attributes text row) ≤ attributesBefore nodes (suc row)
   unfolding attributesAlong
   path-attributes row (document d) = rw (top-path nodes attributes text 0 (document d) refl) (omega arith)

@@ -42,11 +42,13 @@ padded-front : (xs : List ℕ) (n k : ℕ) → length xs ≡ k → take k (padde
 unfolding padded
 padded-front xs n k e = take-at xs (replicate (n - length xs) 0) k e
 
+-- filled up with zeros to a length, a list is no shorter than it was
 padded-long : (xs : List ℕ) (n : ℕ) → length xs ≤ length (padded xs n)
 unfolding padded
 padded-long xs n = omega (arith, length-append xs (replicate (n - length xs) 0))
 
 module _ (c : Cascade) (settings : Settings) (s : SheetTexts) (p : Path) (row texts rules₀ tokens brackets : List ℕ) where
+  -- the row of a call is one as the writers make them
   row-is-fine : (sheets : Rules RuleSet) → RowFine (callRow c sheets settings p)
   unfolding callRow
   row-is-fine sheets = row-fine (cascaded c (placedAlong sheets settings p)) (cascaded-formed c (placedAlong sheets settings p))
@@ -66,6 +68,7 @@ module _ (c : Cascade) (settings : Settings) (s : SheetTexts) (p : Path) (row te
         within = padded-long (callStore sheets settings p) (length texts);
       }
 
+  -- where reading three sheets is not refused, what is left says the computed style of the path
   sheets-say : (m : Sheets) → sheetsOf (s .agent) (s .user) (s .author) ≡ m → styledLeft row texts rules₀ tokens brackets c settings p m .answer .refusal ≡ noRefusal
       → RowSays c settings s p (styledLeft row texts rules₀ tokens brackets c settings p m)
   unfolding styledLeft zeroed
@@ -85,11 +88,13 @@ module _ (c : Cascade) (settings : Settings) (s : SheetTexts) (g : Page) (asked 
   unfolding unchanged
   refusing r n h = absurd (n (ap (λ (q : Refusal). q .number) h))
 
+  -- a claim that holds on both branches of a test holds of what the test picks
   pick-claims : (t : Bool) (l m : StyleLeft) → (t ≡ true → Claimed l) → (t ≡ false → Claimed m) → Claimed (pick t l m)
   unfolding pick
   pick-claims true l m h k = h refl
   pick-claims false l m h k = k refl
 
+  -- wherever a style call refuses nothing, its row says the style computed from the sheets, the settings and the path
   pub style-says : Claimed (styleOf c settings s g asked row texts rules₀ tokens brackets)
   unfolding styleOf askedLeft
   style-says =

@@ -20,7 +20,7 @@ use Rattle.styles.proofs.Merging.{declared-parts}
 use Rattle.rule_styles.specs.Deciding.{decidingRule}
 use Rattle.rule_styles.proofs.DecidingSame.{rules-same}
 use Rattle.rule_styles.proofs.DecidingSlot.{fold-append}
-use Rattle.styling.proofs.PathLaws.{inherit-formed-by}
+use Rattle.path_styles.proofs.PathLaws.{inherit-formed-by}
 
 -- three sheets, by the styles that decide
 abbrev pub decided : Rules (StyledRule Value) → Rules (StyledRule Value)
@@ -38,7 +38,7 @@ module _ (c : Cascade) (rules : Rules (StyledRule Value)) where
       ∙ fold-append (mergeBy (updateBy c)) (merged (merged s a) u) e (w ++ l)
       ∙ fold-append (mergeBy (updateBy c)) (merged (merged (merged s a) u) e) w l
 
-  -- an element
+  -- at one element, below any formed parent, the deciding styles of the rules cascade to the same style as all of them
   element-decided : (parent : ComputedStyle Value) → Formed parent → (xs : List (AttributeStyle Value)) (p : Path)
       → cascadeBy c parent (sourcesFrom (decided rules) xs p) ≡ cascadeBy c parent (sourcesFrom rules xs p)
   unfolding cascadeBy sourcesFrom
@@ -64,7 +64,7 @@ module _ (c : Cascade) (rules : Rules (StyledRule Value)) where
       ∙ sym (parts s₀ A U E W L)
       ∙ ap (merged s₀) (sym (declared-parts c (sourcesFrom rules xs p)))
 
-  -- and a path
+  -- so down a path, from the top on: the deciding styles compute the same style as all of them
   pub path-decided : (from : ℕ) (settings : Settings) (p : Path) → cascaded c (placedFrom (decided rules) from settings p) ≡ cascaded c (placedFrom rules from settings p)
   unfolding placedFrom cascaded
   path-decided from settings [] = refl

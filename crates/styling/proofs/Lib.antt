@@ -1,6 +1,3 @@
-pub mod TopsLaws
-pub mod PathLaws
-pub mod RulesMerging
 pub mod DecidedCascade
 pub mod Steadying
 pub mod StyleTurns

@@ -49,6 +49,7 @@ use Rattle.styling.specs.declared.style.StyleAnswer.{StyleAnswer}
 use Rattle.rule_styles.proofs.SheetsHeldLaws as held
 
 -- ---- what is left, by its parts
+-- what is left is the same where the answer and each of the five buffers are
 left-by : {a a′ : StyleAnswer} {o o′ t t′ y y′ x x′ b b′ : List ℕ} → a ≡ a′ → o ≡ o′ → t ≡ t′ → y ≡ y′ → x ≡ x′ → b ≡ b′
     → _≡_ {A = StyleLeft} (record { answer = a; row = o; texts = t; rules = y; tokens = x; brackets = b }) (record { answer = a′; row = o′; texts = t′; rules = y′; tokens = x′; brackets = b′ })
 left-by p q r s t u = rw (p, q, r, s, t, u) refl
@@ -104,24 +105,30 @@ module _ (c : Cascade) (settings : Settings) (p : Path) {agent user author rules
             texts-are = et ∙ ap (λ (z : List ℕ). sets z 0 (sheetsTexts meant)) ct;
           }
 
+      -- the store of rules is as long as it was lent
       long-y : length y₂ ≡ length rules₀
       unfolding lies
       long-y = held.rows-long lies
 
+      -- the store of tokens is as long as it was lent
       long-x : length x₂ ≡ length tokens₀
       unfolding lies
       long-x = held.tokens-long lies
 
+      -- the text store is as long as it was lent
       long-t : length t₂ ≡ length texts₀
       unfolding lies
       long-t = held.texts-long lies
 
+      -- the store of brackets is as long as it was lent
       long-b : length b₂ ≡ length brackets₀
       long-b = ap length (eb ∙ cb) ∙ length-cleared 0 brackets₀
 
+      -- the row is as long as it was lent
       long-o : length o₁ ≡ length out₀
       long-o = ap length co ∙ length-cleared 0 out₀
 
+      -- so there is room for the styles, the numbers and the path
       pub read-room : ReadRoom s p o₁ y₂ x₂ b₂ t₂
       unfolding lies
       read-room =
@@ -161,10 +168,12 @@ module _ (c : Cascade) (settings : Settings) (p : Path) {agent user author rules
 unfoldable pub Quiet : Refusal → Type 0
 Quiet r = r .number ≡ 0 → r ≡ noRefusal
 
+-- a refusal whose number is not 0 has nothing to show
 loud : (n place : ℕ) → Quiet (record { number = suc n; text = 0; place = place })
 unfolding Quiet
 loud n place e = absurd (omega (arith, e))
 
+-- a page that is refused with the number 0 is not refused
 pub quiet : (nodes attributes text : List ℕ) → Quiet (pageRefusal nodes attributes text)
 unfolding pageRefusal rowsRefusal Quiet
 quiet nodes attributes text =
@@ -180,34 +189,42 @@ module _ (c : Cascade) (settings : Settings) (s : SheetTexts) (g : Page) (row : 
   abbrev refuses : StyleAnswer → StyleLeft
   refuses a = record { answer = a; row = out; texts = texts; rules = rules₀; tokens = tokens; brackets = brackets }
 
+  -- a page that is refused is answered with that refusal, and the stores stay
   pub page-refused : ¬ (r .number ≡ 0) → {a : StyleAnswer} → a ≡ record { refusal = r; texts = 0 } → Asked (refuses a)
   unfolding askedLeft unchanged
   page-refused h {a} ea = pick-false _ _ _ _ (is-no _ _ (λ e. h (ap (λ (q : Refusal). q .number) er ∙ e))) (left-by (ea ∙ ap (λ (q : Refusal). record { refusal = q; texts = 0 }) er) refl refl refl refl refl)
 
   module _ (h : r .number ≡ 0) where
+    -- the refusal of the page has the number 0
     no-number : pageRefusal (g .nodes) (g .attributes) (g .text) .number ≡ 0
     no-number = ap (λ (q : Refusal). q .number) (sym er) ∙ h
 
+    -- so the page is accepted
     none : pageRefusal (g .nodes) (g .attributes) (g .text) ≡ noRefusal
     none = unfold Quiet in quiet (g .nodes) (g .attributes) (g .text) no-number
 
     module _ {t : Bool} (et : t ≡ isElement (g .nodes) row) where
+      -- a row that is no element is refused, and the stores stay
       pub no-element : t ≡ false → {a : StyleAnswer} {q : Refusal} → q ≡ refused noElement → a ≡ record { refusal = q; texts = 0 } → Asked (refuses a)
       unfolding askedLeft unchanged
       no-element f {a} {q} eq ea =
           pick-true _ _ _ _ (is-yes _ _ no-number) (pick-false _ _ _ _ (sym et ∙ f) (left-by (ea ∙ ap (λ (z : Refusal). record { refusal = z; texts = 0 }) eq) refl refl refl refl refl))
 
       module _ (f : t ≡ true) where
+        -- the row is one of the page, and its kind is that of elements
         there : (ltb row (nodeCount (g .nodes)) ≡ true) × (is (nodeAt (g .nodes) row .kind) elementKind ≡ true)
         unfolding isElement
         there = and-true _ _ (sym et ∙ f)
 
+        -- the row is one of the page
         before : row < nodeCount (g .nodes)
         before = ltb-true _ _ (there .0)
 
+        -- from it parents lead to the document
         pub rooted : Rooted (g .nodes) row
         rooted = accepted-element (g .nodes) (g .attributes) (g .text) none row before (is-true _ _ (there .1))
 
+        -- the page is accepted, with all that this says
         ok : Accepted (g .nodes) (g .attributes) (g .text)
         ok = accepted (g .nodes) (g .attributes) (g .text) none
 
@@ -215,6 +232,7 @@ module _ (c : Cascade) (settings : Settings) (s : SheetTexts) (g : Page) (row : 
         pub few-rows : row < numberBound
         few-rows = omega (arith, before, ok .few)
 
+        -- the stores are long enough to read the three sheets
         pub lent : Lent (s .agent) (s .user) (s .author) rules₀ tokens brackets texts
         unfolding callBytes
         lent =
@@ -231,12 +249,15 @@ module _ (c : Cascade) (settings : Settings) (s : SheetTexts) (g : Page) (row : 
         abbrev path : Path
         path = pathOf (g .nodes) (g .attributes) (g .text) row
 
+        -- the attribute values along the path are no longer than the text of the page
         values : valuesAlong path ≤ length (g .text)
         values = omega (arith, path-values (g .nodes) (g .attributes) (g .text) row rooted, bytes-within (g .nodes) (g .attributes) (g .text) ok (suc row) (omega (arith, before)))
 
+        -- the path has no more attributes than the page has attribute rows
         attributes : attributesAlong path ≤ attributeRows (g .attributes)
         attributes = omega (arith, path-attributes (g .nodes) (g .attributes) (g .text) row rooted, attributes-before-within (g .nodes) (g .attributes) (g .text) ok (suc row) (omega (arith, before)))
 
+        -- the stores are long enough for the sheets and the path together
         pub call-lent : CallLent (length (s .agent) + length (s .user) + length (s .author)) path out rules₀ tokens brackets texts
         unfolding callBytes
         call-lent =
@@ -252,6 +273,7 @@ module _ (c : Cascade) (settings : Settings) (s : SheetTexts) (g : Page) (row : 
                   };
             }
 
+        -- an element of an accepted page is answered with what styling leaves
         pub asked : {z : StyleLeft} → z ≡ styledLeft out texts rules₀ tokens brackets c settings path (sheetsOf (s .agent) (s .user) (s .author)) → Asked z
         unfolding askedLeft
         asked e = pick-true _ _ _ _ (is-yes _ _ no-number) (pick-true _ _ _ _ (sym et ∙ f) e)
@@ -264,45 +286,56 @@ module _ (c : Cascade) (settings : Settings) (s : SheetTexts) (g : Page) (row : 
   abbrev refuse : StyleAnswer → StyleLeft
   refuse a = record { answer = a; row = out; texts = texts; rules = rules₀; tokens = tokens; brackets = brackets }
 
+  -- an answer with a refusal and the stores as they were is what the definition refuses with
   refused-as : {a : StyleAnswer} {q : Refusal} (n : ℕ) → q ≡ refused n → a ≡ record { refusal = q; texts = 0 } → refuse a ≡ unchanged out texts rules₀ tokens brackets (refused n)
   unfolding unchanged
   refused-as n eq ea = left-by (ea ∙ ap (λ (z : Refusal). record { refusal = z; texts = 0 }) eq) refl refl refl refl refl
 
   module _ {t : Bool} (e : t ≡ anyTooLong (length (s .agent)) (length (s .user)) (length (s .author))) where
+    -- a sheet that is too long is refused, and the stores stay
     pub too-long : t ≡ true → {a : StyleAnswer} {q : Refusal} → q ≡ refused tooLong → a ≡ record { refusal = q; texts = 0 } → Called (refuse a)
     unfolding styleOf
     too-long f eq ea = pick-true _ _ _ _ (sym e ∙ f) (refused-as tooLong eq ea)
 
     module _ (f : t ≡ false) where
+      -- each of the three sheets is within its limit
       within : (length (s .agent) ≤ sheetLimit) × (length (s .user) ≤ sheetLimit) × (length (s .author) ≤ sheetLimit)
       within = none-long (length (s .agent)) (length (s .user)) (length (s .author)) (sym e ∙ f)
 
+      -- the lengths of the first two can be added
       pub two-fit : length (s .agent) + length (s .user) < 2 ^ 64
       two-fit = omega (arith, within .0, within .1)
 
+      -- the lengths of all three can be added
       pub three-fit : length (s .agent) + length (s .user) + length (s .author) < 2 ^ 64
       three-fit = omega (arith, within .0, within .1, within .2)
 
+      -- all three together have at most three times the bytes that one sheet may have
       pub few-bytes : FewBytes (length (s .agent) + length (s .user) + length (s .author))
       few-bytes = record { few = omega (arith, within .0, within .1, within .2) }
 
       module _ {v : Bool} (ev : v ≡ and (leb styleRowWidth (length out)) (storesSuffice (callBytes s g) (length rules₀) (length tokens) (length brackets) (length texts))) where
+        -- a row or a store that is too short is refused, and all of them stay
         pub short-store : v ≡ false → {a : StyleAnswer} {q : Refusal} → q ≡ refused shortStore → a ≡ record { refusal = q; texts = 0 } → Called (refuse a)
         unfolding styleOf
         short-store h eq ea = pick-false _ _ _ _ (sym e ∙ f) (pick-false _ _ _ _ (sym ev ∙ h) (refused-as shortStore eq ea))
 
         module _ (h : v ≡ true) where
+          -- the row is long enough, and the stores suffice
           both : (leb styleRowWidth (length out) ≡ true) × (storesSuffice (callBytes s g) (length rules₀) (length tokens) (length brackets) (length texts) ≡ true)
           both = and-true _ _ (sym ev ∙ h)
 
+          -- so what is lent is what the call asks for
           pub asked-lent : AskedLent s g out rules₀ tokens brackets texts
           asked-lent = record { agent-within = within .0; user-within = within .1; author-within = within .2; row = leb-true _ _ (both .0); least = least refl (both .1) }
 
           module _ {x : Bool} (i : x ≡ allValid (s .agent) (s .user) (s .author)) where
+            -- sheets that are no UTF-8 are refused, and the stores stay
             pub not-utf8 : x ≡ false → {a : StyleAnswer} {q : Refusal} → q ≡ refused notUtf8 → a ≡ record { refusal = q; texts = 0 } → Called (refuse a)
             unfolding styleOf
             not-utf8 j eq ea = pick-false _ _ _ _ (sym e ∙ f) (pick-true _ _ _ _ (sym ev ∙ h) (pick-false _ _ _ _ (sym i ∙ j) (refused-as notUtf8 eq ea)))
 
+            -- behind all these tests the call leaves what it leaves by page and row
             pub called : x ≡ true → {z : StyleLeft} → z ≡ askedLeft out texts rules₀ tokens brackets c settings g row (sheetsOf (s .agent) (s .user) (s .author)) → Called z
             unfolding styleOf
             called j d = pick-false _ _ _ _ (sym e ∙ f) (pick-true _ _ _ _ (sym ev ∙ h) (pick-true _ _ _ _ (sym i ∙ j) d))

@@ -31,48 +31,56 @@ use Rattle.styles.specs.StyleCall.{sheetsContents, pathContents, placedSheets, 
 use Rattle.styles.proofs.Room.{path-short}
 use Rattle.rule_styles.specs.Held.{sheetsFrom, SheetsHeld, PathHeld, sheetsKept, styledPlaces}
 use Rattle.rule_styles.specs.Placing.{rulesSelectors}
-use Rattle.styling.specs.Tops.{selectorsTops, sheetsSelectors, SheetsTopsRoom, readyPlaces, readyCounts, readySheets}
-use Rattle.styling.specs.Path.{keptSheets, Steady, PathRoom}
+use Rattle.path_styles.specs.Tops.{selectorsTops, sheetsSelectors, SheetsTopsRoom, readyPlaces, readyCounts, readySheets}
+use Rattle.path_styles.specs.Path.{keptSheets, Steady, PathRoom}
 use Rattle.styling.specs.StyleAnswer.{isElement}
 use Rattle.rule_styles.specs.declared.styled.StyledSheets.{StyledSheets}
-use Rattle.styling.specs.declared.tops.ReadySheets.{ReadySheets}
+use Rattle.path_styles.specs.declared.tops.ReadySheets.{ReadySheets}
 use Rattle.styling.proofs.DecidedCascade.{decided, path-decided}
 use Rattle.rule_styles.proofs.SheetsHeldLaws as held
 use Rattle.styling.proofs.Steadying as still
 
 -- ---- whether a row is an element
 module _ (nodes : List ℕ) (row n : ℕ) (en : n ≡ nodeCount nodes) where
+  -- a row of the page is an element if its kind is that of elements
   pub element-there : row < n → (k : ℕ) → k ≡ nodeAt nodes row .kind → eqb k elementKind ≡ isElement nodes row
   unfolding isElement and is
   element-there h k e = rw (← en, lt-ltb row n h, ← e) refl
 
+  -- a row behind the last of the page is no element
   pub element-beyond : n ≤ row → false ≡ isElement nodes row
   unfolding isElement and
   element-beyond h = rw (← en, le-ltb row n h) refl
 
 -- ---- whether what is lent suffices
+-- a test beside one that fails does not hold
 and-false : (a : Bool) → and a false ≡ false
 unfolding and
 and-false true = refl
 and-false false = refl
 
+-- stores with fewer brackets than bytes do not suffice
 suffices-not : (n rules tokens brackets texts : ℕ) → brackets < n → storesSuffice n rules tokens brackets texts ≡ false
 unfolding storesSuffice and
 suffices-not n rules tokens brackets texts h = rw (lt-leb (bracketLeast n) brackets h) (and-false (leb _ texts))
 
 module _ (n out rules tokens brackets texts : ℕ) where
+  -- a row that is too short does not suffice, whatever the stores are
   pub short-row : out < styleRowWidth → false ≡ and (leb styleRowWidth out) (storesSuffice n rules tokens brackets texts)
   unfolding and
   short-row h = rw (lt-leb styleRowWidth out h) refl
 
+  -- too few brackets do not suffice, whatever the row is
   pub short-brackets : brackets < n → false ≡ and (leb styleRowWidth out) (storesSuffice n rules tokens brackets texts)
   short-brackets h = rw (suffices-not n rules tokens brackets texts h) (sym (and-false (leb styleRowWidth out)))
 
+  -- where the row is long enough, the stores decide
   pub by-stores : styleRowWidth ≤ out → (r : Bool) → r ≡ storesSuffice n rules tokens brackets texts → r ≡ and (leb styleRowWidth out) (storesSuffice n rules tokens brackets texts)
   unfolding and
   by-stores h r e = rw (le-leb styleRowWidth out h) e
 
 -- ---- contents moved down, and zeros behind them
+-- the contents, moved down to the start and cleared behind, are the contents and zeros
 pub contents-kept : (l y z : List ℕ) (end fill : ℕ) → end + fill ≤ length l → y ≡ sets l 0 (part l end fill) → z ≡ cleared fill y → z ≡ padded (part l end fill) (length l)
 unfolding padded
 contents-kept l y z end fill h ey ez =
@@ -93,12 +101,15 @@ module _ {s : SheetsRules} {rows tokens texts : List ℕ} (h : SheetsHeld s rows
   abbrev read : Rules RuleSet
   read = held.read h
 
+  -- the styles of the sheets lie at the places that the sheets that were read give
   v-is : v ≡ styledPlaces s read
   v-is = ev ∙ ap (styledPlaces s) (held.sheets-are h)
 
+  -- the store of tokens has at its start what is kept of the sheets
   t-is : t ≡ sets tokens 0 (sheetsKept read)
   t-is = et ∙ ap (λ (r : Rules RuleSet). sets tokens 0 (sheetsKept r)) (held.sheets-are h)
 
+  -- the text store has the contents of the sheets behind their texts
   x-is : x ≡ sets texts (s .end) (sheetsContents read)
   x-is = ex ∙ ap (λ (r : Rules RuleSet). sets texts (s .end) (sheetsContents r)) (held.sheets-are h)
 
@@ -109,9 +120,11 @@ module _ {s : SheetsRules} {rows tokens texts : List ℕ} (h : SheetsHeld s rows
   -- ---- with the numbers of their selectors
   module _ (nodes attributes text : List ℕ) (row : ℕ) (rooted : Rooted nodes row) (w : ReadySheets) (y : List ℕ) (ew : w ≡ readySheets rows x v)
       (es : y ≡ sets t (v .behind) (selectorsTops nodes attributes text row (sheetsSelectors rows x v))) where
+    -- with the counts of selectors, the places are those of what is kept
     w-is : w ≡ still.ready h
     w-is = ew ∙ ap (readySheets rows x) v-is ∙ still.ready-is h t-is x-is
 
+    -- the numbers of all selectors stand behind the kept styles
     y-is : y ≡ sets t (styledPlaces s read .behind) (selectorsTops nodes attributes text row (rulesSelectors (held.a h) ++ (rulesSelectors (held.u h) ++ rulesSelectors (held.w h))))
     y-is =
         es ∙ ap (λ (z : StyledSheets). sets t (z .behind) (selectorsTops nodes attributes text row (sheetsSelectors rows x z))) v-is
@@ -121,10 +134,11 @@ module _ {s : SheetsRules} {rows tokens texts : List ℕ} (h : SheetsHeld s rows
     pub now-steady : Steady w nodes attributes text row rows y x
     now-steady = rw w-is (still.steady h t-is x-is nodes attributes text row rooted y-is)
 
+    -- and there is room for the path
     pub now-room : (brackets : List ℕ) (p : Path) → PathHeld h brackets p → PathRoom w p rows y brackets x
     now-room brackets p r = rw w-is (still.path-room h t-is x-is nodes attributes text row rooted y-is brackets p r)
 
-    -- the row
+    -- the row of the path, by what is kept, is the row of the style call by the sheets that were read
     pub row-called : (c : Cascade) (settings : Settings) (p : Path) (ys : List ℕ) → ys ≡ rowOf (cascaded c (placedFrom (keptSheets rows y x w) (w .fill) settings p))
         → ys ≡ callRow c (sheetsFrom rows texts s) settings p
     unfolding callRow placedAlong
@@ -142,16 +156,20 @@ module _ {s : SheetsRules} {rows tokens texts : List ℕ} (h : SheetsHeld s rows
       abbrev store : List ℕ
       store = callStore (sheetsFrom rows texts s) settings p
 
+      -- the texts of the call are the contents of the sheets, then those of the path
       store-is : store ≡ sheetsContents read ++ pathContents settings p
       unfolding callStore
       store-is = ap (λ (q : Rules RuleSet). sheetsContents q ++ pathContents settings p) (held.sheets-are h)
 
+      -- the texts of the sheets end where they ended when they were read
       end-is : w .end ≡ s .end
       end-is = ap (λ (z : ReadySheets). z .end) w-is ∙ (unfold styledPlaces readyPlaces readyCounts in refl)
 
+      -- the fill before the path is the length of the sheets' contents
       fill-is : w .fill ≡ length (sheetsContents read)
       fill-is = ap (λ (z : ReadySheets). z .fill) w-is ∙ (unfold styledPlaces readyPlaces readyCounts in refl)
 
+      -- the fill behind the path is the length of the texts of the call
       pub filled : r ≡ length store
       filled = omega (arith, er, fill-is, ap length store-is, length-append (sheetsContents read) (pathContents settings p))
 
@@ -159,6 +177,7 @@ module _ {s : SheetsRules} {rows tokens texts : List ℕ} (h : SheetsHeld s rows
       pub contents-in : (brackets : List ℕ) → PathHeld h brackets p → (l : List ℕ) → length l ≡ length x → w .end + r ≤ length l
       contents-in brackets q l e = omega (arith, e, er, path-short settings p, now-room brackets p q .for-texts)
 
+      -- the part of the store behind the texts of the sheets, up to that fill, is the texts of the call
       pub texts-called : (brackets : List ℕ) → PathHeld h brackets p → (l : List ℕ) → length l ≡ length x → take (w .end + r) l ≡ take (w .end + w .fill) x ++ pathContents settings p → part l (w .end) r ≡ store
       unfolding part
       texts-called brackets q l n e =
@@ -176,13 +195,16 @@ module _ {s : SheetsRules} {rows tokens texts : List ℕ} (h : SheetsHeld s rows
           behind (take (w .end) l) (take r (drop (w .end) l)) (take (s .end) texts) (C ++ P) (b ∙ sym a) (sym (take-add (w .end) r l) ∙ whole) ∙ sym store-is
 
 -- ---- the row that is lent
+-- the part of the row that is lent is one style row long
 pub row-lent : (l : List ℕ) → styleRowWidth ≤ length l → styleRowWidth ≡ length (take styleRowWidth l)
 row-lent l h = sym (length-take-le styleRowWidth l h)
 
+-- a row of the lent length, put back, leaves the buffer as long as it was
 pub row-returned : (l ys : List ℕ) → styleRowWidth ≤ length l → length ys ≡ length (take styleRowWidth l) → length (ys ++ drop styleRowWidth l) ≡ length l
 row-returned l ys h e = omega (arith, e, row-lent l h, length-append ys (drop styleRowWidth l), length-drop styleRowWidth l)
 
 -- ---- stores cleared throughout, which kept their length
+-- a store cleared throughout is as many zeros as it was long before
 pub cleared-throughout : (l m z : List ℕ) → length l ≡ length m → z ≡ cleared 0 l → z ≡ replicate (length m) 0
 cleared-throughout l m z e h = h ∙ zeros-of l m e
 
@@ -191,6 +213,7 @@ module _ {s : SheetsRules} {rows tokens texts : List ℕ} (h : SheetsHeld s rows
     (ev : v ≡ styledPlaces s (sheetsFrom rows texts s)) (et : t ≡ sets tokens 0 (sheetsKept (sheetsFrom rows texts s))) (ex : x ≡ sets texts (s .end) (sheetsContents (sheetsFrom rows texts s))) where
   module _ (nodes attributes text : List ℕ) (row : ℕ) (rooted : Rooted nodes row) (w : ReadySheets) (y : List ℕ) (ew : w ≡ readySheets rows x v)
       (es : y ≡ sets t (v .behind) (selectorsTops nodes attributes text row (sheetsSelectors rows x v))) where
+    -- what is left: the row of the call, its texts at the start and zeros behind them, and zeros in the other stores
     pub read-left : (c : Cascade) (settings : Settings) (p : Path) (brackets : List ℕ) → PathHeld h brackets p
         → (out ys : List ℕ) → ys ≡ rowOf (cascaded c (placedFrom (keptSheets rows y x w) (w .fill) settings p))
         → (r : ℕ) → r ≡ w .fill + length (pathContents settings p)

@@ -1,5 +1,3 @@
-pub mod Tops
-pub mod Path
 pub mod StyleAnswer
 pub mod Styling
 pub mod Claim

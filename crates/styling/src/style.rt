@@ -1,7 +1,5 @@
 // `style` and `style_book`: the computed style of one element. Refusals are looked for in the order of document 01; nothing is written before all of them but
 // 4 are ruled out.
-use crate::path::style_path;
-use crate::tops::find_tops;
 use cascade::rows::STYLE_ROW_WIDTH;
 use cascade::slots::Cascade;
 use combinators::least::stores_suffice;
@@ -29,6 +27,8 @@ use page::rows::ATTRIBUTE_WIDTH;
 use page::rows::ELEMENT;
 use page::rows::kind_of;
 use page::rows::node_count;
+use path_styles::path::style_path;
+use path_styles::tops::find_tops;
 use rule_styles::styled::style_sheets;
 use sheets::sheet::clear_stores;
 use styles::settings::Settings;

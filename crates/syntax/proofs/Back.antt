@@ -17,11 +17,13 @@ use Rattle.syntax.specs.Style.{Style, StyleDecl}
 use Rattle.syntax.proofs.Streams.{Held, held-part, many-back, sets-drop, sets-held}
 
 -- ---- flags and words
+-- a flag is read back from its number
 pub flag-back : (b : Bool) → flagOf (flag b) ≡ b
 unfolding flag flagOf is
 flag-back true = refl
 flag-back false = refl
 
+-- an overflow is read back from its number
 overflow-back : (o : Overflow) → overflowOf (overflowNumber o) ≡ o
 unfolding overflowOf overflowNumber pick is
 overflow-back visible = refl
@@ -29,6 +31,7 @@ overflow-back hidden = refl
 overflow-back scroll = refl
 overflow-back auto = refl
 
+-- a word of `white-space` is read back from its number
 white-space-back : (w : WhiteSpace) → whiteSpaceOf (whiteSpaceNumber w) ≡ w
 unfolding whiteSpaceOf whiteSpaceNumber pick is
 white-space-back normal = refl
@@ -42,10 +45,12 @@ pub record OfBytes (c : Colour) : Type 0 where
   pub green : c .green < 256
   pub blue : c .blue < 256
 
+-- the three parts of a colour's number are taken out of it by 65,536 and 256
 parts : (r g b : ℕ) → g < 256 → b < 256
     → ((r * 65536 + g * 256 + b) / 65536 ≡ r) × ((r * 65536 + g * 256 + b) / 256 % 256 ≡ g) × ((r * 65536 + g * 256 + b) % 256 ≡ b)
 parts r g b h k = (omega arith, omega arith, omega arith)
 
+-- a colour of bytes is read back from its number
 colour-back : (c : Colour) → OfBytes c → colourOf (colourNumber c) ≡ c
 unfolding colourOf colourNumber
 colour-back c h = let p = parts (c .red) (c .green) (c .blue) (h .green) (h .blue) in rw (p .0, p .1, p .2)
@@ -103,6 +108,7 @@ module _ (store : List ℕ) where
   decl-back i s f (content b) t u h = rw (held-part store f b h)
   decl-back i s f (unknown b) t u h = rw (held-part store f b h)
 
+  -- a declaration that was written is read back from its row, and what stands behind it is left
   declaration-back : (f : ℕ) (d : Declaration) (t : List ℕ) → DeclFits (d .decl) → Held store f (declarationText d)
       → readDeclaration store (declarationRow f d ++ t) ≡ record { value = d; rest = t }
   unfolding declarationRow declarationText
@@ -116,6 +122,7 @@ module _ (store : List ℕ) where
       many-back store declarationRow declarationText (readDeclaration store) (λ d. d) (λ d. DeclFits (d .decl)) (f + length (textsMany declarationText ds)) (λ f d t u h _. declaration-back f d t u h) ds f t u h (omega arith)
       ∙ rw (map-id ds)
 
+  -- declarations that were written behind f bytes of text are read back
   pub declarations-back : (ds : List Declaration) (f : ℕ) (t : List ℕ) → DeclarationsFit ds → Held store f (declarationTexts ds)
       → declarationsAt (declarationRows f ds ++ t) store (length ds) ≡ ds
   unfolding declarationsAt
@@ -136,10 +143,12 @@ module _ (store : List ℕ) where
   unfolding styleIn numbersFrom styleText
   numbers-say f d u h = rw (style-of-back f (d .style) u h)
 
+  -- a style that was written is read back from its row, and what stands behind it is left
   style-back : (f : ℕ) (d : StyleDecl) (t : List ℕ) → StyleFits (d .style) → Held store f (styleText d) → readStyle store (styleRow f d ++ t) ≡ record { value = d; rest = t }
   unfolding readStyle styleRow
   style-back f d t u h = rw (row-numbers-back (numbersFrom f d) t, row-numbers-rest (numbersFrom f d) t, numbers-say f d u h)
 
+  -- styles that were written behind f bytes of text are read back
   pub styles-back : (ds : List StyleDecl) (f : ℕ) (t : List ℕ) → StylesFit ds → Held store f (styleTexts ds) → stylesAt (styleRows f ds ++ t) store (length ds) ≡ ds
   unfolding stylesAt styleRows styleTexts
   styles-back ds f t u h =
@@ -154,7 +163,7 @@ pub declarations-written : (ds : List Declaration) (rows : List ℕ) (p : ℕ) (
 declarations-written ds rows p store f u h k =
     rw (sets-drop rows p (declarationRows f ds) h) (declarations-back (sets store f (declarationTexts ds)) ds f _ u (sets-held store f (declarationTexts ds) k))
 
--- and so are styles
+-- styles written into lent rows from p on, and their texts into a lent store from f on, are read back
 pub styles-written : (ds : List StyleDecl) (rows : List ℕ) (p : ℕ) (store : List ℕ) (f : ℕ) → StylesFit ds → p + length (styleRows f ds) ≤ length rows
     → f + length (styleTexts ds) ≤ length store
     → stylesAt (drop p (sets rows p (styleRows f ds))) (sets store f (styleTexts ds)) (length ds) ≡ ds

@@ -23,7 +23,7 @@ module _ {A : Type 0} (w : ℕ → A → List ℕ) (x : A → List ℕ) where
   length-rows n e (a ∷ xs) f =
       length-append (w f a) (rowsMany w x (f + length (x a)) xs) ∙ rw (e f a, length-rows n e xs (f + length (x a)))
 
-  -- rows of one width
+  -- rows of one width are that width for each value
   pub length-wide : (k : ℕ) → ((f : ℕ) (a : A) → length (w f a) ≡ k) → (xs : List A) (f : ℕ) → length (rowsMany w x f xs) ≡ k * length xs
   unfolding rowsMany
   length-wide k e [] f = rw (mul-zero k)
@@ -51,7 +51,7 @@ pub length-declaration : (f : ℕ) (d : Declaration) → length (declarationRow 
 unfolding declarationRow
 length-declaration f d = length-decl _ _ f (d .decl)
 
--- the rows of declarations
+-- the rows of declarations are a declaration's width each
 pub length-declarations : (f : ℕ) (ds : List Declaration) → length (declarationRows f ds) ≡ declarationWidth * length ds
 unfolding declarationRows
 length-declarations f ds = length-wide declarationRow declarationText declarationWidth length-declaration ds f
@@ -62,7 +62,7 @@ pub length-style : (x : StyleNumbers) → length (rowOfNumbers x) ≡ styleWidth
 unfolding rowOfNumbers valueNumbers
 length-style x = refl
 
--- the rows of styles
+-- the rows of styles are a style's width each
 pub length-styles : (f : ℕ) (ds : List StyleDecl) → length (styleRows f ds) ≡ styleWidth * length ds
 unfolding styleRows styleRow
 length-styles f ds = length-wide styleRow styleText styleWidth (λ f d. length-style (numbersFrom f d)) ds f
@@ -73,7 +73,7 @@ pub length-component : (f : ℕ) (c : Component) → length (componentRow f c) �
 unfolding componentRow
 length-component f c = refl
 
--- the rows of components
+-- the rows of components are a component's width each
 pub length-components : (f : ℕ) (cs : List Component) → length (componentRows f cs) ≡ componentWidth * length cs
 unfolding componentRows
 length-components f cs = length-wide componentRow componentText componentWidth length-component cs f
@@ -86,7 +86,7 @@ length-selector f s =
     let e = length-components f (reverse (s .components)) in
     omega (arith, e, ap (λ (n : ℕ). componentWidth * n) (length-reverse (s .components)))
 
--- the rows of selectors
+-- the rows of selectors are as long as their sizes together
 pub length-selectors : (f : ℕ) (ss : List Selector) → length (selectorRows f ss) ≡ sizes selectorSize ss
 unfolding selectorRows
 length-selectors f ss = length-rows selectorRow selectorText selectorSize length-selector ss f
@@ -104,7 +104,7 @@ length-rule f r =
       length-declarations g (r .declarations),
     )
 
--- the rows of rules
+-- the rows of rules are as long as their sizes together
 pub length-rules : (f : ℕ) (rs : List RuleSet) → length (ruleRows f rs) ≡ sizes ruleSize rs
 unfolding ruleRows
 length-rules f rs = length-rows ruleRow ruleText ruleSize length-rule rs f

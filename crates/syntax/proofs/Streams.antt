@@ -17,9 +17,11 @@ pub record Held (store : List ℕ) (f : ℕ) (xs : List ℕ) : Type 0 where
 
 -- a text held is held in its parts
 module _ (store : List ℕ) (f : ℕ) (xs ys : List ℕ) (h : Held store f (xs ++ ys)) where
+  -- the first of two texts in a row is held where both are
   pub held-left : Held store f xs
   held-left = record { more = ys ++ h .more; held = h .held ∙ append-assoc xs ys (h .more) }
 
+  -- the second is held behind it
   pub held-right : Held store (f + length xs) ys
   held-right =
       record {
@@ -35,6 +37,7 @@ held-part store f xs h = ap (take (length xs)) (h .held) ∙ take-append-seam xs
 -- where a value that P holds of is read from its row as v of it, its text ending at m or before, so is a list of them
 module _ {A B : Type 0} (store : List ℕ) (w : ℕ → A → List ℕ) (x : A → List ℕ) (u : List ℕ → Read B) (v : A → B) (P : A → Type 0) (m : ℕ)
     (back : (f : ℕ) (a : A) (t : List ℕ) → P a → Held store f (x a) → f + length (x a) ≤ m → u (w f a ++ t) ≡ record { value = v a; rest = t }) where
+  -- a list of values is read back from its rows, and what stands behind them is left
   pub many-back : (xs : List A) (f : ℕ) (t : List ℕ) → All P xs → Held store f (textsMany x xs) → f + length (textsMany x xs) ≤ m
       → readMany u (length xs) (rowsMany w x f xs ++ t) ≡ record { value = map v xs; rest = t }
   unfolding readMany rowsMany textsMany
@@ -49,11 +52,13 @@ module _ {A B : Type 0} (store : List ℕ) (w : ℕ → A → List ℕ) (x : A �
 
 -- what was stored at i is held there
 module _ (l : List ℕ) (i : ℕ) (xs : List ℕ) (h : i + length xs ≤ length l) where
+  -- from i on lie what was stored there, and what lay behind it before
   pub sets-drop : drop i (sets l i xs) ≡ xs ++ drop (i + length xs) l
   sets-drop =
       ap (drop i) (sets-eq xs l i h ∙ append-assoc (take i l) xs (drop (i + length xs) l))
       ∙ drop-at (take i l) (xs ++ drop (i + length xs) l) i (length-take-le i l (omega arith))
 
+  -- what was stored within a store is held where it was stored
   pub sets-held : Held (sets l i xs) i xs
   sets-held = record { more = drop (i + length xs) l; held = sets-drop }
 

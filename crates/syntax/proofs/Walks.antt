@@ -30,5 +30,6 @@ module _ (rows : List ℕ) (at k : ℕ) where
   pub behind-rows : length rows - at ≤ k → Forward (length rows)
   behind-rows l = behind (omega arith)
 
+  -- where the start lies behind the rows already, the place is their end
   pub far-behind : length rows ≤ at → Forward (length rows)
   far-behind h = behind (omega arith)

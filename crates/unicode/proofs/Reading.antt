@@ -109,7 +109,7 @@ module _ (s : List ℕ) (i : ℕ) (c : Repeating scalarTaken s i) where
     unfolding valid
     checking-stop l h = sym (is-no _ _ (λ z. let q = repeat-stop scalarTaken s i c (none h) in omega (arith, q, z)))
 
-  -- the end is reached
+  -- where the end is reached without a fault, the text is valid
   pub checking-done : length s ≤ i → true ≡ valid s
   unfolding valid
   checking-done h = sym (is-yes _ _ (sym (repeat-end scalarTaken s i c h) ∙ omega (arith, c .within-text)))

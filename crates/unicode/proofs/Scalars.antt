@@ -50,7 +50,7 @@ module _ (v : ℕ) where
   unfolding utf8
   utf8-two l h = sym (above _ _ _ v 0x7f l (at-most _ _ _ v 0x7ff h refl))
 
-  -- up to U+FFFF three
+  -- a scalar value above U+07FF and up to U+FFFF is three bytes
   pub utf8-three : 0x7ff < v → v ≤ 0xffff → utf8 v ≡ (0xe0 + v / 4096) ∷ continuation (v / 64) ∷ continuation v ∷ []
   unfolding utf8
   utf8-three l h = sym (above _ _ _ v 0x7f (omega arith) (above _ _ _ v 0x7ff l (at-most _ _ _ v 0xffff h refl)))

@@ -163,7 +163,7 @@ module _ (p : ℕ → Bool) (base : ℕ) (d : ℕ → ℕ) (most : ℕ) where
         pick-holds (λ (r : Found ℕ). missing ≡ r) _ _ _ (λ _. refl)
         (λ _. pick-holds (λ (r : Found ℕ). missing ≡ r) _ _ _ (λ _. pick-false _ _ _ _ (lt-leb _ _ h) refl) (λ _. refl))
 
-    -- a number within it
+    -- digits that are worth no more than the most are read as that number
     pub number-read : ¬ (length t ≡ 0) → allOf p t ≡ true → (v : ℕ) → numeral base d 0 t ≡ v → v ≤ most → found v ≡ digitsIn p base d most t
     unfolding digitsIn
     number-read n e v ev h = pick-false _ _ _ _ (is-no _ _ n) (pick-true _ _ _ _ e (rw ev (pick-true _ _ _ _ (le-leb v most h) refl)))
@@ -192,7 +192,7 @@ module _ (p : ℕ → Bool) (base : ℕ) (d : ℕ → ℕ) (most : ℕ) where
     pub value : numeral base d 0 t ≡ numeral base d v (drop i t)
     pub small : v ≤ most
 
-  -- so at the start
+  -- before the first digit the sum is 0, and all digits are left
   pub summing-begin : (t : List ℕ) → Summing t 0 0
   summing-begin t = record { digits = refl; value = refl; small = omega arith }
 
@@ -233,7 +233,7 @@ module _ (p : ℕ → Bool) (base : ℕ) (d : ℕ → ℕ) (most : ℕ) where
 
 -- ---- two numbers of 32 bits
 module _ (v base : ℕ) (h : v ≤ 0xffffffff) (l : base ≤ 0xffffffff) where
-  -- their product has 64
+  -- the product with the base fits 64 bits
   pub product-fits : v * base ≤ 0xffffffff * 0xffffffff
   product-fits = let m : v * base ≤ v * 0xffffffff = mul-le-mul-left v l in omega arith
 
@@ -243,7 +243,7 @@ module _ (v base : ℕ) (h : v ≤ 0xffffffff) (l : base ≤ 0xffffffff) where
 
 -- ---- a '+' or none
 module _ (s : List ℕ) (r : Bool) (er : r ≡ is (getD s 0 0) plusSign) where
-  -- a '+' is there
+  -- a '+' that is found stands before the end of the text
   pub plus-there : r ≡ true → 1 ≤ length s
   plus-there e = let z = is-true _ _ (told _ _ _ er e) in there s 0 (omega arith)
 
@@ -268,7 +268,7 @@ module _ (s : List ℕ) (r : Bool) (er : r ≡ is (getD s 0 0) plusSign) where
     pub no-plus-read : r ≡ false → x ≡ numberAnswer (digitsIn p base d most s) → x ≡ numberAnswer (digitsIn p base d most (withoutPlus s))
     no-plus-read e h = h ∙ ap (λ t. numberAnswer (digitsIn p base d most t)) (no-plus e)
 
--- ---- `hash_colour`
+-- ---- `hash_colour`: three or six hexadecimal digits
 module _ (s : List ℕ) where
   -- no number is no colour
   hash-missing : parseHex 0xffffffff s ≡ missing → missing ≡ hashColour s
@@ -293,7 +293,7 @@ module _ (s : List ℕ) where
   unfolding hashColour
   other-missing n m = pick-false _ _ _ _ (is-no _ _ n) (pick-false _ _ _ _ (is-no _ _ m) refl)
 
-  -- the returns: another count
+  -- the return where there are neither three nor six digits: no colour
   pub hash-other : ¬ (length s ≡ 3) → ¬ (length s ≡ 6) → NoColour ≡ colourAnswer (hashColour s)
   hash-other n m = no-colour _ (other-missing n m)
 

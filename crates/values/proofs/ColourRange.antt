@@ -26,7 +26,7 @@ Bytes f = (c : Colour) → f ≡ found c → OfBytes c
 none : Bytes missing
 none c e = absurd (let z : _≡_ {A = ℕ} 0 1 = cc in omega arith)
 
--- a colour that is
+-- where a colour of bytes is found, what is found is made of bytes
 one : (c : Colour) → OfBytes c → Bytes (found c)
 one c h d e = go (let q : c ≡ d = cc in q)
   where
@@ -90,7 +90,7 @@ six-bytes : (v : ℕ) → Bytes (found (sixDigits v))
 unfolding sixDigits
 six-bytes v = rgb-of _ _ _ (omega arith) (omega arith) (omega arith)
 
--- 3 or 6 digits
+-- the colour of hex digits behind '#' is of bytes
 hash-bytes : (s : List ℕ) → Bytes (hashColour s)
 unfolding hashColour
 hash-bytes s =

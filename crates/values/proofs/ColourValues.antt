@@ -54,13 +54,13 @@ token-nth rows store i n h =
     ∙ ap (λ k. tokenHere rows store (i * tokenWidth) ∷ tokensAt (drop k rows) store (n - suc i)) p
     ∙ ap (λ l. tokenHere rows store (i * tokenWidth) ∷ l) (tokens-rest rows store (suc i) n h)
 
--- n tokens are n
+-- as many tokens are read as were asked for
 pub tokens-length : (rows store : List ℕ) (n : ℕ) → length (tokensAt rows store n) ≡ n
 unfolding tokensAt readMany readToken
 tokens-length rows store zero = refl
 tokens-length rows store (suc n) = ap suc (tokens-length (drop tokenWidth rows) store n)
 
--- ---- `one_token`
+-- ---- `one_token`: a colour's name, or a hash
 module _ (rows store : List ℕ) where
   module _ (r : Bool) (er : r ≡ kindAt rows 0 identKind) where
     -- a name is the colour that the table gives it
@@ -72,7 +72,7 @@ module _ (rows store : List ℕ) where
         ex ∙ ap colourAnswer (pick-true _ _ _ _ (kind-told rows store 0 identKind (ident-text .kind) r true er h) (ap (λ u. lookup u colours) s))
 
     module _ (h : r ≡ false) (l : Bool) (el : l ≡ kindAt rows 0 hashKind) where
-      -- what stands behind '#'
+      -- the return where the only token is a hash: the colour of what stands behind '#'
       pub one-hash : l ≡ true → (t : List ℕ) → t ≡ firstText rows store 0 → (x : ColourAnswer) → x ≡ colourAnswer (hashColour t)
           → x ≡ colourAnswer (oneToken (tokenHere rows store 0))
       unfolding oneToken
@@ -163,7 +163,7 @@ pub value-here : (rows store r g b : List ℕ) → r ≡ firstText rows store to
 unfolding rgbHere
 value-here rows store r g b er eg eb x ex = ex ∙ rw (er, eg, eb)
 
--- ---- `rgb_tokens`
+-- ---- `rgb_tokens`: the seven tokens of `rgb()`
 module _ (rows store : List ℕ) where
   -- the token number i
   abbrev nth : ℕ → Token
@@ -227,7 +227,7 @@ module _ (rows store : List ℕ) where
     rgb-unnamed h = no-colour _ (pick-false _ _ _ _ (told _ _ _ er h) refl ∙ seven-colour)
 
     module _ (h : r ≡ true) (l : Bool) (el : l ≡ rgbKinds rows) where
-      -- other tokens behind it
+      -- the return where other tokens stand in the brackets: no colour
       pub rgb-unlisted : l ≡ false → NoColour ≡ colourAnswer (colourOf (tokensAt rows store rgbCount))
       rgb-unlisted g = no-colour _ (pick-true _ _ _ _ (told _ _ _ er h) (pick-false _ _ _ _ (told _ _ _ el g) refl) ∙ seven-colour)
 
@@ -331,12 +331,12 @@ pub record Seeking (rows : List ℕ) (n i : ℕ) : Type 0 where
   pub left : lastPart rows n ≡ lastPart rows i
   pub inside : i ≤ n
 
--- so at the start
+-- before the last token is asked no comma is found, and all tokens are left
 pub seeking-begin : (rows : List ℕ) (n : ℕ) → Seeking rows n n
 seeking-begin rows n = record { left = refl; inside = omega arith }
 
 module _ (rows : List ℕ) (n i : ℕ) (c : Seeking rows n i) where
-  -- no token is left
+  -- with no token left there is no comma, and the part behind the last one is all tokens
   pub seeking-done : i ≤ 0 → (0 ≡ lastPart rows n) × (0 ≤ n)
   unfolding lastPart
   seeking-done h = let e : i ≡ 0 = omega arith in (sym (c .left ∙ ap (lastPart rows) e), omega arith)
@@ -357,7 +357,7 @@ module _ (rows : List ℕ) (n i : ℕ) (c : Seeking rows n i) where
     pub seeking-more : r ≡ false → Seeking rows n (i - 1)
     seeking-more p = record { left = turn ∙ sym (pick-false _ _ _ _ (told _ _ _ er p) refl); inside = let l = c .inside in omega arith }
 
--- ---- `parse_background_color`
+-- ---- `parse_background_color`: the colour behind the last comma
 module _ (rows store : List ℕ) (n i : ℕ) (h : i ≤ n) where
   -- the colour of the rows that are lent is that of what stands behind the last comma
   pub background : i ≡ lastPart rows n → (x : ColourAnswer)

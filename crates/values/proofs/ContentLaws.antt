@@ -29,7 +29,7 @@ unfolding contentAnswer contentBehind onFound
 behind-none (found b) = ap Content (sym (zero-add (length b)))
 behind-none missing = refl
 
--- where one more does
+-- one string more in front adds its length to the content
 behind-string : (n : ℕ) (t : List ℕ) (f : Found (List ℕ)) → contentBehind n (onFound f (λ b. found (t ++ b)) missing) ≡ contentBehind (n + length t) f
 unfolding contentBehind onFound
 behind-string n t (found b) = ap Content (let l = length-append t b in omega arith)
@@ -41,7 +41,7 @@ pub record Joining (rows store : List ℕ) (count at left n : ℕ) : Type 0 wher
   pub inside : at + tokenWidth * left ≤ length rows
   pub fits : n + length (textsMany textOf (tokensAt (drop at rows) store left)) < 2 ^ 64
 
--- so at the start
+-- before the first token the content is empty, and all tokens are left
 pub joining-begin : (rows store : List ℕ) (count : ℕ) → ContentRoom rows store count → Joining rows store count 0 count 0
 joining-begin rows store count c = record { same = behind-none _; inside = omega (arith, c .inside); fits = omega (arith, c .fits) }
 
@@ -49,7 +49,7 @@ module _ (rows store : List ℕ) (count at left n : ℕ) (c : Joining rows store
   abbrev whole : ContentAnswer
   whole = contentAnswer (contentOf (tokensAt rows store count))
 
-  -- no token is left
+  -- with no token left, the content is what was joined
   pub joining-done : left ≤ 0 → Content n ≡ whole
   unfolding contentBehind contentOf onFound
   joining-done h = let z : left ≡ 0 = omega arith in sym (c .same ∙ rw (z, tokens-none (drop at rows) store, add-zero n))
@@ -91,11 +91,11 @@ module _ (rows store : List ℕ) (count at left n : ℕ) (c : Joining rows store
       unfolding textsMany
       sum = ap (λ ks. length (textsMany textOf ks)) tokens ∙ length-append (textOf token) _ ∙ ap (λ s. length s + length (textsMany textOf after)) text
 
-      -- its bytes are counted
+      -- the length with this string's fits a word
       pub joining-room : n + length t < 2 ^ 64
       joining-room = omega (arith, c .fits, sum)
 
-      -- the tokens behind it
+      -- with this string joined, the tokens behind it are left
       pub joining-more : Joining rows store count (at + tokenWidth) (left - 1) (n + length t)
       joining-more =
           record {

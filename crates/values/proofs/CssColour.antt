@@ -33,10 +33,12 @@ digit-no-plus x h = is-no x plusSign (λ e. let p : isDigit plusSign ≡ false =
 
 -- so digits are read as they are
 module _ (x : ℕ) (t : List ℕ) (h : isHexDigit x ≡ true) where
+  -- a text that begins with a hex digit has no '+' to be left out
   digits-whole : withoutPlus (x ∷ t) ≡ x ∷ t
   unfolding withoutPlus pick
   digits-whole = rw (hex-no-plus x h)
 
+  -- hex digits that are worth no more than 0xffffffff are read as what they are worth
   hex-read : allOf isHexDigit t ≡ true → (v : ℕ) → numeral 16 hexDigit 0 (x ∷ t) ≡ v → v ≤ 0xffffffff → parseHex 0xffffffff (x ∷ t) ≡ found v
   unfolding parseHex allOf
   hex-read a v e l =
@@ -62,6 +64,7 @@ module _ (a b c d e f : ℕ) (ha : isHexDigit a ≡ true) (hb : isHexDigit b ≡
       let z : v % 256 ≡ hexDigit e * 16 + hexDigit f = omega arith in
       rw (r, x, y, z)
 
+  -- the colour of six hex digits has two of them for each of red, green and blue
   pub six-digits : hashColour (a ∷ b ∷ c ∷ d ∷ e ∷ f ∷ []) ≡ found (rgb (hexDigit a * 16 + hexDigit b) (hexDigit c * 16 + hexDigit d) (hexDigit e * 16 + hexDigit f))
   six-digits = six-worth _ refl
 
@@ -119,6 +122,7 @@ pub record Integer (t : List ℕ) (v : ℕ) : Type 0 where
   pub worth : numeral 10 hexDigit 0 t ≡ v
   pub byte : v ≤ 255
 
+-- digits that are worth at most 255 are read as that byte
 integer-read : (t : List ℕ) (v : ℕ) → Integer t v → parseU8 t ≡ found v
 unfolding parseU8
 integer-read [] v h = absurd (omega (arith, h .some))

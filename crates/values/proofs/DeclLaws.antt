@@ -169,7 +169,7 @@ module _ (p : ℕ) (name : List ℕ) (ks : List Token) where
   unfolding declAt rowAt onFound declAnswer declOfNumbers
   display-at h b eb v ev = here displayPlace _ h (ap (λ n. declOfNumbers displayKind n 0) (ev ∙ ap flag eb))
 
-  -- white-space, by its number
+  -- at its place in the table `white-space` has the number of its word
   pub white-space-at : p ≡ whiteSpacePlace → (v : ℕ) → v ≡ whiteSpaceNumber (whiteSpaceOf ks) → record { kind = whiteSpaceKind; value = v; text = 0 } ≡ whole
   unfolding declAt rowAt onFound declAnswer declOfNumbers
   white-space-at h v ev = here whiteSpacePlace _ h (ap (λ n. declOfNumbers whiteSpaceKind n 0) ev)
@@ -179,13 +179,14 @@ module _ (p : ℕ) (name : List ℕ) (ks : List Token) where
   unfolding declAt rowAt onFound
   content-at h a ea r er = here contentPlace r h (er ∙ ap (λ x. contentDecl x (length name)) ea ∙ content-told name (contentOf ks))
 
-  -- none of the ten
+  -- at no place of the table the declaration is unknown
   pub unknown-at : displayPlace ≤ p → ¬ (p ≡ displayPlace) → ¬ (p ≡ whiteSpacePlace) → ¬ (p ≡ contentPlace) → (r : declared.Decl)
       → r ≡ unknownDecl (length name) → r ≡ whole
   unfolding declAt onFound declAnswer unknownDecl wordsOf
   unknown-at l h i j r er = er ∙ ap (λ f. declAnswer (onFound f (λ read. read name ks) (unknown name))) (sym (row-none properties p (omega arith)))
 
 -- ---- `decl_of`: at the place p that the code finds
+-- the declaration at the place of the name in the table of properties is the declaration of the property
 pub decl-placed : (name : List ℕ) (ks : List Token) (p : ℕ) → p ≡ placeOf name (split (joinedOf properties) (lengthsOf properties))
     → (r : declared.Decl) → r ≡ declAnswer (declAt p name ks) → r ≡ declAnswer (declOf name ks)
 unfolding declAt declOf
@@ -195,6 +196,7 @@ decl-placed name ks p e r er = er ∙ ap (λ f. declAnswer (onFound f (λ read. 
 
 -- what holds of the declaration of every row, and of the unknown one
 module _ (P : Decl → Type 0) (name : List ℕ) (ks : List Token) where
+  -- what holds of the declaration of each property in the table, and of the unknown one, holds of every declaration
   decl-holds : P (onFound (colourOf ks) backgroundColor (unknown name)) → P (onFound (backgroundOf ks) backgroundColor (unknown name))
       → P (onFound (colourOf ks) color (unknown name)) → P (onFound (heightOf ks) height (unknown name))
       → P (onFound (heightOf ks) maxHeight (unknown name)) → P (onFound (overflowOf ks) overflow (unknown name))
@@ -238,11 +240,11 @@ pub record Textless (d : Decl) : Type 0 where
 
 -- what holds of declarations without a text, of the unknown one and of the value's content
 module _ (P : Decl → Type 0) (name : List ℕ) (ks : List Token) (h : (d : Decl) → Textless d → P d) (u : P (unknown name)) (m : P (content (textsMany textOf ks))) where
-  -- one without a text
+  -- what holds of all declarations without a text holds of such a one
   bare : (d : Decl) → declText d ≡ [] → P d
   bare d n = h d (record { none = n })
 
-  -- or the unknown one
+  -- what holds of what is found, and of the unknown declaration, holds of the choice
   maybe : {A : Type 0} (x : Found A) (f : A → Decl) → ((a : A) → P (f a)) → P (onFound x f (unknown name))
   maybe x f k = found-holds P x f (unknown name) (λ a e. k a) u
 

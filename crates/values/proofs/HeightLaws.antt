@@ -39,7 +39,7 @@ module _ (t : List ℕ) (n : ℕ) (e : n ≡ digits t) (r : Bool) where
       none : (i : ℕ) → length t ≤ i → drop i t ≡ []
       none i l = drop-of-length-le t l
 
-  -- a byte follows them
+  -- where a point follows the digits, those behind it are asked too
   pub zero-decimal : r ≡ roundsToZero (take n t) (take (length t - (n + 1)) (drop (n + 1) t)) → r ≡ unsignedZero t
   zero-decimal q = parts _ (rest t (n + 1)) q
 
@@ -111,13 +111,13 @@ module _ (rows store : List ℕ) (n : ℕ) (e : n ≡ 1) (d : Bool) (ed : d ≡ 
   kind : (v : Bool) → d ≡ v → isKind dimensionKind token ≡ v
   kind v p = kind-told rows store 0 dimensionKind dimension-kind d v ed p
 
-  -- the height is f
+  -- where the height of the token is f, the answer is that of f
   height-as : (f : Found Bool) → f ≡ heightOf (token ∷ []) → heightAnswer f ≡ whole
   height-as f p = ap heightAnswer p ∙ sym (ap (λ ks. heightAnswer (heightOf ks)) one)
 
   -- a dimension; u that its unit is a length's
   module _ (p : d ≡ true) (u : Bool) (eu : u ≡ anyOf (secondText rows store 0) units) where
-    -- so says the row
+    -- the kind in the row is that of dimensions
     dimension-row : is (getD rows kindColumn 0) dimensionKind ≡ true
     dimension-row = told _ _ _ ed p
 

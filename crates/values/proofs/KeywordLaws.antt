@@ -51,7 +51,7 @@ pub record Finding (table : List (List ℕ)) (rows store : List ℕ) (count at l
   pub same : firstPlace table (tokensAt rows store count) ≡ firstPlace table (tokensAt (drop at rows) store left)
   pub inside : at + tokenWidth * left ≤ length rows
 
--- so at the start
+-- before the first token none is found, and all are left
 pub finding-begin : (table : List (List ℕ)) (rows store : List ℕ) (count : ℕ) → Counted rows count → Finding table rows store count 0 count
 finding-begin table rows store count c = record { same = refl; inside = omega (arith, c .inside) }
 
@@ -62,7 +62,7 @@ module _ (joined lengths rows store : List ℕ) (count at left : ℕ) (c : Findi
   abbrev whole : ℕ
   whole = firstPlace table (tokensAt rows store count)
 
-  -- no token is left
+  -- with no token left, the place is past the table
   pub finding-done : left ≤ 0 → length lengths ≡ whole
   unfolding firstPlace
   finding-done h = let z : left ≡ 0 = omega arith in sym (c .same ∙ rw (z, tokens-none (drop at rows) store) (length-split joined lengths))
@@ -79,11 +79,11 @@ module _ (joined lengths rows store : List ℕ) (count at left : ℕ) (c : Findi
         c .same ∙ ap (λ n. firstPlace table (tokensAt (drop at rows) store n)) s
         ∙ ap (firstPlace table) (tokens-here rows store at (left - 1)) ∙ rw (← e, length-split joined lengths)
 
-    -- the table has it
+    -- where the table has the token's word, its place is the answer
     pub finding-hit : p < length lengths → p ≡ whole
     finding-hit l = pick-true _ _ _ _ (lt-ltb p _ l) refl ∙ sym turn
 
-    -- the table does not
+    -- where the table does not have it, the tokens behind it are asked
     pub finding-more : length lengths ≤ p → Finding table rows store count (at + tokenWidth) (left - 1)
     finding-more l = record { same = turn ∙ sym (pick-false _ _ _ _ (le-ltb p _ l) refl); inside = omega (arith, c .inside) }
 
@@ -111,7 +111,7 @@ module _ {A : Type 0} where
   word-step es true p q = row-or es p (rowAt es q) ∙ row-pick es (ltb p (length (wordsOf es))) p q
   word-step es false p q = ap (rowAt es) (pick-false q _ q _ (le-ltb (length (wordsOf es)) _ (omega arith)) refl)
 
-  -- so for all tokens
+  -- the first word of all tokens that the table has is the row at the first such place
   pub word-place : (es : List (Entry A)) (ks : List Token) → firstWord es ks ≡ rowAt es (firstPlace (wordsOf es) ks)
   unfolding firstWord firstPlace namePlace
   word-place es [] = sym (row-none es (length (wordsOf es)) (omega arith))
@@ -129,7 +129,7 @@ module _ {A : Type 0} where
       pub word-hit : i < length (numbersOf f es) → g (getD (numbersOf f es) i 0) ≡ onFound (firstWord es ks) (λ a. g (f a)) b
       word-hit h = row-there f g b es i h ∙ ap (λ r. onFound r (λ a. g (f a)) b) word-row
 
-      -- none, past the last
+      -- a place past the last row is no word
       pub word-miss : length (numbersOf f es) ≤ i → b ≡ onFound (firstWord es ks) (λ a. g (f a)) b
       word-miss h = row-missing f g b es i h ∙ ap (λ r. onFound r (λ a. g (f a)) b) word-row
 
@@ -177,7 +177,7 @@ module _ (ks : List Token) (i : ℕ) where
     unfolding overflowAnswer overflowOf numbersOf numbersFrom overflowNumber
     overflow-miss h = place-miss overflowNumber Word NoWord overflows refl ks i e h
 
-  -- it names a display
+  -- the display is none exactly if the code's place of the first word is within the table, which has `none` alone
   pub display-told : i ≡ firstPlace (split (joinedOf displays) (lengthsOf displays)) ks → ltb i (length displays) ≡ displayOf ks
   unfolding displayOf onFound rowAt
   display-told e = display-row i ∙ ap (λ r. onFound r (λ a. a) false) (word-row displays ks i e)

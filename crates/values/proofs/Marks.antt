@@ -50,21 +50,25 @@ module _ (rows store : List ℕ) where
 
     -- the tests as the code makes them: the first is a delimiter
     module _ (d : Bool) (ed : d ≡ is (getD rows (m + kindColumn) 0) delimKind) where
+      -- where the last but one is no delimiter, there is no mark
       pub mark-no-delim : d ≡ false → false ≡ isImportant (tokensAt rows store n)
       unfolding isMark isDelim
       mark-no-delim e = sym (mark-is ∙ and-left _ _ (and-left _ _ (kind-told rows store m delimKind delim-kind d false ed e)))
 
       -- of this scalar value
       module _ (e : d ≡ true) (x : ℕ) (ex : x ≡ getD rows (m + firstColumn) 0) where
+        -- the scalar value of the last but one is the number in its row
         sign-is : firstOf (tokenHere rows store m) ≡ x
         sign-is = here-delim rows store m (told _ _ _ ed e) ∙ sym ex
 
+        -- where that delimiter is no '!', there is no mark
         pub mark-no-sign : ¬ (x ≡ exclamationMark) → false ≡ isImportant (tokensAt rows store n)
         unfolding isMark isDelim
         mark-no-sign k = sym (mark-is ∙ and-left _ _ (and-right _ _ (is-no _ _ (λ z. k (sym sign-is ∙ z)))))
 
         -- and the second is a name
         module _ (k : x ≡ exclamationMark) (i : Bool) (ei : i ≡ is (getD rows (m + tokenWidth + kindColumn) 0) identKind) where
+          -- where no name stands behind the '!', there is no mark
           pub mark-no-name : i ≡ false → false ≡ isImportant (tokensAt rows store n)
           unfolding isMark isWord
           mark-no-name f = sym (mark-is ∙ and-right _ _ (and-left _ _ (kind-told rows store (m + tokenWidth) identKind (ident-text .kind) i false ei f)))

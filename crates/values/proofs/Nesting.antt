@@ -128,7 +128,7 @@ no-text include cs closeRound never = refl
 no-text include cs openBrace never = refl
 no-text include cs closeBrace never = refl
 
--- and leaves the brackets
+-- such a token leaves the store of brackets as it is
 pub unpushed : (include : Bool) (cs : List ℕ) (x : Bracket) (b : List ℕ) (d : ℕ) → ((ds : List ℕ) → ¬ (stepOf include x cs ≡ next ds)) → pushed x b d ≡ b
 unfolding stepOf pushed
 unpushed include cs (opens c) b d never = absurd (never _ refl)
@@ -163,18 +163,19 @@ abbrev pub Closed : ℕ → List ℕ → ℕ → declared-step.Step → Type 0
 Closed c b d r = (stepTo r b ≡ closing c (awaited b d)) × (deep r (d - 1) ≡ d - 1)
 
 module _ (c : ℕ) (b : List ℕ) where
-  -- where none is awaited
+  -- where none is awaited, a '}' ends the statement before itself
   pub closed-before : (d : ℕ) → d ≡ 0 → c ≡ rightCurlyBracket → Closed c b d Before
   unfolding closing awaited stepTo deep
   closed-before zero z e = (pick-true _ _ _ _ (is-yes _ _ e) refl, refl)
   closed-before (suc d) z e = absurd (omega arith)
 
+  -- where none is awaited, any bracket but '}' is wrong
   pub closed-none : (d : ℕ) → d ≡ 0 → ¬ (c ≡ rightCurlyBracket) → Closed c b d Wrong
   unfolding closing awaited stepTo deep
   closed-none zero z e = (pick-false _ _ _ _ (is-no _ _ e) refl, refl)
   closed-none (suc d) z e = absurd (omega arith)
 
-  -- where another is awaited
+  -- where another bracket is awaited, this one is wrong
   pub closed-wrong : (d : ℕ) → ¬ (d ≡ 0) → ¬ (getD b (d - 1) 0 ≡ c) → Closed c b d Wrong
   unfolding closing awaited stepTo deep
   closed-wrong zero z e = absurd (z refl)
@@ -190,12 +191,14 @@ module _ (c : ℕ) (b : List ℕ) where
   closed-behind (suc zero) z e o h = (pick-true _ _ _ _ (is-yes _ _ (sym e)) (pick-true _ _ _ _ (is-yes _ _ h) refl), refl)
   closed-behind (suc (suc d)) z e o h = absurd (omega arith)
 
+  -- the last one awaited, where it is no '}': the statement goes on with none awaited
   pub closed-last : (d : ℕ) → ¬ (d ≡ 0) → getD b (d - 1) 0 ≡ c → d - 1 ≡ 0 → ¬ (c ≡ rightCurlyBracket) → Closed c b d (Next 0)
   unfolding closing awaited stepTo deep
   closed-last zero z e o h = absurd (z refl)
   closed-last (suc zero) z e o h = (pick-true _ _ _ _ (is-yes _ _ (sym e)) (pick-false _ _ _ _ (is-no _ _ h) refl), refl)
   closed-last (suc (suc d)) z e o h = absurd (omega arith)
 
+  -- one inside another: the statement goes on with one fewer awaited
   pub closed-inner : (d : ℕ) → ¬ (d ≡ 0) → getD b (d - 1) 0 ≡ c → ¬ (d - 1 ≡ 0) → Closed c b d (Next (d - 1))
   unfolding closing awaited stepTo deep
   closed-inner zero z e o = absurd (z refl)
@@ -212,6 +215,7 @@ ending-is true b zero = rw (is-yes 0 0 refl)
 ending-is false b zero = rw (is-yes 0 0 refl)
 ending-is include b (suc d) = rw (is-no (suc d) 0 (λ e. absurd (omega arith)))
 
+-- a ';' leaves as many brackets awaited as there were
 ending-deep : (include : Bool) (d : ℕ) → deep (endingBy include d) d ≡ d
 unfolding endingBy deep pick
 ending-deep true zero = rw (is-yes 0 0 refl)
@@ -221,21 +225,26 @@ ending-deep include (suc d) = rw (is-no (suc d) 0 (λ e. absurd (omega arith)))
 -- ---- a token
 -- by what the code found it to do
 module _ (include : Bool) (r : declared-bracket.Bracket) (x : Bracket) (e : meant r ≡ x) (b : List ℕ) (d : ℕ) where
+  -- what the token means is what the code found it to do
   said : (r′ : declared-bracket.Bracket) → r ≡ r′ → x ≡ meant r′
   said r′ h = sym e ∙ ap meant h
 
+  -- an opening bracket: the one that closes it is stored, and one more is awaited
   pub moved-opens : (c : ℕ) → r ≡ Opens c → d < length b → Moved include x b d (set b d c) (Next (d + 1))
   unfolding meant stepTo stepOf pushed depth deep
   moved-opens c h l = rw (said (Opens c) h) record { step = ap next (awaited-push b d c l); store = refl; deeper = refl }
 
+  -- a closing bracket: what the code does at it is what the token does
   pub moved-closes : (c : ℕ) → r ≡ Closes c → (v : declared-step.Step) → Closed c b d v → Moved include x b d b v
   unfolding meant stepOf pushed depth
   moved-closes c h v p = rw (said (Closes c) h) record { step = p .0; store = refl; deeper = p .1 }
 
+  -- a ';' does what the end of a statement does
   pub moved-ends : r ≡ Ends → (v : declared-step.Step) → v ≡ endingBy include d → Moved include x b d b v
   unfolding meant stepOf pushed depth
   moved-ends h v p = rw (said Ends h, p) record { step = ending-is include b d; store = refl; deeper = ending-deep include d }
 
+  -- a token that is no bracket leaves the store, and as many awaited
   pub moved-none : r ≡ NoBracket → Moved include x b d b (Next d)
   unfolding meant stepTo stepOf pushed depth deep
   moved-none h = rw (said NoBracket h) record { step = refl; store = refl; deeper = refl }

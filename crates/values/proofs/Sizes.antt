@@ -30,14 +30,17 @@ stop-sized s at b = record { counted = omega arith; within = omega arith; text =
 
 -- of a token and more
 module _ (s : List ℕ) (at n : ℕ) (t : Placed) (f : Fits s n (textOf (t .token))) (r : Statement) (h : Sized (drop n s) (at + n) r) where
+  -- the token's text and those behind it are at most two bytes longer than the text
   text-more : Bound s n (textOf (t .token)) → length (textOf (t .token)) + length (textsOf (r .tokens)) ≤ length s + 2
   text-more (short l) = omega (arith, h .text, length-drop n s, f .within-text)
   text-more (lone l e x) = omega (arith, h .none (omega (arith, length-drop n s)))
 
+  -- where the text goes on, they are no longer than what was taken
   text-sharp : r .taken < at + length s → Bound s n (textOf (t .token)) → at + (length (textOf (t .token)) + length (textsOf (r .tokens))) ≤ r .taken
   text-sharp o (short l) = omega (arith, h .sharp (omega (arith, length-drop n s, f .within-text)))
   text-sharp o (lone l e x) = absurd (omega (arith, h .counted))
 
+  -- a token in front of a statement within its bounds makes one within its bounds
   cons-sized : Sized s at (cons t r)
   unfolding cons textsMany
   cons-sized =
@@ -49,7 +52,7 @@ module _ (s : List ℕ) (at n : ℕ) (t : Placed) (f : Fits s n (textOf (t .toke
         sharp = λ l. omega (arith, length-append (textOf (t .token)) (textsOf (r .tokens)), text-sharp l (f .bound));
       }
 
--- from any place on
+-- what is read of a statement from any place on, with any brackets awaited, is within its bounds
 scan-sized : (l : ℕ) (include : Bool) (s : List ℕ) (at : ℕ) (cs : List ℕ) → Sized s at (scan l include s at cs)
 unfolding scan
 scan-sized zero include s at cs = stop-sized s at true

@@ -47,13 +47,16 @@ module _ (k a b n : ℕ) (d : ¬ (n ≡ closeBraceKind)) where
   abbrev P : lexer.Token → Type 0
   P x = columnsOf x .kind ≡ n → k ≡ n
 
+  -- a kind that is tested to be m is n, where m is
   says : (m : ℕ) → is k m ≡ true → m ≡ n → k ≡ n
   says m e h = is-true k m e ∙ h
 
+  -- a mark that is read with the kind n stands in a row with the kind n
   mark-kind : columnsOf (markFrom k) .kind ≡ n → k ≡ n
   unfolding markFrom columnsOf
   mark-kind = (pick-holds P _ _ _ (λ e. says cdoKind e) (λ _. (pick-holds P _ _ _ (λ e. says cdcKind e) (λ _. (pick-holds P _ _ _ (λ e. says colonKind e) (λ _. (pick-holds P _ _ _ (λ e. says semicolonKind e) (λ _. (pick-holds P _ _ _ (λ e. says commaKind e) (λ _. (pick-holds P _ _ _ (λ e. says openSquareKind e) (λ _. (pick-holds P _ _ _ (λ e. says closeSquareKind e) (λ _. (pick-holds P _ _ _ (λ e. says openRoundKind e) (λ _. (pick-holds P _ _ _ (λ e. says closeRoundKind e) (λ _. (pick-holds P _ _ _ (λ e. says openBraceKind e) (λ _. (λ h. absurd (d (sym h)))))))))))))))))))))))
 
+  -- a token that is read with the kind n stands in a row with the kind n
   from-kind : columnsOf (tokenFrom k a b) .kind ≡ n → k ≡ n
   unfolding tokenFrom columnsOf
   from-kind = (pick-holds P _ _ _ (λ e. says identKind e) (λ _. (pick-holds P _ _ _ (λ e. says functionKind e) (λ _. (pick-holds P _ _ _ (λ e. says hashKind e) (λ _. (pick-holds P _ _ _ (λ e. says stringKind e) (λ _. (pick-holds P _ _ _ (λ e. says badStringKind e) (λ _. (pick-holds P _ _ _ (λ e. says delimKind e) (λ _. (pick-holds P _ _ _ (λ e. says numberKind e) (λ _. (pick-holds P _ _ _ (λ e. says dimensionKind e) (λ _. (pick-holds P _ _ _ (λ e. says percentageKind e) (λ _. mark-kind))))))))))))))))))
@@ -68,38 +71,47 @@ pub record OneText (n : ℕ) : Type 0 where
   pub kind : Kind n
   pub text : (store : List ℕ) (s a b : ℕ) → textOf (tokenWith store s (tokenFrom n a b)) ≡ part store s a
 
+-- a name has its kind and one text, its characters
 abbrev pub ident-text : OneText identKind
 unfolding tokenFrom columnsOf tokenWith textOf pick is
 ident-text = record { kind = record { other = λ e. omega arith; same = λ a b. refl }; text = λ store s a b. refl }
 
+-- a function has its kind and one text, its name
 abbrev pub function-text : OneText functionKind
 unfolding tokenFrom columnsOf tokenWith textOf pick is
 function-text = record { kind = record { other = λ e. omega arith; same = λ a b. refl }; text = λ store s a b. refl }
 
+-- a hash has its kind and one text, what stands behind the '#'
 abbrev pub hash-text : OneText hashKind
 unfolding tokenFrom columnsOf tokenWith textOf pick is
 hash-text = record { kind = record { other = λ e. omega arith; same = λ a b. refl }; text = λ store s a b. refl }
 
+-- a string has its kind and one text, its characters
 abbrev pub string-text : OneText stringKind
 unfolding tokenFrom columnsOf tokenWith textOf pick is
 string-text = record { kind = record { other = λ e. omega arith; same = λ a b. refl }; text = λ store s a b. refl }
 
+-- a number has its kind and one text, as it is written
 abbrev pub number-text : OneText numberKind
 unfolding tokenFrom columnsOf tokenWith textOf pick is
 number-text = record { kind = record { other = λ e. omega arith; same = λ a b. refl }; text = λ store s a b. refl }
 
+-- the kind of dimensions is read as what it is
 pub dimension-kind : Kind dimensionKind
 unfolding tokenFrom columnsOf pick is
 dimension-kind = record { other = λ e. omega arith; same = λ a b. refl }
 
+-- the kind of delimiters is read as what it is
 pub delim-kind : Kind delimKind
 unfolding tokenFrom columnsOf pick is
 delim-kind = record { other = λ e. omega arith; same = λ a b. refl }
 
+-- the kind of commas is read as what it is
 pub comma-kind : Kind commaKind
 unfolding tokenFrom markFrom columnsOf pick is
 comma-kind = record { other = λ e. omega arith; same = λ a b. refl }
 
+-- the kind of closing round brackets is read as what it is
 pub close-round-kind : Kind closeRoundKind
 unfolding tokenFrom markFrom columnsOf pick is
 close-round-kind = record { other = λ e. omega arith; same = λ a b. refl }
@@ -119,6 +131,7 @@ module _ (rows store : List ℕ) (p : ℕ) where
   abbrev second : ℕ
   second = getD rows (p + secondColumn) 0
 
+  -- the token that starts at p is made of the four numbers in its row, and of its texts
   here : tokenHere rows store p ≡ tokenWith store start (tokenFrom kind first second)
   unfolding tokenHere readToken tokenIn
   here = rw (getD-drop p rows kindColumn 0, getD-drop p rows startColumn 0, getD-drop p rows firstColumn 0, getD-drop p rows secondColumn 0)
@@ -127,6 +140,7 @@ module _ (rows store : List ℕ) (p : ℕ) where
   here-as : (n : ℕ) → is kind n ≡ true → tokenHere rows store p ≡ tokenWith store start (tokenFrom n first second)
   here-as n e = here ∙ ap (λ m. tokenWith store start (tokenFrom m first second)) (is-true kind n e)
 
+  -- its kind is what the three numbers in its row read as
   here-kind-of : kindOf (tokenHere rows store p) ≡ columnsOf (tokenFrom kind first second) .kind
   here-kind-of = ap kindOf here ∙ kind-with store start _
 
@@ -151,11 +165,12 @@ module _ (rows store : List ℕ) (p : ℕ) where
   unfolding firstText numberOf firstOf columnsOf coded textOf tokenWith tokenFrom pick is
   here-number e = ap numberOf (here-as dimensionKind e) ∙ take-append-seam (part store start first) (part store (start + first) second)
 
+  -- a dimension's unit lies behind its number
   pub here-unit : is kind dimensionKind ≡ true → unitOf (tokenHere rows store p) ≡ secondText rows store p
   unfolding secondText unitOf firstOf columnsOf coded textOf tokenWith tokenFrom pick is
   here-unit e = ap unitOf (here-as dimensionKind e) ∙ drop-append-seam (part store start first) (part store (start + first) second)
 
-  -- a delimiter's scalar value
+  -- the scalar value of a delimiter is the number in its row
   pub here-delim : is kind delimKind ≡ true → firstOf (tokenHere rows store p) ≡ first
   unfolding firstOf columnsOf coded tokenWith tokenFrom pick is
   here-delim e = ap firstOf (here-as delimKind e)

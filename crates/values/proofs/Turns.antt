@@ -55,6 +55,7 @@ module _ (o : Store) (n : ℕ) (b : List ℕ) (d : ℕ) (st : List ℕ) (fill t 
   unfolding leaves stop pick rowsMany textsMany bracketsAfter
   leaves-stop at = rw (add-zero n, add-zero t, emits-none o)
 
+  -- a statement that ends here with a wrong bracket leaves the stores as they are, and says so
   leaves-wrong : (at : ℕ) → leaves (stop at false) o n b d st fill t ≡ record { answer = answer.Unbalanced at n t; rows = o .bytes; brackets = b; store = st }
   unfolding leaves stop pick rowsMany textsMany bracketsAfter
   leaves-wrong at = rw (add-zero n, add-zero t, emits-none o)
@@ -90,14 +91,17 @@ module _ (include : Bool) (s : List ℕ) (at : ℕ) (cs : List ℕ) where
     scan-before zero h = refl
     scan-before (suc l) h = rw (e, h)
 
+    -- at a wrong bracket the statement ends before the token, unbalanced
     scan-wrong : (l : ℕ) → stepOf include (bracketOf k) cs ≡ wrong → scan (suc l) include s at cs ≡ stop at false
     unfolding scan onParsed onStep
     scan-wrong l h = rw (e, h)
 
+    -- at a token that ends the statement behind itself, it is the last
     scan-behind : (l : ℕ) → stepOf include (bracketOf k) cs ≡ behind → scan (suc l) include s at cs ≡ cons placed (stop (at + n) true)
     unfolding scan onParsed onStep
     scan-behind l h = rw (e, h)
 
+    -- at any other token the statement goes on behind it, with the brackets awaited then
     scan-next : (l : ℕ) (ds : List ℕ) → stepOf include (bracketOf k) cs ≡ next ds → scan (suc l) include s at cs ≡ cons placed (scan l include (drop n s) (at + n) ds)
     unfolding scan onParsed onStep
     scan-next l ds h = rw (e, h)
@@ -113,6 +117,7 @@ pub slack-none : (s : List ℕ) (n : ℕ) → n < length s → slack s n ≡ 0
 unfolding slack
 slack-none s n h = sym (pick-false _ _ _ _ (and-left _ _ (is-no _ _ (λ e. absurd (omega arith)))) refl)
 
+-- texts are at most two bytes longer than what was taken
 pub slack-two : (s : List ℕ) (n : ℕ) → slack s n ≤ 2
 unfolding slack
 slack-two s n = pick-holds (λ m. m ≤ 2) _ _ _ (λ _. omega arith) (λ _. omega arith)
@@ -140,6 +145,7 @@ reads-from s (ok n x) h w m k e =
     record { token = x; reads = rw q h; same = cc; starts = cc }
 reads-from s err h w m k e = absurd (let z : _≡_ {A = ℕ} 0 1 = cc in omega arith)
 
+-- an answer without a token says that none reads
 reads-none : (p : Parsed Token) (w : ℕ) → Nothing ≡ lexedAnswer w p → p ≡ err
 unfolding lexedAnswer
 reads-none (ok n x) w e = absurd (let z : _≡_ {A = ℕ} 0 1 = cc in omega arith)
@@ -165,7 +171,7 @@ pub record Running (s : List ℕ) (include : Bool) (rows₀ brackets₀ store₀
   pub brackets-long : length brackets ≡ length brackets₀
   pub store-long : length store ≡ length store₀
 
--- before the first token
+-- before the first token nothing is taken, counted, awaited or written
 pub begin : (s : List ℕ) (include : Bool) (rows brackets store : List ℕ) (fill : ℕ)
     → Running s include rows brackets store fill rows brackets store 0 0 0 0 0
 unfolding statementOf awaited
@@ -229,7 +235,7 @@ module _ {s : List ℕ} {include : Bool} {rows₀ brackets₀ store₀ : List �
         bounds-here,
       )
 
-  -- ---- a token
+  -- ---- a token was read: what its turn leaves
   module _ {w m : ℕ} {k : lexer.Token} (e : At w m k ≡ lexedAnswer (skipWhitespace ahead) (tokenOf ahead)) where
     -- the token, its bounds, and the code's token
     read : Reads ahead w m k
@@ -238,12 +244,15 @@ module _ {s : List ℕ} {include : Bool} {rows₀ brackets₀ store₀ : List �
     abbrev t : Token
     t = read .token
 
+    -- the token takes a byte or more and no more than there are, and its text is bounded
     fits : Fits ahead m (textOf t)
     fits = token-fits ahead m t (read .reads)
 
+    -- the length of its text is told by the code's token
     length-is : lengthBy k ≡ length (textOf t)
     length-is = ap lengthBy (read .same) ∙ length-coded t
 
+    -- what it does to the brackets is told by the code's token
     bracket-is : bracketBy k ≡ bracketOf t
     unfolding bracketOf
     bracket-is = ap bracketBy (read .same)
@@ -252,9 +261,11 @@ module _ {s : List ℕ} {include : Bool} {rows₀ brackets₀ store₀ : List �
     pub some : 1 ≤ m
     some = fits .some
 
+    -- the token ends within the text
     pub within-text : taken + m ≤ length s
     within-text = omega (arith, fits .within-text, length-drop taken s, c .within)
 
+    -- the token starts within the text
     starts-within : taken + w ≤ length s
     starts-within = omega (arith, read .starts, skip-le ahead, length-drop taken s, c .within)
 
@@ -268,18 +279,23 @@ module _ {s : List ℕ} {include : Bool} {rows₀ brackets₀ store₀ : List �
 
     -- the numbers of the next turn are numbers of 64 bits, and there is a place for a bracket
     module _ (r : Room (length s) fill rows₀ brackets₀ store₀) where
+      -- the byte where the token starts fits a word
       pub byte-fits : taken + w < 2 ^ 64
       byte-fits = omega (arith, starts-within, r .bits)
 
+      -- the bytes taken with it fit a word
       pub taken-fits : taken + m < 2 ^ 64
       taken-fits = omega (arith, within-text, r .bits)
 
+      -- the count with it fits a word
       pub count-fits : count + 1 < 2 ^ 64
       count-fits = omega (arith, within-text, some, c .counted, r .bits)
 
+      -- the bytes of text with its own fit a word
       pub text-fits : text + lengthBy k < 2 ^ 64
       text-fits = omega (arith, long-more, within-text, slack-two s (taken + m), r .bits)
 
+      -- the store of brackets has a place for one more
       pub bracket-fits : d < length brackets
       bracket-fits = omega (arith, within-text, some, c .nested, c .brackets-long, r .for-brackets)
 
@@ -287,6 +303,7 @@ module _ {s : List ℕ} {include : Bool} {rows₀ brackets₀ store₀ : List �
     left-over : (j : ℕ) × (suc j ≡ c .turns)
     left-over = more-turns (length s) taken (c .turns) (c .enough) (c .within)
 
+    -- what is ahead is read in that turn and those that are left
     scan-left : scan (c .turns) include ahead taken inner ≡ scan (suc (left-over .0)) include ahead taken inner
     scan-left = ap (λ l. scan l include ahead taken inner) (sym (left-over .1))
 
@@ -294,6 +311,7 @@ module _ {s : List ℕ} {include : Bool} {rows₀ brackets₀ store₀ : List �
     step-is : (b : List ℕ) (r : declared-step.Step) → Moved include (bracketBy k) brackets d b r → stepTo r b ≡ stepOf include (bracketOf t) inner
     step-is b r v = v .step ∙ ap (λ x. stepOf include x inner) bracket-is
 
+    -- the brackets that the code left are those that the token leaves
     brackets-are : (b : List ℕ) (r : declared-step.Step) → Moved include (bracketBy k) brackets d b r → b ≡ pushed (bracketOf t) brackets d
     brackets-are b r v = v .store ∙ ap (λ x. pushed x brackets d) bracket-is
 
@@ -311,7 +329,7 @@ module _ {s : List ℕ} {include : Bool} {rows₀ brackets₀ store₀ : List �
         u ∙ unpushed include inner (bracketOf t) brackets d (λ ds p. never ds (h ∙ p)),
       )
 
-      -- the statement ends before it
+      -- the return at a token before which the statement ends
       pub ends-before : {b : List ℕ} → Moved include (bracketBy k) brackets d b Before → Ends (answer.Statement taken count text) rows b z
       unfolding stepTo
       ends-before {b} v =
@@ -323,7 +341,7 @@ module _ {s : List ℕ} {include : Bool} {rows₀ brackets₀ store₀ : List �
             bounds-here,
           )
 
-      -- it is a wrong bracket
+      -- the return at a wrong bracket: the statement ends before it, unbalanced
       pub ends-wrong : {b : List ℕ} → Moved include (bracketBy k) brackets d b Wrong → Ends (answer.Unbalanced taken count text) rows b z
       unfolding stepTo takenBy countBy textBy
       ends-wrong {b} v =
@@ -352,7 +370,7 @@ module _ {s : List ℕ} {include : Bool} {rows₀ brackets₀ store₀ : List �
             rw (row-is, brackets-are b r v, text-is, el ∙ length-is)
             (sym (leaves-cons written count brackets d store fill text t (taken + skipWhitespace ahead) y))
 
-        -- the statement ends behind it
+        -- the return at a token behind which the statement ends
         pub ends-behind : {b : List ℕ} → Moved include (bracketBy k) brackets d b Behind
             → Ends (answer.Statement (taken + m) (count + 1) (text + l)) x b z
         unfolding stepTo takenBy countBy textBy
@@ -365,7 +383,7 @@ module _ {s : List ℕ} {include : Bool} {rows₀ brackets₀ store₀ : List �
               record { taken = within-text; count = omega (arith, c .counted, some); text = omega (arith, long-more, el) },
             )
 
-        -- the statement goes on
+        -- at any other token the reader goes on behind it, with its row and text written
         pub goes : {b : List ℕ} {o : ℕ} → Moved include (bracketBy k) brackets d b (Next o) → length x ≡ length rows → length b ≡ length brackets
             → length z ≡ length store → Running s include rows₀ brackets₀ store₀ fill x b z (taken + m) (count + 1) q o (text + l)
         unfolding stepTo deep

@@ -52,11 +52,13 @@ unmarked-le ks = pick-holds (λ m. m ≤ length ks) (isImportant ks) _ _ (λ _. 
 
 -- the first tokens of rows
 module _ (rows store : List ℕ) where
+  -- the first m of n tokens that are read are the m tokens that are read
   tokens-take : (m n p : ℕ) → m ≤ n → tokensAt (drop p rows) store m ≡ take m (tokensAt (drop p rows) store n)
   tokens-take zero n p h = tokens-none (drop p rows) store
   tokens-take (suc m) zero p h = absurd (omega arith)
   tokens-take (suc m) (suc n) p h = rw (tokens-here rows store p m, tokens-here rows store p n, tokens-take m n (p + tokenWidth) (omega arith))
 
+  -- the tokens that are read by the count without the mark are the tokens without it
   pub tokens-unmarked : (n : ℕ) (ks : List Token) → tokensAt rows store n ≡ ks → n ≡ length ks → (m : ℕ) → m ≡ pick (isImportant ks) (n - 2) n → tokensAt rows store m ≡ withoutMark ks
   tokens-unmarked n ks e en m em =
       let h : m ≡ unmarkedCount ks = em ∙ rw en in
@@ -81,6 +83,7 @@ unfolding textsMany pick
 begins-mark true a b = record { more = textsMany textOf (a ∷ b ∷ []); whole = refl }
 begins-mark false a b = record { more = []; whole = sym (append-nil _) }
 
+-- the texts of a value begin with those of its tokens without the mark
 pub texts-begin : (ks : List Token) → Begins (textsMany textOf ks) (textsMany textOf (withoutMark ks))
 unfolding withoutMark textsMany
 texts-begin [] = record { more = []; whole = refl }
@@ -101,16 +104,18 @@ wiped-inner l f n m xs h =
     in
     wiped-add f n m _ ∙ ap (wiped (f + n) m) p ∙ wiped-over (wiped f n l) (f + n) m xs h ∙ sym (wiped-add f n m l)
 
--- the name itself stays
+-- what is stored from j on leaves all that lies before it
 take-apart : (l : List ℕ) (n : ℕ) (xs : List ℕ) (j : ℕ) → n ≤ j → take n (sets l j xs) ≡ take n l
 take-apart l n [] j h = refl
 take-apart l n (x ∷ xs) j h = take-apart (set l j x) n xs (suc j) (omega arith) ∙ take-set-le n l j x h
 
+-- n bytes from f on are what lies behind f of the first f + n
 part-take : (f n : ℕ) (l : List ℕ) → take n (drop f l) ≡ drop f (take (f + n) l)
 part-take zero n l = let e : 0 + n ≡ n = omega arith in rw e
 part-take (suc f) n [] = let e : suc f + n ≡ suc (f + n) = omega arith in rw (e, take-nil)
 part-take (suc f) n (x ∷ l) = let e : suc f + n ≡ suc (f + n) = omega arith in rw e (part-take f n l)
 
+-- what is stored behind a part leaves the part as it was
 pub part-apart : (l : List ℕ) (f n : ℕ) (xs : List ℕ) → part (sets l (f + n) xs) f n ≡ part l f n
 unfolding part
 part-apart l f n xs = part-take f n (sets l (f + n) xs) ∙ ap (drop f) (take-apart l (f + n) xs (f + n) (omega arith)) ∙ sym (part-take f n l)
@@ -122,6 +127,7 @@ set-wiped b d n c h =
     let z : 0 + d ≡ d = omega arith in
     rw e (rw z at (wiped-inner b 0 d (n - d) (c ∷ []) (omega arith)))
 
+-- what a token does to the brackets is wiped with all up to the n-th, where it is one of those
 pushed-wiped : (x : Bracket) (b : List ℕ) (d n : ℕ) → d < n → wiped 0 n (pushed x b d) ≡ wiped 0 n b
 unfolding pushed
 pushed-wiped (opens c) b d n h = set-wiped b d n c h
@@ -129,6 +135,7 @@ pushed-wiped (closes c) b d n h = refl
 pushed-wiped ends b d n h = refl
 pushed-wiped none b d n h = refl
 
+-- what all tokens do to the brackets is wiped with as many as there are tokens
 pub brackets-wiped : (ts : List Placed) (b : List ℕ) (d n : ℕ) → d + length ts ≤ n → wiped 0 n (bracketsAfter ts b d) ≡ wiped 0 n b
 unfolding bracketsAfter
 brackets-wiped [] b d n h = refl

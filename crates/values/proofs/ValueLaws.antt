@@ -24,6 +24,7 @@ record Whole (v : Bool) (p q t n k m : ℕ) : Type 0 where
   count : k ≡ q
   text : m ≡ t
 
+-- an answer with a statement comes of right brackets alone, and has the numbers of that case
 whole : (v : Bool) (p q t n k m : ℕ) → answer.Statement n k m ≡ pick v (answer.Statement p q t) (answer.Unbalanced p q t) → Whole v p q t n k m
 unfolding pick
 whole true p q t n k m e = record { balanced = refl; taken = cc; count = cc; text = cc }
@@ -34,6 +35,7 @@ record Broken (v : Bool) (q t k m : ℕ) : Type 0 where
   count : k ≡ q
   text : m ≡ t
 
+-- an answer without one comes of a wrong bracket alone, and has its counts
 broken : (v : Bool) (p q t n k m : ℕ) → answer.Unbalanced n k m ≡ pick v (answer.Statement p q t) (answer.Unbalanced p q t) → Broken v q t k m
 unfolding pick
 broken true p q t n k m e = absurd (let z : _≡_ {A = ℕ} 0 1 = cc in omega arith)
@@ -45,6 +47,7 @@ value-whole : (r : Statement) (n k m : ℕ) → Whole (r .balanced) (r .taken) (
 unfolding valueAnswer pick
 value-whole r n k m h i e = rw (h .balanced, h .taken, h .count, h .text, e)
 
+-- where a bracket is wrong, no value is answered, with the count of the tokens and the bytes of their texts
 value-broken : (r : Statement) (k m : ℕ) → Broken (r .balanced) (length (r .tokens)) (length (textsOf (r .tokens))) k m → value.NoValue k m ≡ valueAnswer r
 unfolding valueAnswer pick
 value-broken r k m h = rw (h .balanced, h .count, h .text)
@@ -54,12 +57,15 @@ module _ (include : Bool) (s rows brackets store : List ℕ) (fill : ℕ) (room 
   abbrev r : Statement
   r = statementOf include s
 
+  -- the rows of the statement's tokens fit the store
   pub rows-room : length (rowsOf fill (r .tokens)) ≤ length rows
   rows-room = let h = statement-sized include s in omega (arith, rows-long (r .tokens) fill, h .counted, h .within, room .for-tokens)
 
+  -- their texts fit the store behind the fill
   pub texts-room : fill + length (textsOf (r .tokens)) ≤ length store
   texts-room = omega (arith, statement-sized include s .text, room .for-texts)
 
+  -- the fill behind their texts fits 32 bits
   pub texts-bits : fill + length (textsOf (r .tokens)) < 2 ^ 32
   texts-bits = omega (arith, statement-sized include s .text, room .bits)
 
@@ -69,12 +75,15 @@ module _ (include : Bool) (s rows brackets store : List ℕ) (fill : ℕ) (room 
     unfolding left
     said = ap (λ (l : Left). l .answer) e
 
+    -- the rows are those that the statement leaves
     same-rows : x ≡ left r rows brackets store fill .rows
     same-rows = ap (λ (l : Left). l .rows) e
 
+    -- the brackets are those that the statement leaves
     same-brackets : b ≡ left r rows brackets store fill .brackets
     same-brackets = ap (λ (l : Left). l .brackets) e
 
+    -- the texts are those that the statement leaves
     same-store : z ≡ left r rows brackets store fill .store
     same-store = ap (λ (l : Left). l .store) e
 
@@ -84,6 +93,7 @@ module _ (include : Bool) (s rows brackets store : List ℕ) (fill : ℕ) (room 
     left-as v ev = rw (ev, same-rows, same-brackets, same-store)
 
     module _ {n k m : ℕ} (ea : a ≡ answer.Statement n k m) where
+      -- the answer's numbers are those of a statement with right brackets
       numbers : Whole (r .balanced) (r .taken) (length (r .tokens)) (length (textsOf (r .tokens))) n k m
       numbers = whole (r .balanced) _ _ _ n k m (sym ea ∙ said)
 
@@ -101,9 +111,10 @@ module _ (include : Bool) (s rows brackets store : List ℕ) (fill : ℕ) (room 
           rw (same-rows, same-store, numbers .count)
           (statement-back include s rows brackets store fill rows-room texts-room texts-bits)
 
+      -- the return where the brackets are right: a value, with the mark that its last tokens say
       pub value-left : {i : Bool} → i ≡ isImportant (tokensAt x z k) → record { answer = value.Value n k m i; rows = x; brackets = b; store = z } ≡ valueLeft r rows brackets store fill
       value-left {i} ei = left-as _ (value-whole r n k m numbers i (ei ∙ ap isImportant back))
 
-    -- a bracket was wrong
+    -- the return where a bracket was wrong: no value
     pub no-value-left : {n k m : ℕ} → a ≡ answer.Unbalanced n k m → record { answer = value.NoValue k m; rows = x; brackets = b; store = z } ≡ valueLeft r rows brackets store fill
     no-value-left {n} {k} {m} ea = left-as _ (value-broken r k m (broken (r .balanced) _ _ _ n k m (sym ea ∙ said)))

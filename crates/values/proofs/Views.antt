@@ -115,6 +115,7 @@ module _ (store : List ℕ) where
       rw (row-back byte f (coded k) t (n .0) (n .1), row-start byte f (coded k) t, row-behind byte f (coded k) t, texts-back f k l h)
 
   -- ---- tokens that were written behind f bytes of text, whatever stands behind them
+  -- the tokens are read back from their rows, with their texts in the store
   pub tokens-read : (ts : List Placed) (f : ℕ) (t : List ℕ) → AllSmall ts → Held store f (textsOf ts) → f + length (textsOf ts) < 2 ^ 32
       → tokensAt (rowsOf f ts ++ t) store (length ts) ≡ tokensOf ts
   unfolding tokensAt
@@ -146,7 +147,7 @@ step-holds P before b a w f p q r g = p
 step-holds P behind b a w f p q r g = q
 step-holds P wrong b a w f p q r g = r
 
--- from any place on
+-- tokens that are read from any place on have small numbers
 scan-small : (l : ℕ) (include : Bool) (s : List ℕ) (at : ℕ) (cs : List ℕ) → AllSmall (scan l include s at cs .tokens)
 unfolding scan stop cons
 scan-small zero include s at cs = tt

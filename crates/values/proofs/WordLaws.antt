@@ -17,7 +17,7 @@ use Rattle.values.specs.Words.{Entry, Found, found, missing, foundOr, lo
 
 -- ---- a length n, clipped to the m bytes that are left
 module _ (n m : ℕ) where
-  -- it is within them
+  -- the lesser of two numbers is not above the second
   pub clipped-le : pick (leb n m) n m ≤ m
   clipped-le = by-order (λ k. k ≤ m) n m n m (λ h. h) (λ h. omega arith)
 
@@ -38,7 +38,7 @@ pub record Placing (s joined lengths : List ℕ) (at i : ℕ) : Type 0 where
   pub left : placeOf s (split joined lengths) ≡ i + placeOf s (split (drop at joined) (drop i lengths))
   pub inside : at ≤ length joined
 
--- so at the start
+-- before the first word none is compared, and all are left
 pub placing-begin : (s joined lengths : List ℕ) → Placing s joined lengths 0 0
 placing-begin s joined lengths = record { left = sym (zero-add _); inside = omega arith }
 
@@ -49,7 +49,7 @@ unfolding placeOf split
 place-first s joined n ns = refl
 
 module _ (s joined lengths : List ℕ) (at i : ℕ) (c : Placing s joined lengths at i) where
-  -- no word is left
+  -- with no word left, the place is past the last
   pub placing-done : length lengths ≤ i → i ≡ placeOf s (split joined lengths)
   unfolding placeOf split
   placing-done h = sym (c .left ∙ rw (drop-of-length-le lengths h) (add-zero i))
@@ -147,7 +147,7 @@ unfoldable pub numbersOf : {A : Type 0} → (A → ℕ) → List (Entry A) → L
 numbersOf f [] = []
 numbersOf f (e ∷ es) = f (e .means) ∷ numbersOf f es
 
--- the words, split again
+-- the joined words of a table, split by their lengths, are the words
 pub split-joined : {A : Type 0} (es : List (Entry A)) → split (joinedOf es) (lengthsOf es) ≡ wordsOf es
 unfolding split joinedOf lengthsOf wordsOf
 split-joined [] = refl
@@ -180,6 +180,6 @@ module _ {A B : Type 0} (f : A → ℕ) (g : ℕ → B) (b : B) where
     pub table-hit : i < length (numbersOf f es) → g (getD (numbersOf f es) i 0) ≡ onFound (lookup w es) (λ a. g (f a)) b
     table-hit h = row-there es i h ∙ ap (λ r. onFound r (λ a. g (f a)) b) (table-place es w i e)
 
-    -- none, past the last
+    -- a place past the last row is nothing
     pub table-miss : length (numbersOf f es) ≤ i → b ≡ onFound (lookup w es) (λ a. g (f a)) b
     table-miss h = row-missing es i h ∙ ap (λ r. onFound r (λ a. g (f a)) b) (table-place es w i e)

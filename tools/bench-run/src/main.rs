@@ -3,7 +3,7 @@
 //! sheets and pages, turn by turn in one run; medians. Prints tables for docs/SPEED.md; tools/bench-run/run.sh builds and runs it.
 //!
 //! `hicsolmab_run` also checks the page and the compiled bytes, and clears the stores, at each call. The two checks are timed apart, in the same turns, by the functions that make
-//! nothing else, and a second figure is without them. Buffers have the least lengths. Document styles are off, but for the page that has style attributes.
+//! nothing else, and a second figure is without them. What it takes to set the lent stores to zero, as document 01 asks of every call, is timed likewise: no call can take less. Buffers have the least lengths. Document styles are off, but for the page that has style attributes.
 use compare::engine::{self, Lent, RUN_CALL, Run, RunFunction};
 use compare::pages::{self, Node, Tree};
 use compare::ran::{self, Asked, run_with};
@@ -155,6 +155,16 @@ impl This<'_> {
         assert_eq!(black_box(result).refusal, 0, "nothing is refused");
     }
 
+    // Zeros throughout the work stores and the store of texts, which a call leaves where no content is kept, whatever stood there.
+    fn clear(&mut self) {
+        for store in [&mut self.rules, &mut self.tokens] {
+            black_box(store).fill(0);
+        }
+        for store in [&mut self.brackets, &mut self.texts, &mut self.state] {
+            black_box(store).fill(0);
+        }
+    }
+
     // The two checks that a call makes.
     fn checks(&self) {
         black_box(engine::check_page(black_box(self.page)));
@@ -165,6 +175,7 @@ impl This<'_> {
 struct Measured {
     this: f64,
     without_checks: f64,
+    clearing: f64,
     html2text: f64,
     ratio: f64,
     ratio_without_checks: f64,
@@ -176,18 +187,26 @@ fn measure(this: &mut This, html2text: &Whole) -> Measured {
     let once = nanoseconds(1, || this.call()).max(nanoseconds(1, || html2text.style(document_styles)));
     let times = ((TURN_NANOSECONDS / once) as usize).max(1);
     let turns = if once > LONG_NANOSECONDS { FEW_TURNS } else { TURNS };
-    let (mut whole, mut run, mut theirs, mut ratios, mut others) = (vec![], vec![], vec![], vec![], vec![]);
+    let (mut whole, mut run, mut clears, mut theirs, mut ratios, mut others) = (vec![], vec![], vec![], vec![], vec![], vec![]);
     for _ in 0..turns {
         let a = nanoseconds(times, || this.call());
         let b = nanoseconds(times, || html2text.style(document_styles));
         let checks = nanoseconds(times, || this.checks());
         whole.push(a);
         run.push(a - checks);
+        clears.push(nanoseconds(times, || this.clear()));
         theirs.push(b);
         ratios.push(a / b);
         others.push((a - checks) / b);
     }
-    Measured { this: median(whole), without_checks: median(run), html2text: median(theirs), ratio: median(ratios), ratio_without_checks: median(others) }
+    Measured {
+        this: median(whole),
+        without_checks: median(run),
+        clearing: median(clears),
+        html2text: median(theirs),
+        ratio: median(ratios),
+        ratio_without_checks: median(others),
+    }
 }
 
 // Both sides of a page and its sheets; they give the same styles, or the program stops.
@@ -201,12 +220,12 @@ fn compared(function: RunFunction, name: &str, sheets: [&str; 3], tree: &Tree, s
     assert_eq!(wrong, None, "both answer the same for {name}");
     let m = measure(&mut This::new(function, &compiled, &page, switch), &html2text);
     let (bytes, rows) = (compiled.len(), page.nodes.len() / NODE_WIDTH);
-    let [this, without, theirs] = [m.this, m.without_checks, m.html2text].map(|t| t / 1e3);
-    println!("| {name} | {bytes} | {rows} | {this:.1} | {without:.1} | {theirs:.1} | {:.2} | {:.2} |", m.ratio, m.ratio_without_checks);
+    let [this, without, clearing, theirs] = [m.this, m.without_checks, m.clearing, m.html2text].map(|t| t / 1e3);
+    println!("| {name} | {bytes} | {rows} | {this:.1} | {without:.1} | {clearing:.1} | {theirs:.1} | {:.2} | {:.2} |", m.ratio, m.ratio_without_checks);
 }
 
 const HEAD: &str =
-    "compiled bytes | node rows | this, µs | without the checks, µs | html2text, µs | ratio | without the checks |\n|---|---|---|---|---|---|---|---|";
+    "compiled bytes | node rows | this, µs | without the checks, µs | clearing alone, µs | html2text, µs | ratio | without the checks |\n|---|---|---|---|---|---|---|---|---|";
 
 fn table_of_both(function: RunFunction) {
     println!("| page | {HEAD}");

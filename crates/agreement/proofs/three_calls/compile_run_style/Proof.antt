@@ -1,3 +1,4 @@
+-- Each call leaves what its own contract says, and what the three leave agrees by demand 3.
 use Rattle.agreement.proofs.Returning as laws
 use borrow.Author.Needs.{needs}
 use Rattle.agreement.proofs.three_calls.compile_run_style.Statement.{statement}

@@ -1,3 +1,4 @@
+-- What `compile` leaves, with its answer in numbers; however a call ends, no more bytes are counted than the buffer has.
 use Rattle.agreement.proofs.Returning as laws
 use borrow.Author.Needs.{needs}
 use Rattle.agreement.proofs.three_calls.compile_sheets.Statement.{statement}

@@ -1,3 +1,4 @@
+-- The part that is lent to `run` is as many of the first bytes as are asked for, for the buffer has so many; the rest is what `run` ensures.
 use mathlib.Core.Path.{sym}
 use lib.Seq.{length-take-le}
 use borrow.Author.Needs.{needs}

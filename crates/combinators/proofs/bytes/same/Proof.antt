@@ -1,4 +1,4 @@
--- One comparison.
+-- The comparison of two bytes is the test of the definition, both being numbers.
 use Rattle.combinators.specs.Choice.{is}
 use borrow.Author.Needs.{needs}
 use Rattle.combinators.proofs.bytes.same.Statement.{statement}

@@ -1,4 +1,4 @@
--- The lexer's sign.
+-- The sign that the lexer takes is that of the definition, and lies within the text.
 use mathlib.Core.Path.{_∙_}
 use Rattle.selectors.proofs.NthNumbers as laws
 use borrow.Author.Needs.{needs}

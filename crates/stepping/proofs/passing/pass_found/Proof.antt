@@ -1,7 +1,7 @@
 -- Each turn passes over those that surely fail, of which none matches, then stores the block of one selector and merges what it declares.
 use Rattle.stepping.proofs.PassingLaws as laws
 use mathlib.Core.List.{[], _∷_}
-use Rattle.segments.specs.Met.{handedElement}
+use Rattle.sweeps.specs.Met.{handedElement}
 use borrow.Author.Needs.{needs}
 use Rattle.stepping.proofs.passing.pass_found.Statement.{statement}
 use Rattle.stepping.proofs.passing.pass_found.Tie as tie

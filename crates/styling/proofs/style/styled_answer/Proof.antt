@@ -1,4 +1,4 @@
--- Nothing is refused.
+-- The refusal is the one that says none, and the count of bytes is passed on.
 use mathlib.Core.Path.{ap}
 use borrow.Author.Needs.{needs}
 use Rattle.styling.proofs.style.styled_answer.Statement.{statement}

@@ -26,7 +26,7 @@ abbrev μ-loop : tie.MeasureT-loop
 abbrev start-of : tie.At-loop Inv-loop μ-loop → tie.Start Inv-loop μ-loop
 start-of q = q .before .before .before .before .before
 
--- the text ahead
+-- the text from the byte on where the loop stands
 abbrev ahead : tie.At-loop Inv-loop μ-loop → List ℕ
 ahead q = drop (q .loop .taken) (start-of q .args .s .now)
 

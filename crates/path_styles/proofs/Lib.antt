@@ -1,0 +1,3 @@
+pub mod TopsLaws
+pub mod PathLaws
+pub mod RulesMerging

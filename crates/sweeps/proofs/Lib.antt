@@ -1,0 +1,4 @@
+pub mod CodePieceLaws
+pub mod CodeCompoundLaws
+pub mod CodePartLaws
+pub mod CodeSweepLaws

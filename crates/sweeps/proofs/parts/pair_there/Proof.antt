@@ -1,0 +1,43 @@
+-- Both bytes are there, so each is what the definition reads.
+use Rattle.segments.specs.Sweep.{pairAt}
+use borrow.Author.Needs.{needs}
+use Rattle.sweeps.proofs.parts.pair_there.Statement.{statement}
+use Rattle.sweeps.proofs.parts.pair_there.Tie as tie
+
+shared-slice-read-wide : tie.Need-shared-slice-read-wide
+shared-slice-read-wide c = search needs
+
+wide-requires : tie.Need-wide-requires
+wide-requires c κs = search needs
+
+add-wide : tie.Need-add-wide
+add-wide c = search needs
+
+shared-slice-read-wide-2 : tie.Need-shared-slice-read-wide-2
+shared-slice-read-wide-2 c = search needs
+
+wide-requires-2 : tie.Need-wide-requires-2
+wide-requires-2 c κs = search needs
+
+mul-result : tie.Need-mul-result
+mul-result c = search needs
+
+add-result : tie.Need-add-result
+add-result c = search needs
+
+returns : tie.Need-returns
+unfolding pairAt
+returns c = (search needs, search needs)
+
+pub pair-there-spec : {M : Type 1} → statement M
+pair-there-spec =
+    tie.close
+    (tie.spec
+    shared-slice-read-wide
+    wide-requires
+    add-wide
+    shared-slice-read-wide-2
+    wide-requires-2
+    mul-result
+    add-result
+    returns)
