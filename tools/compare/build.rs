@@ -17,8 +17,11 @@ fn link(name: &str, variable: &str) -> PathBuf {
     // Both, so that a link that leads elsewhere now is seen.
     println!("cargo:rerun-if-changed={}", named.display());
     println!("cargo:rerun-if-changed={}", archive.display());
-    println!("cargo:rustc-link-search=native={}", archive.parent().unwrap().display());
-    println!("cargo:rustc-link-lib=static={}", archive.file_stem().unwrap().to_str().unwrap().trim_start_matches("lib"));
+    // A copy of its own, since the folder of the other archive may hold one of the same name, which the linker would find first.
+    let own = PathBuf::from(env::var("OUT_DIR").unwrap());
+    fs::copy(&archive, own.join(format!("lib{name}.a"))).unwrap_or_else(|e| panic!("{} cannot be copied: {e}", archive.display()));
+    println!("cargo:rustc-link-search=native={}", own.display());
+    println!("cargo:rustc-link-lib=static={name}");
     archive
 }
 
