@@ -9,6 +9,3 @@ pub mod RowBack
 pub mod Cascading
 pub mod Inheriting
 pub mod Relating
-pub mod Agreeing
-pub mod AgreeingStyles
-pub mod AgreeingCases

@@ -4,4 +4,3 @@ pub mod Record
 pub mod Row
 pub mod Related
 pub mod Cases
-pub mod Agreeing
