@@ -4,8 +4,8 @@ use native.Mathlib.Omega.{arith}
 use Rattle.path_styles.proofs.RulesMerging.{room-kept}
 use Rattle.path_styles.proofs.PathLaws as laws
 use borrow.Author.Needs.{needs}
-use Rattle.path_styles.proofs.path.style_element.Statement.{statement}
-use Rattle.path_styles.proofs.path.style_element.Tie as tie
+use Rattle.path_styles.proofs.path.declare_element.Statement.{statement}
+use Rattle.path_styles.proofs.path.declare_element.Tie as tie
 
 begin-element-requires : tie.Need-begin-element-requires
 begin-element-requires c κs = let S = c .before .before .before .before .before .before .before .before .before .before .before .before in (S .pre .0, (S .pre .1 .0, S .pre .1 .1 .0))
@@ -49,8 +49,8 @@ returns c = let S = c .before .before .before .before .before .before .before .b
     let k = laws.element-kept (a .sheets) (a .fill) _ _ _ _ _ _ _ _ _ _ (omega (arith, S .pre .1 .1 .1 .for-texts, e .kept .1 .1 .1 .1 .1 .1 .1 .1 .1 .1 .0)) (m .1 .0) (e .ensures .1 .0) (e .ensures .1 .1) (m .1 .1 .1 .0) (m .1 .1 .1 .1) (m .1 .1 .0) in
     (laws.element-row (a .cascade) _ _ _ _ _ _ _ _ (c .before .before .before .before .before .before .before .before .before .before .before .before .before .before .before .before .before .before .before .before .before .before .before .before .before .before .before .before .before .before .before .before .before .before .before .before .before .before .begin-element .ensures) (e .ensures .0 (a .fill)) _ (laws.author-still (a .sheets) (a .fill) _ _ _ _ _ (S .pre .1 .1 .0) (e .ensures .1 .0) (e .ensures .1 .1)) (c .before .before .before .before .before .before .before .before .before .before .before .before .before .before .before .before .before .before .merge-sheet .ensures) (m .0), (m .1 .0, (k .0, k .1)))
 
-pub style-element-spec : {M : Type 1} → statement M
-style-element-spec =
+pub declare-element-spec : {M : Type 1} → statement M
+declare-element-spec =
     tie.close
     (tie.spec
     begin-element-requires
