@@ -7,5 +7,6 @@ pub mod Rewriting
 pub mod Merging
 pub mod RowBack
 pub mod Cascading
+pub mod Defaulting
 pub mod Inheriting
 pub mod Relating
