@@ -57,13 +57,15 @@ module _ {A : Type 0} where
   fill-takes (held c) true (held d) = refl
   fill-takes (held c) false p = refl
 
+  -- where something is declared the slot holds it, and takes nothing
+  pub takes-won : (x : Candidate A) (xs : List (Candidate A)) (i : Bool) (p : Slot A) → takes (foldl bookUpdate empty (x ∷ xs)) i p ≡ foldl bookUpdate empty (x ∷ xs)
+  takes-won x xs i p = let w = won x xs in ap (λ (s : Slot A). takes s i p) (w .holds) ∙ (unfold takes in sym (w .holds))
+
   -- the winner of what is declared, else what is handed on: the value that CSS Cascading specifies
   specified : (xs : List (Candidate A)) (i : Bool) (p : Slot A) → Specified (takes (foldl bookUpdate empty xs) i p) i xs p
   specified [] true p = by-inheritance refl refl (unfold takes pick in refl)
   specified [] false p = by-default refl refl (unfold takes pick in refl)
-  specified (x ∷ xs) i p =
-      let w = won x xs in
-      by-cascade (record { candidate = w .candidate; holds = ap (λ (s : Slot A). takes s i p) (w .holds) ∙ (unfold takes in refl); wins = w .wins })
+  specified (x ∷ xs) i p = rw (takes-won x xs i p) (by-cascade (won x xs))
 
   -- ---- declarations for one record leave every other
   module _ (r : ℕ) (h : r < recordCount) where

@@ -10,3 +10,6 @@ pub mod Cascading
 pub mod Defaulting
 pub mod Inheriting
 pub mod Relating
+pub mod Agreeing
+pub mod AgreeingStyles
+pub mod AgreeingCases
