@@ -6,8 +6,6 @@ use mathlib.Core.List.{List, [], _∷_, _++_, map, foldl}
 use mathlib.Core.Logic.{_⊎_, inl, inr}
 use Prim.Native.Nat.{ℕ, _≤_, _<_}
 use native.Mathlib.Omega.{arith}
-use lib.ListN.{length}
-use lib.Seq.{ext-getD}
 use Rattle.combinators.specs.All.{All}
 use Rattle.combinators.specs.Choice.{pick, or, and, is}
 use Rattle.combinators.proofs.Rules.{never, pick-true, pick-false, pick-holds, or-false, or-none, or-gives, or-assoc, and-both, and-left, and-right, and-true, is-yes, is-no, is-true}
@@ -18,7 +16,7 @@ use Rattle.cascade.specs.Specificity.{noSpecificity, inlineSpecificity, 
 use Rattle.cascade.specs.declared.slots.Cascade.{Cascade}
 use Rattle.cascade.specs.declared.slots.Cascade.the-variants.{Crate, Book}
 use Rattle.cascade.specs.Slot.{Candidate, Slot, empty, heldAgainst, maybeUpdate, bookUpdate, updateBy}
-use Rattle.cascade.specs.Record.{slotCount, recordCount, mainRecord, beforeRecord, afterRecord, Record, ComputedStyle, Formed, recordIn, slotOf, slotIn, isNamed, inherit, inheritBy, inherits, finishBy, declaredBy, cascadeBy, Declared, RuleStyle, AttributeStyle, Sources, fromRule, fromAttribute, crateDeclared, colourAttributes, styleAttributes, bookDeclared, candidatesFor, declares}
+use Rattle.cascade.specs.Record.{slotCount, recordCount, mainRecord, Record, ComputedStyle, Formed, recordIn, slotIn, isNamed, inherit, inheritBy, inherits, finishBy, declaredBy, cascadeBy, Declared, RuleStyle, AttributeStyle, Sources, fromRule, fromAttribute, crateDeclared, colourAttributes, styleAttributes, bookDeclared, candidatesFor, declares}
 use Rattle.cascade.specs.Agreeing.{KnownOrigin, AllDecidedAlike, CountedAlike, declaredFor, SaidAlike, NoneDeclared, Replaces, ReplacesAll, InheritedAlike, NotInherited, no-record, NormalAuthor, NotLessSpecific, AuthorDown, AgreesDown}
 use Rattle.cascade.proofs.RowLaws.{Which, isMain, isBefore, isAfter, which}
 use Rattle.cascade.proofs.Merging.{named}
@@ -329,24 +327,6 @@ module _ {A : Type 0} where
     );
     pseudo-inheriting = λ r k h z l e. no-record (n r h z .0);
   }
-
-  -- ---- styles slot by slot
-  -- two records are the same where both or neither is present and each slot is the same
-  record-same : (p q : Record A) → length (p .slots) ≡ slotCount → length (q .slots) ≡ slotCount → p .present ≡ q .present → ((k : ℕ) → k < slotCount → slotOf p k ≡ slotOf q k) → p ≡ q
-  unfolding slotOf
-  record-same p q f g e s = ap₂ (λ (b : Bool) (l : List (Slot A)). record { present = b; slots = l }) e (ext-getD empty (p .slots) (q .slots) (f ∙ sym g) (λ k l. s k (omega (arith, f))))
-
-  -- two styles are the same where their records are present alike and each slot is the same
-  pub same-by-slots : (s t : ComputedStyle A) → Formed s → Formed t → ((r : ℕ) → r < recordCount → recordIn s r .present ≡ recordIn t r .present)
-      → ((r k : ℕ) → r < recordCount → k < slotCount → slotIn s r k ≡ slotIn t r k) → s ≡ t
-  unfolding slotIn recordIn pick is
-  same-by-slots s t f g e v =
-      by-records (record-same (s .main) (t .main) (f .main) (g .main) (e mainRecord (omega arith)) (λ k l. v mainRecord k (omega arith) l))
-      (record-same (s .before) (t .before) (f .before) (g .before) (e beforeRecord (omega arith)) (λ k l. v beforeRecord k (omega arith) l))
-      (record-same (s .after) (t .after) (f .after) (g .after) (e afterRecord (omega arith)) (λ k l. v afterRecord k (omega arith) l))
-    where
-      by-records : s .main ≡ t .main → s .before ≡ t .before → s .after ≡ t .after → s ≡ t
-      by-records a b c = ap₂ (λ (m : Record A) (n : Record A). record { main = m; before = n; after = s .after }) a b ∙ ap (λ (n : Record A). record { main = t .main; before = t .before; after = n }) c
 
   -- ---- down a path, sheets of the author alone without `!important`
   module _ (r k : ℕ) where

@@ -1,23 +1,24 @@
 -- What the book order leaves of what is declared below a parent (CSS Cascading Level 3, sections 4 and 7): each slot is decided by the declarations for it; where
--- there are none, an inheriting slot takes its value from the parent's main record, or in a pseudo record from the element's own. Assumes nothing.
-use mathlib.Core.Path.{_≡_, refl, sym, ap, ap₂, _∙_}
+-- there are none, an inheriting slot takes its value from the parent's main record, or in a pseudo record from the element's own. Nothing else is so. Assumes nothing.
+use mathlib.Core.Path.{_≡_, refl, sym, ap, ap₂, subst, _∙_}
 use mathlib.Core.Bool.{Bool, true, false}
 use mathlib.Core.List.{List, [], _∷_, _++_, foldl, append-assoc, append-nil}
 use Prim.Native.Nat.{ℕ, _<_}
 use native.Mathlib.Omega.{arith}
-use lib.ListN.{getD-replicate}
+use lib.ListN.{length, getD-replicate}
+use lib.Seq.{ext-getD}
 use Rattle.combinators.specs.All.{All}
 use Rattle.combinators.specs.Choice.{pick, or, and, is}
-use Rattle.combinators.proofs.Rules.{pick-true, pick-false, pick-holds, or-false, or-assoc, or-none, or-gives, and-left, and-gives, is-yes, is-no, is-true, is-false}
+use Rattle.combinators.proofs.Rules.{never, pick-true, pick-false, pick-holds, or-false, or-assoc, or-none, or-gives, and-left, and-gives, is-yes, is-no, is-true, is-false}
 use Rattle.combinators.proofs.AllLaws.{all-append, all-weaker}
 use Rattle.syntax.specs.Layout.{colourSlot, whiteSpaceSlot}
 use Rattle.cascade.specs.declared.slots.Cascade.the-variants.{Book}
-use Rattle.cascade.specs.Slot.{Candidate, Slot, empty, held, bookUpdate, updateBy, fillUpdate, Specified, by-cascade, by-inheritance, by-default}
+use Rattle.cascade.specs.Slot.{Candidate, Slot, empty, held, bookUpdate, updateBy, fillUpdate, Winner, Specified, by-cascade, by-inheritance, by-default}
 use Rattle.cascade.specs.Record.{slotCount, recordCount, mainRecord, beforeRecord, afterRecord, Record, ComputedStyle, Formed, recordIn, slotOf, slotIn, emptyRecord, emptyStyle, Declared, isNamed, mergeBy, inherit, inheritBy, inherits, Handed, handedBy, handedSlot, handedOn, fillRecord, fillPseudo, finishBy, Sources, bookDeclared, declaredBy, cascadeBy, candidatesFor, declares, BookDecides}
 use Rattle.cascade.proofs.RowLaws.{Which, isMain, isBefore, isAfter, which}
 use Rattle.cascade.proofs.Merging.{named-says}
-use Rattle.cascade.proofs.Winners.{won}
-use Rattle.cascade.proofs.Cascading.{other-record, merge-named, merge-unnamed, merge-present, stay-present, slot-folds, formed-record, inherit-formed, empty-whole, by-book, merges-formed, inherit-slot, cascade-main-present}
+use Rattle.cascade.proofs.Winners.{won, winner-once, winner-none}
+use Rattle.cascade.proofs.Cascading.{in-main, other-record, merge-named, merge-unnamed, merge-present, stay-present, slot-folds, formed-record, inherit-formed, empty-whole, by-book, merges-formed, inherit-slot, cascade-main-present}
 
 module _ {A : Type 0} where
   -- ---- a slot behind its declarations: what it holds stays, and an empty one takes what is handed on, if it inherits
@@ -329,3 +330,63 @@ module _ {A : Type 0} where
         pseudo-record-slot r k h n l =
             rw (book-pseudo-slot r h n k l)
             (specified (candidatesFor r k (bookDeclared x)) (and (recordIn (cascadeBy Book parent x) r .present) (inherits k)) (slotIn (cascadeBy Book parent x) mainRecord k))
+
+  -- ---- styles slot by slot
+  -- two records are the same where both or neither is present and each slot is the same
+  record-same : (p q : Record A) → length (p .slots) ≡ slotCount → length (q .slots) ≡ slotCount → p .present ≡ q .present → ((k : ℕ) → k < slotCount → slotOf p k ≡ slotOf q k) → p ≡ q
+  unfolding slotOf
+  record-same p q f g e s = ap₂ (λ (b : Bool) (l : List (Slot A)). record { present = b; slots = l }) e (ext-getD empty (p .slots) (q .slots) (f ∙ sym g) (λ k l. s k (omega (arith, f))))
+
+  -- two styles are the same where their records are present alike and each slot is the same
+  pub same-by-slots : (s t : ComputedStyle A) → Formed s → Formed t → ((r : ℕ) → r < recordCount → recordIn s r .present ≡ recordIn t r .present)
+      → ((r k : ℕ) → r < recordCount → k < slotCount → slotIn s r k ≡ slotIn t r k) → s ≡ t
+  unfolding slotIn recordIn pick is
+  same-by-slots s t f g e v =
+      by-records (record-same (s .main) (t .main) (f .main) (g .main) (e mainRecord (omega arith)) (λ k l. v mainRecord k (omega arith) l))
+      (record-same (s .before) (t .before) (f .before) (g .before) (e beforeRecord (omega arith)) (λ k l. v beforeRecord k (omega arith) l))
+      (record-same (s .after) (t .after) (f .after) (g .after) (e afterRecord (omega arith)) (λ k l. v afterRecord k (omega arith) l))
+    where
+      by-records : s .main ≡ t .main → s .before ≡ t .before → s .after ≡ t .after → s ≡ t
+      by-records a b c = ap₂ (λ (m : Record A) (n : Record A). record { main = m; before = n; after = s .after }) a b ∙ ap (λ (n : Record A). record { main = t .main; before = t .before; after = n }) c
+
+  -- ---- nothing else is what CSS Cascading specifies
+  -- a slot has one value only that is specified
+  specified-once : (s t : Slot A) (i : Bool) (xs : List (Candidate A)) (p : Slot A) → Specified s i xs p → Specified t i xs p → s ≡ t
+  specified-once s t i xs p (by-cascade v) (by-cascade w) = v .holds ∙ ap held (winner-once xs (v .candidate) (w .candidate) (v .wins) (w .wins) .1) ∙ sym (w .holds)
+  specified-once s t i xs p (by-cascade v) (by-inheritance n e f) = absurd (winner-none (v .candidate) (subst (Winner (v .candidate)) n (v .wins)))
+  specified-once s t i xs p (by-cascade v) (by-default n e f) = absurd (winner-none (v .candidate) (subst (Winner (v .candidate)) n (v .wins)))
+  specified-once s t i xs p (by-inheritance m d f) (by-cascade w) = absurd (winner-none (w .candidate) (subst (Winner (w .candidate)) m (w .wins)))
+  specified-once s t i xs p (by-inheritance m d f) (by-inheritance n e g) = f ∙ sym g
+  specified-once s t i xs p (by-inheritance m d f) (by-default n e g) = never (sym e ∙ d)
+  specified-once s t i xs p (by-default m d f) (by-cascade w) = absurd (winner-none (w .candidate) (subst (Winner (w .candidate)) m (w .wins)))
+  specified-once s t i xs p (by-default m d f) (by-inheritance n e g) = never (sym d ∙ e)
+  specified-once s t i xs p (by-default m d f) (by-default n e g) = f ∙ sym g
+
+  -- so of what is declared below a parent there is one style only
+  pub decided-once : (parent s t : ComputedStyle A) (ds : List (Declared A)) → Formed s → Formed t → BookDecides parent s ds → BookDecides parent t ds → s ≡ t
+  decided-once parent s t ds f g a b = same-by-slots s t f g presence slots
+    where
+      main : (k : ℕ) → k < slotCount → slotIn s mainRecord k ≡ slotIn t mainRecord k
+      main k l = specified-once _ _ (inherits k) (candidatesFor mainRecord k ds) (slotIn parent mainRecord k) (a .main k l) (b .main k l)
+
+      main-there : (u : ComputedStyle A) → u .main .present ≡ true → recordIn u mainRecord .present ≡ true
+      main-there u e = ap (λ (p : Record A). p .present) (in-main u mainRecord refl) ∙ e
+
+      presence : (r : ℕ) → r < recordCount → recordIn s r .present ≡ recordIn t r .present
+      presence r h = go (is r mainRecord) refl
+        where
+          go : (z : Bool) → is r mainRecord ≡ z → recordIn s r .present ≡ recordIn t r .present
+          go true e = rw (is-true r mainRecord e) (main-there s (a .main-present) ∙ sym (main-there t (b .main-present)))
+          go false e = let n = is-false r mainRecord e in a .present r h n ∙ sym (b .present r h n)
+
+      slots : (r k : ℕ) → r < recordCount → k < slotCount → slotIn s r k ≡ slotIn t r k
+      slots r k h l = go (is r mainRecord) refl
+        where
+          same-kind : ¬ (r ≡ mainRecord) → Specified (slotIn t r k) (and (recordIn s r .present) (inherits k)) (candidatesFor r k ds) (slotIn s mainRecord k)
+          same-kind n = rw (presence r h, main k l) (b .pseudo r k h n l)
+
+          go : (z : Bool) → is r mainRecord ≡ z → slotIn s r k ≡ slotIn t r k
+          go true e = rw (is-true r mainRecord e) (main k l)
+          go false e =
+              let n = is-false r mainRecord e in
+              specified-once _ _ (and (recordIn s r .present) (inherits k)) (candidatesFor r k ds) (slotIn s mainRecord k) (a .pseudo r k h n l) (same-kind n)

@@ -17,9 +17,9 @@ use Rattle.cascade.specs.Record.{slotCount, recordCount, mainRecord, recordIn, 
 use Rattle.cascade.specs.Agreeing.{declaredFor, NoneDeclared, Replaces, InheritedAlike, NotInherited, NotFilled, no-record, own-value, none-handed, AuthorDown, AgreesDown}
 use Rattle.cascade.proofs.RowLaws.{Which, isMain, isBefore, isAfter, which}
 use Rattle.cascade.proofs.Cascading.{crate-folds}
-use Rattle.cascade.proofs.Defaulting.{empty-slot}
+use Rattle.cascade.proofs.Defaulting.{empty-slot, same-by-slots}
 use Rattle.cascade.proofs.Agreeing.{Holds, holds-after, all-replace}
-use Rattle.cascade.proofs.AgreeingStyles.{inheriting-same, other-same, pseudo-same, crate-present, same-presence, main-presence, same-by-slots, author-agrees}
+use Rattle.cascade.proofs.AgreeingStyles.{inheriting-same, other-same, pseudo-same, crate-present, same-presence, main-presence, author-agrees}
 use Rattle.page.specs.Path.{Element, Path}
 use Rattle.styles.specs.declared.settings.Settings.{Settings}
 use Rattle.styles.specs.Said.{Rules, sourcesFrom, meantRules, countedAttributes, attributesSay}
