@@ -7,5 +7,9 @@ pub mod Rewriting
 pub mod Merging
 pub mod RowBack
 pub mod Cascading
+pub mod Defaulting
 pub mod Inheriting
 pub mod Relating
+pub mod Agreeing
+pub mod AgreeingStyles
+pub mod AgreeingCases

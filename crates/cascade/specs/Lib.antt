@@ -3,4 +3,5 @@ pub mod Slot
 pub mod Record
 pub mod Row
 pub mod Related
+pub mod Agreeing
 pub mod Cases

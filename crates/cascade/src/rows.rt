@@ -68,9 +68,13 @@ pub struct Handed {
 }
 
 // Where these slots begin in a row.
-const COLOR_PLACE: usize = MAIN * RECORD_WIDTH + PRESENCE_WIDTH + (COLOUR_SLOT as usize) * SLOT_WIDTH;
+const COLOR_PLACE: usize = MAIN * RECORD_WIDTH
+    + PRESENCE_WIDTH
+    + (COLOUR_SLOT as usize) * SLOT_WIDTH;
 
-const WHITE_SPACE_PLACE: usize = MAIN * RECORD_WIDTH + PRESENCE_WIDTH + (WHITE_SPACE_SLOT as usize) * SLOT_WIDTH;
+const WHITE_SPACE_PLACE: usize = MAIN * RECORD_WIDTH
+    + PRESENCE_WIDTH
+    + (WHITE_SPACE_SLOT as usize) * SLOT_WIDTH;
 
 // The slot that begins at a place.
 fn read_slot(row: &[u32], at: usize) -> Slot
@@ -192,7 +196,7 @@ pub fn inherit(row: &mut [u32], cascade: Cascade)
             return;
         }
         Cascade::Book => {
-            wipe_numbers(row, 0, STYLE_ROW_WIDTH);
+            wipe_numbers(row, 0, STYLE_ROW_WIDTH); // all three records
             row[MAIN * RECORD_WIDTH] = FLAG_TRUE;
             return;
         }
