@@ -80,7 +80,14 @@ static uint8_t texts[HICSOLMAB_TEXTS_LEAST(BYTES)];
 static uint32_t rows[HICSOLMAB_ROWS_LEAST(LENGTH(nodes))];
 static uint8_t state[HICSOLMAB_STATE_LEAST(COMPILED_ROOM)];
 
-/* Which line coloured it: the sheet of a slot's origin, and the line and column where its declaration starts. What an attribute declares stands in no sheet. */
+/* Whether a byte of UTF-8 is the first of its character: the others are 10xxxxxx. */
+static int begins_character(char byte)
+{
+    return ((unsigned char)byte & 0xc0) != 0x80;
+}
+
+/* Which line coloured it: the sheet of a slot's origin, and the line and column where its declaration starts, a column being
+ * a character. What an attribute declares stands in no sheet. */
 static void print_place(const uint32_t *slot)
 {
     static const struct {
@@ -100,7 +107,7 @@ static void print_place(const uint32_t *slot)
     unsigned column = 1;
     for (uint32_t i = 0; i < slot[HICSOLMAB_SLOT_START]; i++) {
         line += sheet[i] == '\n';
-        column = sheet[i] == '\n' ? 1 : column + 1;
+        column = sheet[i] == '\n' ? 1 : column + (unsigned)begins_character(sheet[i]);
     }
     printf("%s %u:%u", sheets[slot[HICSOLMAB_SLOT_ORIGIN]].name, line, column);
 }

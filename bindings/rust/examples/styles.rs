@@ -28,7 +28,7 @@ fn page() -> Result<Page, Refusal> {
     Ok(page)
 }
 
-/// A colour, with the sheet and the line and column in it where its declaration starts. What an attribute declares stands in no sheet.
+/// A colour, with the sheet and the line and column in it, counted in characters, where its declaration starts. What an attribute declares stands in no sheet.
 fn show(color: Declaration<Color>) -> String {
     let Declaration { value, origin, inline, start, .. } = color;
     if inline {
@@ -39,9 +39,9 @@ fn show(color: Declaration<Color>) -> String {
         Origin::User => ("user", USER),
         Origin::Author => ("author", AUTHOR),
     };
-    let before = &sheet[..start];
-    let line = 1 + before.iter().filter(|&&byte| byte == b'\n').count();
-    let column = 1 + before.iter().rev().take_while(|&&byte| byte != b'\n').count();
+    let before = String::from_utf8_lossy(&sheet[..start]);
+    let line = 1 + before.matches('\n').count();
+    let column = 1 + before.chars().rev().take_while(|&c| c != '\n').count();
     format!("{value} by {name} {line}:{column}")
 }
 
