@@ -9,6 +9,10 @@
  * hicsolmab_read_sheet reads one sheet and says where reading stopped, and hicsolmab_height_length gives a height's value as an exact length.
  * examples/c/styles.c is a whole program.
  *
+ * A compiled sheet carries the byte where each style's declaration starts, and so does a style row: which line of which sheet coloured an element can be told.
+ * Bytes that were compiled before these starts are void. They carry no mark, so hicsolmab_run would read them as others, and mostly refuse them with
+ * HICSOLMAB_BAD_BYTES: compile the sheets again.
+ *
  * What holds for every call:
  *
  *   - A pointer and a length are a slice: so many bytes or numbers behind the pointer, which is aligned, not null even where the length is 0, and whose
@@ -130,7 +134,11 @@ enum hicsolmab_white_space {
     HICSOLMAB_WHITE_SPACE_PRE_WRAP = 2
 };
 
-/* The numbers of a slot: the value that won, and the declaration that it is from. */
+/* The numbers of a slot: the value that won, and the declaration that it is from.
+ *
+ * A declaration starts at the first byte of its name, counted from 0. Where a zero height with hidden overflow hides the element, the start is that of the first
+ * `height` or `max-height` that is zero. A child that inherits a value has its start too, so that of an attribute may count in an attribute of an ancestor; in
+ * book order, where an inherited value is written as the author's, the row of the ancestor says in which text its start counts. */
 enum hicsolmab_slot_number {
     HICSOLMAB_SLOT_FILLED = 0,    /* 1, or 0 and all others 0 */
     HICSOLMAB_SLOT_ORIGIN = 1,    /* one of hicsolmab_origin */
@@ -140,9 +148,10 @@ enum hicsolmab_slot_number {
     HICSOLMAB_SLOT_TYPE = 5,      /* how many element names; all three are 0 where it is from no rule */
     HICSOLMAB_SLOT_IMPORTANT = 6, /* 1 where it counts as !important */
     HICSOLMAB_SLOT_NUMBER = 7,    /* the value, */
-    HICSOLMAB_SLOT_SECOND = 8     /* and its second number, 0 but for a content */
+    HICSOLMAB_SLOT_SECOND = 8,    /* its second number, 0 but for a content, */
+    HICSOLMAB_SLOT_START = 9      /* and the byte where its declaration starts: in its sheet, of a `style` attribute in its value; 0 for `color` and `bgcolor` */
 };
-#define HICSOLMAB_SLOT_WIDTH 9
+#define HICSOLMAB_SLOT_WIDTH 10
 
 enum hicsolmab_origin {
     HICSOLMAB_AGENT_ORIGIN = 1,
@@ -316,7 +325,7 @@ typedef struct {
  * its parent has, display and contents too.
  *
  * Least lengths for HICSOLMAB_STYLE_BYTES, and HICSOLMAB_STYLE_ROW_WIDTH for `out`. Refuses TOO_LONG, SHORT_STORE, NOT_UTF8, TOO_LARGE, BAD_ROW, BAD_TEXT,
- * NO_ELEMENT, PANIC. Stack: 63,824 bytes. */
+ * NO_ELEMENT, PANIC. Stack: 63,840 bytes. */
 hicsolmab_style_result hicsolmab_style(const uint8_t *agent, size_t agent_length,
                                        const uint8_t *user, size_t user_length,
                                        const uint8_t *author, size_t author_length,
@@ -332,7 +341,7 @@ hicsolmab_style_result hicsolmab_style(const uint8_t *agent, size_t agent_length
                                        uint8_t *brackets, size_t brackets_length);
 
 /* The same in the order of CSS Cascading Level 3: importance and origin decide first, then whether it is a `style` attribute, then
- * specificity, then what stands later. Stack: 63,824 bytes. */
+ * specificity, then what stands later. Stack: 63,840 bytes. */
 hicsolmab_style_result hicsolmab_style_book(const uint8_t *agent, size_t agent_length,
                                             const uint8_t *user, size_t user_length,
                                             const uint8_t *author, size_t author_length,
@@ -362,7 +371,7 @@ typedef struct {
  * `compiled`, a text that starts below c lies at compiled + start, any other at texts + (start - c). hicsolmab_content finds it.
  *
  * Least lengths for HICSOLMAB_RUN_BYTES, and HICSOLMAB_ROWS_LEAST and HICSOLMAB_STATE_LEAST. Refuses TOO_LONG, SHORT_STORE, TOO_LARGE, BAD_ROW, BAD_TEXT,
- * BAD_BYTES. Stack: 2,880 bytes. */
+ * BAD_BYTES. Stack: 2,896 bytes. */
 hicsolmab_run_result hicsolmab_run(const uint8_t *compiled, size_t compiled_length,
                                    const uint32_t *nodes, size_t nodes_length,
                                    const uint32_t *attributes, size_t attributes_length,

@@ -1,4 +1,5 @@
-/* Compiles three sheets, runs them down a small page, and prints each element's colour and whether it is hidden. */
+/* Compiles three sheets, runs them down a small page, and prints each element's colour, the line and column of the declaration that it is from, and whether the
+ * element is hidden. */
 #include <hicsolmab.h>
 #include <stdio.h>
 #include <string.h>
@@ -6,9 +7,9 @@
 #define LENGTH(array) (sizeof(array) / sizeof((array)[0]))
 
 /* The maker's sheet gives the channels their colours, the school's hides what is not for the test, the third is the page's own. */
-static const char agent[] = ".ch1 { color: yellow } .ch2 { color: aqua }";
+static const char agent[] = ".ch1 { color: yellow }\n.ch2 { color: aqua }";
 static const char user[] = ".solution { display: none }";
-static const char author[] = "h1 { color: #ff8800 } p.ch2 > b { color: white } .ch1::before { content: 'CH1 ' }";
+static const char author[] = "h1 { color: #ff8800 }\np.ch2 > b { color: white }\n.ch1::before { content: 'CH1 ' }";
 
 /* A string without the zero at its end, as a slice: a pointer and a length. */
 #define SHEET(text) (const uint8_t *)(text), sizeof(text) - 1
@@ -79,6 +80,38 @@ static uint8_t texts[HICSOLMAB_TEXTS_LEAST(BYTES)];
 static uint32_t rows[HICSOLMAB_ROWS_LEAST(LENGTH(nodes))];
 static uint8_t state[HICSOLMAB_STATE_LEAST(COMPILED_ROOM)];
 
+/* Whether a byte of UTF-8 is the first of its character: the others are 10xxxxxx. */
+static int begins_character(char byte)
+{
+    return ((unsigned char)byte & 0xc0) != 0x80;
+}
+
+/* Which line coloured it: the sheet of a slot's origin, and the line and column where its declaration starts, a column being
+ * a character. What an attribute declares stands in no sheet. */
+static void print_place(const uint32_t *slot)
+{
+    static const struct {
+        const char *name;
+        const char *text;
+    } sheets[] = {
+        [HICSOLMAB_AGENT_ORIGIN] = {"agent", agent},
+        [HICSOLMAB_USER_ORIGIN] = {"user", user},
+        [HICSOLMAB_AUTHOR_ORIGIN] = {"author", author}
+    };
+    if (slot[HICSOLMAB_SLOT_INLINE]) {
+        printf("an attribute");
+        return;
+    }
+    const char *sheet = sheets[slot[HICSOLMAB_SLOT_ORIGIN]].text;
+    unsigned line = 1;
+    unsigned column = 1;
+    for (uint32_t i = 0; i < slot[HICSOLMAB_SLOT_START]; i++) {
+        line += sheet[i] == '\n';
+        column = sheet[i] == '\n' ? 1 : column + (unsigned)begins_character(sheet[i]);
+    }
+    printf("%s %u:%u", sheets[slot[HICSOLMAB_SLOT_ORIGIN]].name, line, column);
+}
+
 static void print_styles(void)
 {
     for (size_t i = 0; i < ELEMENTS; i++) {
@@ -86,7 +119,9 @@ static void print_styles(void)
         const uint32_t *colour = hicsolmab_slot_of(row, HICSOLMAB_MAIN, HICSOLMAB_COLOUR_SLOT);
         printf("%zu %s: ", i + 1, elements[i].name);
         if (colour != NULL) {
-            printf("#%06x, ", (unsigned)colour[HICSOLMAB_SLOT_NUMBER]);
+            printf("#%06x by ", (unsigned)colour[HICSOLMAB_SLOT_NUMBER]);
+            print_place(colour);
+            printf(", ");
         } else {
             printf("no colour, ");
         }

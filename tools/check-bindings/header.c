@@ -132,6 +132,7 @@ static void helpers(const char *name, const uint32_t *row, const uint8_t *sheet,
 {
     const uint32_t *colour = hicsolmab_slot_of(row, HICSOLMAB_MAIN, HICSOLMAB_COLOUR_SLOT);
     expect(colour != NULL && colour[HICSOLMAB_SLOT_NUMBER] == 0xff0000, name, HICSOLMAB_COLOUR_SLOT);
+    expect(colour != NULL && memcmp(agent + colour[HICSOLMAB_SLOT_START], "color: red", 10) == 0, name, HICSOLMAB_SLOT_START);
     expect(hicsolmab_slot_of(row, HICSOLMAB_MAIN, HICSOLMAB_BACKGROUND_SLOT) == NULL, name, HICSOLMAB_BACKGROUND_SLOT);
     expect(hicsolmab_is_hidden(row, HICSOLMAB_MAIN) && !hicsolmab_is_hidden(row, HICSOLMAB_BEFORE), name, HICSOLMAB_DISPLAY_SLOT);
     expect(hicsolmab_has_record(row, HICSOLMAB_MAIN), name, HICSOLMAB_MAIN);

@@ -10,7 +10,7 @@
 extern "C" {
 #endif
 
-/* Styles that were read: `count` rows of four numbers in `tokens`, and `bytes` bytes of their texts in `texts`. */
+/* Styles that were read: `count` rows of five numbers in `tokens`, and `bytes` bytes of their texts in `texts`. */
 typedef struct {
     uint32_t refusal;
     size_t count;

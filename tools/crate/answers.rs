@@ -37,6 +37,9 @@ pub enum Decl {
     Unknown(Text),
 }
 
+/// The number of `overflow: hidden`.
+pub const OVERFLOW_HIDDEN: u32 = 1;
+
 #[derive(Debug, Clone, PartialEq, Eq)]
 pub struct Declaration {
     pub decl: Decl,
@@ -71,6 +74,8 @@ pub enum Style {
 pub struct StyleDecl {
     pub style: Style,
     pub important: bool,
+    /// The byte where its declaration starts.
+    pub start: usize,
 }
 
 /// A selector with the styles of its rule, as the compiled sheet has it.
@@ -139,7 +144,40 @@ impl Page {
     }
 }
 
+// ---- where the declarations of styles start
+
+impl Decl {
+    fn is_style(&self) -> bool {
+        match self {
+            Decl::Color(_) | Decl::BackgroundColor(_) | Decl::WhiteSpace(_) | Decl::Content(_) => true,
+            Decl::Display { none } => *none,
+            Decl::Height { .. } | Decl::MaxHeight { .. } | Decl::Overflow(_) | Decl::OverflowY(_) | Decl::Unknown(_) => false,
+        }
+    }
+
+    fn is_zero_height(&self) -> bool {
+        matches!(self, Decl::Height { zero: true } | Decl::MaxHeight { zero: true })
+    }
+
+    fn hides_overflow(&self) -> bool {
+        matches!(self, Decl::Overflow(OVERFLOW_HIDDEN) | Decl::OverflowY(OVERFLOW_HIDDEN))
+    }
+}
+
+/// The start of each style that declarations ask for, in the order of `styles_from_properties`: the display that a zero height with hidden overflow makes comes last, and
+/// names the first height that is zero. html2text has none of these.
+pub fn style_starts(declarations: &[Declaration]) -> Vec<usize> {
+    let mut starts: Vec<usize> = declarations.iter().filter(|d| d.decl.is_style()).map(|d| d.start).collect();
+    if declarations.iter().any(|d| d.decl.hides_overflow()) {
+        starts.extend(declarations.iter().find(|d| d.decl.is_zero_height()).map(|d| d.start));
+    }
+    starts
+}
+
 // ---- rows of numbers, with the texts that they name
+
+/// The numbers of a style's row.
+pub const STYLE_WIDTH: usize = 5;
 
 #[derive(Debug, Clone, PartialEq, Eq, Default)]
 pub struct Rows {
@@ -231,7 +269,7 @@ impl Rows {
             Style::WhiteSpace(word) => (*word, 0),
             Style::Content(text) => (self.texts.len() as u32, text.len() as u32),
         };
-        self.numbers.extend([decl.style.slot(), u32::from(decl.important), value, second]);
+        self.numbers.extend([decl.style.slot(), u32::from(decl.important), value, second, decl.start as u32]);
         if let Style::Content(text) = &decl.style {
             self.texts.extend_from_slice(text);
         }
@@ -295,6 +333,7 @@ fn put_component(out: &mut Vec<u8>, component: &Component) {
 
 fn put_style(out: &mut Vec<u8>, decl: &StyleDecl) {
     put_number(out, u32::from(decl.important));
+    put_number(out, decl.start as u32);
     put_number(out, decl.style.slot());
     match &decl.style {
         Style::Colour(n) | Style::Background(n) | Style::WhiteSpace(n) => put_number(out, *n),
@@ -321,13 +360,27 @@ pub fn compiled(sheet: &[Styled]) -> Vec<u8> {
 // ---- the style row
 
 pub const SLOTS: usize = 5;
-pub const SLOT_WIDTH: usize = 9;
+pub const SLOT_START: usize = 9;
+pub const SLOT_WIDTH: usize = 10;
 pub const RECORD_WIDTH: usize = 1 + SLOTS * SLOT_WIDTH;
 pub const STYLE_ROW_WIDTH: usize = 3 * RECORD_WIDTH;
 
-/// The 138 numbers of a style row, in which a content's start and length are zero, and the contents of main, before and after.
+/// The 153 numbers of a style row, in which a content's start and length are zero, and the contents of main, before and after.
 #[derive(Debug, Clone, PartialEq, Eq, Default)]
 pub struct StyleRow {
     pub numbers: Vec<u32>,
     pub contents: Vec<Text>,
+}
+
+impl StyleRow {
+    /// The slots of its three records, one behind the other.
+    pub fn slots_mut(&mut self) -> impl Iterator<Item = &mut [u32]> {
+        self.numbers.chunks_mut(RECORD_WIDTH).flat_map(|record| record[1..].chunks_mut(SLOT_WIDTH))
+    }
+
+    /// The same with all starts zero, which is what html2text says of it.
+    pub fn without_starts(mut self) -> StyleRow {
+        self.slots_mut().for_each(|slot| slot[SLOT_START] = 0);
+        self
+    }
 }

@@ -29,10 +29,21 @@ pub(crate) mod names {
     // The rest of the text at each declaration of a rule that reads.
     fn declarations(rule: &str) -> Vec<&str> {
         let (rest, _) = separated_list0((tag(","), skip_optional_whitespace), parse_selector).parse(rule).unwrap();
-        let (mut rest, _) = (skip_optional_whitespace, tag("{"), skip_optional_whitespace).parse(rest).unwrap();
+        let (rest, _) = (skip_optional_whitespace, tag("{"), skip_optional_whitespace).parse(rest).unwrap();
+        declared(rest)
+    }
+
+    // The bytes where the declarations of a style attribute start, as parse_style_attribute has them from parse_rules.
+    pub(crate) fn attribute_starts(value: &str) -> Vec<usize> {
+        declared(value).into_iter().map(|rest| value.len() - rest.len()).collect()
+    }
+
+    // The rest of a text at each of its declarations; white space may stand before the first.
+    fn declared(text: &str) -> Vec<&str> {
+        let mut rest = text;
         let mut found = Vec::new();
         while let Ok((behind, _)) = parse_declaration(rest) {
-            found.push(rest);
+            found.push(skip_optional_whitespace(rest).unwrap().0);
             let between: IResult<&str, _> = (tag(";"), skip_optional_whitespace).parse(behind);
             match between {
                 Ok((next, _)) => rest = next,

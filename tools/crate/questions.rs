@@ -4,10 +4,10 @@ use std::panic::{self, AssertUnwindSafe};
 
 use html5ever::{Attribute, LocalName, QualName};
 
-use super::{AttrOperator, PseudoElement, Ruleset, Selector, SelectorComponent, Style, StyleData, StyleDecl, parser, styles_from_properties};
-use crate::answers::{self, Component, Page, StyleRow, Styled};
+use super::{AttrOperator, PseudoElement, Ruleset, Selector, SelectorComponent, Style, StyleData, StyleDecl, parser};
+use crate::answers::{self, Component, Page, SLOT_START, SLOTS, StyleRow, Styled};
 use crate::markup5ever_rcdom::{Handle, Node, NodeData, add_child};
-use crate::{Colour, ComputedStyle, StyleOrigin, WhiteSpace, WithSpec, css};
+use crate::{Colour, ComputedStyle, Specificity, StyleOrigin, WhiteSpace, WithSpec, css};
 
 /// Panics say nothing from now on.
 pub fn silence_panics() {
@@ -101,8 +101,9 @@ fn decl(value: &parser::Decl) -> answers::Decl {
     }
 }
 
-fn style(value: &StyleDecl) -> answers::StyleDecl {
+fn style((value, &start): (&StyleDecl, &usize)) -> answers::StyleDecl {
     answers::StyleDecl {
+        start,
         style: match &value.style {
             Style::Colour(c) => answers::Style::Colour(styled_colour(c)),
             Style::BgColour(c) => answers::Style::Background(styled_colour(c)),
@@ -114,16 +115,24 @@ fn style(value: &StyleDecl) -> answers::StyleDecl {
     }
 }
 
+// Styles with the starts of their declarations.
+fn styles(values: &[StyleDecl], starts: &[usize]) -> Vec<answers::StyleDecl> {
+    assert_eq!(values.len(), starts.len(), "each style has a start");
+    values.iter().zip(starts).map(style).collect()
+}
+
+fn declarations(values: &[parser::Declaration], starts: &[usize]) -> Vec<answers::Declaration> {
+    assert_eq!(values.len(), starts.len(), "each declaration has a start");
+    let declaration = |(d, &start): (&parser::Declaration, &usize)| answers::Declaration {
+        decl: decl(&d.data),
+        important: d.important == super::Importance::Important,
+        start,
+    };
+    values.iter().zip(starts).map(declaration).collect()
+}
+
 fn rule(value: &parser::RuleSet, starts: &(usize, Vec<usize>)) -> answers::Rule {
-    assert_eq!(value.declarations.len(), starts.1.len(), "each declaration has a start");
-    let declarations = value.declarations.iter().zip(&starts.1);
-    answers::Rule {
-        selectors: value.selectors.iter().map(selector).collect(),
-        declarations: declarations
-            .map(|(d, &start)| answers::Declaration { decl: decl(&d.data), important: d.important == super::Importance::Important, start })
-            .collect(),
-        start: starts.0,
-    }
+    answers::Rule { selectors: value.selectors.iter().map(selector).collect(), declarations: declarations(&value.declarations, &starts.1), start: starts.0 }
 }
 
 // ---- reading
@@ -143,8 +152,10 @@ pub fn count_rules(sheet: &str) -> usize {
 
 /// `parse_style_attribute`: the styles of a style attribute.
 pub fn style_attribute(value: &str) -> Option<Vec<answers::StyleDecl>> {
-    let styles = unless_panic(|| parser::parse_style_attribute(value).unwrap_or_default())?;
-    Some(styles.iter().map(style).collect())
+    let found = unless_panic(|| parser::parse_style_attribute(value).unwrap_or_default())?;
+    let (_, declared) = parser::parse_rules(value).expect("separated_list0 reads");
+    let declared = declarations(&declared, &parser::names::attribute_starts(value));
+    Some(styles(&found, &answers::style_starts(&declared)))
 }
 
 /// `parse_color_attribute`: the colour of a colour attribute, or none.
@@ -162,18 +173,35 @@ fn style_data(agent: &str, user: &str, author: &str) -> StyleData {
     data
 }
 
-fn styled(origin: u32, rules: &[Ruleset]) -> Vec<Styled> {
-    let one = |rule: &Ruleset| Styled { origin, selector: selector(&rule.selector), styles: rule.styles.iter().map(style).collect() };
-    rules.iter().map(one).collect()
+// For each of the rules that `do_add_css` keeps of a sheet the starts of its styles: it keeps each selector of each rule that has styles.
+fn starts_of_rules(sheet: &str) -> Vec<Vec<usize>> {
+    let read = read_sheet(sheet).expect("a sheet that reads");
+    let kept = read.rules.iter().map(|rule| (rule.selectors.len(), answers::style_starts(&rule.declarations))).filter(|(_, starts)| !starts.is_empty());
+    kept.flat_map(|(selectors, starts)| vec![starts; selectors]).collect()
+}
+
+// The rules of the three sheets in the order in which `computed_style` goes through them, with their origins and the starts of their styles.
+fn started_rules<'a>(data: &'a StyleData, sheets: [&str; 3]) -> Vec<(StyleOrigin, &'a Ruleset, Vec<usize>)> {
+    let origins = [(StyleOrigin::Agent, &data.agent_rules), (StyleOrigin::User, &data.user_rules), (StyleOrigin::Author, &data.author_rules)];
+    let mut all = vec![];
+    for ((from, rules), sheet) in origins.into_iter().zip(sheets) {
+        let starts = starts_of_rules(sheet);
+        assert_eq!(rules.len(), starts.len(), "each rule that is kept has its starts");
+        all.extend(rules.iter().zip(starts).map(|(rule, starts)| (from, rule, starts)));
+    }
+    all
 }
 
 /// The compiled bytes of what `do_add_css` keeps of the three sheets.
 pub fn compile(agent: &str, user: &str, author: &str) -> Option<Vec<u8>> {
     let data = unless_panic(|| style_data(agent, user, author))?;
-    let mut all = styled(1, &data.agent_rules);
-    all.extend(styled(2, &data.user_rules));
-    all.extend(styled(3, &data.author_rules));
-    Some(answers::compiled(&all))
+    let rules = started_rules(&data, [agent, user, author]);
+    let styled = |(from, rule, starts): &(StyleOrigin, &Ruleset, Vec<usize>)| Styled {
+        origin: origin(*from),
+        selector: selector(&rule.selector),
+        styles: styles(&rule.styles, starts),
+    };
+    Some(answers::compiled(&rules.iter().map(styled).collect::<Vec<_>>()))
 }
 
 fn local_attribute((name, value): (&str, &str)) -> Attribute {
@@ -281,6 +309,7 @@ fn put_slot<T>(row: &mut StyleRow, slot: &WithSpec<T>, value: impl FnOnce(&T) ->
         u32::from(slot.important),
         slot.val.as_ref().map_or(0, value),
         0,
+        0,
     ]);
 }
 
@@ -313,13 +342,8 @@ pub struct Applied {
     pub styles: Vec<answers::StyleDecl>,
 }
 
-fn applied(from: StyleOrigin, rule: &Ruleset) -> Applied {
-    Applied {
-        origin: origin(from),
-        pseudo: selector(&rule.selector).pseudo,
-        specificity: specificity(&rule.selector),
-        styles: rule.styles.iter().map(style).collect(),
-    }
+fn applied((from, rule, starts): &(StyleOrigin, &Ruleset, Vec<usize>)) -> Applied {
+    Applied { origin: origin(*from), pseudo: selector(&rule.selector).pseudo, specificity: specificity(&rule.selector), styles: styles(&rule.styles, starts) }
 }
 
 /// For each element of a page, in row order, what the selectors that match it say, in the order in which `computed_style` goes through them.
@@ -328,11 +352,10 @@ pub fn applied_rules(sheets: [&str; 3], page: &Page) -> Option<Vec<Vec<Applied>>
     let handles = tree(page);
     unless_panic(|| {
         let data = style_data(agent, user, author);
-        let origins = [(StyleOrigin::Agent, &data.agent_rules), (StyleOrigin::User, &data.user_rules), (StyleOrigin::Author, &data.author_rules)];
-        let rules: Vec<(StyleOrigin, &Ruleset)> = origins.iter().flat_map(|(from, rules)| rules.iter().map(|r| (*from, r))).collect();
+        let rules = started_rules(&data, sheets);
         let of_element = |row: usize| {
-            let matching = rules.iter().filter(|(_, r)| r.selector.matches(&handles[row]));
-            matching.map(|&(from, r)| applied(from, r)).collect()
+            let matching = rules.iter().filter(|(_, rule, _)| rule.selector.matches(&handles[row]));
+            matching.map(applied).collect()
         };
         page.elements().into_iter().map(of_element).collect()
     })
@@ -369,7 +392,7 @@ impl Path {
         std::hint::black_box(self.computed(sheets, document_styles));
     }
 
-    /// The style that this leads to, as a row.
+    /// The style that this leads to, as a row without starts.
     pub fn style_row(&self, sheets: [&str; 3], document_styles: bool) -> StyleRow {
         style_row(&self.computed(sheets, document_styles))
     }
@@ -407,24 +430,69 @@ impl Whole {
         std::hint::black_box(self.computed(document_styles));
     }
 
-    /// The styles of the elements, as rows.
+    /// The styles of the elements, as rows without starts.
     pub fn style_rows(&self, document_styles: bool) -> Vec<StyleRow> {
         let styles = self.computed(document_styles);
         self.parents.iter().zip(&styles).filter(|(parent, _)| parent.is_some()).map(|(_, style)| style_row(style)).collect()
     }
 }
 
-/// `computed_style` of each element of a page, in row order.
+// ---- the starts of computed styles: html2text has none, so its own `maybe_update` is handed them in place of the values, in the order of `computed_style`
+
+type Starts = [[WithSpec<u32>; SLOTS]; RECORDS];
+const RECORDS: usize = 3;
+const MAIN: usize = 0;
+
+fn starts_of_element(parent: &Starts, rules: &[(StyleOrigin, &Ruleset, Vec<usize>)], handle: &Handle, attributes: &[(&str, &str)]) -> Starts {
+    let mut all = parent.clone();
+    for (from, rule, starts) in rules.iter().filter(|(_, rule, _)| rule.selector.matches(handle)) {
+        let record = selector(&rule.selector).pseudo as usize;
+        for said in styles(&rule.styles, starts) {
+            all[record][said.style.slot() as usize].maybe_update(said.important, *from, rule.selector.specificity(), said.start as u32);
+        }
+    }
+    for &(name, value) in attributes {
+        let colour = || color_attribute(value).expect("a colour attribute never panics").into_iter();
+        let said: Vec<(u32, usize)> = match name {
+            "style" => style_attribute(value).expect("a style attribute never panics").iter().map(|s| (s.style.slot(), s.start)).collect(),
+            "color" => colour().map(|c| (answers::Style::Colour(c).slot(), 0)).collect(),
+            "bgcolor" => colour().map(|c| (answers::Style::Background(c).slot(), 0)).collect(),
+            _ => vec![],
+        };
+        for (slot, start) in said {
+            all[MAIN][slot as usize].maybe_update(false, StyleOrigin::Author, Specificity::inline(), start as u32);
+        }
+    }
+    all
+}
+
+// The row with its starts. What won in it has the same weight as what won among the starts.
+fn with_starts(mut row: StyleRow, starts: &Starts) -> StyleRow {
+    const VALUE: usize = SLOT_START - 2;
+    let mut won = StyleRow::default();
+    starts.iter().flatten().for_each(|slot| put_slot(&mut won, slot, |start| *start));
+    for (slot, won) in row.slots_mut().zip(won.numbers.chunks(answers::SLOT_WIDTH)) {
+        assert_eq!(slot[..VALUE], won[..VALUE], "a start is that of another declaration");
+        slot[SLOT_START] = won[VALUE];
+    }
+    row
+}
+
+/// `computed_style` of each element of a page, in row order, with the starts of what won.
 pub fn computed_styles(sheets: [&str; 3], page: &Page, document_styles: bool) -> Option<Vec<StyleRow>> {
     let [agent, user, author] = sheets;
     let handles = tree(page);
     unless_panic(|| {
         let data = style_data(agent, user, author);
+        let rules = started_rules(&data, sheets);
         let mut styles = vec![ComputedStyle::default(); page.rows()];
+        let mut starts = vec![Starts::default(); page.rows()];
         for row in page.elements() {
+            let attributes = if document_styles { page.attributes_of(row) } else { vec![] };
             styles[row] = data.computed_style(&styles[page.parent(row)], &handles[row], document_styles);
+            starts[row] = starts_of_element(&starts[page.parent(row)], &rules, &handles[row], &attributes);
         }
-        page.elements().into_iter().map(|row| style_row(&styles[row])).collect()
+        page.elements().into_iter().map(|row| with_starts(style_row(&styles[row]), &starts[row])).collect()
     })
 }
 
@@ -451,11 +519,15 @@ mod tests {
         assert_eq!(starts, [4, 16]);
         let declarations = |i: usize| -> Vec<usize> { sheet.rules[i].declarations.iter().map(|d| d.start).collect() };
         assert_eq!((declarations(0), declarations(1)), (vec![6, 11], vec![20]));
+        let styles = |value: &str| -> Vec<usize> { style_attribute(value).unwrap().iter().map(|s| s.start).collect() };
+        assert_eq!(styles(" color:red; zz:1;/**/\\63olor:red"), [1, 21]);
+        assert_eq!(styles("overflow:hidden;height:5px;max-height:0;height:0;display:none"), [49, 27]);
+        assert_eq!(starts_of_rules("p{zz:1}p,q{height:0;overflow:hidden}{color:red}"), [[11], [11]]);
     }
 
     #[test]
     fn bytes() {
-        let expected = [1, 3, 0, 1, 2, 1, b'p', 1, 0, 0, 0x80, 0x80, 0xfc, 7];
+        let expected = [1, 3, 0, 1, 2, 1, b'p', 1, 0, 2, 0, 0x80, 0x80, 0xfc, 7];
         assert_eq!(compile("", "", "p{color:red}").unwrap(), expected);
         assert_eq!(compile("", "", "").unwrap(), [0]);
     }
@@ -475,7 +547,8 @@ mod tests {
         assert_eq!(elements, [true, true, false]);
         let sheets = ["", "", ".k{color:red}"];
         let rows = computed_styles(sheets, &page, true).unwrap();
-        assert_eq!(rows[0].numbers[..10], [1, 1, 3, 0, 0, 1, 0, 0, 0xff0000, 0]);
+        assert_eq!(rows[0].numbers[..11], [1, 1, 3, 0, 0, 1, 0, 0, 0xff0000, 0, 3]);
+        let rows: Vec<StyleRow> = rows.into_iter().map(StyleRow::without_starts).collect();
         assert_eq!(path(&page, 1).style_row(sheets, true), rows[0]);
         assert_eq!(whole(sheets, &page).style_rows(true), rows);
         let applied = applied_rules(["q{color:red}", "*{content:''}", ".k,div{color:red}"], &page).unwrap();

@@ -40,7 +40,7 @@ def style_attribute(read, rows, q):
         return True
     store = model.Store()
     styles = store.kept(model.styles_of(model.declarations(read.decode(), 0)[0]))
-    came = [n for slot, what, important in styles for n in (slot, int(important), *what)]
+    came = [n for slot, what, important in styles for n in (slot, int(important), *what)]  # a value ends with its start
     seen = joined(q["tokens"][0], [])
     return q["results"][1] == len(styles) and store.bytes == joined(q["texts"][0], b"") and (not seen or seen == came)
 

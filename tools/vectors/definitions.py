@@ -1,5 +1,5 @@
 #!/usr/bin/env python3
-"""Holds the definitions `computedStyle` and `pageRow` against html2text's computed styles, by computing them.
+"""Holds the definitions `computedStyle` and `pageRow` against html2text's computed styles, by computing them. Where declarations start, html2text does not say: model.py does.
 
     python3 tools/vectors/definitions.py FOLDER style|run [FIRST COUNT]
     cd FOLDER && rt check held
@@ -12,6 +12,7 @@ import re
 import shutil
 import sys
 
+import model
 from vectors import recorded_file
 
 HERE = pathlib.Path(__file__).resolve().parent
@@ -35,9 +36,9 @@ use mathlib.Core.List.{List, [], _∷_, _++_, map}
 use Rattle.combinators.specs.Choice.{and}
 use Rattle.combinators.specs.Refusal.{noRefusal}
 use Rattle.combinators.specs.declared.refusals.Refusal.{Refusal}
-use Rattle.syntax.specs.Layout.{styleOf}
+use Rattle.syntax.specs.Layout.{valueIn}
 use Rattle.syntax.specs.Selector.{RuleSet}
-use Rattle.syntax.specs.Style.{Style}
+use Rattle.syntax.specs.Style.{Style, StyleValue}
 use Rattle.syntax.specs.declared.styles.Value.{Value}
 use Rattle.selectors.specs.Outcome.{onOutcome}
 use Rattle.sheets.specs.Sheet.{sheetOf}
@@ -58,17 +59,17 @@ use Rattle.runner.specs.PageRows.{pageContents, pageRow}
 pub record Answer : Type 0 where
   pub read : Bool
   pub page : Refusal
-  pub styles : List (ComputedStyle Style)
+  pub styles : List (ComputedStyle StyleValue)
 
-unfoldable pub accepted : List (ComputedStyle Style) → Answer
+unfoldable pub accepted : List (ComputedStyle StyleValue) → Answer
 accepted l = record { read = true; page = noRefusal; styles = l }
 
-abbrev pub unfilled : Slot Style
+abbrev pub unfilled : Slot StyleValue
 unfilled = empty
 
-abbrev pub filled : ℕ → Bool → ℕ → ℕ → ℕ → Bool → Style → Slot Style
-filled o i id class type important value =
-    held (record { weight = record { important = important; origin = o; spec = record { inline = i; id = id; class = class; typ = type } }; value = value })
+abbrev pub filled : ℕ → Bool → ℕ → ℕ → ℕ → Bool → ℕ → Style → Slot StyleValue
+filled o i id class type important start x =
+    held (record { weight = record { important = important; origin = o; spec = record { inline = i; id = id; class = class; typ = type } }; value = record { style = x; start = start } })
 
 abbrev pub settings : Bool → Settings
 settings on = record { «document_styles» = on }
@@ -79,7 +80,7 @@ isRead s = onOutcome (sheetOf s) (λ n rs. true) false (λ p. false)
 unfoldable pub rulesOf : List ℕ → List RuleSet
 rulesOf s = onOutcome (sheetOf s) (λ n rs. rs) [] (λ p. [])
 
-unfoldable pub answer : List ℕ → List ℕ → List ℕ → Page → List (ComputedStyle Style) → Answer
+unfoldable pub answer : List ℕ → List ℕ → List ℕ → Page → List (ComputedStyle StyleValue) → Answer
 answer agent user author g l =
     record { read = and (isRead agent) (and (isRead user) (isRead author)); page = pageRefusal (g .nodes) (g .attributes) (g .text); styles = l }
 
@@ -89,21 +90,21 @@ style agent user author g on elements =
     answer agent user author g (map (λ i. computedStyle Crate rules (settings on) (pathOf (g .nodes) (g .attributes) (g .text) i)) elements)
 
 -- a row's style, read in the text that its contents lie in
-unfoldable pub slotSeen : List ℕ → ℕ → Slot Value → Slot Style
+unfoldable pub slotSeen : List ℕ → ℕ → Slot Value → Slot StyleValue
 slotSeen t k empty = empty
-slotSeen t k (held c) = held (record { weight = c .weight; value = styleOf t k (c .value) })
+slotSeen t k (held c) = held (record { weight = c .weight; value = valueIn t k (c .value) })
 
-unfoldable pub slotsSeen : List ℕ → ℕ → List (Slot Value) → List (Slot Style)
+unfoldable pub slotsSeen : List ℕ → ℕ → List (Slot Value) → List (Slot StyleValue)
 slotsSeen t k [] = []
 slotsSeen t k (s ∷ ss) = slotSeen t k s ∷ slotsSeen t (suc k) ss
 
-unfoldable pub recordSeen : List ℕ → Record Value → Record Style
+unfoldable pub recordSeen : List ℕ → Record Value → Record StyleValue
 recordSeen t p = record { present = p .present; slots = slotsSeen t 0 (p .slots) }
 
-unfoldable pub styleSeen : List ℕ → ComputedStyle Value → ComputedStyle Style
+unfoldable pub styleSeen : List ℕ → ComputedStyle Value → ComputedStyle StyleValue
 styleSeen t s = record { main = recordSeen t (s .main); before = recordSeen t (s .before); after = recordSeen t (s .after) }
 
-unfoldable pub seen : List ℕ → Page → Bool → List ℕ → List (ComputedStyle Style)
+unfoldable pub seen : List ℕ → Page → Bool → List ℕ → List (ComputedStyle StyleValue)
 seen code g on elements = map (λ i. styleSeen (code ++ pageContents (settings on) g) (styleAt (pageRow code (settings on) g i))) elements
 
 unfoldable pub run : List ℕ → List ℕ → List ℕ → Page → Bool → List ℕ → Answer
@@ -149,7 +150,15 @@ class Reader:
         v = {"index": index, "sheets": [self.text() for _ in range(SHEETS)], "nodes": self.list(), "attributes": self.list(), "text": self.text(), "on": self.number()}
         v["elements"] = [row for row, kind in enumerate(v["nodes"][::NODE_WIDTH]) if kind == ELEMENT_KIND]
         v["styles"] = [[self.record() for _ in range(RECORDS)] for _ in v["elements"]]
+        v["starts"] = [starts_of(v, row) for row in v["elements"]]
         return v
+
+
+def starts_of(v, row):
+    """For each record of an element's style the starts of its slots."""
+    _, numbers, _ = model.style_call(v["sheets"], v["nodes"], v["attributes"], v["text"], row, v["on"], False)
+    records = [numbers[k * model.RECORD_WIDTH + 1:][:model.SLOTS * model.SLOT_WIDTH] for k in range(RECORDS)]
+    return [slots[model.SLOT_WIDTH - 1::model.SLOT_WIDTH] for slots in records]
 
 
 def size(v):
@@ -184,19 +193,19 @@ VALUES = [
 ]
 
 
-def slot_of(number, slot):
+def slot_of(number, slot, start):
     if slot is None:
         return "asked.unfilled"
     (origin, inline, ids, classes, types, important), value = slot
-    return f"asked.filled {origin} {flag(inline)} {ids} {classes} {types} {flag(important)} ({VALUES[number](value)})"
+    return f"asked.filled {origin} {flag(inline)} {ids} {classes} {types} {flag(important)} {start} ({VALUES[number](value)})"
 
 
-def record_of(present, slots):
-    return f"record {{ present = {flag(present)}; slots = {items(slot_of(k, s) for k, s in enumerate(slots))} }}"
+def record_of(present, slots, starts):
+    return f"record {{ present = {flag(present)}; slots = {items(slot_of(k, s, start) for k, (s, start) in enumerate(zip(slots, starts)))} }}"
 
 
-def style_of(records):
-    main, before, after = (record_of(*r) for r in records)
+def style_of(records, starts):
+    main, before, after = (record_of(*r, own) for r, own in zip(records, starts))
     return f"record {{ main = {main}; before = {before}; after = {after} }}"
 
 
@@ -205,7 +214,7 @@ def case(v, question, unfolding):
     page = f"(record {{ nodes = {numbers(v['nodes'])}; attributes = {numbers(v['attributes'])}; text = {numbers(v['text'])} }})"
     name = f"vector-{v['index']}"
     return (f"{name} : asked.{question} {sheets} {page} {flag(v['on'])} {numbers(v['elements'])}\n"
-            f"    ≡ asked.accepted ({items(map(style_of, v['styles']))})\nunfolding {unfolding}\n{name} = refl\n")
+            f"    ≡ asked.accepted ({items(map(style_of, v['styles'], v['starts']))})\nunfolding {unfolding}\n{name} = refl\n")
 
 
 # ---- the repository

@@ -12,7 +12,7 @@ DOCUMENT, ELEMENT, OTHER = 0, 1, 2
 NODE_WIDTH, ATTRIBUTE_WIDTH = 6, 4
 AGENT, USER, AUTHOR = 1, 2, 3
 COLOUR, BACKGROUND, DISPLAY, WHITE_SPACE, CONTENT = range(5)
-SLOTS, SLOT_WIDTH, RECORDS = 5, 9, 3
+SLOTS, SLOT_WIDTH, RECORDS = 5, 10, 3
 RECORD_WIDTH = 1 + SLOTS * SLOT_WIDTH
 ROW_WIDTH = RECORDS * RECORD_WIDTH
 GREATEST_NUMBER = 2 ** 31 - 1
@@ -308,10 +308,12 @@ def meaning(name, tokens):
 
 
 def declaration(t, i):
+    """What it means, whether it is important, and the byte where its name starts."""
+    start = byte_place(t, blanks(t, i))
     name, i = identifier(t, i)
     i = blanks(t, tag(t, blanks(t, i), ":"))
     tokens, important, i = value(t, i)
-    return (meaning(name, tokens), important), i
+    return (meaning(name, tokens), important, start), i
 
 
 def separated(t, i, mark, reader):
@@ -332,22 +334,23 @@ SPACE_NUMBERS = {"normal": 0, "pre": 1, "pre-wrap": 2}
 
 
 def styles_of(found):
-    """Slot, value and important of each style of a rule; a content's value is its text."""
-    styles, zero, hidden = [], False, False
-    for (kind, what), important in found:
+    """Slot, value, important and start of each style of a rule; a content's value is its text. The display that a height makes starts where the first zero height does."""
+    styles, zeros, hidden = [], [], False
+    for (kind, what), important, start in found:
         if kind == "color":
-            styles.append((COLOUR, what, important))
+            styles.append((COLOUR, what, important, start))
         elif kind == "background":
-            styles.append((BACKGROUND, what, important))
+            styles.append((BACKGROUND, what, important, start))
         elif kind == "display" and what:
-            styles.append((DISPLAY, 0, important))
+            styles.append((DISPLAY, 0, important, start))
         elif kind == "white-space":
-            styles.append((WHITE_SPACE, SPACE_NUMBERS[what], important))
+            styles.append((WHITE_SPACE, SPACE_NUMBERS[what], important, start))
         elif kind == "content":
-            styles.append((CONTENT, what, important))
-        zero = zero or (kind, what) == ("height", True)
+            styles.append((CONTENT, what, important, start))
+        if (kind, what) == ("height", True):
+            zeros.append(start)
         hidden = hidden or (kind, what) == ("overflow", "hidden")
-    return styles + [(DISPLAY, 0, False)] if zero and hidden else styles
+    return styles + [(DISPLAY, 0, False, zeros[0])] if zeros and hidden else styles
 
 
 def color_attribute(t):
@@ -505,7 +508,7 @@ def texts_of(rules):
     texts = []
     for selectors, found in rules:
         texts += [w for components, _ in selectors for c in components if c[0] != "nth" for w in c[1:]]
-        texts += [what for (kind, what), _ in found if kind in ("content", "unknown")]
+        texts += [what for (kind, what), _, _ in found if kind in ("content", "unknown")]
     return texts
 
 
@@ -635,7 +638,7 @@ def specificity(components):
     return sum(k == "hash" for k in kinds), sum(k in ("class", "attribute", "equal", "nth") for k in kinds), sum(k == "element" for k in kinds)
 
 
-# ---- the two cascades. A slot is None, or origin, (inline, id, class, type), important, value.
+# ---- the two cascades. A slot is None, or origin, (inline, id, class, type), important, value, where a value is its two numbers and the start.
 
 def crate_update(slot, new):
     if slot is None:
@@ -668,15 +671,15 @@ class Store:
         self.bytes = b""
 
     def kept(self, styles):
-        """Styles with contents as a start and a length."""
+        """Slot, value and important of styles, a value as it stands in a slot: of a content its place and length, of others a number and 0; and the start."""
         out = []
-        for slot, what, important in styles:
+        for slot, what, important, start in styles:
             if slot == CONTENT:
                 text = what.encode()
-                out.append((slot, (len(self.bytes), len(text)), important))
+                out.append((slot, (len(self.bytes), len(text), start), important))
                 self.bytes += text
             else:
-                out.append((slot, (what, 0), important))
+                out.append((slot, (what, 0, start), important))
         return out
 
 
@@ -693,7 +696,7 @@ def element_style(page, row, parent, rules, inline, on, book):
     def attribute_colour(name, text, spec):
         c = color_attribute(text) if name in ("color", "bgcolor") else None
         if c is not None:
-            merge(0, COLOUR if name == "color" else BACKGROUND, AUTHOR, spec, 0, (c, 0))
+            merge(0, COLOUR if name == "color" else BACKGROUND, AUTHOR, spec, 0, (c, 0, 0))
 
     own = page.attributes[row] if on else []
     for origin, selectors, styles in rules:
@@ -797,9 +800,9 @@ def component_bytes(c):
 
 
 def style_bytes(style):
-    slot, what, important = style
+    slot, what, important, start = style
     value = b"" if slot == DISPLAY else text_bytes(what) if slot == CONTENT else number_bytes(what)
-    return number_bytes(int(important)) + number_bytes(slot) + value
+    return number_bytes(int(important)) + number_bytes(start) + number_bytes(slot) + value
 
 
 def selector_bytes(origin, components, pseudo, styles):
@@ -867,12 +870,12 @@ class Compiled:
         return (kind, self.name(), self.name()) if kind == "equal" else (kind, self.name())
 
     def style(self):
-        important, slot = self.number(0, 2), self.number(0, SLOTS)
+        important, start, slot = self.number(0, 2), self.number(), self.number(0, SLOTS)
         if slot == CONTENT:
             what = self.text()
         else:
             what = 0 if slot == DISPLAY else self.number(0, LAST_WHITE_SPACE + 1 if slot == WHITE_SPACE else COLOUR_END), 0
-        return slot, what, important
+        return slot, (*what, start), important
 
     def sheet(self):
         """For each selector what element_style takes: origin, components in reading order with the pseudo element, and styles, contents by their place in the bytes."""
@@ -921,7 +924,7 @@ def run_call(compiled, nodes, attributes, text, on, lent=None):
         for k, (name, t) in enumerate(page.attributes[row]):
             if on and name == "style":
                 kept = store.kept(styles_of(declarations(t, 0)[0]))
-                placed = lambda slot, what: (what[0] + len(compiled), what[1]) if slot == CONTENT else what
+                placed = lambda slot, what: (what[0] + len(compiled), *what[1:]) if slot == CONTENT else what
                 inline[row, k] = [(slot, placed(slot, what), important) for slot, what, important in kept]
         records.append(element_style(page, row, records[page.parents[row]], rules, inline, on, False))
     return 0, [row_numbers(r) for r in records], store.bytes

@@ -38,6 +38,7 @@ MILLION = 10 ** 6  # an amount is told as millions and what is left
 FULL = 255
 ROOM = 4096
 SLOT_WEIGHT = 6  # the numbers of a slot between whether it is filled and its value
+STYLE_WIDTH = 5  # the numbers of a style's row
 LEAST_RUN = 4
 MORE = 100  # 'plenty' is what so many bytes more would need
 
@@ -236,7 +237,7 @@ def recorded_sheet(r):
 def recorded_style(r):
     value, rows, texts = r.text(), r.list(), r.text()
     after = {"tokens": (whole(rows), 0), "texts": (whole(texts), 0)}
-    return Vector("", "style_attribute", whole(value), [], Question(least(len(value)), 0, [len(value)], [0, len(rows) // 4, len(texts)], after))
+    return Vector("", "style_attribute", whole(value), [], Question(least(len(value)), 0, [len(value)], [0, len(rows) // STYLE_WIDTH, len(texts)], after))
 
 
 def recorded_colour(r):
@@ -279,19 +280,20 @@ def recorded_slots(r):
     return present, slots
 
 
-def slots_of(row, texts):
-    """The same of a row."""
+def slots_of(row, texts, started=False):
+    """The same of a row, whose starts are left aside; or with them, which html2text does not have."""
     records = []
     for record in range(model.RECORDS):
         present, *rest = row[record * model.RECORD_WIDTH:][:model.RECORD_WIDTH]
         slots = [rest[k * model.SLOT_WIDTH:][:model.SLOT_WIDTH] for k in range(model.SLOTS)]
-        value = lambda k, s: texts[s[-2]:s[-2] + s[-1]] if k == model.CONTENT else s[-2]
-        records.append((present, [(s[1:1 + SLOT_WEIGHT], value(k, s)) if s[0] else None for k, s in enumerate(slots)]))
+        value = lambda k, s: texts[s[-3]:s[-3] + s[-2]] if k == model.CONTENT else s[-3]
+        start = lambda s: s[-1:] if started else []
+        records.append((present, [(s[1:1 + SLOT_WEIGHT] + start(s), value(k, s)) if s[0] else None for k, s in enumerate(slots)]))
     return records
 
 
 def recorded_styles(r):
-    """A question for each element; where contents lie, the crate does not say, but model.py. A page without one is asked for row 0."""
+    """A question for each element; where contents lie and declarations start, the crate does not say, but model.py. A page without one is asked for row 0."""
     sheets, nodes, attributes, page, on = [r.text() for _ in range(3)], r.list(), r.list(), r.text(), r.number()
     lent = model.least_lengths(sheets, attributes, page)
     questions, arguments = [], [len(nodes), len(attributes), len(page)] + [len(s) for s in sheets]
@@ -342,8 +344,8 @@ def by_run(data):
     assert number_ == 0, "a run refuses what a style call answers"
     for q in v["questions"]:
         if q["results"][0] == 0:
-            told = slots_of(joined(q["out"][0], []), joined(q["texts"][0], b""))
-            assert slots_of(rows[q["arguments"][-2]], compiled + texts) == told, "a row of a run is another than the style call's"
+            told = slots_of(joined(q["out"][0], []), joined(q["texts"][0], b""), started=True)
+            assert slots_of(rows[q["arguments"][-2]], compiled + texts, started=True) == told, "a row of a run is another than the style call's"
     asking = Question(model.run_least(compiled, *asked), FULL, [nodes, attributes, page, len(compiled), on], [0, 0, len(texts)], run_left(rows, whole(texts)))
     return Vector("", "run", whole(read[:page] + compiled), v["rows"], asking).bytes()
 
@@ -582,7 +584,7 @@ def style_attribute_case(words, f):
     value = f["value"].texts()
     number_, names = refusal(f)[0], f["texts"].texts() if "texts" in f else []
     count = int(f["styles"].value) if "styles" in f else 0
-    after = {"tokens": ([(4 * count, [])] if count else [], 0), "texts": (names, 0)}
+    after = {"tokens": ([(STYLE_WIDTH * count, [])] if count else [], 0), "texts": (names, 0)}
     return Vector(words, "style_attribute", value, [], Question(lent_to(f, total(value)), 0, [total(value)], [number_, count, total(names)], after))
 
 
@@ -637,9 +639,10 @@ def style_rows(f):
         slots = {}
         for word in f[record].value.split() if record in f else []:
             name, _, held = word.partition(":")
+            held, _, start = held.partition("@")
             *weight, value = held.split(",")
             value = [int(n) for n in value.split("+")] if name == "content" else [int(value, 16), 0]
-            slots[name] = [1] + [int(n) for n in weight] + value
+            slots[name] = [1] + [int(n) for n in weight] + value + [int(start)]
             assert len(slots[name]) == model.SLOT_WIDTH, word
         assert not slots.keys() - set(SLOT_NAMES), slots
         row.append(int(record == "main" or record in f))

@@ -149,8 +149,10 @@ pub const SLOT_IMPORTANT: usize = 6;
 pub const SLOT_NUMBER: usize = 7;
 /// The second number of its value: of a content the length.
 pub const SLOT_SECOND: usize = 8;
+/// The byte where its declaration starts: in its sheet, or in the value of its `style` attribute; 0 for `color` and `bgcolor`.
+pub const SLOT_START: usize = 9;
 /// The numbers of a slot.
-pub const SLOT_WIDTH: usize = 9;
+pub const SLOT_WIDTH: usize = 10;
 
 /// The origin of what the agent sheet declares.
 pub const AGENT_ORIGIN: u32 = 1;

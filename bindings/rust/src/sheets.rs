@@ -26,7 +26,7 @@ impl Sheets<'_> {
     /// use hicsolmab::Sheets;
     ///
     /// let compiled = Sheets { author: b"p{color:red}", ..Sheets::default() }.compile()?;
-    /// assert_eq!(compiled.as_bytes(), b"\x01\x03\x00\x01\x02\x01p\x01\x00\x00\x80\x80\xfc\x07");
+    /// assert_eq!(compiled.as_bytes(), b"\x01\x03\x00\x01\x02\x01p\x01\x00\x02\x00\x80\x80\xfc\x07");
     /// # Ok::<(), hicsolmab::Refusal>(())
     /// ```
     ///
@@ -152,6 +152,8 @@ impl Default for Compiled {
 
 impl Compiled {
     /// Takes bytes that [`as_bytes`](Self::as_bytes) gave before.
+    ///
+    /// Bytes that were compiled before styles had the start of their declaration are void. They carry no mark: mostly they are refused, but not always.
     ///
     /// ```
     /// use hicsolmab::{Compiled, Reason, Sheets};

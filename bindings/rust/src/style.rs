@@ -5,7 +5,7 @@ use std::slice::ChunksExact;
 
 use crate::layout::{
     AFTER, AGENT_ORIGIN, BACKGROUND_SLOT, BEFORE, COLOUR_SLOT, CONTENT_SLOT, DISPLAY_SLOT, MAIN, RECORD_WIDTH, SLOT_CLASS, SLOT_FILLED, SLOT_ID,
-    SLOT_IMPORTANT, SLOT_INLINE, SLOT_NUMBER, SLOT_ORIGIN, SLOT_SECOND, SLOT_TYPE, SLOT_WIDTH, STYLE_ROW_WIDTH, USER_ORIGIN, WHITE_SPACE_PRE,
+    SLOT_IMPORTANT, SLOT_INLINE, SLOT_NUMBER, SLOT_ORIGIN, SLOT_SECOND, SLOT_START, SLOT_TYPE, SLOT_WIDTH, STYLE_ROW_WIDTH, USER_ORIGIN, WHITE_SPACE_PRE,
     WHITE_SPACE_PRE_WRAP, WHITE_SPACE_SLOT, record_place, slot_place,
 };
 
@@ -90,12 +90,17 @@ pub struct Declaration<T> {
     pub specificity: Specificity,
     /// Whether it counts as important. In html2text's cascade no attribute does.
     pub important: bool,
+    /// The byte where it starts, which is the first of its name: in the sheet of its origin where a rule has it, in the attribute's value where a `style` attribute
+    /// has it; 0 where it is from `color` or `bgcolor`. Of a `display` that a zero height with hidden overflow makes, it is that of the first height that is zero.
+    /// A child that inherits a value has its start too: that of an attribute may then count in an attribute of an ancestor, and in book order, where an inherited
+    /// value is the author's, the ancestor's declaration says in which text it counts.
+    pub start: usize,
 }
 
 impl<T> Declaration<T> {
     fn map<U>(self, value_of: impl FnOnce(T) -> U) -> Declaration<U> {
-        let Self { value, origin, inline, specificity, important } = self;
-        Declaration { value: value_of(value), origin, inline, specificity, important }
+        let Self { value, origin, inline, specificity, important, start } = self;
+        Declaration { value: value_of(value), origin, inline, specificity, important, start }
     }
 }
 
@@ -214,6 +219,7 @@ impl<'a> Record<'a> {
             inline: numbers[SLOT_INLINE] != 0,
             specificity: Specificity { ids: numbers[SLOT_ID], classes: numbers[SLOT_CLASS], types: numbers[SLOT_TYPE] },
             important: numbers[SLOT_IMPORTANT] != 0,
+            start: numbers[SLOT_START] as usize,
         })
     }
 }

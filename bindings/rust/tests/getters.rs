@@ -44,6 +44,8 @@ const USER: &[u8] = b".note { background-color: blue; content: 'main' } p::befor
 const AUTHOR: &[u8] =
     b"div > p#first[title]:nth-child(1) { white-space: pre-wrap !important } p::after { content: ''; display: none; white-space: normal } .gone { display: none }";
 
+const OWN: &str = "content: 'own'; color: blue !important; display: none";
+
 /// `<div><p id=first class="note big" title=x>..</p><p class=gone><b></b></p><p style=..></p></div>`
 fn page() -> Page {
     let mut page = Page::new();
@@ -55,7 +57,7 @@ fn page() -> Page {
     page.open("b", []).unwrap();
     page.close();
     page.close();
-    page.open("p", [("style", "content: 'own'; color: blue !important; display: none")]).unwrap();
+    page.open("p", [("style", OWN)]).unwrap();
     page.close();
     page.open("font", [("color", "#00ff00"), ("bgcolor", "red")]).unwrap();
     page
@@ -72,12 +74,24 @@ fn sheets() -> Sheets<'static> {
     Sheets { agent: AGENT, user: USER, author: AUTHOR }
 }
 
-fn rule<T>(value: T, origin: Origin, ids: u32, classes: u32, types: u32) -> Declaration<T> {
-    Declaration { value, origin, inline: false, specificity: Specificity { ids, classes, types }, important: false }
+/// The first byte of a text in another.
+fn byte_of(text: &[u8], part: &str) -> usize {
+    text.windows(part.len()).position(|window| window == part.as_bytes()).unwrap()
 }
 
-fn inline<T>(value: T) -> Declaration<T> {
-    Declaration { value, origin: Origin::Author, inline: true, specificity: Specificity::default(), important: false }
+/// A declaration of a rule, which is the first in the sheet of its origin that is written so.
+fn rule<T>(value: T, origin: Origin, written: &str, ids: u32, classes: u32, types: u32) -> Declaration<T> {
+    let sheet = match origin {
+        Origin::Agent => AGENT,
+        Origin::User => USER,
+        Origin::Author => AUTHOR,
+    };
+    Declaration { value, origin, inline: false, specificity: Specificity { ids, classes, types }, important: false, start: byte_of(sheet, written) }
+}
+
+/// A declaration of an attribute that starts at a byte of the attribute's value.
+fn inline<T>(value: T, start: usize) -> Declaration<T> {
+    Declaration { value, origin: Origin::Author, inline: true, specificity: Specificity::default(), important: false, start }
 }
 
 #[test]
@@ -87,12 +101,12 @@ fn each_getter_of_the_element() {
     let styles = compiled.run(&page, Settings::default()).unwrap();
     let (main, _, _) = all_said(styles.get(FIRST).unwrap());
     let (color, background, display, white_space, content) = main;
-    assert_eq!(color, Some(rule(RED, Origin::Agent, 0, 0, 1)));
-    assert_eq!(background, Some(rule(BLUE, Origin::User, 0, 1, 0)));
+    assert_eq!(color, Some(rule(RED, Origin::Agent, "color: red", 0, 0, 1)));
+    assert_eq!(background, Some(rule(BLUE, Origin::User, "background-color: blue", 0, 1, 0)));
     assert_eq!(display, None);
-    let important = Declaration { important: true, ..rule(WhiteSpace::PreWrap, Origin::Author, 1, 2, 2) };
+    let important = Declaration { important: true, ..rule(WhiteSpace::PreWrap, Origin::Author, "white-space: pre-wrap", 1, 2, 2) };
     assert_eq!(white_space, Some(important));
-    assert_eq!(content, Some(rule(&b"main"[..], Origin::User, 0, 1, 0)));
+    assert_eq!(content, Some(rule(&b"main"[..], Origin::User, "content: 'main'", 0, 1, 0)));
 }
 
 #[test]
@@ -102,15 +116,15 @@ fn each_getter_of_before_and_after() {
     let styles = compiled.run(&page, Settings::default()).unwrap();
     let (_, before, after) = all_said(styles.get(FIRST).unwrap());
     let (color, background, display, white_space, content) = before.unwrap();
-    assert_eq!(color, Some(rule(Color { red: 0x12, green: 0x34, blue: 0x56 }, Origin::User, 0, 0, 1)));
-    assert_eq!(background, Some(rule(Color { red: 1, green: 2, blue: 3 }, Origin::Agent, 0, 0, 1)));
+    assert_eq!(color, Some(rule(Color { red: 0x12, green: 0x34, blue: 0x56 }, Origin::User, "color: #123456", 0, 0, 1)));
+    assert_eq!(background, Some(rule(Color { red: 1, green: 2, blue: 3 }, Origin::Agent, "background-color: #010203", 0, 0, 1)));
     assert_eq!((display, white_space), (None, None));
-    assert_eq!(content, Some(rule(&b"before"[..], Origin::User, 0, 0, 1)));
+    assert_eq!(content, Some(rule(&b"before"[..], Origin::User, "content: 'before'", 0, 0, 1)));
     let (color, background, display, white_space, content) = after.unwrap();
     assert_eq!((color, background), (None, None));
-    assert_eq!(display, Some(rule(Display::None, Origin::Author, 0, 0, 1)));
-    assert_eq!(white_space, Some(rule(WhiteSpace::Normal, Origin::Author, 0, 0, 1)));
-    assert_eq!(content, Some(rule(&b""[..], Origin::Author, 0, 0, 1)));
+    assert_eq!(display, Some(rule(Display::None, Origin::Author, "display: none; white", 0, 0, 1)));
+    assert_eq!(white_space, Some(rule(WhiteSpace::Normal, Origin::Author, "white-space: normal", 0, 0, 1)));
+    assert_eq!(content, Some(rule(&b""[..], Origin::Author, "content: ''", 0, 0, 1)));
 }
 
 #[test]
@@ -130,7 +144,7 @@ fn what_is_in_a_hidden_element_is_hidden() {
     assert_eq!(hidden, [GONE, IN_GONE, STYLED]);
     // Its other properties are its own.
     let (main, _, _) = all_said(styles.get(IN_GONE).unwrap());
-    assert_eq!(main.3, Some(rule(WhiteSpace::Pre, Origin::Agent, 0, 0, 1)));
+    assert_eq!(main.3, Some(rule(WhiteSpace::Pre, Origin::Agent, "white-space: pre", 0, 0, 1)));
 }
 
 #[test]
@@ -139,13 +153,15 @@ fn attributes_count_where_document_styles_do() {
     let page = page();
     let styles = compiled.run(&page, Settings::default()).unwrap();
     let (main, _, _) = all_said(styles.get(STYLED).unwrap());
-    assert_eq!((main.0, main.2, main.4), (Some(inline(BLUE)), Some(inline(Display::None)), Some(inline(&b"own"[..]))));
+    let [color, display, content] = ["color: blue", "display: none", "content: 'own'"].map(|part| byte_of(OWN.as_bytes(), part));
+    let expected = (Some(inline(BLUE, color)), Some(inline(Display::None, display)), Some(inline(&b"own"[..], content)));
+    assert_eq!((main.0, main.2, main.4), expected);
     let (main, _, _) = all_said(styles.get(FONT).unwrap());
-    assert_eq!((main.0, main.1), (Some(inline(Color { red: 0, green: 255, blue: 0 })), Some(inline(RED))));
+    assert_eq!((main.0, main.1), (Some(inline(Color { red: 0, green: 255, blue: 0 }, 0)), Some(inline(RED, 0))));
 
     let styles = compiled.run(&page, Settings::default().with_document_styles(false)).unwrap();
     let (main, _, _) = all_said(styles.get(STYLED).unwrap());
-    assert_eq!((main.0, main.2, main.4), (Some(rule(RED, Origin::Agent, 0, 0, 1)), None, None));
+    assert_eq!((main.0, main.2, main.4), (Some(rule(RED, Origin::Agent, "color: red", 0, 0, 1)), None, None));
     assert_eq!(all_said(styles.get(FONT).unwrap()).0, (None, None, None, None, None));
 }
 
@@ -153,13 +169,15 @@ fn attributes_count_where_document_styles_do() {
 fn the_book_order_weighs_otherwise() {
     let page = page();
     let crates = sheets().style(&page, STYLED, Settings::default()).unwrap();
-    assert_eq!(crates.style().main().color_declaration(), Some(inline(BLUE)));
+    let blue = inline(BLUE, byte_of(OWN.as_bytes(), "color: blue"));
+    assert_eq!(crates.style().main().color_declaration(), Some(blue));
     let book = sheets().style_book(&page, STYLED, Settings::default()).unwrap();
-    assert_eq!(book.style().main().color_declaration(), Some(Declaration { important: true, ..inline(BLUE) }));
+    assert_eq!(book.style().main().color_declaration(), Some(Declaration { important: true, ..blue }));
     // A colour attribute stands before all author rules there, as if it were one of specificity 0.
     let font = sheets().style_book(&page, FONT, Settings::default()).unwrap();
     let green = Color { red: 0, green: 255, blue: 0 };
-    assert_eq!(font.style().main().color_declaration(), Some(rule(green, Origin::Author, 0, 0, 0)));
+    let light = Declaration { inline: false, ..inline(green, 0) };
+    assert_eq!(font.style().main().color_declaration(), Some(light));
 }
 
 #[test]
@@ -197,6 +215,11 @@ fn styles_are_equal_by_what_they_say() {
     assert_eq!(styles.get(STYLED).unwrap(), sheets().style(&page, STYLED, with).unwrap().style());
     assert_ne!(styles.get(STYLED).unwrap(), sheets().style(&page, STYLED, without).unwrap().style());
     assert_ne!(styles.get(FIRST).unwrap().before(), styles.get(FIRST).unwrap().after());
+    // The start counts too: the same declaration further on is another.
+    let further = [b" ", AGENT].concat();
+    let moved = Sheets { agent: &further, ..sheets() }.style(&page, FIRST, with).unwrap();
+    assert_eq!(moved.style().color(), styles.get(FIRST).unwrap().color());
+    assert_ne!(moved.style(), styles.get(FIRST).unwrap());
 }
 
 #[test]

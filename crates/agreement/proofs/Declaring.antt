@@ -8,7 +8,7 @@ use Rattle.syntax.specs.RuleLayout.{pseudoNumber}
 use Rattle.syntax.specs.Selector.{Component, Selector, RuleSet}
 use Rattle.syntax.specs.Style.{agentOrigin, userOrigin, authorOrigin, StyleDecl}
 use Rattle.declarations.specs.Styles.{stylesOf}
-use Rattle.syntax.specs.Style.{Style}
+use Rattle.syntax.specs.Style.{StyleValue}
 use Rattle.cascade.specs.declared.specificity.Specificity.{Specificity}
 use Rattle.cascade.specs.Record.{Styled, Declared, RuleStyle, fromRule}
 use Rattle.cascade.specs.Related.{Each, none, next}
@@ -68,7 +68,7 @@ module _ {A B : Type 0} (R : A → B → Type 0) where
 -- ---- what the selectors of the sheets declare
 module _ (p : Path) where
   -- what compiled selectors declare, with the texts themselves
-  abbrev said : List CompiledSelector → List (Declared Style)
+  abbrev said : List CompiledSelector → List (Declared StyleValue)
   said ss = selectorsDeclare (matchingAt p (map meantSelector ss))
 
   -- what two lists of selectors say when joined is what the first says, then what the second says
@@ -99,13 +99,13 @@ module _ (p : Path) where
       ∙ sym (map-append (fromRule o) (selectorSays p (map meant ds) s) (selectorsSay p (map meant ds) ss))
 
   -- a rule without styles says nothing
-  nothing-one : (m : Bool) (a b : List (RuleStyle Style)) → a ≡ [] → b ≡ [] → pick m a b ≡ []
+  nothing-one : (m : Bool) (a b : List (RuleStyle StyleValue)) → a ≡ [] → b ≡ [] → pick m a b ≡ []
   unfolding pick
   nothing-one true a b e f = e
   nothing-one false a b e f = f
 
   -- a rule without styles says nothing, whatever its selectors
-  nothing-said : (ss : List Selector) → selectorsSay {A = Style} p [] ss ≡ []
+  nothing-said : (ss : List Selector) → selectorsSay {A = StyleValue} p [] ss ≡ []
   unfolding selectorsSay selectorSays
   nothing-said [] = refl
   nothing-said (s ∷ ss) = rw (nothing-one (matches (s .components) p) [] [] refl refl, nothing-said ss)

@@ -9,7 +9,7 @@ use Rattle.combinators.specs.Choice.{pick, and, is}
 use Rattle.combinators.proofs.Rules.{pick-holds, and-true, is-true}
 use Rattle.syntax.specs.Layout.{styleSlotOf}
 use Rattle.syntax.specs.Selector.{Selector, RuleSet}
-use Rattle.syntax.specs.Style.{Style, StyleDecl, agentOrigin, userOrigin, authorOrigin}
+use Rattle.syntax.specs.Style.{StyleValue, StyleDecl, agentOrigin, userOrigin, authorOrigin}
 use Rattle.cascade.specs.declared.slots.Cascade.the-variants.{Crate}
 use Rattle.cascade.specs.Slot.{Candidate, Slot, empty, held, heldAgainst, maybeUpdate}
 use Rattle.cascade.specs.Specificity.{inlineSpecificity}
@@ -25,17 +25,17 @@ use Rattle.styles.specs.Said.{Rules, ruleStyles, ruleStyle, selectorSays, selec
 use Rattle.styles.proofs.Called.{cascaded-formed}
 
 -- ---- what is said is said of its own slot
-abbrev OwnStyled : Styled Style → Type 0
-OwnStyled x = styleSlotOf (x .value) ≡ x .slot
+abbrev OwnStyled : Styled StyleValue → Type 0
+OwnStyled x = styleSlotOf (x .value .style) ≡ x .slot
 
-abbrev OwnRule : RuleStyle Style → Type 0
+abbrev OwnRule : RuleStyle StyleValue → Type 0
 OwnRule x = OwnStyled (x .style)
 
-abbrev OwnAttribute : AttributeStyle Style → Type 0
+abbrev OwnAttribute : AttributeStyle StyleValue → Type 0
 OwnAttribute x = OwnStyled (x .style)
 
-abbrev OwnDeclared : Declared Style → Type 0
-OwnDeclared d = styleSlotOf (d .candidate .value) ≡ d .slot
+abbrev OwnDeclared : Declared StyleValue → Type 0
+OwnDeclared d = styleSlotOf (d .candidate .value .style) ≡ d .slot
 
 -- what holds of each of a list holds of each behind a function that keeps it
 all-map : {A B : Type 0} (P : A → Type 0) (Q : B → Type 0) (f : A → B) → ((a : A) → P a → Q (f a)) → (xs : List A) → All P xs → All Q (map f xs)
@@ -48,7 +48,7 @@ unfolding meant
 meant-own [] = tt
 meant-own (d ∷ ds) = (refl, meant-own ds)
 
-module _ (p : Path) (ds : List (Styled Style)) (own : All OwnStyled ds) where
+module _ (p : Path) (ds : List (Styled StyleValue)) (own : All OwnStyled ds) where
   -- where each style is of its own slot, so is each that a selector says
   selector-own : (s : Selector) → All OwnRule (selectorSays p ds s)
   unfolding selectorSays ruleStyle
@@ -100,26 +100,26 @@ declared-own rules xs p =
 -- ---- slots hold only styles of their kind
 module _ (k : ℕ) where
   -- a slot holds nothing, or a style of its kind
-  abbrev pub Own : Slot Style → Type 0
+  abbrev pub Own : Slot StyleValue → Type 0
   Own empty = Unit
-  Own (held c) = styleSlotOf (c .value) ≡ k
+  Own (held c) = styleSlotOf (c .value .style) ≡ k
 
-  abbrev OwnCandidate : Candidate Style → Type 0
-  OwnCandidate c = styleSlotOf (c .value) ≡ k
+  abbrev OwnCandidate : Candidate StyleValue → Type 0
+  OwnCandidate c = styleSlotOf (c .value .style) ≡ k
 
   -- an update by a candidate of the slot's kind leaves a style of that kind, whichever of the two stays
-  update-own : (s : Slot Style) (c : Candidate Style) → Own s → OwnCandidate c → Own (maybeUpdate s c)
+  update-own : (s : Slot StyleValue) (c : Candidate StyleValue) → Own s → OwnCandidate c → Own (maybeUpdate s c)
   unfolding maybeUpdate
   update-own empty c h l = l
   update-own (held d) c h l = pick-holds Own (heldAgainst (d .weight) (c .weight)) (held d) (held c) (λ _. h) (λ _. l)
 
   -- updates by many candidates of the slot's kind, one after the other, leave a style of that kind
-  updates-own : (cs : List (Candidate Style)) (s : Slot Style) → Own s → All OwnCandidate cs → Own (foldl maybeUpdate s cs)
+  updates-own : (cs : List (Candidate StyleValue)) (s : Slot StyleValue) → Own s → All OwnCandidate cs → Own (foldl maybeUpdate s cs)
   updates-own [] s h l = h
   updates-own (c ∷ cs) s h l = updates-own cs (maybeUpdate s c) (update-own s c h (l .0)) (l .1)
 
   -- the candidates for a slot are of its kind
-  candidates-own : (r : ℕ) (ds : List (Declared Style)) → All OwnDeclared ds → All OwnCandidate (candidatesFor r k ds)
+  candidates-own : (r : ℕ) (ds : List (Declared StyleValue)) → All OwnDeclared ds → All OwnCandidate (candidatesFor r k ds)
   unfolding candidatesFor
   candidates-own r [] h = tt
   candidates-own r (d ∷ ds) h =
@@ -128,7 +128,7 @@ module _ (k : ℕ) where
       (candidates-own r ds (h .1))
 
 -- ---- in a style, each slot of each record holds nothing or a style of its kind
-abbrev pub OwnSlots : ComputedStyle Style → Type 0
+abbrev pub OwnSlots : ComputedStyle StyleValue → Type 0
 OwnSlots s = (r k : ℕ) → r < recordCount → k < slotCount → Own k (slotIn s r k)
 
 -- of the one in which nothing is declared
@@ -152,8 +152,8 @@ pub computed-own : (rules : Rules RuleSet) (settings : Settings) (p : Path) → 
 unfolding computedStyle sourcesAlong cascaded
 computed-own rules settings [] r k h l = empty-own r k h l
 computed-own rules settings (e ∷ up) r k h l =
-    let parent : ComputedStyle Style = cascaded Crate (sourcesAlong rules settings up) in
-    let x : Sources Style = sourcesFrom (meantRules rules) (attributesSay (countedAttributes settings e)) (e ∷ up) in
+    let parent : ComputedStyle StyleValue = cascaded Crate (sourcesAlong rules settings up) in
+    let x : Sources StyleValue = sourcesFrom (meantRules rules) (attributesSay (countedAttributes settings e)) (e ∷ up) in
     subst (Own k) (sym (crate-folds parent x r k (cascaded-formed Crate (sourcesAlong rules settings up)) h l))
     (updates-own k (candidatesFor r k (crateDeclared x)) (slotIn parent r k) (computed-own rules settings up r k h l)
     (candidates-own k r (crateDeclared x) (declared-own rules (countedAttributes settings e) (e ∷ up))))

@@ -11,37 +11,52 @@ use Rattle.combinators.specs.Part.{part}
 use Rattle.combinators.proofs.Rules.{never, lt-or-ge}
 use Rattle.syntax.specs.Layout.{flag, contentSlot, styleSlotOf, valueNumbers}
 use Rattle.syntax.specs.Style as style
-use Rattle.syntax.specs.Style.{Style}
+use Rattle.syntax.specs.Style.{Style, StyleValue}
 use Rattle.syntax.specs.declared.styles.Value.{Value}
 use Rattle.cascade.specs.declared.slots.Weight.{Weight}
 use Rattle.cascade.specs.Slot.{Candidate, Slot, empty, held}
 use Rattle.cascade.specs.Record.{slotCount, recordCount, mainRecord, beforeRecord, afterRecord, ComputedStyle, Formed, recordIn, slotOf, slotIn}
 use Rattle.cascade.specs.Related.{SameSlot, both-empty, both-held, SameRecord, SameStyle}
-use Rattle.cascade.specs.Row.{filledFlag, slotNumber, slotSecond, slotWidth, recordWidth, styleRowWidth, recordPlace, slotPlace, slotNumbers, rowOf}
+use Rattle.cascade.specs.Row.{filledFlag, slotNumber, slotSecond, slotStart, slotWidth, recordWidth, styleRowWidth, recordPlace, slotPlace, slotNumbers, rowOf}
 use Rattle.cascade.proofs.Relating.{pick-same, each-get}
 use Rattle.cascade.proofs.RowBack.{row-long}
-use Rattle.styles.specs.Says.{Says}
+use Rattle.styles.specs.Says.{Numbered, SaysStyle, Says}
 use Rattle.agreement.specs.SameRow.{startPlace, lengthPlace, isSpan, namesContent, SameContent, SameRow}
 use Rattle.agreement.proofs.OwnSlots.{Own, OwnSlots}
 use Rattle.agreement.proofs.RowNumbers.{presence-number, slot-number, slot-flag}
 
--- ---- two values that say one style: the same numbers, or two spans of the same text
+-- ---- two values that say one style: the same numbers, or two spans of the same text, and the same start
 pub record SameText (t u : List ℕ) (v w : Value) : Type 0 where
   pub within-t : v .number + v .second ≤ length t
   pub within-u : w .number + w .second ≤ length u
   pub same : part t (v .number) (v .second) ≡ part u (w .number) (w .second)
 
-abbrev Agree : List ℕ → List ℕ → ℕ → Value → Value → Type 0
-Agree t u k v w = (¬ (k ≡ contentSlot) → v ≡ w) × (k ≡ contentSlot → SameText t u v w)
+pub record Agree (t u : List ℕ) (k : ℕ) (v w : Value) : Type 0 where
+  pub starts : v .start ≡ w .start
+  pub numbers : ¬ (k ≡ contentSlot) → v ≡ w
+  pub texts : k ≡ contentSlot → SameText t u v w
+
+-- values of the same numbers and the same start
+same-value : (v w : Value) → v .number ≡ w .number → v .second ≡ w .second → v .start ≡ w .start → v ≡ w
+same-value v w a b c =
+    let e : _≡_ {A = Value} (record { number = v .number; second = v .second; start = v .start }) (record { number = w .number; second = w .second; start = w .start }) = rw (a, b, c) in
+    e
+
+numbered-same : (s : Style) (v w : Value) → Numbered v s → Numbered w s → v .start ≡ w .start → v ≡ w
+numbered-same s v w p q e = same-value v w (p .number ∙ sym (q .number)) (p .second ∙ sym (q .second)) e
 
 -- two values that say one style are the same, or for a content name the same text
-values-agree : (t u : List ℕ) (k : ℕ) (s : Style) (v w : Value) → styleSlotOf s ≡ k → Says t v s → Says u w s → Agree t u k v w
-unfolding Says styleSlotOf
-values-agree t u k (style.colour c) v w o p q = (λ _. p ∙ sym q, λ e. absurd (omega (arith, o, e)))
-values-agree t u k (style.background c) v w o p q = (λ _. p ∙ sym q, λ e. absurd (omega (arith, o, e)))
-values-agree t u k style.displayNone v w o p q = (λ _. p ∙ sym q, λ e. absurd (omega (arith, o, e)))
-values-agree t u k (style.whiteSpace x) v w o p q = (λ _. p ∙ sym q, λ e. absurd (omega (arith, o, e)))
-values-agree t u k (style.content x) v w o p q = (λ n. absurd (n (sym o)), λ _. record { within-t = p .within; within-u = q .within; same = p .named ∙ sym (q .named) })
+styles-agree : (t u : List ℕ) (k : ℕ) (s : Style) (v w : Value) → styleSlotOf s ≡ k → SaysStyle t v s → SaysStyle u w s → v .start ≡ w .start → Agree t u k v w
+unfolding SaysStyle styleSlotOf
+styles-agree t u k (style.colour c) v w o p q e = record { starts = e; numbers = λ _. numbered-same _ v w p q e; texts = λ z. absurd (omega (arith, o, z)) }
+styles-agree t u k (style.background c) v w o p q e = record { starts = e; numbers = λ _. numbered-same _ v w p q e; texts = λ z. absurd (omega (arith, o, z)) }
+styles-agree t u k style.displayNone v w o p q e = record { starts = e; numbers = λ _. numbered-same _ v w p q e; texts = λ z. absurd (omega (arith, o, z)) }
+styles-agree t u k (style.whiteSpace x) v w o p q e = record { starts = e; numbers = λ _. numbered-same _ v w p q e; texts = λ z. absurd (omega (arith, o, z)) }
+styles-agree t u k (style.content x) v w o p q e =
+    record { starts = e; numbers = λ n. absurd (n (sym o)); texts = λ _. record { within-t = p .within; within-u = q .within; same = p .named ∙ sym (q .named) } }
+
+values-agree : (t u : List ℕ) (k : ℕ) (x : StyleValue) (v w : Value) → styleSlotOf (x .style) ≡ k → Says t v x → Says u w x → Agree t u k v w
+values-agree t u k x v w o p q = styles-agree t u k (x .style) v w o (p .style) (q .style) (p .start ∙ sym (q .start))
 
 -- ---- two slots for one style: both empty, or both held, of one weight and with values that agree
 pub data Alike (t u : List ℕ) (k : ℕ) : Slot Value → Slot Value → Type 0 where
@@ -49,7 +64,7 @@ pub data Alike (t u : List ℕ) (k : ℕ) : Slot Value → Slot Value → Type 0
   both : {a b : Candidate Value} → a .weight ≡ b .weight → Agree t u k (a .value) (b .value) → Alike t u k (held a) (held b)
 
 -- two that say one slot
-slots-alike : (t u : List ℕ) (k : ℕ) (a : Slot Value) (c : Slot Style) → SameSlot (Says t) a c → (b : Slot Value) → SameSlot (Says u) b c → Own k c → Alike t u k a b
+slots-alike : (t u : List ℕ) (k : ℕ) (a : Slot Value) (c : Slot StyleValue) → SameSlot (Says t) a c → (b : Slot Value) → SameSlot (Says u) b c → Own k c → Alike t u k a b
 slots-alike t u k empty empty both-empty empty both-empty o = neither
 slots-alike t u k (held a) (held c) (both-held p) (held b) (both-held q) o =
     both (p .weights ∙ sym (q .weights)) (values-agree t u k (c .value) (a .value) (b .value) o (p .values) (q .values))
@@ -64,12 +79,18 @@ held-front : (c : Candidate Value) (n : ℕ) → n < slotNumber → getD (slotNu
 unfolding slotNumbers weightNumbers
 held-front c n h = List·getD-append (weightNumbers (c .weight)) (valueNumbers (c .value)) 0 n h
 
--- a number that is no start or length of a content is the same in both
-slot-numbers-same : (t u : List ℕ) (k n : ℕ) (a b : Slot Value) → Alike t u k a b → (n < slotNumber) ⊎ ¬ (k ≡ contentSlot) → getD (slotNumbers a) n 0 ≡ getD (slotNumbers b) n 0
+-- the start of a filled slot
+held-start : (c : Candidate Value) → getD (slotNumbers (held c)) slotStart 0 ≡ c .value .start
+unfolding slotNumbers valueNumbers
+held-start c = refl
+
+-- a number that is not where a content's text lies is the same in both
+slot-numbers-same : (t u : List ℕ) (k n : ℕ) (a b : Slot Value) → Alike t u k a b → (n < slotNumber) ⊎ ((n ≡ slotStart) ⊎ ¬ (k ≡ contentSlot)) → getD (slotNumbers a) n 0 ≡ getD (slotNumbers b) n 0
 slot-numbers-same t u k n empty empty neither h = refl
 slot-numbers-same t u k n (held a) (held b) (both w v) (inl h) = held-front a n h ∙ ap (λ (x : Weight). getD (weightNumbers x) n 0) w ∙ sym (held-front b n h)
-slot-numbers-same t u k n (held a) (held b) (both w v) (inr h) =
-    ap₂ (λ (x : Weight) (y : Value). getD (slotNumbers (held (record { weight = x; value = y }))) n 0) w (v .0 h)
+slot-numbers-same t u k n (held a) (held b) (both w v) (inr (inl h)) = rw h (held-start a ∙ v .starts ∙ sym (held-start b))
+slot-numbers-same t u k n (held a) (held b) (both w v) (inr (inr h)) =
+    ap₂ (λ (x : Weight) (y : Value). getD (slotNumbers (held (record { weight = x; value = y }))) n 0) w (v .numbers h)
 
 -- the flag of a slot is 0 or 1
 flag-small : (a : Slot Value) → getD (slotNumbers a) 0 0 ≤ filledFlag
@@ -93,11 +114,11 @@ record SpanSame (t u : List ℕ) (a b : Slot Value) : Type 0 where
 spans-same : (t u : List ℕ) (a b : Slot Value) → Alike t u contentSlot a b → getD (slotNumbers a) 0 0 ≡ filledFlag → SpanSame t u a b
 unfolding slotNumbers valueNumbers
 spans-same t u empty empty neither e = absurd (let z : _≡_ {A = ℕ} 0 1 = e in omega (arith, z))
-spans-same t u (held a) (held b) (both w v) e = let s = v .1 refl in record { within-x = s .within-t; within-y = s .within-u; same = s .same }
+spans-same t u (held a) (held b) (both w v) e = let s = v .texts refl in record { within-x = s .within-t; within-y = s .within-u; same = s .same }
 
 -- ---- places
 -- start and length of a content are told
-content-told : (r n : ℕ) → r < recordCount → slotNumber ≤ n → n < slotWidth → namesContent (slotPlace r contentSlot + n) ≡ true
+content-told : (r n : ℕ) → r < recordCount → slotNumber ≤ n → n < slotStart → namesContent (slotPlace r contentSlot + n) ≡ true
 unfolding namesContent isSpan or is pick
 content-told r n h l m = go r h (lt-or-ge n slotSecond)
   where
@@ -110,13 +131,14 @@ content-told r n h l m = go r h (lt-or-ge n slotSecond)
     go (suc (suc zero)) h (inr e) = let z : slotPlace afterRecord contentSlot + n ≡ lengthPlace afterRecord = omega arith in ap namesContent z
     go (suc (suc (suc r))) h e = absurd (omega arith)
 
--- so a number of a slot that is not told is before the value, or of another slot
-not-told : (r k n : ℕ) → r < recordCount → n < slotWidth → namesContent (slotPlace r k + n) ≡ false → (n < slotNumber) ⊎ ¬ (k ≡ contentSlot)
-not-told r k n h l e = go (lt-or-ge n slotNumber)
+-- so a number of a slot that is not told is before the value, or its start, or of another slot
+not-told : (r k n : ℕ) → r < recordCount → n < slotWidth → namesContent (slotPlace r k + n) ≡ false → (n < slotNumber) ⊎ ((n ≡ slotStart) ⊎ ¬ (k ≡ contentSlot))
+not-told r k n h l e = go (lt-or-ge n slotNumber) (lt-or-ge n slotStart)
   where
-    go : (n < slotNumber) ⊎ (slotNumber ≤ n) → (n < slotNumber) ⊎ ¬ (k ≡ contentSlot)
-    go (inl m) = inl m
-    go (inr m) = inr (λ (z : k ≡ contentSlot). never (sym e ∙ (ap (λ (j : ℕ). namesContent (slotPlace r j + n)) z ∙ content-told r n h m l)))
+    go : (n < slotNumber) ⊎ (slotNumber ≤ n) → (n < slotStart) ⊎ (slotStart ≤ n) → (n < slotNumber) ⊎ ((n ≡ slotStart) ⊎ ¬ (k ≡ contentSlot))
+    go (inl m) i = inl m
+    go (inr m) (inl i) = inr (inr (λ (z : k ≡ contentSlot). never (sym e ∙ (ap (λ (j : ℕ). namesContent (slotPlace r j + n)) z ∙ content-told r n h m i))))
+    go (inr m) (inr i) = let z : n ≡ slotStart = omega arith in inr (inl z)
 
 -- ---- styles that say the same
 module _ {A B : Type 0} (R : A → B → Type 0) (x : ComputedStyle A) (y : ComputedStyle B) (q : SameStyle R x y) where
@@ -132,7 +154,7 @@ module _ {A B : Type 0} (R : A → B → Type 0) (x : ComputedStyle A) (y : Comp
   unfolding slotIn slotOf
   slots-same r k = each-get (SameSlot R) k empty empty both-empty (records-same r .all)
 
-module _ (t u : List ℕ) (x y : ComputedStyle Value) (m : ComputedStyle Style) (f : Formed x) (g : Formed y) (own : OwnSlots m)
+module _ (t u : List ℕ) (x y : ComputedStyle Value) (m : ComputedStyle StyleValue) (f : Formed x) (g : Formed y) (own : OwnSlots m)
     (p : SameStyle (Says t) x m) (q : SameStyle (Says u) y m) where
   -- slots that say one slot of the style
   alike : (r k : ℕ) → r < recordCount → k < slotCount → Alike t u k (slotIn x r k) (slotIn y r k)

@@ -8,7 +8,7 @@ use native.Mathlib.Omega.{arith}
 use lib.ListN.{length, drop, length-append}
 use lib.Seq.{drop-at}
 use Rattle.syntax.specs.Selector.{RuleSet}
-use Rattle.syntax.specs.Style.{agentOrigin, userOrigin, authorOrigin, Style}
+use Rattle.syntax.specs.Style.{agentOrigin, userOrigin, authorOrigin, StyleValue}
 use Rattle.syntax.specs.declared.styles.Value.{Value}
 use Rattle.cascade.specs.declared.slots.Cascade.the-variants.{Crate}
 use Rattle.cascade.specs.Record.{ComputedStyle, emptyStyle, Declared, inheritBy, fromRule, fromAttribute, crateDeclared, declaredBy, cascadeBy}
@@ -79,12 +79,12 @@ module _ (rules : Rules RuleSet) (settings : Settings) where
         ≡ declaredBy Crate (sourcesFrom (meantRules rules) (attributesSay (countedAttributes settings e)) (e ∷ up))
     unfolding declaredBy crateDeclared sourcesFrom meantRules
     meant-declared =
-        let a : List (Declared Style) = map (fromRule agentOrigin) (rulesSay (e ∷ up) (map meantRule (rules .agent))) in
-        let u : List (Declared Style) = map (fromRule userOrigin) (rulesSay (e ∷ up) (map meantRule (rules .user))) in
-        let w : List (Declared Style) = map (fromRule authorOrigin) (rulesSay (e ∷ up) (map meantRule (rules .author))) in
-        let i : List (Declared Style) = map (fromAttribute false inlineSpecificity) (attributesSay (countedAttributes settings e)) in
+        let a : List (Declared StyleValue) = map (fromRule agentOrigin) (rulesSay (e ∷ up) (map meantRule (rules .agent))) in
+        let u : List (Declared StyleValue) = map (fromRule userOrigin) (rulesSay (e ∷ up) (map meantRule (rules .user))) in
+        let w : List (Declared StyleValue) = map (fromRule authorOrigin) (rulesSay (e ∷ up) (map meantRule (rules .author))) in
+        let i : List (Declared StyleValue) = map (fromAttribute false inlineSpecificity) (attributesSay (countedAttributes settings e)) in
         let rest : (a ++ (u ++ w)) ++ i ≡ a ++ (u ++ (w ++ i)) = simp append-assoc in
-        ap (λ (x : List (Declared Style)). x ++ i) (selectors-declare (e ∷ up) (rules .agent) (rules .user) (rules .author)) ∙ rest
+        ap (λ (x : List (Declared StyleValue)). x ++ i) (selectors-declare (e ∷ up) (rules .agent) (rules .user) (rules .author)) ∙ rest
 
     -- so all that is declared says what the sheets and the attributes say
     declared-right : (more : List ℕ)

@@ -51,14 +51,16 @@ module _ (t : List ℕ) where
   content-behind n x w h = record { within = omega (arith, w, text-length x); there = h }
 
   -- so the text of a content lies where the pass says its place is
-  content-lies : (d : StyleDecl) (i : ℕ) (h : Held t i (styleBytes d)) (x : List ℕ) → d .style ≡ style.content x → Lies t (place t d i h) x
+  content-lies : (d : StyleDecl) (i : ℕ) (h : Held t i (styleBytes d)) (x : List ℕ) → d .value .style ≡ style.content x → Lies t (place t d i h) x
   unfolding styleText styleBytes
   content-lies d i h x e =
       let a : List ℕ = numberBytes (flag (d .important)) in
-      let b : List ℕ = numberBytes (styleSlotOf (d .style)) in
-      let c : List ℕ = styleBody (d .style) in
-      subst (Behind (i + length a + length b) x) (sym e) (content-behind (i + length a + length b) x)
-      (omega (arith, held-within t i (a ++ (b ++ c)) h (style-some d), length-append a (b ++ c), length-append b c)) (text-there t d i h)
+      let f : List ℕ = numberBytes (d .value .start) in
+      let b : List ℕ = numberBytes (styleSlotOf (d .value .style)) in
+      let c : List ℕ = styleBody (d .value .style) in
+      let n = i + length a + length f + length b in
+      subst (Behind n x) (sym e) (content-behind n x)
+      (omega (arith, held-within t i (a ++ (f ++ (b ++ c))) h (style-some d), length-append a (f ++ (b ++ c)), length-append f (b ++ c), length-append b c)) (text-there t d i h)
 
   -- where the bytes of a style lie, the pass reads it whole, with the same slot and importance, and its value says the style's
   style-walked : (d : StyleDecl) (i : ℕ) → StyleFits d → Held t i (styleBytes d)

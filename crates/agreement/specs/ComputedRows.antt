@@ -4,7 +4,7 @@ use Prim.Native.Nat.{ℕ, _<_}
 use mathlib.Core.Path.{_≡_}
 use mathlib.Core.List.{List, _++_}
 use Rattle.syntax.specs.Selector.{RuleSet}
-use Rattle.syntax.specs.Style.{Style}
+use Rattle.syntax.specs.Style.{StyleValue}
 use Rattle.syntax.specs.declared.styles.Value.{Value}
 use Rattle.cascade.specs.declared.slots.Cascade.the-variants.{Crate}
 use Rattle.cascade.specs.Record.{ComputedStyle}
@@ -24,7 +24,7 @@ use Rattle.agreement.specs.Calls.{textsOf}
 
 -- a style row is written as rows are, "Slots unfilled .. are zeros", and is a computed style: it has its weights and presence, its numbers, and each content by the text
 -- that it names in t
-pub record RowComputed (t row : List ℕ) (m : ComputedStyle Style) : Type 0 where
+pub record RowComputed (t row : List ℕ) (m : ComputedStyle StyleValue) : Type 0 where
   pub style : ComputedStyle Value
   pub written : row ≡ rowOf style
   pub same : SameStyle (Says t) style m

@@ -13,7 +13,7 @@ use Rattle.combinators.proofs.Words.{same-is}
 use Rattle.unicode.specs.Literal.{text}
 use Rattle.unicode.specs.Utf8.{utf8}
 use Rattle.syntax.specs.Declaration.{Colour}
-use Rattle.syntax.specs.Layout.{colourNumber, colourSlot, backgroundSlot, styleSlotOf, styleTextOf, styleText, styleTexts, valueFrom, numbersFrom}
+use Rattle.syntax.specs.Layout.{colourNumber, colourSlot, backgroundSlot, styleSlotOf, styleTextOf, styleText, styleTexts, numberFrom, valueFrom, numbersFrom}
 use Rattle.syntax.specs.Stream.{textsMany}
 use Rattle.syntax.specs.Style as style
 use Rattle.syntax.specs.Style.{Style, StyleDecl}
@@ -33,7 +33,7 @@ use Rattle.styles.specs.Said.{colourStyles, attributeStyles, attributeStyle, at
 use Rattle.styles.specs.StyleCall.{attributeContents, inNumbers, placedStyles}
 use Rattle.styles.specs.Merged.{mergedRow, lateDeclared}
 use Rattle.styles.proofs.Merging.{merged-none}
-use Rattle.attributes.specs.Merging.{ValueRoom, colourSays, attributeColours}
+use Rattle.attributes.specs.Merging.{ValueRoom, colourValue, colourSays, attributeColours}
 
 -- ---- a `style` attribute
 module _ (a : Attribute) (h : isNamed (text "style") a ≡ true) where
@@ -61,9 +61,9 @@ module _ (a : Attribute) (h : isNamed (text "style") a ≡ true) where
 
 -- ---- any other
 -- what a colour says
-colour-said : (slot : Colour → Style) (k f : ℕ) (c : Found Colour) → ((x : Colour) → styleSlotOf (slot x) ≡ k) → ((x : Colour) → valueFrom f (slot x) ≡ record { number = colourNumber x; second = 0 })
+colour-said : (slot : Colour → Style) (k f : ℕ) (c : Found Colour) → ((x : Colour) → styleSlotOf (slot x) ≡ k) → ((x : Colour) → valueFrom f (record { style = slot x; start = 0 }) ≡ colourValue (colourNumber x))
     → map (attributeStyle {A = Value} false) (placedStyles f (colourStyles slot c))
-    ≡ onFound c (λ x. attributeStyle false (inNumbers (record { slot = k; important = false; value = record { number = colourNumber x; second = 0 } })) ∷ []) []
+    ≡ onFound c (λ x. attributeStyle false (inNumbers (record { slot = k; important = false; value = colourValue (colourNumber x) })) ∷ []) []
 unfolding colourStyles onFound placedStyles numbersFrom
 colour-said slot k f (found x) e v = rw (e x, v x)
 colour-said slot k f missing e v = refl
@@ -97,7 +97,7 @@ module _ (a : Attribute) (h : isNamed (text "style") a ≡ false) where
 
   -- any other attribute says the colour that it names, if any
   other-says : (f : ℕ) → attributeSays (placedStyles f) a ≡ attributeColours a
-  unfolding attributeSays attributeColours colourSays placedStyles styleSlotOf valueFrom
+  unfolding attributeSays attributeColours colourSays placedStyles styleSlotOf numberFrom valueFrom styleTextOf
   other-says f =
       rw (h, other-styles)
       (by-names (λ (l : List StyleDecl). map (attributeStyle {A = Value} false) (placedStyles f l)) (isNamed (text "color") a) (isNamed (text "bgcolor") a) _ _ _ _ _ _
@@ -127,7 +127,7 @@ unfolding colourSays
 colour-not-late slot v = go (colourAttribute v)
   where
     go : (c : Found Colour)
-        → styleAttributes (onFound c (λ x. attributeStyle false (inNumbers (record { slot = slot; important = false; value = record { number = colourNumber x; second = 0 } })) ∷ []) []) ≡ []
+        → styleAttributes (onFound c (λ x. attributeStyle false (inNumbers (record { slot = slot; important = false; value = colourValue (colourNumber x) })) ∷ []) []) ≡ []
     go (found x) = unfold onFound styleAttributes attributeStyle pick in refl
     go missing = unfold onFound styleAttributes in refl
 
@@ -149,8 +149,8 @@ unfolding colourSays
 colour-early slot v = go (colourAttribute v)
   where
     go : (c : Found Colour)
-        → colourAttributes (onFound c (λ x. attributeStyle false (inNumbers (record { slot = slot; important = false; value = record { number = colourNumber x; second = 0 } })) ∷ []) [])
-        ≡ map (fromAttribute false noSpecificity) (onFound c (λ x. attributeStyle false (inNumbers (record { slot = slot; important = false; value = record { number = colourNumber x; second = 0 } })) ∷ []) [])
+        → colourAttributes (onFound c (λ x. attributeStyle false (inNumbers (record { slot = slot; important = false; value = colourValue (colourNumber x) })) ∷ []) [])
+        ≡ map (fromAttribute false noSpecificity) (onFound c (λ x. attributeStyle false (inNumbers (record { slot = slot; important = false; value = colourValue (colourNumber x) })) ∷ []) [])
     go (found x) = unfold onFound colourAttributes attributeStyle pick in refl
     go missing = unfold onFound colourAttributes in refl
 

@@ -32,7 +32,7 @@ use Rattle.styles.specs.Said.{attributeStyle}
 use Rattle.styles.specs.StyleCall.{inNumbers}
 use Rattle.styles.specs.Merged.{mergedRow}
 use Rattle.styles.proofs.Merging.{merged-none, merged-more}
-use Rattle.attributes.specs.Merging.{colourSays, attributeColours}
+use Rattle.attributes.specs.Merging.{colourValue, colourSays, attributeColours}
 use Rattle.attributes.proofs.Fronts.{front-wiped}
 
 -- ---- what the value of a colour attribute declares
@@ -40,13 +40,13 @@ module _ (spec : Specificity) (slot : ℕ) where
   -- what a colour's number declares
   abbrev pub numberDeclared : ℕ → Declared Value
   numberDeclared n =
-      record { pseudo = mainRecord; slot = slot; candidate = record { weight = record { important = false; origin = authorOrigin; spec = spec }; value = record { number = n; second = 0 } } }
+      record { pseudo = mainRecord; slot = slot; candidate = record { weight = record { important = false; origin = authorOrigin; spec = spec }; value = colourValue n } }
 
   -- what is said where the value was read
   said : Found Colour → List (Declared Value)
   said f =
       map (fromAttribute false spec)
-      (onFound f (λ x. attributeStyle false (inNumbers (record { slot = slot; important = false; value = record { number = colourNumber x; second = 0 } })) ∷ []) [])
+      (onFound f (λ x. attributeStyle false (inNumbers (record { slot = slot; important = false; value = colourValue (colourNumber x) })) ∷ []) [])
 
   -- a value that names a colour declares that colour
   said-colour : (f : Found Colour) (n : ℕ) → answer.Colour n ≡ colourAnswer f → said f ≡ numberDeclared n ∷ []

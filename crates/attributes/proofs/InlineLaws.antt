@@ -11,10 +11,10 @@ use Rattle.combinators.specs.Choice.{pick, is}
 use Rattle.combinators.specs.Store.{wiped}
 use Rattle.combinators.proofs.Rules.{pick-true, pick-false, is-yes, is-no}
 use Rattle.combinators.proofs.Wiped.{length-wiped}
-use Rattle.syntax.specs.Layout.{contentSlot, styleWidth, styleText, styleTexts, styleSlotOf, valueFrom, numbersFrom, numbersAt, rowOfNumbers, styleRow, styleRows}
+use Rattle.syntax.specs.Layout.{contentSlot, styleWidth, styleText, styleTexts, styleSlotOf, styleTextOf, numberFrom, valueFrom, numbersFrom, numbersAt, rowOfNumbers, styleRow, styleRows}
 use Rattle.syntax.specs.Stream.{textsMany, rowsMany}
 use Rattle.syntax.specs.Style as style
-use Rattle.syntax.specs.Style.{Style, StyleDecl, authorOrigin}
+use Rattle.syntax.specs.Style.{Style, StyleValue, StyleDecl, authorOrigin}
 use Rattle.syntax.specs.declared.styles.Value.{Value}
 use Rattle.syntax.specs.declared.styles.StyleNumbers.{StyleNumbers}
 use Rattle.syntax.proofs.Back.{row-numbers-back, row-numbers-rest}
@@ -45,7 +45,7 @@ use Rattle.attributes.proofs.Fronts.{front-wiped, text-stored}
 -- ---- one style, merged with the start of its content moved
 module _ (base : ℕ) (x : StyleNumbers) where
   -- a content starts `base` further
-  pub shifted-content : x .slot ≡ contentSlot → record { number = x .value .number + base; second = x .value .second } ≡ shifted base x
+  pub shifted-content : x .slot ≡ contentSlot → record { number = x .value .number + base; second = x .value .second; start = x .value .start } ≡ shifted base x
   unfolding shifted
   shifted-content e =
       let q : x .value .number + base ≡ base + x .value .number = omega arith in
@@ -123,17 +123,24 @@ module _ (c : Cascade) (base count : ℕ) (t out₀ : List ℕ) where
 -- ---- the styles of an attribute, from their rows
 module _ (base : ℕ) where
   -- a content that starts at f in the texts starts at `base + f`
-  value-shifted : (f : ℕ) (s : Style) (i : Bool) → shifted base (record { slot = styleSlotOf s; important = i; value = valueFrom f s }) ≡ valueFrom (base + f) s
-  unfolding shifted styleSlotOf valueFrom pick is
-  value-shifted f (style.colour c) i = refl
-  value-shifted f (style.background c) i = refl
-  value-shifted f style.displayNone i = refl
-  value-shifted f (style.whiteSpace w) i = refl
-  value-shifted f (style.content x) i = refl
+  number-shifted : (f b : ℕ) (s : Style) (i : Bool)
+      → shifted base (record { slot = styleSlotOf s; important = i; value = record { number = numberFrom f s; second = length (styleTextOf s); start = b } })
+      ≡ record { number = numberFrom (base + f) s; second = length (styleTextOf s); start = b }
+  unfolding shifted styleSlotOf numberFrom pick is
+  number-shifted f b (style.colour c) i = refl
+  number-shifted f b (style.background c) i = refl
+  number-shifted f b style.displayNone i = refl
+  number-shifted f b (style.whiteSpace w) i = refl
+  number-shifted f b (style.content x) i = refl
+
+  value-shifted : (f : ℕ) (v : StyleValue) (i : Bool)
+      → shifted base (record { slot = styleSlotOf (v .style); important = i; value = valueFrom f v }) ≡ valueFrom (base + f) v
+  unfolding valueFrom
+  value-shifted f v i = number-shifted f (v .start) (v .style) i
 
   -- the place of a content, counted from the base, fits 32 bits
-  start-fits : (f : ℕ) (s : Style) → base + f < 2 ^ 32 → styleSlotOf s ≡ contentSlot → base + valueFrom f s .number < 2 ^ 32
-  unfolding styleSlotOf valueFrom
+  start-fits : (f : ℕ) (s : Style) → base + f < 2 ^ 32 → styleSlotOf s ≡ contentSlot → base + numberFrom f s < 2 ^ 32
+  unfolding styleSlotOf numberFrom
   start-fits f (style.colour c) h e = absurd (omega arith)
   start-fits f (style.background c) h e = absurd (omega arith)
   start-fits f style.displayNone h e = absurd (omega arith)
@@ -142,7 +149,7 @@ module _ (base : ℕ) where
 
   -- in all rows of a `style` attribute's styles a content's start can be moved by the base
   rows-shiftable : (ds : List StyleDecl) (f : ℕ) (t : List ℕ) → base + f + length (styleTexts ds) < 2 ^ 32 → All (Shiftable base) (numbersIn (length ds) (styleRows f ds ++ t))
-  unfolding numbersIn styleRows styleTexts rowsMany textsMany styleRow numbersFrom
+  unfolding numbersIn styleRows styleTexts rowsMany textsMany styleRow numbersFrom valueFrom
   rows-shiftable [] f t h = tt
   rows-shiftable (d ∷ ds) f t h =
       let g = f + length (styleText d) in
@@ -153,7 +160,7 @@ module _ (base : ℕ) where
         append-assoc (rowOfNumbers (numbersFrom f d)) (rowsMany styleRow styleText g ds) t,
         row-numbers-back (numbersFrom f d) (rowsMany styleRow styleText g ds ++ t),
         row-numbers-rest (numbersFrom f d) (rowsMany styleRow styleText g ds ++ t),
-      ) (record { small = omega arith; fits = start-fits f (d .style) b }, rows-shiftable ds g t m)
+      ) (record { small = omega arith; fits = start-fits f (d .value .style) b }, rows-shiftable ds g t m)
 
 -- the first style of an attribute, and those behind it
 late-more : (c : Cascade) (x : Styled Value) (xs : List (Styled Value))
@@ -174,7 +181,7 @@ module _ (c : Cascade) (base : ℕ) where
   one-placed : (f : ℕ) (d : StyleDecl)
       → inlineDeclared c base (numbersFrom f d) ≡ fromAttribute (inlineImportant c (d .important)) inlineSpecificity (attributeStyle true (inNumbers (numbersFrom (base + f) d)))
   unfolding inlineDeclared inlineStyle inNumbers fromAttribute attributeStyle numbersFrom
-  one-placed f d = rw (value-shifted base f (d .style) (d .important))
+  one-placed f d = rw (value-shifted base f (d .value) (d .important))
 
   -- what the rows of styles declare
   pub rows-placed : (ds : List StyleDecl) (f : ℕ) (t : List ℕ)

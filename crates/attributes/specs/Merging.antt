@@ -45,7 +45,7 @@ inlineImportant Crate i = false
 inlineImportant Book i = i
 
 unfoldable pub shifted : ℕ → StyleNumbers → Value
-shifted base x = pick (is (x .slot) contentSlot) (record { number = base + x .value .number; second = x .value .second }) (x .value)
+shifted base x = pick (is (x .slot) contentSlot) (record { number = base + x .value .number; second = x .value .second; start = x .value .start }) (x .value)
 
 unfoldable pub inlineStyle : Cascade → ℕ → StyleNumbers → StyleNumbers
 inlineStyle c base x = record { slot = x .slot; important = inlineImportant c (x .important); value = shifted base x }
@@ -75,11 +75,15 @@ pub record InlineRows (base k : ℕ) (t : List ℕ) : Type 0 where
   pub few : styleWidth * k < 2 ^ 64
   pub shiftable : All (Shiftable base) (numbersIn k t)
 
--- ---- the colour that an attribute's value names, for a slot
+-- ---- what an attribute `color` or `bgcolor` gives its slot: S-3: "for `color` and `bgcolor` it is 0", the start
+abbrev pub colourValue : ℕ → Value
+colourValue n = record { number = n; second = 0; start = 0 }
+
+-- the colour that an attribute's value names, for a slot
 unfoldable pub colourSays : ℕ → List ℕ → List (AttributeStyle Value)
 colourSays slot v =
     onFound (colourAttribute v)
-    (λ x. attributeStyle false (inNumbers (record { slot = slot; important = false; value = record { number = colourNumber x; second = 0 } })) ∷ [])
+    (λ x. attributeStyle false (inNumbers (record { slot = slot; important = false; value = colourValue (colourNumber x) })) ∷ [])
     []
 
 -- that of an attribute `color` or `bgcolor`; any other says nothing

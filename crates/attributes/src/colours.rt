@@ -44,7 +44,11 @@ fn merge_colour(
 {
     match parse_color_attribute(value, tokens, brackets, texts, fill) {
         ColourAnswer::Colour(number) => {
-            let colour = Value { number, second: 0 };
+            let colour = Value {
+                number,
+                second: 0,
+                start: 0,
+            };
             let style = StyleNumbers {
                 slot,
                 important: false,

@@ -47,6 +47,7 @@ fn shifted(style: StyleNumbers, base: usize) -> Value
         return Value {
             number: value.number + base as u32,
             second: value.second,
+            start: value.start,
         };
     }
     value

@@ -1,5 +1,5 @@
 -- Computed styles (`ComputedStyle` of src/lib.rs): three records of slots, and the cascades as folds of declarations into them. Values are of any type: in a
--- row two numbers, in a computed style what a declaration says. Assumes nothing: these are definitions.
+-- row three numbers, in a computed style what a declaration says. Assumes nothing: these are definitions.
 use mathlib.Core.Path.{_≡_}
 use mathlib.Core.Bool.{Bool, true, false}
 use mathlib.Core.List.{List, [], _∷_, _++_, map, foldl}

@@ -13,7 +13,7 @@ use Rattle.cascade.specs.declared.slots.Cascade.the-variants.{Crate, Boo
 use Rattle.cascade.specs.Slot.{Candidate, Slot, empty, held, updateBy, inheritedSlot}
 use Rattle.cascade.specs.Record.{slotCount, recordCount, mainRecord, beforeRecord, afterRecord, Record, ComputedStyle, emptyStyle, Declared, isNamed, mergeBy, inheritBy}
 
--- ---- the numbers of a slot: "filled, origin, inline, id, class, type, important, value, second"
+-- ---- the numbers of a slot: "filled, origin, inline, id, class, type, important, value, second", and the start (S-3: "A slot gains a tenth number")
 abbrev pub slotFilled : ℕ
 slotFilled = 0
 
@@ -45,11 +45,14 @@ slotNumber = 7
 abbrev pub slotSecond : ℕ
 slotSecond = 8
 
-abbrev pub slotWidth : ℕ
-slotWidth = 9
+abbrev pub slotStart : ℕ
+slotStart = 9
 
--- ---- "A style row has 138 numbers: for main, before, after, a presence flag (main always 1) and five slots of nine"; "the boxed pseudo records become
--- two flat ones"
+abbrev pub slotWidth : ℕ
+slotWidth = 10
+
+-- ---- A style row has for main, before, after "a presence flag (main always 1) and five slots" of ten numbers, so that "a style row has 153" (S-3; of nine and 138 before
+-- it); "the boxed pseudo records become two flat ones"
 abbrev pub presentFlag : ℕ
 presentFlag = 1
 
@@ -108,7 +111,7 @@ readCandidate l =
             origin = getD l slotOrigin 0;
             spec = record { inline = flagOf (getD l slotInline 0); id = getD l slotId 0; class = getD l slotClass 0; typ = getD l slotType 0 };
           };
-      value = record { number = getD l slotNumber 0; second = getD l slotSecond 0 };
+      value = record { number = getD l slotNumber 0; second = getD l slotSecond 0; start = getD l slotStart 0 };
     }
 
 unfoldable pub readSlot : List ℕ → Slot Value

@@ -36,7 +36,9 @@ pub const SLOT_NUMBER: usize = 7;
 
 pub const SLOT_SECOND: usize = 8;
 
-pub const SLOT_WIDTH: usize = 9;
+pub const SLOT_START: usize = 9;
+
+pub const SLOT_WIDTH: usize = 10;
 
 // A record: a presence flag, and a slot for each slot number of the compiled sheet.
 pub const SLOT_COUNT: usize = 5;
@@ -75,6 +77,7 @@ fn read_slot(row: &[u32], at: usize) -> Slot
     let value = Value {
         number: row[at + SLOT_NUMBER],
         second: row[at + SLOT_SECOND],
+        start: row[at + SLOT_START],
     };
     Slot {
         filled: row[at + SLOT_FILLED] == FLAG_TRUE,
@@ -98,6 +101,7 @@ fn write_held(row: &mut [u32], at: usize, weight: Weight, value: Value)
     row[at + SLOT_IMPORTANT] = flag_of(weight.important);
     row[at + SLOT_NUMBER] = value.number;
     row[at + SLOT_SECOND] = value.second;
+    row[at + SLOT_START] = value.start;
 }
 
 // The numbers of a slot: one that holds nothing is zeros.

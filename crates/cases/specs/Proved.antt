@@ -29,7 +29,7 @@ use Rattle.unicode.specs.Literal.{text}
 use Rattle.styles.specs.Computed.{computedStyle}
 use Rattle.syntax.specs.Style as style
 use Rattle.cascade.specs.declared.slots.Cascade.the-variants.{Crate}
-use Rattle.cases.specs.Styled.{sheetsOf, elementOf, having, byAuthor, stylesOn}
+use Rattle.cases.specs.Styled.{sheetsOf, elementOf, having, byAuthor, from, stylesOn}
 
 -- every statement of a list
 abbrev pub All : List (Type 0) → Type 0
@@ -65,7 +65,7 @@ cases =
     ∷ (sheetOf (text "p{color:red;;color:blue}q{color:lime}") ≡ reads 0 [])
     -- `div *{color:red}` colours the div itself
     ∷ (slotIn (computedStyle Crate (sheetsOf [] (text "div *{color:red}")) stylesOn (elementOf (text "div") ∷ [])) mainRecord colourSlot
-    ≡ held (byAuthor byType (style.colour (rgb 255 0 0))))
+    ≡ held (byAuthor byType (from 6 (style.colour (rgb 255 0 0)))))
     -- `a/**/b` is a descendant selector
     ∷ (selectorOf (text "a/**/b") ≡ reads 6 (record { components = element (text "b") ∷ descendant ∷ element (text "a") ∷ []; pseudo = none }))
     -- Colour `#\+ff` is (0, 255, 255)
@@ -82,10 +82,10 @@ cases =
     × (selects (text ":nth-child(-n+3)") (text "p") 3 ≡ true) × (selects (text ":nth-child(-n+3)") (text "p") 4 ≡ false))
     -- Crate's cascade: agent normal, then author important: agent stays
     ∷ (slotIn (computedStyle Crate (sheetsOf (text "p{color:red}") (text "p{color:blue!important}")) stylesOn (elementOf (text "p") ∷ [])) mainRecord colourSlot
-    ≡ held (record { weight = record { important = false; origin = agentOrigin; spec = byType }; value = style.colour (rgb 255 0 0) }))
+    ≡ held (record { weight = record { important = false; origin = agentOrigin; spec = byType }; value = from 2 (style.colour (rgb 255 0 0)) }))
     -- Crate's cascade: parent coloured by `#id`, child by class, both normal author: the parent's colour stays
     ∷ (slotIn (computedStyle Crate (sheetsOf [] (text "#id{color:red}.k{color:blue}")) stylesOn (having (text "i") (text "class") (text "k") ∷ having (text "p") (text "id") (text "id") ∷ [])) mainRecord colourSlot
-    ≡ held (byAuthor byId (style.colour (rgb 255 0 0))))
+    ≡ held (byAuthor byId (from 4 (style.colour (rgb 255 0 0)))))
     -- 127 is 7f, 128 is 80 01, 300 is ac 02
     ∷ ((numberBytes 127 ≡ 0x7f ∷ []) × (numberBytes 128 ≡ 0x80 ∷ 0x01 ∷ []) × (numberBytes 300 ≡ 0xac ∷ 0x02 ∷ []))
     ∷ []

@@ -17,7 +17,7 @@ use Rattle.compiled.specs.Decoded.{Decoded, read, fault, andThen, mapped
 use Rattle.compiled.specs.Number.{groupValues, mostGroups, numberLimit, limited, groupsAt, numberAt, rangedAt}
 use Rattle.compiled.specs.Text.{Span, spanAt}
 use Rattle.compiled.specs.Component.{isMark, nameAt, secondNumberAt, numbersAt, secondNameAt, namesAt, bodyAt, writtenAt, componentAt, componentIn}
-use Rattle.compiled.specs.Style.{greatestColour, greatestWhiteSpace, contentAt, numberUpTo, valueAt, valuedAt, slotAt, styleNumbersAt, styleAt}
+use Rattle.compiled.specs.Style.{greatestColour, greatestWhiteSpace, contentAt, numberUpTo, valueAt, valuedAt, slotAt, startedAt, styleNumbersAt, styleAt}
 use Rattle.compiled.specs.Sheet.{CompiledSelector, countAt, pseudoAt, headAt, stylesAt, partsAt, selectorOf, selectorAt, selectorsAt, ending, wholeAt, decode}
 
 -- what was read from i on takes at least `least` bytes and ends within the `len` bytes that there are; a fault lies within them or at their end
@@ -150,9 +150,9 @@ module _ (t : List ℕ) where
 
   -- ---- styles
   -- a style's value ends within the bytes
-  value-reaches : (slot n : ℕ) → n ≤ length t → Reaches 0 (length t) n (valueAt t slot n)
+  value-reaches : (from slot n : ℕ) → n ≤ length t → Reaches 0 (length t) n (valueAt t from slot n)
   unfolding valueAt contentAt numberUpTo
-  value-reaches slot n l =
+  value-reaches from slot n l =
       pick-holds (Reaches 0 (length t) n) (is slot displaySlot) _ _ (λ _. reaches-read (length t) n 0 n _ (omega arith) l)
       (λ _. pick-holds (Reaches 0 (length t) n) (is slot contentSlot) _ _
       (λ _. weaker 1 n _ (reaches-mapped (length t) _ (spanAt t n) 1 n (span-reaches n)))
@@ -162,11 +162,12 @@ module _ (t : List ℕ) where
 
   -- what the bytes of a style say
   pub style-numbers-reach : (i : ℕ) → Reaches 1 (length t) i (styleNumbersAt t i)
-  unfolding styleNumbersAt slotAt valuedAt
+  unfolding styleNumbersAt startedAt slotAt valuedAt
   style-numbers-reach i =
       reaches-then (length t) (rangedAt t i 0 1) _ 1 0 i (ranged-reaches i 0 1)
-      (λ n important _. weaker 1 n _ (reaches-then (length t) (rangedAt t n colourSlot lastSlot) _ 1 0 n (ranged-reaches n colourSlot lastSlot)
-      (λ m slot l. reaches-mapped (length t) _ (valueAt t slot m) 0 m (value-reaches slot m l))))
+      (λ n important _. weaker 1 n _ (reaches-then (length t) (numberAt t n) _ 1 0 n (number-reaches n)
+      (λ k from _. weaker 1 k _ (reaches-then (length t) (rangedAt t k colourSlot lastSlot) _ 1 0 k (ranged-reaches k colourSlot lastSlot)
+      (λ m slot l. reaches-mapped (length t) _ (valueAt t from slot m) 0 m (value-reaches from slot m l))))))
 
   -- a style takes at least a byte and ends within the bytes
   pub style-reaches : (i : ℕ) → Reaches 1 (length t) i (styleAt t i)

@@ -35,7 +35,8 @@ ComponentFits (attribute x) = TextFits x
 ComponentFits (attributeEqual x y) = TextFits x × TextFits y
 
 pub record StyleFits (d : StyleDecl) : Type 0 where
-  pub colour : back.StyleFits (d .style)
+  pub colour : back.StyleFits (d .value .style)
+  pub start : d .value .start < numberLimit
   pub text : TextFits (styleText d)
 
 pub record SelectorFits (s : CompiledSelector) : Type 0 where

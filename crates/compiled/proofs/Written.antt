@@ -10,7 +10,7 @@ use Rattle.combinators.specs.Store.{Store, emits}
 use Rattle.combinators.specs.Part.{part}
 use Rattle.combinators.proofs.Emitted.{then}
 use Rattle.combinators.proofs.Rules.{never, pick-true, pick-false, either, is-yes, is-no, is-true}
-use Rattle.syntax.specs.Layout.{flag, colourNumber, colourOf, whiteSpaceNumber, whiteSpaceOf, colourSlot, backgroundSlot, displaySlot, whiteSpaceSlot, contentSlot, styleSlotOf, styleOf, styleIn}
+use Rattle.syntax.specs.Layout.{flag, colourNumber, colourOf, whiteSpaceNumber, whiteSpaceOf, colourSlot, backgroundSlot, displaySlot, whiteSpaceSlot, contentSlot, styleSlotOf, styleOf, valueIn, styleIn}
 use Rattle.syntax.specs.RuleLayout.{starKind, classKind, elementKind, hashKind, childKind, descendantKind, nthKind, attributeKind, attributeEqualKind, componentKind, componentFrom}
 use Rattle.syntax.specs.Selector.{attributeEqual}
 use Rattle.syntax.specs.Style as style
@@ -138,7 +138,7 @@ colour-number : (v : ℕ) → colourNumber (colourOf v) ≡ v
 unfolding colourNumber colourOf
 colour-number v = omega arith
 
--- what is written of a style behind its flag
+-- what is written of a style behind its start
 abbrev pub slotBytes : Style → List ℕ
 slotBytes s = numberBytes (styleSlotOf s) ++ styleBody s
 
@@ -188,8 +188,8 @@ module _ (t : List ℕ) (slot : ℕ) (v : Value) (o₀ o₁ : Store) where
             (sym (pick-false _ _ _ _ (is-no _ _ a) (pick-false _ _ _ _ (is-no _ _ b) (pick-false _ _ _ _ (is-no _ _ c) (pick-false _ _ _ _ (is-no _ _ d) refl)))))
             refl p
 
--- a style: its flag, then its slot
-pub style-written : (t : List ℕ) (x : StyleNumbers) (o₀ o₁ o₂ : Store) (n : ℕ) → n ≡ flag (x .important) → o₁ ≡ emits o₀ (numberBytes n)
-    → o₂ ≡ emits o₁ (slotBytes (styleOf t (x .slot) (x .value))) → o₂ ≡ emits o₀ (styleBytes (styleIn t x))
-unfolding styleBytes styleIn
-style-written t x o₀ o₁ o₂ n e p q = then o₀ o₁ o₂ _ _ (p ∙ ap (λ (m : ℕ). emits o₀ (numberBytes m)) e) q
+-- a style: its flag, its start, then its slot
+pub style-written : (t : List ℕ) (x : StyleNumbers) (o₀ o₁ o₂ o₃ : Store) (n : ℕ) → n ≡ flag (x .important) → o₁ ≡ emits o₀ (numberBytes n)
+    → o₂ ≡ emits o₁ (numberBytes (x .value .start)) → o₃ ≡ emits o₂ (slotBytes (styleOf t (x .slot) (x .value))) → o₃ ≡ emits o₀ (styleBytes (styleIn t x))
+unfolding styleBytes styleIn valueIn
+style-written t x o₀ o₁ o₂ o₃ n e p q r = then o₀ o₁ o₃ _ _ (p ∙ ap (λ (m : ℕ). emits o₀ (numberBytes m)) e) (then o₁ o₂ o₃ _ _ q r)

@@ -9,7 +9,7 @@ use Rattle.combinators.specs.Choice.{pick, or, and, is, within}
 use Rattle.combinators.specs.Part.{part}
 use Rattle.syntax.specs.Selector.{Component, element, PseudoElement, none, after}
 use Rattle.syntax.specs.Stream.{textsMany}
-use Rattle.syntax.specs.Layout.{flag, flagOf, colourNumber, colourOf, styleSlotOf, styleOf, styleIn}
+use Rattle.syntax.specs.Layout.{flag, flagOf, colourNumber, colourOf, styleSlotOf, styleOf, valueIn, styleIn}
 use Rattle.syntax.specs.RuleLayout.{componentKind, pseudoNumber, pseudoFrom}
 use Rattle.syntax.specs.Style as style
 use Rattle.syntax.specs.Style.{agentOrigin, authorOrigin, StyleDecl}
@@ -17,7 +17,7 @@ use Rattle.compiled.specs.Decoded.{Decoded, read, fault, andThen, mapped
 use Rattle.compiled.specs.Number.{groupBytes, numberBytes, limited, groupsAt, numberAt, rangedAt}
 use Rattle.compiled.specs.Text.{textBytes, spanAt, textIn}
 use Rattle.compiled.specs.Component.{componentBody, componentBytes, isMark, nameAt, bodyAt, writtenAt, markOf, namedOf, componentIn, componentAt}
-use Rattle.compiled.specs.Style.{styleBody, styleBytes, numberUpTo, valueAt, valuedAt, slotAt, styleNumbersAt, styleAt}
+use Rattle.compiled.specs.Style.{styleBody, styleBytes, numberUpTo, valueAt, valuedAt, slotAt, startedAt, styleNumbersAt, styleAt}
 
 -- "compiled bytes over 65,536" are refused
 abbrev pub compiledLimit : ℕ
@@ -99,25 +99,26 @@ decode t = andThen (numberAt t 0) (λ n count. wholeAt t count n)
 
 -- ---- cases
 
--- the author's `p{color:red}`: "For the first case: `01 03 00 01 02 01 70 01 00 00 80 80 fc 07`"
+-- the author's `p{color:red}`: "For the first case: `01 03 00 01 02 01 70 01 00 00 80 80 fc 07`", which with the start of its declaration "gains `02`" behind the
+-- important mark (S-3)
 abbrev pub redSelector : CompiledSelector
 redSelector =
     record {
       origin = authorOrigin;
       pseudo = none;
       components = element (0x70 ∷ []) ∷ [];
-      styles = record { style = style.colour (record { red = 255; green = 0; blue = 0 }); important = false } ∷ [];
+      styles = record { value = record { style = style.colour (record { red = 255; green = 0; blue = 0 }); start = 2 }; important = false } ∷ [];
     }
 
 abbrev pub redBytes : List ℕ
-redBytes = 0x01 ∷ 0x03 ∷ 0x00 ∷ 0x01 ∷ 0x02 ∷ 0x01 ∷ 0x70 ∷ 0x01 ∷ 0x00 ∷ 0x00 ∷ 0x80 ∷ 0x80 ∷ 0xfc ∷ 0x07 ∷ []
+redBytes = 0x01 ∷ 0x03 ∷ 0x00 ∷ 0x01 ∷ 0x02 ∷ 0x01 ∷ 0x70 ∷ 0x01 ∷ 0x00 ∷ 0x02 ∷ 0x00 ∷ 0x80 ∷ 0x80 ∷ 0xfc ∷ 0x07 ∷ []
 
 pub case-encode : encode (redSelector ∷ []) ≡ redBytes
 unfolding encode selectorBytes headBytes stylesBytes textsMany pseudoNumber componentBytes componentKind componentBody textBytes styleBytes styleSlotOf styleBody flag colourNumber numberBytes groupBytes pick
 case-encode = refl
 
-pub case-decode : decode redBytes ≡ read 14 (redSelector ∷ [])
-unfolding decode wholeAt ending selectorsAt selectorAt selectorOf headAt pseudoAt pseudoNumber countAt partsAt stylesAt pseudoFrom counted componentAt componentIn writtenAt bodyAt nameAt isMark markOf namedOf textIn spanAt part styleAt styleIn styleNumbersAt slotAt valuedAt valueAt numberUpTo styleOf flagOf colourOf rangedAt numberAt groupsAt limited andThen mapped pick or and is within
+pub case-decode : decode redBytes ≡ read 15 (redSelector ∷ [])
+unfolding decode wholeAt ending selectorsAt selectorAt selectorOf headAt pseudoAt pseudoNumber countAt partsAt stylesAt pseudoFrom counted componentAt componentIn writtenAt bodyAt nameAt isMark markOf namedOf textIn spanAt part styleAt styleIn valueIn styleNumbersAt startedAt slotAt valuedAt valueAt numberUpTo styleOf flagOf colourOf rangedAt numberAt groupsAt limited andThen mapped pick or and is within
 case-decode = refl
 
 -- no selector; of the program that compiles one sheet "The other two sheets are empty; empty input prints `00`."

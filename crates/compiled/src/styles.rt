@@ -1,4 +1,4 @@
-// Styles of a compiled sheet: whether it is important, the slot, and the slot's value.
+// Styles of a compiled sheet: whether it is important, where its declaration starts, the slot, and the slot's value.
 use crate::numbers::NumberAnswer;
 use crate::numbers::emit_number;
 use crate::numbers::read_number;
@@ -31,7 +31,7 @@ ghost use Rattle.syntax.specs.Layout.{whiteSpaceNumber, whiteSpaceOf, contentSl
 ghost use Rattle.compiled.specs.Decoded.{counted};
 ghost use Rattle.compiled.specs.Number.{numberLimit, numberBytes};
 ghost use Rattle.compiled.specs.Text.{textBytes};
-ghost use Rattle.compiled.specs.Style.{styleBody, styleBytes, contentAt, numberUpTo, valueAt, valuedAt, slotAt, styleNumbersAt, styleAt};
+ghost use Rattle.compiled.specs.Style.{styleBody, styleBytes, contentAt, numberUpTo, valueAt, valuedAt, slotAt, startedAt, styleNumbersAt, styleAt};
 ghost use Rattle.compiled.specs.Sheet.{stylesAt};
 ghost use Rattle.compiled.specs.Answer.{placeAnswer, valueAnswer, styleAnswer, styleWithin};
 
@@ -50,10 +50,10 @@ pub enum StyleAnswer {
     Fault(usize),
 }
 
-// Behind the slot, a text.
-fn read_content(s: &[u8], at: usize) -> ValueAnswer
+// Behind the slot, a text, of a style whose declaration starts at `from`.
+fn read_content(s: &[u8], at: usize, from: u32) -> ValueAnswer
     requires { ⌜ length (now s) < numberLimit ⌝ }
-    ensures { λ r. ⌜ r ≡ valueAnswer (contentAt (now (s .entry)) at) ⌝ }
+    ensures { λ r. ⌜ r ≡ valueAnswer (contentAt (now (s .entry)) from at) ⌝ }
 {
     match read_text(s, at) {
         TextAnswer::Text { next, start, size } => {
@@ -62,6 +62,7 @@ fn read_content(s: &[u8], at: usize) -> ValueAnswer
                 Value {
                     number: start as u32,
                     second: size as u32,
+                    start: from,
                 },
             );
         }
@@ -72,12 +73,19 @@ fn read_content(s: &[u8], at: usize) -> ValueAnswer
 }
 
 // Behind the slot, a number up to `greatest`.
-fn read_number_up_to(s: &[u8], at: usize, greatest: u32) -> ValueAnswer
-    ensures { λ r. ⌜ r ≡ valueAnswer (numberUpTo greatest (now (s .entry)) at) ⌝ }
+fn read_number_up_to(s: &[u8], at: usize, start: u32, greatest: u32) -> ValueAnswer
+    ensures { λ r. ⌜ r ≡ valueAnswer (numberUpTo greatest (now (s .entry)) start at) ⌝ }
 {
     match read_ranged(s, at, 0, greatest) {
         NumberAnswer::Number(next, number) => {
-            return ValueAnswer::Value(next, Value { number, second: 0 });
+            return ValueAnswer::Value(
+                next,
+                Value {
+                    number,
+                    second: 0,
+                    start,
+                },
+            );
         }
         NumberAnswer::Fault(place) => {
             return ValueAnswer::Fault(place);
@@ -86,9 +94,9 @@ fn read_number_up_to(s: &[u8], at: usize, greatest: u32) -> ValueAnswer
 }
 
 // What stands behind the slot.
-fn read_value(s: &[u8], at: usize, slot: u32) -> ValueAnswer
+fn read_value(s: &[u8], at: usize, start: u32, slot: u32) -> ValueAnswer
     requires { ⌜ length (now s) < numberLimit ⌝ }
-    ensures { λ r. ⌜ r ≡ valueAnswer (valueAt (now (s .entry)) slot at) ⌝ }
+    ensures { λ r. ⌜ r ≡ valueAnswer (valueAt (now (s .entry)) start slot at) ⌝ }
 {
     if slot == DISPLAY_SLOT {
         return ValueAnswer::Value(
@@ -96,24 +104,25 @@ fn read_value(s: &[u8], at: usize, slot: u32) -> ValueAnswer
             Value {
                 number: 0,
                 second: 0,
+                start,
             },
         );
     }
     if slot == CONTENT_SLOT {
-        return read_content(s, at);
+        return read_content(s, at, start);
     }
     if slot == WHITE_SPACE_SLOT {
-        return read_number_up_to(s, at, WHITE_SPACE_PRE_WRAP);
+        return read_number_up_to(s, at, start, WHITE_SPACE_PRE_WRAP);
     }
-    read_number_up_to(s, at, GREATEST_COLOUR)
+    read_number_up_to(s, at, start, GREATEST_COLOUR)
 }
 
 // The style of a slot whose value stands at `at`.
-fn read_valued(s: &[u8], at: usize, important: bool, slot: u32) -> StyleAnswer
+fn read_valued(s: &[u8], at: usize, important: bool, start: u32, slot: u32) -> StyleAnswer
     requires { ⌜ length (now s) < numberLimit ⌝ }
-    ensures { λ r. ⌜ r ≡ styleAnswer (valuedAt (now (s .entry)) important slot at) ⌝ }
+    ensures { λ r. ⌜ r ≡ styleAnswer (valuedAt (now (s .entry)) important start slot at) ⌝ }
 {
-    match read_value(s, at, slot) {
+    match read_value(s, at, start, slot) {
         ValueAnswer::Value(next, value) => {
             return StyleAnswer::Style(
                 next,
@@ -131,13 +140,28 @@ fn read_valued(s: &[u8], at: usize, important: bool, slot: u32) -> StyleAnswer
 }
 
 // The slot and what stands behind it.
-fn read_slot(s: &[u8], at: usize, important: bool) -> StyleAnswer
+fn read_slot(s: &[u8], at: usize, important: bool, start: u32) -> StyleAnswer
     requires { ⌜ length (now s) < numberLimit ⌝ }
-    ensures { λ r. ⌜ r ≡ styleAnswer (slotAt (now (s .entry)) important at) ⌝ }
+    ensures { λ r. ⌜ r ≡ styleAnswer (slotAt (now (s .entry)) important start at) ⌝ }
 {
     match read_ranged(s, at, COLOUR_SLOT, LAST_SLOT) {
         NumberAnswer::Number(next, slot) => {
-            return read_valued(s, next, important, slot);
+            return read_valued(s, next, important, start, slot);
+        }
+        NumberAnswer::Fault(place) => {
+            return StyleAnswer::Fault(place);
+        }
+    }
+}
+
+// Where the declaration starts, and the slot behind it.
+fn read_started(s: &[u8], at: usize, important: bool) -> StyleAnswer
+    requires { ⌜ length (now s) < numberLimit ⌝ }
+    ensures { λ r. ⌜ r ≡ styleAnswer (startedAt (now (s .entry)) important at) ⌝ }
+{
+    match read_number(s, at) {
+        NumberAnswer::Number(next, start) => {
+            return read_slot(s, next, important, start);
         }
         NumberAnswer::Fault(place) => {
             return StyleAnswer::Fault(place);
@@ -153,7 +177,7 @@ pub fn read_style(s: &[u8], at: usize) -> StyleAnswer
 {
     match read_ranged(s, at, FLAG_FALSE, FLAG_TRUE) {
         NumberAnswer::Number(next, important) => {
-            return read_slot(s, next, important == FLAG_TRUE);
+            return read_started(s, next, important == FLAG_TRUE);
         }
         NumberAnswer::Fault(place) => {
             return StyleAnswer::Fault(place);
@@ -274,7 +298,8 @@ pub fn emit_style(style: StyleNumbers, texts: &[u8], store: &mut [u8], fill: usi
     ensures { λ r. ⌜ record { bytes = now (store .exit); fill = r }
         ≡ emits (record { bytes = now (store .entry); fill = fill }) (styleBytes (styleIn (now (texts .entry)) style)) ⌝ }
 {
-    let behind = emit_number(flag_of(style.important), store, fill);
+    let behind_mark = emit_number(flag_of(style.important), store, fill);
     let value = style.value;
-    emit_slot(style.slot, value, texts, store, behind)
+    let behind_start = emit_number(value.start, store, behind_mark);
+    emit_slot(style.slot, value, texts, store, behind_start)
 }

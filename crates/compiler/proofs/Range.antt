@@ -21,7 +21,7 @@ use Rattle.syntax.specs.Style.{agentOrigin, userOrigin, authorOrigin, StyleDecl
 use Rattle.syntax.proofs.Back as back
 use Rattle.syntax.proofs.Back.{DeclarationsFit}
 use Rattle.syntax.proofs.RowSizes.{length-rules}
-use Rattle.declarations.specs.Styles.{one, styleOf, hidesOverflow, zeroHeight, anyDecl, ownStyles, stylesOf}
+use Rattle.declarations.specs.Styles.{one, styleOf, hidesOverflow, zeroHeight, anyDecl, ownStyles, firstZero, stylesOf}
 use Rattle.declarations.proofs.StyleAttribute.{styles-fit}
 use Rattle.selectors.specs.Outcome.{reads}
 use Rattle.sheets.specs.Rules.{ruleWidth}
@@ -29,6 +29,7 @@ use Rattle.sheets.specs.Sheet.{sheetOf}
 use Rattle.sheets.specs.SheetAnswer.{sheetLimit}
 use Rattle.selectors.proofs.AllLaws.{each-size, each-text}
 use Rattle.sheets.proofs.SheetBounds.{sheet-keeps}
+use Rattle.sheets.proofs.StartBounds.{StartWithin, RuleStarts, sheet-starts}
 use Rattle.sheets.proofs.NthRange.{InRange, NthInRange, SelectorInRange, RuleInRange, sheet-range}
 use Rattle.compiled.specs.Decoded.{read}
 use Rattle.compiled.specs.Number.{numberLimit}
@@ -99,49 +100,49 @@ components-few m r h =
 
 -- ---- styles
 -- one for a declaration at most
-own-few : (i : Bool) (d : Decl) → length (styleOf i d) ≤ 1
+own-few : (i : Bool) (s : ℕ) (d : Decl) → length (styleOf i s d) ≤ 1
 unfolding styleOf one pick
-own-few i (color c) = omega arith
-own-few i (backgroundColor c) = omega arith
-own-few i (height z) = omega arith
-own-few i (maxHeight z) = omega arith
-own-few i (overflow o) = omega arith
-own-few i (overflowY o) = omega arith
-own-few i (display true) = omega arith
-own-few i (display false) = omega arith
-own-few i (whiteSpace w) = omega arith
-own-few i (content t) = omega arith
-own-few i (unknown n) = omega arith
+own-few i s (color c) = omega arith
+own-few i s (backgroundColor c) = omega arith
+own-few i s (height z) = omega arith
+own-few i s (maxHeight z) = omega arith
+own-few i s (overflow o) = omega arith
+own-few i s (overflowY o) = omega arith
+own-few i s (display true) = omega arith
+own-few i s (display false) = omega arith
+own-few i s (whiteSpace w) = omega arith
+own-few i s (content t) = omega arith
+own-few i s (unknown n) = omega arith
 
 -- declarations have no more styles of their own than they are
 owns-few : (ds : List Declaration) → length (ownStyles ds) ≤ length ds
 unfolding ownStyles
 owns-few [] = omega arith
 owns-few (d ∷ ds) =
-    omega (arith, length-append (styleOf (d .important) (d .decl)) (ownStyles ds), own-few (d .important) (d .decl), owns-few ds)
+    omega (arith, length-append (styleOf (d .important) (d .start) (d .decl)) (ownStyles ds), own-few (d .important) (d .start) (d .decl), owns-few ds)
 
 -- and one that is added
 pub styles-few : (ds : List Declaration) → length (stylesOf ds) ≤ length ds + 1
 unfolding stylesOf one
 styles-few ds =
-    let t : List StyleDecl = pick (and (anyDecl zeroHeight ds) (anyDecl hidesOverflow ds)) (one false style.displayNone) [] in
+    let t : List StyleDecl = pick (and (anyDecl zeroHeight ds) (anyDecl hidesOverflow ds)) (one false (firstZero ds) style.displayNone) [] in
     let h : length t ≤ 1 = pick-holds (λ (l : List StyleDecl). length l ≤ 1) _ _ _ (λ _. omega arith) (λ _. omega arith) in
     omega (arith, length-append (ownStyles ds) t, owns-few ds)
 
 -- a style has no text but that of its declaration
-own-text : (m : ℕ) (i : Bool) (d : Decl) → length (declText d) ≤ m → All (λ x. length (styleText x) ≤ m) (styleOf i d)
+own-text : (m : ℕ) (i : Bool) (s : ℕ) (d : Decl) → length (declText d) ≤ m → All (λ x. length (styleText x) ≤ m) (styleOf i s d)
 unfolding declText styleText styleTextOf styleOf one pick
-own-text m i (color c) h = (omega arith, tt)
-own-text m i (backgroundColor c) h = (omega arith, tt)
-own-text m i (height z) h = tt
-own-text m i (maxHeight z) h = tt
-own-text m i (overflow o) h = tt
-own-text m i (overflowY o) h = tt
-own-text m i (display true) h = (omega arith, tt)
-own-text m i (display false) h = tt
-own-text m i (whiteSpace w) h = (omega arith, tt)
-own-text m i (content t) h = (h, tt)
-own-text m i (unknown n) h = tt
+own-text m i s (color c) h = (omega arith, tt)
+own-text m i s (backgroundColor c) h = (omega arith, tt)
+own-text m i s (height z) h = tt
+own-text m i s (maxHeight z) h = tt
+own-text m i s (overflow o) h = tt
+own-text m i s (overflowY o) h = tt
+own-text m i s (display true) h = (omega arith, tt)
+own-text m i s (display false) h = tt
+own-text m i s (whiteSpace w) h = (omega arith, tt)
+own-text m i s (content t) h = (h, tt)
+own-text m i s (unknown n) h = tt
 
 -- nor have those of declarations
 owns-text : (m : ℕ) (ds : List Declaration) → length (declarationTexts ds) ≤ m → All (λ x. length (styleText x) ≤ m) (ownStyles ds)
@@ -149,8 +150,8 @@ unfolding ownStyles declarationTexts textsMany declarationText
 owns-text m [] h = tt
 owns-text m (d ∷ ds) h =
     let e = length-append (declText (d .decl)) (declarationTexts ds) in
-    all-append (λ (x : StyleDecl). length (styleText x) ≤ m) (styleOf (d .important) (d .decl)) (ownStyles ds)
-    (own-text m (d .important) (d .decl) (omega arith)) (owns-text m ds (omega arith))
+    all-append (λ (x : StyleDecl). length (styleText x) ≤ m) (styleOf (d .important) (d .start) (d .decl)) (ownStyles ds)
+    (own-text m (d .important) (d .start) (d .decl) (omega arith)) (owns-text m ds (omega arith))
 
 -- nor has the one that is added
 styles-text : (m : ℕ) (ds : List Declaration) → length (declarationTexts ds) ≤ m → All (λ x. length (styleText x) ≤ m) (stylesOf ds)
@@ -159,18 +160,56 @@ styles-text m ds h =
     all-append (λ (x : StyleDecl). length (styleText x) ≤ m) (ownStyles ds) _ (owns-text m ds h)
     (pick-holds (All (λ (x : StyleDecl). length (styleText x) ≤ m)) _ _ _ (λ _. (omega arith, tt)) (λ _. tt))
 
+-- a style starts where its declaration does
+own-start : (m : ℕ) (i : Bool) (s : ℕ) (d : Decl) → s ≤ m → All (λ x. x .value .start ≤ m) (styleOf i s d)
+unfolding styleOf one pick
+own-start m i s (color c) h = (h, tt)
+own-start m i s (backgroundColor c) h = (h, tt)
+own-start m i s (height z) h = tt
+own-start m i s (maxHeight z) h = tt
+own-start m i s (overflow o) h = tt
+own-start m i s (overflowY o) h = tt
+own-start m i s (display true) h = (h, tt)
+own-start m i s (display false) h = tt
+own-start m i s (whiteSpace w) h = (h, tt)
+own-start m i s (content t) h = (h, tt)
+own-start m i s (unknown n) h = tt
+
+-- so do those of declarations
+owns-start : (m : ℕ) (ds : List Declaration) → StartWithin m ds → All (λ x. x .value .start ≤ m) (ownStyles ds)
+unfolding ownStyles
+owns-start m [] h = tt
+owns-start m (d ∷ ds) h =
+    all-append (λ (x : StyleDecl). x .value .start ≤ m) (styleOf (d .important) (d .start) (d .decl)) (ownStyles ds)
+    (own-start m (d .important) (d .start) (d .decl) (h .0)) (owns-start m ds (h .1))
+
+-- the first zero height is one of them
+first-start : (m : ℕ) (ds : List Declaration) → StartWithin m ds → firstZero ds ≤ m
+unfolding firstZero
+first-start m [] h = omega arith
+first-start m (d ∷ ds) h = pick-holds (λ (n : ℕ). n ≤ m) (zeroHeight (d .decl)) _ _ (λ _. h .0) (λ _. first-start m ds (h .1))
+
+-- and the style that is added starts there
+styles-start : (m : ℕ) (ds : List Declaration) → StartWithin m ds → All (λ x. x .value .start ≤ m) (stylesOf ds)
+unfolding stylesOf one
+styles-start m ds h =
+    all-append (λ (x : StyleDecl). x .value .start ≤ m) (ownStyles ds) _ (owns-start m ds h)
+    (pick-holds (All (λ (x : StyleDecl). x .value .start ≤ m)) _ _ _ (λ _. (first-start m ds h, tt)) (λ _. tt))
+
 -- the styles of declarations fit
-styles-in : (m : ℕ) → m < numberLimit → (ds : List Declaration) → length (declarationTexts ds) ≤ m → DeclarationsFit ds → All StyleFits (stylesOf ds)
-styles-in m l ds h f =
-    all-both (λ (x : StyleDecl). back.StyleFits (x .style)) (λ x. length (styleText x) ≤ m) StyleFits
-    (λ x c t. record { colour = c; text = record { short = omega arith } }) (stylesOf ds) (styles-fit ds f) (styles-text m ds h)
+styles-in : (m b : ℕ) → m < numberLimit → b < numberLimit → (ds : List Declaration) → length (declarationTexts ds) ≤ m → StartWithin b ds → DeclarationsFit ds → All StyleFits (stylesOf ds)
+styles-in m b l i ds h k f =
+    all-both (λ (x : StyleDecl). back.StyleFits (x .value .style)) (λ x. (length (styleText x) ≤ m) × (x .value .start ≤ b)) StyleFits
+    (λ x c t. record { colour = c; start = omega (arith, t .1); text = record { short = omega (arith, t .0) } }) (stylesOf ds) (styles-fit ds f)
+    (all-both (λ (x : StyleDecl). length (styleText x) ≤ m) (λ x. x .value .start ≤ b) (λ x. (length (styleText x) ≤ m) × (x .value .start ≤ b)) (λ x p q. (p, q)) (stylesOf ds) (styles-text m ds h) (styles-start b ds k))
 
 -- ---- the selectors of a rule
--- a rule whose row has m numbers at most, and whose texts have m bytes at most; its numbers of an+b and its colours fit
-pub record RuleHolds (m : ℕ) (r : RuleSet) : Type 0 where
+-- a rule whose row has m numbers at most, and whose texts have m bytes at most; its declarations start no further than b; its numbers of an+b and its colours fit
+pub record RuleHolds (m b : ℕ) (r : RuleSet) : Type 0 where
   pub size : ruleSize r ≤ m
   pub text : length (ruleText r) ≤ m
   pub range : RuleInRange r
+  pub starts : RuleStarts b r
   pub fit : DeclarationsFit (r .declarations)
 
 -- those of a rule with the styles ds fit
@@ -211,22 +250,22 @@ pub rule-styles : (m : ℕ) (r : RuleSet) → ruleSize r ≤ m → declarationWi
 rule-styles m r h = omega (arith, styles-few (r .declarations), rule-sized r)
 
 -- the selectors of a rule fit
-pub rule-fits : (origin m : ℕ) (r : RuleSet) → origin ≤ authorOrigin → m + declarationWidth < numberLimit → RuleHolds m r → All SelectorFits (ruleSelectors origin r)
+pub rule-fits : (origin m b : ℕ) (r : RuleSet) → origin ≤ authorOrigin → m + declarationWidth < numberLimit → b < numberLimit → RuleHolds m b r → All SelectorFits (ruleSelectors origin r)
 unfolding ruleSelectors ruleText
-rule-fits origin m r a l h =
+rule-fits origin m b r a l i h =
     let e = length-append (selectorTexts (r .selectors)) (declarationTexts (r .declarations)) in
     let t = h .text in
     styled-fit origin m (stylesOf (r .declarations)) a (omega arith) (omega (arith, rule-styles m r (h .size)))
-    (styles-in m (omega arith) (r .declarations) (omega arith) (h .fit))
+    (styles-in m b (omega arith) i (r .declarations) (omega arith) (h .starts) (h .fit))
     (r .selectors) (components-few m r (h .size)) (selectors-fit m (omega arith) r t (h .range))
 
 -- ---- the selectors of a sheet
 -- the selectors of a sheet fit where the rows, texts, numbers and colours of its rules keep to their bounds
-sheet-fit : (origin m : ℕ) → origin ≤ authorOrigin → m + declarationWidth < numberLimit → (rs : List RuleSet) → All (RuleHolds m) rs → All SelectorFits (sheetSelectors origin rs)
+sheet-fit : (origin m b : ℕ) → origin ≤ authorOrigin → m + declarationWidth < numberLimit → b < numberLimit → (rs : List RuleSet) → All (RuleHolds m b) rs → All SelectorFits (sheetSelectors origin rs)
 unfolding sheetSelectors
-sheet-fit origin m a l [] h = tt
-sheet-fit origin m a l (r ∷ rs) h =
-    all-append SelectorFits (ruleSelectors origin r) (sheetSelectors origin rs) (rule-fits origin m r a l (h .0)) (sheet-fit origin m a l rs (h .1))
+sheet-fit origin m b a l i [] h = tt
+sheet-fit origin m b a l i (r ∷ rs) h =
+    all-append SelectorFits (ruleSelectors origin r) (sheetSelectors origin rs) (rule-fits origin m b r a l i (h .0)) (sheet-fit origin m b a l i rs (h .1))
 
 -- the compiled selectors of a sheet are of its origin
 sheet-origin : (origin : ℕ) (rs : List RuleSet) → All (λ s. s .origin ≡ origin) (sheetSelectors origin rs)
@@ -251,16 +290,17 @@ sheet-few origin fill rs = omega (arith, sheet-sized origin rs, length-rules fil
 -- ---- a sheet that was read
 module _ (s : List ℕ) (stop : ℕ) (rs : List RuleSet) (e : sheetOf s ≡ reads stop rs) where
   -- each of its rules
-  rules-hold : All (RuleHolds (ruleWidth * stop)) rs
+  rules-hold : All (RuleHolds (ruleWidth * stop) (length s)) rs
   unfolding ruleTexts
   rules-hold =
       let k = sheet-keeps s stop rs e in
       let m = ruleWidth * stop in
       let z = each-size ruleSize m rs (omega (arith, k .wide, length-rules 0 rs)) in
       let t = each-text ruleText m rs (omega (arith, k .long)) in
-      all-both (λ (r : RuleSet). (ruleSize r ≤ m) × (length (ruleText r) ≤ m)) (λ r. RuleInRange r × DeclarationsFit (r .declarations)) (RuleHolds m)
-      (λ r a b. record { size = a .0; text = a .1; range = b .0; fit = b .1 }) rs
-      (all-both (λ (r : RuleSet). ruleSize r ≤ m) (λ r. length (ruleText r) ≤ m) (λ r. (ruleSize r ≤ m) × (length (ruleText r) ≤ m)) (λ r a b. (a, b)) rs z t)
+      all-both (λ (r : RuleSet). (ruleSize r ≤ m) × ((length (ruleText r) ≤ m) × RuleStarts (length s) r)) (λ r. RuleInRange r × DeclarationsFit (r .declarations)) (RuleHolds m (length s))
+      (λ r a b. record { size = a .0; text = a .1 .0; range = b .0; starts = a .1 .1; fit = b .1 }) rs
+      (all-both (λ (r : RuleSet). ruleSize r ≤ m) (λ r. (length (ruleText r) ≤ m) × RuleStarts (length s) r) (λ r. (ruleSize r ≤ m) × ((length (ruleText r) ≤ m) × RuleStarts (length s) r)) (λ r a b. (a, b)) rs z
+      (all-both (λ (r : RuleSet). length (ruleText r) ≤ m) (RuleStarts (length s)) (λ r. (length (ruleText r) ≤ m) × RuleStarts (length s) r) (λ r a b. (a, b)) rs t (sheet-starts s stop rs e)))
       (all-both RuleInRange (λ (r : RuleSet). DeclarationsFit (r .declarations)) (λ r. RuleInRange r × DeclarationsFit (r .declarations)) (λ r a b. (a, b)) rs (sheet-range s stop rs e) (k .fit))
 
   -- its selectors are no more than half the numbers of its rows, of which there are eight for each byte read
@@ -270,7 +310,7 @@ module _ (s : List ℕ) (stop : ℕ) (rs : List RuleSet) (e : sheetOf s ≡ read
   -- neither are the declarations of any rule, at five numbers each
   pub declarations-few : All (λ r. declarationWidth * length (r .declarations) ≤ ruleWidth * stop) rs
   declarations-few =
-      all-weaker (RuleHolds (ruleWidth * stop)) (λ (r : RuleSet). declarationWidth * length (r .declarations) ≤ ruleWidth * stop)
+      all-weaker (RuleHolds (ruleWidth * stop) (length s)) (λ (r : RuleSet). declarationWidth * length (r .declarations) ≤ ruleWidth * stop)
       (λ r h. omega (arith, rule-sized r, h .size)) rs rules-hold
 
   module _ (l : length s ≤ sheetLimit) where
@@ -287,18 +327,18 @@ module _ (s : List ℕ) (stop : ℕ) (rs : List RuleSet) (e : sheetOf s ≡ read
     -- and so is that of its styles
     pub styles-bits : All (λ r. length (stylesOf (r .declarations)) < 2 ^ 32) rs
     styles-bits =
-        all-weaker (RuleHolds (ruleWidth * stop)) (λ (r : RuleSet). length (stylesOf (r .declarations)) < 2 ^ 32)
+        all-weaker (RuleHolds (ruleWidth * stop) (length s)) (λ (r : RuleSet). length (stylesOf (r .declarations)) < 2 ^ 32)
         (λ r h. omega (arith, rule-styles (ruleWidth * stop) r (h .size), stop-small)) rs rules-hold
 
     -- and that of its selectors
     pub rule-selectors-bits : All (λ r. length (r .selectors) < 2 ^ 32) rs
     rule-selectors-bits =
-        all-weaker (RuleHolds (ruleWidth * stop)) (λ (r : RuleSet). length (r .selectors) < 2 ^ 32)
+        all-weaker (RuleHolds (ruleWidth * stop) (length s)) (λ (r : RuleSet). length (r .selectors) < 2 ^ 32)
         (λ r h. omega (arith, rule-sized r, h .size, stop-small)) rs rules-hold
 
     -- the selectors of a sheet that was read are in range
     read-fit : (origin : ℕ) → origin ≤ authorOrigin → All SelectorFits (sheetSelectors origin rs)
-    read-fit origin h = sheet-fit origin (ruleWidth * stop) h (omega (arith, stop-small)) rs rules-hold
+    read-fit origin h = sheet-fit origin (ruleWidth * stop) (length s) h (omega (arith, stop-small)) (omega arith) rs rules-hold
 
 -- ---- origins
 -- selectors that follow an origin follow a lower one

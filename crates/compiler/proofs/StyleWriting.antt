@@ -14,7 +14,7 @@ use Rattle.syntax.specs.Layout.{flag, declarationWidth, readDeclaration, declar
 use Rattle.syntax.specs.declared.styles.StyleNumbers.{StyleNumbers}
 use Rattle.syntax.proofs.RowSizes.{length-style}
 use Rattle.syntax.specs.Stream.{textsMany}
-use Rattle.declarations.specs.StyleNumbers.{addedStyle, ownNumbersAt, rowOfOwn, ownRow, zeroRow, hiddenRow, ownRows, anyRow, styleNumbers, styleCount}
+use Rattle.declarations.specs.StyleNumbers.{addedStyle, ownNumbersAt, rowOfOwn, ownRow, zeroRow, hiddenRow, ownRows, anyRow, firstZeroRow, styleNumbers, styleCount}
 use Rattle.declarations.specs.declared.styles.OwnStyle.{OwnStyle}
 use Rattle.declarations.specs.declared.styles.OwnStyle.the-variants.{Style, NoStyle}
 use Rattle.declarations.proofs.StyleLaws.{count-styles, styles-few}
@@ -80,10 +80,10 @@ any-more p n t t₁ z x v h e d w =
     rw (or-is z x) (sym (or-assoc z x (anyRow p (n - 1) t₁)) ∙ ap (or z) q ∙ w)
 
 -- how long the row of the style is that is added
-added-length : (z : Bool) → length (pick z (rowOfNumbers addedStyle) []) ≡ styleWidth * flag z
+added-length : (z : Bool) (s : ℕ) → length (pick z (rowOfNumbers (addedStyle s)) []) ≡ styleWidth * flag z
 unfolding pick flag
-added-length true = length-style addedStyle
-added-length false = refl
+added-length true s = length-style (addedStyle s)
+added-length false s = refl
 
 module _ (rows : List ℕ) (count at own : ℕ) (height-zero overflow-hidden : Bool) (place n : ℕ)
     (c : Finding rows count at own height-zero overflow-hidden place n) where
@@ -125,7 +125,8 @@ module _ (rows : List ℕ) (count at own : ℕ) (height-zero overflow-hidden : B
         let t = drop at rows in
         let g : f ≡ flag both = e ∙ ap flag both-is in
         let o : styleWidth * own ≡ length (ownRows count t) = omega (arith, c .left, ap length (rows-none n (drop place rows) h)) in
-        omega (arith, length-append (ownRows count t) (pick both (rowOfNumbers addedStyle) []), added-length both, g, o)
+        let s = firstZeroRow count t in
+        omega (arith, length-append (ownRows count t) (pick both (rowOfNumbers (addedStyle s)) []), added-length both s, g, o)
 
     -- the total is no more than the declarations are
     pub finding-fits : (f : ℕ) → f ≡ flag (height-zero && overflow-hidden) → count < numberLimit → own + f < numberLimit

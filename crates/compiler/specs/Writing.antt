@@ -56,7 +56,7 @@ pub record RulesLent (n : ℕ) (t tokens : List ℕ) : Type 0 where
 
 -- the rows of `p{color:red}`, the author's, with the text p
 pub case-red : textsMany selectorBytes (sheetSelectors authorOrigin (rulesAt (0 ∷ 1 ∷ 1 ∷ 1 ∷ 0 ∷ elementKind ∷ 0 ∷ 1 ∷ 0 ∷ colorKind ∷ 0 ∷ 2 ∷ 0xff0000 ∷ 0 ∷ []) (0x70 ∷ []) 1))
-    ≡ 0x03 ∷ 0x00 ∷ 0x01 ∷ 0x02 ∷ 0x01 ∷ 0x70 ∷ 0x01 ∷ 0x00 ∷ 0x00 ∷ 0x80 ∷ 0x80 ∷ 0xfc ∷ 0x07 ∷ []
+    ≡ 0x03 ∷ 0x00 ∷ 0x01 ∷ 0x02 ∷ 0x01 ∷ 0x70 ∷ 0x01 ∷ 0x00 ∷ 0x02 ∷ 0x00 ∷ 0x80 ∷ 0x80 ∷ 0xfc ∷ 0x07 ∷ []
 unfolding rulesAt readRule readSelector readComponent componentFrom pseudoFrom readDeclaration declOf flagOf colourOf part readMany sheetSelectors ruleSelectors styledSelectors compiledSelector stylesOf ownStyles styleOf one anyDecl zeroHeight hidesOverflow selectorBytes headBytes stylesBytes textsMany pseudoNumber componentBytes componentKind componentBody textBytes styleBytes styleSlotOf styleBody flag colourNumber numberBytes groupBytes pick or and is
 case-red = refl
 

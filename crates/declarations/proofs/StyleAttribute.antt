@@ -32,7 +32,7 @@ use Rattle.declarations.specs.DeclRow.{namedDecl}
 use Rattle.declarations.specs.Rules.{propertyOf, valueBehind, declarationOf, Rules, startsAt, moreRules, declarationsOf}
 use Rattle.declarations.specs.Leaving.{kept, textKept, usedRules, Leaves, leaves, rulesAnswer, rulesOf, rulesLeft, stylesAnswer, styleLeft, StyleRoom}
 use Rattle.declarations.specs.StyleNumbers.{styleNumbers, styleCount, StylesRoom}
-use Rattle.declarations.specs.Styles.{one, styleOf, hidesOverflow, zeroHeight, anyDecl, ownStyles, stylesOf}
+use Rattle.declarations.specs.Styles.{one, styleOf, hidesOverflow, zeroHeight, anyDecl, ownStyles, firstZero, stylesOf}
 use Rattle.declarations.specs.declared.rules.RulesRead.{RulesRead}
 use Rattle.declarations.proofs.Declaring.{takes}
 use Rattle.declarations.proofs.StyleLaws.{NamelessDecl, Nameless, numbers-long, own-rows, own-texts}
@@ -74,23 +74,28 @@ module _ (names : Bool) where
   named-same f h (content t) = refl
   named-same f h (unknown n) = h _ _
 
-  module _ (at : ℕ) where
-    -- the styles that they ask for by themselves
-    own-kept : (ds : List Declaration) → ownStyles (map (kept names at) ds) ≡ ownStyles ds
-    unfolding ownStyles styleOf kept
-    own-kept [] = refl
-    own-kept (d ∷ ds) = rw (named-same (styleOf (d .important)) (λ a b. refl) (d .decl), own-kept ds)
+  -- the styles that they ask for by themselves
+  own-kept : (ds : List Declaration) → ownStyles (map (kept names 0) ds) ≡ ownStyles ds
+  unfolding ownStyles styleOf kept
+  own-kept [] = refl
+  own-kept (d ∷ ds) = let e : 0 + d .start ≡ d .start = omega arith in rw (e, named-same (styleOf (d .important) (d .start)) (λ a b. refl) (d .decl), own-kept ds)
 
-    -- a test of one of them
-    any-kept : (q : Decl → Bool) → ((a b : List ℕ) → q (unknown a) ≡ q (unknown b)) → (ds : List Declaration) → anyDecl q (map (kept names at) ds) ≡ anyDecl q ds
-    unfolding anyDecl kept
-    any-kept q h [] = refl
-    any-kept q h (d ∷ ds) = rw (named-same q h (d .decl), any-kept q h ds)
+  -- a test of one of them
+  any-kept : (q : Decl → Bool) → ((a b : List ℕ) → q (unknown a) ≡ q (unknown b)) → (ds : List Declaration) → anyDecl q (map (kept names 0) ds) ≡ anyDecl q ds
+  unfolding anyDecl kept
+  any-kept q h [] = refl
+  any-kept q h (d ∷ ds) = rw (named-same q h (d .decl), any-kept q h ds)
 
-    -- all styles that they ask for
-    pub styles-kept : (ds : List Declaration) → stylesOf (map (kept names at) ds) ≡ stylesOf ds
-    unfolding stylesOf zeroHeight hidesOverflow
-    styles-kept ds = rw (own-kept ds, any-kept zeroHeight (λ a b. refl) ds, any-kept hidesOverflow (λ a b. refl) ds)
+  -- where the first of them starts that sets a height to zero
+  first-kept : (ds : List Declaration) → firstZero (map (kept names 0) ds) ≡ firstZero ds
+  unfolding firstZero zeroHeight kept
+  first-kept [] = refl
+  first-kept (d ∷ ds) = let e : 0 + d .start ≡ d .start = omega arith in rw (e, named-same zeroHeight (λ a b. refl) (d .decl), first-kept ds)
+
+  -- all styles that they ask for, where their starts are left as they are
+  pub styles-kept : (ds : List Declaration) → stylesOf (map (kept names 0) ds) ≡ stylesOf ds
+  unfolding stylesOf zeroHeight hidesOverflow
+  styles-kept ds = rw (own-kept ds, any-kept zeroHeight (λ a b. refl) ds, any-kept hidesOverflow (λ a b. refl) ds, first-kept ds)
 
 -- ---- what declarations take and keep
 -- by cases of a reader's answer
@@ -191,32 +196,32 @@ declarations-count s = let b = bounded false s in omega (arith, b .count, b .wit
 -- ---- styles fit their rows
 
 -- the style that a declaration asks for
-own-fits : (i : Bool) (d : Decl) → DeclFits d → StylesFit (styleOf i d)
+own-fits : (i : Bool) (s : ℕ) (d : Decl) → DeclFits d → StylesFit (styleOf i s d)
 unfolding DeclFits StyleFits styleOf one pick
-own-fits i (color c) h = (h, tt)
-own-fits i (backgroundColor c) h = (h, tt)
-own-fits i (height z) h = tt
-own-fits i (maxHeight z) h = tt
-own-fits i (overflow o) h = tt
-own-fits i (overflowY o) h = tt
-own-fits i (display true) h = (tt, tt)
-own-fits i (display false) h = tt
-own-fits i (whiteSpace w) h = (tt, tt)
-own-fits i (content t) h = (tt, tt)
-own-fits i (unknown n) h = tt
+own-fits i s (color c) h = (h, tt)
+own-fits i s (backgroundColor c) h = (h, tt)
+own-fits i s (height z) h = tt
+own-fits i s (maxHeight z) h = tt
+own-fits i s (overflow o) h = tt
+own-fits i s (overflowY o) h = tt
+own-fits i s (display true) h = (tt, tt)
+own-fits i s (display false) h = tt
+own-fits i s (whiteSpace w) h = (tt, tt)
+own-fits i s (content t) h = (tt, tt)
+own-fits i s (unknown n) h = tt
 
 -- the styles of declarations that fit do fit
 all-own-fit : (ds : List Declaration) → DeclarationsFit ds → StylesFit (ownStyles ds)
 unfolding ownStyles
 all-own-fit [] h = tt
 all-own-fit (d ∷ ds) h =
-    all-append (λ d. StyleFits (d .style)) (styleOf (d .important) (d .decl)) (ownStyles ds) (own-fits (d .important) (d .decl) (h .0)) (all-own-fit ds (h .1))
+    all-append (λ d. StyleFits (d .value .style)) (styleOf (d .important) (d .start) (d .decl)) (ownStyles ds) (own-fits (d .important) (d .start) (d .decl) (h .0)) (all-own-fit ds (h .1))
 
 -- and the one that is added
 pub styles-fit : (ds : List Declaration) → DeclarationsFit ds → StylesFit (stylesOf ds)
 unfolding stylesOf one StyleFits
 styles-fit ds h =
-    all-append (λ d. StyleFits (d .style)) (ownStyles ds) _ (all-own-fit ds h) (pick-holds StylesFit _ _ _ (λ _. (tt, tt)) (λ _. tt))
+    all-append (λ d. StyleFits (d .value .style)) (ownStyles ds) _ (all-own-fit ds h) (pick-holds StylesFit _ _ _ (λ _. (tt, tt)) (λ _. tt))
 
 -- the styles of every attribute fit
 pub attribute-fits : (s : List ℕ) → StylesFit (styleAttribute s)
@@ -242,7 +247,7 @@ module _ (s : List ℕ) where
   -- they ask for the styles of the attribute
   ds-styles : stylesOf ds ≡ styleAttribute s
   unfolding rulesOf styleAttribute
-  ds-styles = styles-kept false 0 (declarationsOf s .declarations)
+  ds-styles = styles-kept false (declarationsOf s .declarations)
 
   -- whose texts are their texts
   ds-texts : declarationTexts ds ≡ styleTexts (styleAttribute s)

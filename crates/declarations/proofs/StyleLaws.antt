@@ -5,13 +5,13 @@ use mathlib.Core.List.{List, [], _∷_, _++_, append-assoc, append-nil}
 use Prim.Native.Nat.{ℕ, zero, suc, _+_, _*_, _≤_}
 use native.Mathlib.Nat.{add-zero}
 use native.Mathlib.Omega.{arith}
-use lib.ListN.{length, drop, length-append}
+use lib.ListN.{length, getD, drop, length-append}
 use Rattle.combinators.specs.Choice.{pick, or, and, is}
 use Rattle.combinators.specs.All.{All}
 use Rattle.combinators.proofs.Rules.{pick-holds, is-true}
 use Rattle.syntax.specs.Declaration.{Overflow, visible, hidden, scroll, auto, Decl, color, backgroundColor, height, maxHeight, overflow, overflowY, display, whiteSpace, content, unknown, Declaration}
 use Rattle.syntax.specs.Layout as layout
-use Rattle.syntax.specs.Layout.{colorKind, backgroundColorKind, heightKind, maxHeightKind, overflowKind, overflowYKind, displayKind, whiteSpaceKind, contentKind, flag, flagOf, overflowNumber, overflowOf, declarationWidth, declText, declarationText, declRow, declarationRow, declOf, readDeclaration, declarationRows, declarationTexts, declarationsAt, displaySlot, styleWidth, styleTextOf, styleText, styleSlotOf, valueFrom, numbersFrom, rowOfNumbers, styleRow, styleIn, readStyle, styleRows, styleTexts, stylesAt}
+use Rattle.syntax.specs.Layout.{colorKind, backgroundColorKind, heightKind, maxHeightKind, overflowKind, overflowYKind, displayKind, whiteSpaceKind, contentKind, flag, flagOf, overflowNumber, overflowOf, declarationWidth, declarationStart, declText, declarationText, declRow, declarationRow, declOf, readDeclaration, declarationRows, declarationTexts, declarationsAt, displaySlot, styleWidth, styleTextOf, styleText, styleSlotOf, numberFrom, valueFrom, numbersFrom, rowOfNumbers, styleRow, valueIn, styleIn, readStyle, styleRows, styleTexts, stylesAt}
 use Rattle.syntax.specs.Stream.{Read, readMany, textsMany, rowsMany}
 use Rattle.syntax.specs.Style as style
 use Rattle.syntax.specs.Style.{StyleDecl}
@@ -19,8 +19,8 @@ use Rattle.syntax.specs.declared.styles.Value.{Value}
 use Rattle.syntax.specs.declared.styles.StyleNumbers.{StyleNumbers}
 use Rattle.syntax.proofs.Back.{flag-back, row-numbers-back, row-numbers-rest}
 use Rattle.syntax.proofs.RowSizes.{length-style}
-use Rattle.declarations.specs.Styles.{one, styleOf, hides, hidesOverflow, zeroHeight, anyDecl, ownStyles, stylesOf}
-use Rattle.declarations.specs.StyleNumbers.{noValue, addedStyle, styleFor, ownNumbers, declaredValue, ownNumbersAt, rowOfOwn, ownRow, hasValue, zeroRow, hiddenRow, ownRows, anyRow, styleNumbers, styleCount}
+use Rattle.declarations.specs.Styles.{one, styleOf, hides, hidesOverflow, zeroHeight, anyDecl, ownStyles, firstZero, stylesOf}
+use Rattle.declarations.specs.StyleNumbers.{noValue, addedStyle, styleFor, ownNumbers, declaredValue, ownNumbersAt, rowOfOwn, ownRow, hasValue, zeroRow, hiddenRow, ownRows, anyRow, firstZeroRow, styleNumbers, styleCount}
 use Rattle.declarations.specs.declared.styles.OwnStyle.{OwnStyle}
 use Rattle.declarations.specs.declared.styles.OwnStyle.the-variants.{Style, NoStyle}
 
@@ -117,21 +117,21 @@ module _ (store : List ℕ) where
   saidBy NoStyle = []
 
   -- that a display asks for
-  display-said : (i z : Bool) → saidBy (pick z (styleFor displaySlot i noValue) NoStyle) ≡ styleOf i (display z)
-  unfolding saidBy styleIn layout.styleOf styleOf one pick is
-  display-said i true = refl
-  display-said i false = refl
+  display-said : (i z : Bool) (s : ℕ) → saidBy (pick z (styleFor displaySlot i (noValue s)) NoStyle) ≡ styleOf i s (display z)
+  unfolding saidBy styleIn valueIn layout.styleOf styleOf one pick is
+  display-said i true s = refl
+  display-said i false s = refl
 
   -- that any numbers ask for
-  own-said : (k : ℕ) (i : Bool) (v : Value) → saidBy (ownNumbers k i v) ≡ styleOf i (declOf store k (v .number) (v .second))
-  unfolding saidBy ownNumbers styleIn styleOf one declOf layout.styleOf pick is
+  own-said : (k : ℕ) (i : Bool) (v : Value) → saidBy (ownNumbers k i v) ≡ styleOf i (v .start) (declOf store k (v .number) (v .second))
+  unfolding saidBy ownNumbers styleIn valueIn styleOf one declOf layout.styleOf pick is
   own-said k i v =
-      by-kind (λ n. saidBy (ownNumbers n i v) ≡ styleOf i (declOf store n (v .number) (v .second)))
-      refl refl refl refl refl refl (display-said i (flagOf (v .number))) refl refl k
+      by-kind (λ n. saidBy (ownNumbers n i v) ≡ styleOf i (v .start) (declOf store n (v .number) (v .second)))
+      refl refl refl refl refl refl (display-said i (flagOf (v .number)) (v .start)) refl refl k
       (λ o. rw (o .color, o .background, o .height, o .max-height, o .overflow, o .overflow-y, o .display, o .white-space, o .content))
 
   -- that the declaration at the start of a stream asks for
-  pub declared-said : (t : List ℕ) → saidBy (ownNumbersAt t) ≡ styleOf (readDeclaration store t .value .important) (readDeclaration store t .value .decl)
+  pub declared-said : (t : List ℕ) → saidBy (ownNumbersAt t) ≡ styleOf (readDeclaration store t .value .important) (readDeclaration store t .value .start) (readDeclaration store t .value .decl)
   unfolding ownNumbersAt declaredValue readDeclaration
   declared-said t = own-said _ _ _
 
@@ -142,7 +142,7 @@ module _ (store : List ℕ) where
   reads-said NoStyle = reads-none
 
   -- the row of the declaration at the start of a stream reads as the style that it asks for
-  reads-declared : (t : List ℕ) → Reads (ownRow t) (styleOf (readDeclaration store t .value .important) (readDeclaration store t .value .decl))
+  reads-declared : (t : List ℕ) → Reads (ownRow t) (styleOf (readDeclaration store t .value .important) (readDeclaration store t .value .start) (readDeclaration store t .value .decl))
   unfolding ownRow
   reads-declared t = rw (← declared-said t) (reads-said (ownNumbersAt t))
 
@@ -186,16 +186,27 @@ module _ (store : List ℕ) where
   unfolding hiddenRow hasValue readDeclaration
   any-hidden n t = any-row hiddenRow hidesOverflow (λ t. hidden-own _ _ _) n t
 
+  -- whether the first sets one to zero
+  zero-read : (t : List ℕ) → zeroRow t ≡ zeroHeight (readDeclaration store t .value .decl)
+  unfolding zeroRow hasValue readDeclaration
+  zero-read t = zero-own _ _ _
+
+  -- where the first one starts that does
+  first-zero : (n : ℕ) (t : List ℕ) → firstZeroRow n t ≡ firstZero (declarationsAt t store n)
+  unfolding firstZeroRow firstZero declarationsAt readMany readDeclaration
+  first-zero zero t = refl
+  first-zero (suc n) t = rw (zero-read t, first-zero n (drop declarationWidth t))
+
   -- the style that both add
-  reads-added : (z : Bool) → Reads (pick z (rowOfNumbers addedStyle) []) (pick z (one false style.displayNone) [])
-  unfolding pick one styleIn layout.styleOf is
-  reads-added true = reads-one addedStyle
-  reads-added false = reads-none
+  reads-added : (z : Bool) (s : ℕ) → Reads (pick z (rowOfNumbers (addedStyle s)) []) (pick z (one false s style.displayNone) [])
+  unfolding pick one styleIn valueIn layout.styleOf is
+  reads-added true s = reads-one (addedStyle s)
+  reads-added false s = reads-none
 
   -- all styles that they ask for
   pub reads-styles : (rows : List ℕ) (n : ℕ) → Reads (styleNumbers rows n) (stylesOf (declarationsAt rows store n))
   unfolding styleNumbers stylesOf
-  reads-styles rows n = rw (any-zero n rows, any-hidden n rows) (reads-both _ _ _ _ (reads-rows n rows) (reads-added _))
+  reads-styles rows n = rw (any-zero n rows, any-hidden n rows, first-zero n rows) (reads-both _ _ _ _ (reads-rows n rows) (reads-added _ _))
 
   -- the count of styles that the rows have is that of the declarations' styles
   pub count-styles : (rows : List ℕ) (n : ℕ) → styleCount rows n ≡ length (stylesOf (declarationsAt rows store n))
@@ -230,8 +241,9 @@ pub numbers-long : (rows : List ℕ) (n : ℕ) → length (styleNumbers rows n) 
 unfolding styleNumbers
 numbers-long rows n =
     let z = and (anyRow zeroRow n rows) (anyRow hiddenRow n rows) in
-    let h : length (pick z (rowOfNumbers addedStyle) []) ≤ styleWidth = pick-holds (λ (l : List ℕ). length l ≤ styleWidth) z (rowOfNumbers addedStyle) [] (λ _. omega (arith, length-style addedStyle)) (λ _. omega arith) in
-    omega (arith, length-append (ownRows n rows) (pick z (rowOfNumbers addedStyle) []), rows-long n rows, h)
+    let x = addedStyle (firstZeroRow n rows) in
+    let h : length (pick z (rowOfNumbers x) []) ≤ styleWidth = pick-holds (λ (l : List ℕ). length l ≤ styleWidth) z (rowOfNumbers x) [] (λ _. omega (arith, length-style x)) (λ _. omega arith) in
+    omega (arith, length-append (ownRows n rows) (pick z (rowOfNumbers x) []), rows-long n rows, h)
 
 -- so there are at most n + 1 of them
 pub count-le : (rows : List ℕ) (n : ℕ) → styleCount rows n ≤ n + 1
@@ -241,21 +253,21 @@ count-le rows n = omega (arith, numbers-long rows n)
 -- ---- how many styles declarations ask for
 
 -- a declaration that sets a height to zero asks for none by itself
-own-or-zero : (i : Bool) (d : Decl) → length (styleOf i d) + flag (zeroHeight d) ≤ 1
+own-or-zero : (i : Bool) (s : ℕ) (d : Decl) → length (styleOf i s d) + flag (zeroHeight d) ≤ 1
 unfolding styleOf one zeroHeight flag pick
-own-or-zero i (color c) = omega arith
-own-or-zero i (backgroundColor c) = omega arith
-own-or-zero i (height true) = omega arith
-own-or-zero i (height false) = omega arith
-own-or-zero i (maxHeight true) = omega arith
-own-or-zero i (maxHeight false) = omega arith
-own-or-zero i (overflow o) = omega arith
-own-or-zero i (overflowY o) = omega arith
-own-or-zero i (display true) = omega arith
-own-or-zero i (display false) = omega arith
-own-or-zero i (whiteSpace w) = omega arith
-own-or-zero i (content t) = omega arith
-own-or-zero i (unknown n) = omega arith
+own-or-zero i s (color c) = omega arith
+own-or-zero i s (backgroundColor c) = omega arith
+own-or-zero i s (height true) = omega arith
+own-or-zero i s (height false) = omega arith
+own-or-zero i s (maxHeight true) = omega arith
+own-or-zero i s (maxHeight false) = omega arith
+own-or-zero i s (overflow o) = omega arith
+own-or-zero i s (overflowY o) = omega arith
+own-or-zero i s (display true) = omega arith
+own-or-zero i s (display false) = omega arith
+own-or-zero i s (whiteSpace w) = omega arith
+own-or-zero i s (content t) = omega arith
+own-or-zero i s (unknown n) = omega arith
 
 -- one of two conditions counts for no more than both
 flag-or : (a b : Bool) → flag (or a b) ≤ flag a + flag b
@@ -270,18 +282,18 @@ own-and-zero [] = omega arith
 own-and-zero (d ∷ ds) =
     omega (
       arith,
-      length-append (styleOf (d .important) (d .decl)) (ownStyles ds),
-      own-or-zero (d .important) (d .decl),
+      length-append (styleOf (d .important) (d .start) (d .decl)) (ownStyles ds),
+      own-or-zero (d .important) (d .start) (d .decl),
       flag-or (zeroHeight (d .decl)) (anyDecl zeroHeight ds),
       own-and-zero ds,
     )
 
 -- the style that is added
-added-long : (y z : Bool) → length (pick (and y z) (one false style.displayNone) []) ≤ flag y
+added-long : (y z : Bool) (s : ℕ) → length (pick (and y z) (one false s style.displayNone) []) ≤ flag y
 unfolding pick and one flag
-added-long true true = omega arith
-added-long true false = omega arith
-added-long false z = omega arith
+added-long true true s = omega arith
+added-long true false s = omega arith
+added-long false z s = omega arith
 
 -- declarations ask for no more styles than they are
 pub styles-few : (ds : List Declaration) → length (stylesOf ds) ≤ length ds
@@ -289,7 +301,7 @@ unfolding stylesOf
 styles-few ds =
     let y = anyDecl zeroHeight ds in
     let z = anyDecl hidesOverflow ds in
-    omega (arith, length-append (ownStyles ds) (pick (and y z) (one false style.displayNone) []), own-and-zero ds, added-long y z)
+    omega (arith, length-append (ownStyles ds) (pick (and y z) (one false (firstZero ds) style.displayNone) []), own-and-zero ds, added-long y z (firstZero ds))
 
 -- ---- where declarations lie in rows, the style rows are those of their styles
 
@@ -346,8 +358,8 @@ unfolding rowOfOwn rowsMany styleRow
 one-row x f d e = ap rowOfNumbers e ∙ sym (append-nil _)
 
 -- the row of its style
-pub own-row : (i : Bool) (s f : ℕ) (d : Decl) (t : List ℕ) → ownRow (declRow (flag i) s f d ++ t) ≡ rowsMany styleRow styleText f (styleOf i d)
-unfolding ownRow ownNumbersAt declaredValue ownNumbers declRow numbersFrom styleSlotOf valueFrom styleOf one flag flagOf rowOfOwn rowsMany pick is
+pub own-row : (i : Bool) (s f : ℕ) (d : Decl) (t : List ℕ) → ownRow (declRow (flag i) s f d ++ t) ≡ rowsMany styleRow styleText f (styleOf i s d)
+unfolding ownRow ownNumbersAt declaredValue ownNumbers declRow numbersFrom styleSlotOf numberFrom valueFrom styleTextOf styleOf one flag flagOf rowOfOwn rowsMany pick is
 own-row i s f (color c) t = one-row _ f _ (rw (flag-back i))
 own-row i s f (backgroundColor c) t = one-row _ f _ (rw (flag-back i))
 own-row i s f (height z) t = refl
@@ -361,19 +373,19 @@ own-row i s f (content b) t = one-row _ f _ (rw (flag-back i))
 own-row i s f (unknown b) t = refl
 
 -- the text of a style is that of its declaration
-own-text : (i : Bool) (d : Decl) → NamelessDecl d → textsMany styleText (styleOf i d) ≡ declText d
+own-text : (i : Bool) (s : ℕ) (d : Decl) → NamelessDecl d → textsMany styleText (styleOf i s d) ≡ declText d
 unfolding NamelessDecl textsMany styleText styleTextOf styleOf one declText pick
-own-text i (color c) u = refl
-own-text i (backgroundColor c) u = refl
-own-text i (height z) u = refl
-own-text i (maxHeight z) u = refl
-own-text i (overflow o) u = refl
-own-text i (overflowY o) u = refl
-own-text i (display true) u = refl
-own-text i (display false) u = refl
-own-text i (whiteSpace w) u = refl
-own-text i (content b) u = append-nil b
-own-text i (unknown b) u = sym u
+own-text i s (color c) u = refl
+own-text i s (backgroundColor c) u = refl
+own-text i s (height z) u = refl
+own-text i s (maxHeight z) u = refl
+own-text i s (overflow o) u = refl
+own-text i s (overflowY o) u = refl
+own-text i s (display true) u = refl
+own-text i s (display false) u = refl
+own-text i s (whiteSpace w) u = refl
+own-text i s (content b) u = append-nil b
+own-text i s (unknown b) u = sym u
 
 -- whether it sets a height to zero
 pub zero-row : (i s f : ℕ) (d : Decl) (t : List ℕ) → zeroRow (declRow i s f d ++ t) ≡ zeroHeight d
@@ -390,6 +402,20 @@ zero-row i s f (display n) t = refl
 zero-row i s f (whiteSpace w) t = refl
 zero-row i s f (content b) t = refl
 zero-row i s f (unknown b) t = refl
+
+-- the third number of a declaration's row is the byte where it starts
+start-row : (i s f : ℕ) (d : Decl) (t : List ℕ) → getD (declRow i s f d ++ t) declarationStart 0 ≡ s
+unfolding declRow
+start-row i s f (color c) t = refl
+start-row i s f (backgroundColor c) t = refl
+start-row i s f (height z) t = refl
+start-row i s f (maxHeight z) t = refl
+start-row i s f (overflow o) t = refl
+start-row i s f (overflowY o) t = refl
+start-row i s f (display n) t = refl
+start-row i s f (whiteSpace w) t = refl
+start-row i s f (content b) t = refl
+start-row i s f (unknown b) t = refl
 
 -- the number of a word says whether it hides
 hides-word : (o : Overflow) → is (overflowNumber o) (overflowNumber hidden) ≡ hides o
@@ -426,8 +452,8 @@ own-rows-only (d ∷ ds) f t u =
       own-row (d .important) (d .start) f (d .decl) (rowsMany declarationRow declarationText g ds ++ t),
       row-behind (flag (d .important)) (d .start) f (d .decl) (rowsMany declarationRow declarationText g ds ++ t),
       own-rows-only ds g t (u .1),
-      rows-behind styleText styleRow (styleOf (d .important) (d .decl)) (ownStyles ds) f,
-      own-text (d .important) (d .decl) (u .0),
+      rows-behind styleText styleRow (styleOf (d .important) (d .start) (d .decl)) (ownStyles ds) f,
+      own-text (d .important) (d .start) (d .decl) (u .0),
     )
 
 -- a test of one of them
@@ -445,24 +471,38 @@ module _ (p : List ℕ → Bool) (q : Decl → Bool) (h : (i s f : ℕ) (d : Dec
         any-declared ds g t,
       )
 
+-- where the first of them starts that sets a height to zero
+pub first-declared : (ds : List Declaration) (f : ℕ) (t : List ℕ) → firstZeroRow (length ds) (declarationRows f ds ++ t) ≡ firstZero ds
+unfolding firstZeroRow firstZero declarationRows declarationRow rowsMany
+first-declared [] f t = refl
+first-declared (d ∷ ds) f t =
+    let g = f + length (declarationText d) in
+    rw (
+      append-assoc (declRow (flag (d .important)) (d .start) f (d .decl)) (rowsMany declarationRow declarationText g ds) t,
+      zero-row (flag (d .important)) (d .start) f (d .decl) (rowsMany declarationRow declarationText g ds ++ t),
+      start-row (flag (d .important)) (d .start) f (d .decl) (rowsMany declarationRow declarationText g ds ++ t),
+      row-behind (flag (d .important)) (d .start) f (d .decl) (rowsMany declarationRow declarationText g ds ++ t),
+      first-declared ds g t,
+    )
+
 -- the texts of styles are those of their declarations, where these have no names
 own-texts-only : (ds : List Declaration) → Nameless ds → textsMany styleText (ownStyles ds) ≡ textsMany declarationText ds
 unfolding ownStyles textsMany declarationText
 own-texts-only [] u = refl
 own-texts-only (d ∷ ds) u =
-    rw (texts-behind styleText (styleOf (d .important) (d .decl)) (ownStyles ds), own-text (d .important) (d .decl) (u .0), own-texts-only ds (u .1))
+    rw (texts-behind styleText (styleOf (d .important) (d .start) (d .decl)) (ownStyles ds), own-text (d .important) (d .start) (d .decl) (u .0), own-texts-only ds (u .1))
 
 -- the row of the style that is added
-added-row : (z : Bool) (f : ℕ) → rowsMany styleRow styleText f (pick z (one false style.displayNone) []) ≡ pick z (rowOfNumbers addedStyle) []
-unfolding pick one rowsMany rowOfOwn numbersFrom styleSlotOf valueFrom
-added-row true f = sym (one-row addedStyle f _ refl)
-added-row false f = refl
+added-row : (z : Bool) (s f : ℕ) → rowsMany styleRow styleText f (pick z (one false s style.displayNone) []) ≡ pick z (rowOfNumbers (addedStyle s)) []
+unfolding pick one rowsMany rowOfOwn numbersFrom styleSlotOf numberFrom valueFrom styleTextOf
+added-row true s f = sym (one-row (addedStyle s) f _ refl)
+added-row false s f = refl
 
 -- the style that is added has no text
-added-text : (z : Bool) → textsMany styleText (pick z (one false style.displayNone) []) ≡ []
+added-text : (z : Bool) (s : ℕ) → textsMany styleText (pick z (one false s style.displayNone) []) ≡ []
 unfolding pick one textsMany styleText styleTextOf
-added-text true = refl
-added-text false = refl
+added-text true s = refl
+added-text false s = refl
 
 -- the rows of the styles of declarations that lie in rows
 pub own-rows : (ds : List Declaration) (f : ℕ) (t : List ℕ) → Nameless ds → styleNumbers (declarationRows f ds ++ t) (length ds) ≡ styleRows f (stylesOf ds)
@@ -472,8 +512,9 @@ own-rows ds f t u =
       own-rows-only ds f t u,
       any-declared zeroRow zeroHeight zero-row ds f t,
       any-declared hiddenRow hidesOverflow hidden-row ds f t,
-      rows-behind styleText styleRow (ownStyles ds) (pick (and (anyDecl zeroHeight ds) (anyDecl hidesOverflow ds)) (one false style.displayNone) []) f,
-      added-row (and (anyDecl zeroHeight ds) (anyDecl hidesOverflow ds)) (f + length (textsMany styleText (ownStyles ds))),
+      first-declared ds f t,
+      rows-behind styleText styleRow (ownStyles ds) (pick (and (anyDecl zeroHeight ds) (anyDecl hidesOverflow ds)) (one false (firstZero ds) style.displayNone) []) f,
+      added-row (and (anyDecl zeroHeight ds) (anyDecl hidesOverflow ds)) (firstZero ds) (f + length (textsMany styleText (ownStyles ds))),
     )
 
 -- their texts are those of the declarations
@@ -481,8 +522,8 @@ pub own-texts : (ds : List Declaration) → Nameless ds → styleTexts (stylesOf
 unfolding styleTexts stylesOf declarationTexts
 own-texts ds u =
     rw (
-      texts-behind styleText (ownStyles ds) (pick (and (anyDecl zeroHeight ds) (anyDecl hidesOverflow ds)) (one false style.displayNone) []),
-      added-text (and (anyDecl zeroHeight ds) (anyDecl hidesOverflow ds)),
+      texts-behind styleText (ownStyles ds) (pick (and (anyDecl zeroHeight ds) (anyDecl hidesOverflow ds)) (one false (firstZero ds) style.displayNone) []),
+      added-text (and (anyDecl zeroHeight ds) (anyDecl hidesOverflow ds)) (firstZero ds),
       append-nil (textsMany styleText (ownStyles ds)),
       own-texts-only ds u,
     )

@@ -7,41 +7,43 @@ use native.Mathlib.Omega.{arith}
 use lib.Dec.{eqb}
 use lib.ListN.{length, getD, drop}
 use lib.Seq.{sets, getD-drop, drop-drop}
-use Rattle.combinators.specs.Choice.{or, and, is}
+use Rattle.combinators.specs.Choice.{pick, or, and, is}
 use Rattle.combinators.specs.Store.{Store, emits}
 use Rattle.combinators.proofs.Rules.{pick-true, pick-false, is-yes, is-no, or-left, or-right, or-none, and-gives, and-gives-false, or-assoc, or-false}
 use Rattle.combinators.proofs.Emitted.{emits-none, onto, then, sets-emitted, emits-fill}
-use Rattle.syntax.specs.Layout.{flag, flagOf, declarationWidth, declarationKind, declarationImportant, declarationValue, declarationSecond, declarationsAt, styleWidth, valueNumbers, rowOfNumbers, stylesAt}
+use Rattle.syntax.specs.Layout.{flag, flagOf, declarationWidth, declarationKind, declarationImportant, declarationStart, declarationValue, declarationSecond, declarationsAt, styleWidth, valueNumbers, rowOfNumbers, stylesAt}
 use Rattle.syntax.specs.declared.styles.StyleNumbers.{StyleNumbers}
 use Rattle.syntax.proofs.Streams.{sets-drop}
 use Rattle.declarations.specs.Styles.{stylesOf}
-use Rattle.declarations.specs.StyleNumbers.{addedStyle, ownNumbers, declaredValue, ownNumbersAt, rowOfOwn, ownRow, hasValue, zeroRow, hiddenRow, ownRows, anyRow, styleNumbers, styleCount, StylesRoom}
+use Rattle.declarations.specs.StyleNumbers.{addedStyle, ownNumbers, declaredValue, ownNumbersAt, rowOfOwn, ownRow, hasValue, zeroRow, hiddenRow, ownRows, anyRow, firstZeroRow, styleNumbers, styleCount, StylesRoom}
 use Rattle.declarations.specs.declared.styles.OwnStyle.{OwnStyle}
 use Rattle.declarations.specs.declared.styles.OwnStyle.the-variants.{Style, NoStyle}
 use Rattle.declarations.proofs.StyleLaws.{styles-meant, numbers-long, count-le}
 
 -- the row of a style, one number behind the other
-pub row-put : (x : StyleNumbers) (i : ℕ) → i ≡ flag (x .important) → (o₀ o₁ o₂ o₃ o₄ : Store) → o₁ ≡ emits o₀ (x .slot ∷ []) → o₂ ≡ emits o₁ (i ∷ [])
-    → o₃ ≡ emits o₂ (x .value .number ∷ []) → o₄ ≡ emits o₃ (x .value .second ∷ []) → o₄ ≡ emits o₀ (rowOfNumbers x)
+pub row-put : (x : StyleNumbers) (i : ℕ) → i ≡ flag (x .important) → (o₀ o₁ o₂ o₃ o₄ o₅ : Store) → o₁ ≡ emits o₀ (x .slot ∷ []) → o₂ ≡ emits o₁ (i ∷ [])
+    → o₃ ≡ emits o₂ (x .value .number ∷ []) → o₄ ≡ emits o₃ (x .value .second ∷ []) → o₅ ≡ emits o₄ (x .value .start ∷ []) → o₅ ≡ emits o₀ (rowOfNumbers x)
 unfolding rowOfNumbers valueNumbers
-row-put x i e o₀ o₁ o₂ o₃ o₄ p q r s = then _ _ _ _ _ (then _ _ _ _ _ (then _ _ _ _ _ p (q ∙ ap (λ (n : ℕ). emits o₁ (n ∷ [])) e)) r) s
+row-put x i e o₀ o₁ o₂ o₃ o₄ o₅ p q r s u = then _ _ _ _ _ (then _ _ _ _ _ (then _ _ _ _ _ (then _ _ _ _ _ p (q ∙ ap (λ (n : ℕ). emits o₁ (n ∷ [])) e)) r) s) u
 
 -- ---- the row of a declaration at a place
 module _ (rows : List ℕ) (at k a : ℕ) (ek : k ≡ getD rows (at + declarationKind) 0) (ea : a ≡ getD rows (at + declarationValue) 0) where
   -- the style that it asks for
-  pub own-at : (i b : ℕ) → i ≡ getD rows (at + declarationImportant) 0 → b ≡ getD rows (at + declarationSecond) 0 → (r : OwnStyle)
-      → r ≡ ownNumbers k (eqb i 1) (record { number = a; second = b }) → r ≡ ownNumbersAt (drop at rows)
+  pub own-at : (i b s : ℕ) → i ≡ getD rows (at + declarationImportant) 0 → b ≡ getD rows (at + declarationSecond) 0 → s ≡ getD rows (at + declarationStart) 0 → (r : OwnStyle)
+      → r ≡ ownNumbers k (eqb i 1) (record { number = a; second = b; start = s }) → r ≡ ownNumbersAt (drop at rows)
   unfolding ownNumbersAt declaredValue flagOf is
-  own-at i b ei eb r e =
+  own-at i b s ei eb es r e =
       e ∙ rw (
         ek,
         ei,
         ea,
         eb,
+        es,
         getD-drop at rows declarationKind 0,
         getD-drop at rows declarationImportant 0,
         getD-drop at rows declarationValue 0,
         getD-drop at rows declarationSecond 0,
+        getD-drop at rows declarationStart 0,
       )
 
   -- whether it is of one of two kinds, with a value
@@ -91,6 +93,11 @@ unfolding and
 and-is true b = refl
 and-is false b = refl
 
+-- where both hold the first does
+both-left : (a b : Bool) → (a && b) ≡ true → a ≡ true
+both-left true b e = refl
+both-left false b e = e
+
 -- ---- a declaration less
 
 -- the rows that are left
@@ -121,6 +128,27 @@ any-done : (p : List ℕ → Bool) (t : List ℕ) (n : ℕ) (z v : Bool) → n �
 unfolding anyRow
 any-done p t n z v d w = sym (or-false z (anyRow p n t) (rw d)) ∙ w
 
+-- where the first zero height starts: noted, at this declaration, or at one of those behind it
+first-noted : (z x : Bool) (s n k : ℕ) → pick (z || x) (pick z s n) k ≡ pick z s (pick x n k)
+unfolding pick
+first-noted true x s n k = refl
+first-noted false true s n k = refl
+first-noted false false s n k = refl
+
+first-step : (rows : List ℕ) (count at i : ℕ) (z x : Bool) (s s₁ v : ℕ) → i < count → x ≡ zeroRow (drop at rows) → s₁ ≡ pick z s (getD (drop at rows) declarationStart 0)
+    → pick z s (firstZeroRow (count - i) (drop at rows)) ≡ v → pick (z || x) s₁ (firstZeroRow (count - (i + 1)) (drop (at + declarationWidth) rows)) ≡ v
+unfolding firstZeroRow
+first-step rows count at i z x s s₁ v h e es w =
+    let d : count - i ≡ suc (count - (i + 1)) = omega arith in
+    let n = getD (drop at rows) declarationStart 0 in
+    let k = firstZeroRow (count - (i + 1)) (drop (at + declarationWidth) rows) in
+    let q : pick x n k ≡ firstZeroRow (count - i) (drop at rows) = rw (d, drop-drop declarationWidth at rows, e) in
+    rw es (first-noted z x s n k ∙ ap (pick z s) q ∙ w)
+
+-- what was noted where one was found
+first-done : (z : Bool) (s k v : ℕ) → z ≡ true → pick z s k ≡ v → s ≡ v
+first-done z s k v e w = pick-true _ _ _ _ e refl ∙ w
+
 -- ---- what `styles_from_properties` leaves
 abbrev pub Styled : List ℕ → ℕ → List ℕ → List ℕ → ℕ → Type 0
 Styled rows count styles₀ styles r =
@@ -149,32 +177,34 @@ styled rows count styles₀ styles place room e = (stored, (counted, (meant, rw 
     meant store = rw (stored, counted, sets-drop styles₀ 0 (styleNumbers rows count) long) (styles-meant store rows count _)
 
 -- ---- turns of `styles_from_properties`
-pub record Styling (rows : List ℕ) (count : ℕ) (styles₀ styles : List ℕ) (place : ℕ) (height-zero overflow-hidden : Bool) (at i : ℕ) : Type 0 where
+pub record Styling (rows : List ℕ) (count : ℕ) (styles₀ styles : List ℕ) (place : ℕ) (height-zero : Bool) (zero-start : ℕ) (overflow-hidden : Bool) (at i : ℕ) : Type 0 where
   pub left : emits (record { bytes = styles; fill = place }) (ownRows (count - i) (drop at rows)) ≡ emits (record { bytes = styles₀; fill = 0 }) (ownRows count rows)
   pub height : or height-zero (anyRow zeroRow (count - i) (drop at rows)) ≡ anyRow zeroRow count rows
+  pub first : pick height-zero zero-start (firstZeroRow (count - i) (drop at rows)) ≡ firstZeroRow count rows
   pub overflow : or overflow-hidden (anyRow hiddenRow (count - i) (drop at rows)) ≡ anyRow hiddenRow count rows
   pub there : at ≡ declarationWidth * i
   pub within : i ≤ count
   pub long : length styles ≡ length styles₀
 
 -- before the first declaration nothing is written, and neither flag is set
-pub styling-begin : (rows : List ℕ) (count : ℕ) (styles : List ℕ) → Styling rows count styles styles 0 false false 0 0
-unfolding or
+pub styling-begin : (rows : List ℕ) (count : ℕ) (styles : List ℕ) → Styling rows count styles styles 0 false 0 false 0 0
+unfolding or pick
 styling-begin rows count styles =
     let d : count - 0 ≡ count = omega arith in
-    record { left = rw d; height = rw d; overflow = rw d; there = refl; within = omega arith; long = refl }
+    record { left = rw d; height = rw d; first = rw d; overflow = rw d; there = refl; within = omega arith; long = refl }
 
-module _ (rows : List ℕ) (count : ℕ) (styles₀ styles : List ℕ) (place : ℕ) (height-zero overflow-hidden : Bool) (at i : ℕ)
-    (c : Styling rows count styles₀ styles place height-zero overflow-hidden at i) where
+module _ (rows : List ℕ) (count : ℕ) (styles₀ styles : List ℕ) (place : ℕ) (height-zero : Bool) (zero-start : ℕ) (overflow-hidden : Bool) (at i : ℕ)
+    (c : Styling rows count styles₀ styles place height-zero zero-start overflow-hidden at i) where
   -- a turn: the style of one declaration is put, and whether it is a zero height or a hidden overflow is noted
   pub styling-more : i < count → (styles₁ : List ℕ) (place₁ : ℕ)
       → record { bytes = styles₁; fill = place₁ } ≡ emits (record { bytes = styles; fill = place }) (ownRow (drop at rows)) → length styles₁ ≡ length styles
-      → (x y : Bool) → x ≡ zeroRow (drop at rows) → y ≡ hiddenRow (drop at rows)
-      → Styling rows count styles₀ styles₁ place₁ (height-zero || x) (overflow-hidden || y) (at + declarationWidth) (i + 1)
-  styling-more h styles₁ place₁ e k x y ex ey =
+      → (s : ℕ) (x y : Bool) → s ≡ pick height-zero zero-start (getD (drop at rows) declarationStart 0) → x ≡ zeroRow (drop at rows) → y ≡ hiddenRow (drop at rows)
+      → Styling rows count styles₀ styles₁ place₁ (height-zero || x) s (overflow-hidden || y) (at + declarationWidth) (i + 1)
+  styling-more h styles₁ place₁ e k s x y es ex ey =
       record {
         left = onto _ _ _ _ e ∙ sym (ap (emits (record { bytes = styles; fill = place })) (rows-step rows count at i h)) ∙ c .left;
         height = any-step zeroRow rows count at i height-zero x _ h ex (c .height);
+        first = first-step rows count at i height-zero x zero-start s _ h ex es (c .first);
         overflow = any-step hiddenRow rows count at i overflow-hidden y _ h ey (c .overflow);
         there = omega (arith, c .there);
         within = omega arith;
@@ -195,14 +225,18 @@ module _ (rows : List ℕ) (count : ℕ) (styles₀ styles : List ℕ) (place : 
     both : (height-zero && overflow-hidden) ≡ and (anyRow zeroRow count rows) (anyRow hiddenRow count rows)
     both = and-is height-zero overflow-hidden ∙ rw (any-done zeroRow _ _ height-zero _ none-left (c .height), any-done hiddenRow _ _ overflow-hidden _ none-left (c .overflow))
 
+    -- where a zero height was found its start was noted
+    noted : (height-zero && overflow-hidden) ≡ true → zero-start ≡ firstZeroRow count rows
+    noted b = first-done height-zero zero-start _ _ (both-left height-zero overflow-hidden b) (c .first)
+
     -- both flags set: the style that is added is put behind the others
-    pub styling-added : (height-zero && overflow-hidden) ≡ true → (x : StyleNumbers) → x ≡ addedStyle → (styles₁ : List ℕ) (place₁ : ℕ)
+    pub styling-added : (height-zero && overflow-hidden) ≡ true → (x : StyleNumbers) → x ≡ addedStyle zero-start → (styles₁ : List ℕ) (place₁ : ℕ)
         → record { bytes = styles₁; fill = place₁ } ≡ emits (record { bytes = styles; fill = place }) (rowOfNumbers x)
         → Styled rows count styles₀ styles₁ (place₁ / styleWidth)
     unfolding styleNumbers
     styling-added b x ex styles₁ place₁ e =
         styled rows count styles₀ styles₁ place₁ room
-        (then _ _ _ _ _ own-styled (e ∙ ap (λ (y : StyleNumbers). emits (record { bytes = styles; fill = place }) (rowOfNumbers y)) ex) ∙ ap (λ l. emits (record { bytes = styles₀; fill = 0 }) (ownRows count rows ++ l)) (pick-true _ _ _ _ (sym both ∙ b) refl))
+        (then _ _ _ _ _ own-styled (e ∙ ap (λ (y : StyleNumbers). emits (record { bytes = styles; fill = place }) (rowOfNumbers y)) (ex ∙ ap addedStyle (noted b))) ∙ ap (λ l. emits (record { bytes = styles₀; fill = 0 }) (ownRows count rows ++ l)) (pick-true _ _ _ _ (sym both ∙ b) refl))
 
     -- without both a zero height and a hidden overflow the rows are all styles
     pub styling-done : (height-zero && overflow-hidden) ≡ false → Styled rows count styles₀ styles (place / styleWidth)

@@ -6,7 +6,7 @@ use mathlib.Core.Path.{_≡_, refl}
 use lib.ListN.{length, getD, drop}
 use Rattle.combinators.specs.Choice.{pick, or, and, is}
 use Rattle.syntax.specs.Declaration.{hidden}
-use Rattle.syntax.specs.Layout.{colorKind, backgroundColorKind, heightKind, maxHeightKind, overflowKind, overflowYKind, displayKind, whiteSpaceKind, contentKind, flag, flagOf, overflowNumber, declarationWidth, declarationKind, declarationImportant, declarationValue, declarationSecond, colourSlot, backgroundSlot, displaySlot, whiteSpaceSlot, contentSlot, styleWidth, valueNumbers, rowOfNumbers}
+use Rattle.syntax.specs.Layout.{colorKind, backgroundColorKind, heightKind, maxHeightKind, overflowKind, overflowYKind, displayKind, whiteSpaceKind, contentKind, flag, flagOf, overflowNumber, declarationWidth, declarationKind, declarationImportant, declarationStart, declarationValue, declarationSecond, colourSlot, backgroundSlot, displaySlot, whiteSpaceSlot, contentSlot, styleWidth, valueNumbers, rowOfNumbers}
 use Rattle.syntax.specs.declared.styles.Value.{Value}
 use Rattle.syntax.specs.declared.styles.StyleNumbers.{StyleNumbers}
 use Rattle.declarations.specs.declared.styles.OwnStyle.{OwnStyle}
@@ -14,12 +14,12 @@ use Rattle.declarations.specs.declared.styles.OwnStyle.the-variants.{Sty
 
 -- ---- one declaration
 
--- what `display: none` gives its slot, and the one that zero height with hidden overflow adds
-abbrev pub noValue : Value
-noValue = record { number = 0; second = 0 }
+-- what `display: none` gives its slot, by where its declaration starts, and the one that zero height with hidden overflow adds
+abbrev pub noValue : ℕ → Value
+noValue s = record { number = 0; second = 0; start = s }
 
-abbrev pub addedStyle : StyleNumbers
-addedStyle = record { slot = displaySlot; important = false; value = noValue }
+abbrev pub addedStyle : ℕ → StyleNumbers
+addedStyle s = record { slot = displaySlot; important = false; value = noValue s }
 
 -- a style, as the code answers it
 abbrev pub styleFor : ℕ → Bool → Value → OwnStyle
@@ -30,13 +30,13 @@ unfoldable pub ownNumbers : ℕ → Bool → Value → OwnStyle
 ownNumbers k important v =
     pick (is k colorKind) (styleFor colourSlot important v)
     (pick (is k backgroundColorKind) (styleFor backgroundSlot important v)
-    (pick (is k displayKind) (pick (flagOf (v .number)) (styleFor displaySlot important noValue) NoStyle)
+    (pick (is k displayKind) (pick (flagOf (v .number)) (styleFor displaySlot important (noValue (v .start))) NoStyle)
     (pick (is k whiteSpaceKind) (styleFor whiteSpaceSlot important v)
     (pick (is k contentKind) (styleFor contentSlot important v) NoStyle))))
 
 -- the value of the row at the start of a stream, and the style that it asks for
 unfoldable pub declaredValue : List ℕ → Value
-declaredValue t = record { number = getD t declarationValue 0; second = getD t declarationSecond 0 }
+declaredValue t = record { number = getD t declarationValue 0; second = getD t declarationSecond 0; start = getD t declarationStart 0 }
 
 unfoldable pub ownNumbersAt : List ℕ → OwnStyle
 ownNumbersAt t = ownNumbers (getD t declarationKind 0) (flagOf (getD t declarationImportant 0)) (declaredValue t)
@@ -72,9 +72,14 @@ unfoldable pub anyRow : (List ℕ → Bool) → ℕ → List ℕ → Bool
 anyRow p zero t = false
 anyRow p (suc n) t = or (p t) (anyRow p n (drop declarationWidth t))
 
+-- where the first of them starts that sets a height to zero
+unfoldable pub firstZeroRow : ℕ → List ℕ → ℕ
+firstZeroRow zero t = 0
+firstZeroRow (suc n) t = pick (zeroRow t) (getD t declarationStart 0) (firstZeroRow n (drop declarationWidth t))
+
 -- the rows of all styles that they ask for
 unfoldable pub styleNumbers : List ℕ → ℕ → List ℕ
-styleNumbers rows n = ownRows n rows ++ pick (and (anyRow zeroRow n rows) (anyRow hiddenRow n rows)) (rowOfNumbers addedStyle) []
+styleNumbers rows n = ownRows n rows ++ pick (and (anyRow zeroRow n rows) (anyRow hiddenRow n rows)) (rowOfNumbers (addedStyle (firstZeroRow n rows))) []
 
 -- how many styles these are
 unfoldable pub styleCount : List ℕ → ℕ → ℕ
@@ -83,19 +88,19 @@ styleCount rows n = length (styleNumbers rows n) / styleWidth
 -- the rows of `max-height: 0`, `color: red !important`, `content` with 3 bytes of text from 7 on, and `overflow: hidden`
 declared : List ℕ
 declared =
-    maxHeightKind ∷ 0 ∷ 0 ∷ 1 ∷ 0
-    ∷ colorKind ∷ 1 ∷ 14 ∷ 0xff0000 ∷ 0
-    ∷ contentKind ∷ 0 ∷ 37 ∷ 7 ∷ 3
-    ∷ overflowKind ∷ 0 ∷ 51 ∷ 1 ∷ 0 ∷ []
+    maxHeightKind ∷ 0 ∷ 2 ∷ 1 ∷ 0
+    ∷ colorKind ∷ 1 ∷ 16 ∷ 0xff0000 ∷ 0
+    ∷ contentKind ∷ 0 ∷ 39 ∷ 7 ∷ 3
+    ∷ overflowKind ∷ 0 ∷ 53 ∷ 1 ∷ 0 ∷ []
 
 -- all four
-case-all : styleNumbers declared 4 ≡ colourSlot ∷ 1 ∷ 0xff0000 ∷ 0 ∷ contentSlot ∷ 0 ∷ 7 ∷ 3 ∷ displaySlot ∷ 0 ∷ 0 ∷ 0 ∷ []
-unfolding declared styleNumbers ownRows anyRow ownRow rowOfOwn ownNumbersAt declaredValue ownNumbers rowOfNumbers valueNumbers zeroRow hiddenRow hasValue overflowNumber flag flagOf pick or and is
+case-all : styleNumbers declared 4 ≡ colourSlot ∷ 1 ∷ 0xff0000 ∷ 0 ∷ 16 ∷ contentSlot ∷ 0 ∷ 7 ∷ 3 ∷ 39 ∷ displaySlot ∷ 0 ∷ 0 ∷ 0 ∷ 2 ∷ []
+unfolding declared styleNumbers ownRows anyRow firstZeroRow ownRow rowOfOwn ownNumbersAt declaredValue ownNumbers rowOfNumbers valueNumbers zeroRow hiddenRow hasValue overflowNumber flag flagOf pick or and is
 case-all = refl
 
 -- the first three, which hide no overflow
-case-three : styleNumbers declared 3 ≡ colourSlot ∷ 1 ∷ 0xff0000 ∷ 0 ∷ contentSlot ∷ 0 ∷ 7 ∷ 3 ∷ []
-unfolding declared styleNumbers ownRows anyRow ownRow rowOfOwn ownNumbersAt declaredValue ownNumbers rowOfNumbers valueNumbers zeroRow hiddenRow hasValue overflowNumber flag flagOf pick or and is
+case-three : styleNumbers declared 3 ≡ colourSlot ∷ 1 ∷ 0xff0000 ∷ 0 ∷ 16 ∷ contentSlot ∷ 0 ∷ 7 ∷ 3 ∷ 39 ∷ []
+unfolding declared styleNumbers ownRows anyRow firstZeroRow ownRow rowOfOwn ownNumbersAt declaredValue ownNumbers rowOfNumbers valueNumbers zeroRow hiddenRow hasValue overflowNumber flag flagOf pick or and is
 case-three = refl
 
 -- what `styles_from_properties` asks for: the rows that it reads, and a row for each declaration and one more

@@ -10,6 +10,7 @@ use syntax::rows::CONTENT_SLOT;
 use syntax::rows::DECLARATION_IMPORTANT;
 use syntax::rows::DECLARATION_KIND;
 use syntax::rows::DECLARATION_SECOND;
+use syntax::rows::DECLARATION_START;
 use syntax::rows::DECLARATION_VALUE;
 use syntax::rows::DECLARATION_WIDTH;
 use syntax::rows::DISPLAY;
@@ -29,12 +30,13 @@ use syntax::styles::Value;
 ghost use mathlib.Core.Path.{_≡_};
 ghost use mathlib.Core.List.{List};
 ghost use Prim.Native.Nat.{ℕ, _+_, _≤_};
-ghost use lib.ListN.{drop};
+ghost use lib.ListN.{getD, drop};
 ghost use lib.Seq.{sets};
+ghost use Rattle.combinators.specs.Choice.{pick};
 ghost use Rattle.combinators.specs.Store.{emits};
-ghost use Rattle.syntax.specs.Layout.{declarationsAt, rowOfNumbers, stylesAt};
+ghost use Rattle.syntax.specs.Layout.{declarationStart, declarationsAt, rowOfNumbers, stylesAt};
 ghost use Rattle.declarations.specs.Styles.{stylesOf};
-ghost use Rattle.declarations.specs.StyleNumbers.{styleFor, ownNumbers, ownNumbersAt, ownRow, hasValue, zeroRow, hiddenRow, styleNumbers, styleCount, StylesRoom};
+ghost use Rattle.declarations.specs.StyleNumbers.{addedStyle, styleFor, ownNumbers, ownNumbersAt, ownRow, hasValue, zeroRow, hiddenRow, styleNumbers, styleCount, StylesRoom};
 
 // The style that a declaration asks for by itself; or that it asks for none.
 pub enum OwnStyle {
@@ -42,18 +44,21 @@ pub enum OwnStyle {
     NoStyle,
 }
 
-// What `display: none` gives its slot.
-const NO_VALUE: Value = Value {
-    number: 0,
-    second: 0,
-};
-
 // The `display: none` that zero height with hidden overflow adds. It is never important.
-pub const ADDED_STYLE: StyleNumbers = StyleNumbers {
-    slot: DISPLAY_SLOT,
-    important: false,
-    value: NO_VALUE,
-};
+fn added_style(start: u32) -> StyleNumbers
+    ensures { λ r. ⌜ r ≡ addedStyle start ⌝ }
+{
+    let value = Value {
+        number: 0,
+        second: 0,
+        start,
+    };
+    StyleNumbers {
+        slot: DISPLAY_SLOT,
+        important: false,
+        value,
+    }
+}
 
 // The style of a slot and what it gives the slot.
 fn style_for(slot: u32, important: bool, value: Value) -> OwnStyle
@@ -78,7 +83,12 @@ fn own_style(kind: u32, important: bool, value: Value) -> OwnStyle
     }
     if kind == DISPLAY {
         if value.number == FLAG_TRUE {
-            return style_for(DISPLAY_SLOT, important, NO_VALUE);
+            let none = Value {
+                number: 0,
+                second: 0,
+                start: value.start,
+            };
+            return style_for(DISPLAY_SLOT, important, none);
         }
         return OwnStyle::NoStyle;
     }
@@ -98,6 +108,7 @@ pub fn own_style_at(rows: &[u32], at: usize) -> OwnStyle
     let value = Value {
         number: number_at(rows, at, DECLARATION_VALUE),
         second: number_at(rows, at, DECLARATION_SECOND),
+        start: number_at(rows, at, DECLARATION_START),
     };
     own_style(
         number_at(rows, at, DECLARATION_KIND),
@@ -114,7 +125,8 @@ fn put_style(style: StyleNumbers, styles: &mut [u32], place: usize) -> usize
     let after_slot = emit_number(style.slot, styles, place);
     let after_important = emit_number(flag_of(style.important), styles, after_slot);
     let after_number = emit_number(style.value.number, styles, after_important);
-    emit_number(style.value.second, styles, after_number)
+    let after_second = emit_number(style.value.second, styles, after_number);
+    emit_number(style.value.start, styles, after_second)
 }
 
 // Writes the row of the style that the declaration asks for whose row starts at `at`, if it asks for one; the place behind it.
@@ -161,8 +173,18 @@ pub fn hides_overflow(rows: &[u32], at: usize) -> bool
     has_value(rows, at, OVERFLOW, OVERFLOW_Y, OVERFLOW_HIDDEN)
 }
 
+// Where the first zero height starts: as was noted if one was found, or else where the declaration starts whose row starts at `at`.
+fn first_zero(rows: &[u32], at: usize, found: bool, noted: u32) -> u32
+    ensures { λ r. ⌜ r ≡ pick found noted (getD (drop at (now (rows .entry))) declarationStart 0) ⌝ }
+{
+    if found {
+        return noted;
+    }
+    number_at(rows, at, DECLARATION_START)
+}
+
 // Writes the rows of the styles that the first `count` declarations of `rows` ask for to `styles` from 0 on; how many there are. A zero
-// height and a hidden overflow among them add `display: none`, which is never important.
+// height and a hidden overflow among them add `display: none`, which is never important and starts where the first zero height does.
 pub fn styles_from_properties(rows: &[u32], count: usize, styles: &mut [u32]) -> usize
     requires { ⌜ StylesRoom (now rows) count (now styles) ⌝ }
     ensures { λ _. ⌜ now (styles .exit) ≡ sets (now (styles .entry)) 0 (styleNumbers (now (rows .entry)) count) ⌝ }
@@ -172,18 +194,20 @@ pub fn styles_from_properties(rows: &[u32], count: usize, styles: &mut [u32]) ->
 {
     let mut place = 0;
     let mut height_zero = false;
+    let mut zero_start = 0;
     let mut overflow_hidden = false;
     let mut at = 0;
     let mut i = 0;
     while i < count {
         place = put_own_style(rows, at, styles, place);
+        zero_start = first_zero(rows, at, height_zero, zero_start);
         height_zero = height_zero | is_zero_height(rows, at);
         overflow_hidden = overflow_hidden | hides_overflow(rows, at);
         at += DECLARATION_WIDTH;
         i += 1;
     }
     if height_zero & overflow_hidden {
-        return put_style(ADDED_STYLE, styles, place) / STYLE_WIDTH;
+        return put_style(added_style(zero_start), styles, place) / STYLE_WIDTH;
     }
     place / STYLE_WIDTH
 }

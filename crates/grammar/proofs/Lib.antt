@@ -17,3 +17,4 @@ pub mod SheetsRead
 pub mod DeclarationCases
 pub mod GrammarCases
 pub mod SheetCases
+pub mod StartsRead

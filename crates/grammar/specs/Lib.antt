@@ -5,3 +5,4 @@ pub mod Values
 pub mod Balanced
 pub mod Declarations
 pub mod Sheets
+pub mod Starts

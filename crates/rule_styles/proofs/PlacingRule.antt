@@ -39,7 +39,8 @@ numbers-before (suc n) [] t h = absurd (omega arith)
 numbers-before (suc n) (a ∷ []) t h = absurd (omega arith)
 numbers-before (suc n) (a ∷ b ∷ []) t h = absurd (omega arith)
 numbers-before (suc n) (a ∷ b ∷ c ∷ []) t h = absurd (omega arith)
-numbers-before (suc n) (a ∷ b ∷ c ∷ d ∷ xs) t h = ap (λ (r : List StyleNumbers). numbersAt (a ∷ b ∷ c ∷ d ∷ xs) ∷ r) (numbers-before n xs t (omega arith))
+numbers-before (suc n) (a ∷ b ∷ c ∷ d ∷ []) t h = absurd (omega arith)
+numbers-before (suc n) (a ∷ b ∷ c ∷ d ∷ e ∷ xs) t h = ap (λ (r : List StyleNumbers). numbersAt (a ∷ b ∷ c ∷ d ∷ e ∷ xs) ∷ r) (numbers-before n xs t (omega arith))
 
 -- so many as are asked for
 pub numbers-long : (n : ℕ) (t : List ℕ) → length (numbersOf n t) ≡ n

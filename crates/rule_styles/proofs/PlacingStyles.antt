@@ -26,7 +26,7 @@ module _ (text : List ℕ) (fill : ℕ) (x : StyleNumbers) where
 
   -- the style that says where it lies
   content-lies : x .slot ≡ contentSlot → (size : ℕ) → size ≡ length (part text (x .value .number) (x .value .second))
-      → record { slot = x .slot; important = x .important; value = record { number = fill; second = size } } ≡ placedNumbers text fill x
+      → record { slot = x .slot; important = x .important; value = record { number = fill; second = size; start = x .value .start } } ≡ placedNumbers text fill x
   unfolding placedNumbers placedValue
   content-lies h size e =
       ap (λ v. record { slot = x .slot; important = x .important; value = v }) (pick-true _ _ _ _ (is-yes _ _ h) (rw (e, content-is h) refl))
@@ -68,7 +68,7 @@ module _ (tokens texts : List ℕ) (at from end fill : ℕ) (style : StyleNumber
     -- it is copied, and its row says where it lies
     pub content-placed : (size : ℕ) → size ≡ length (part text (style .value .number) (style .value .second)) → (t z : List ℕ)
         → z ≡ sets texts (end + fill) (part text (style .value .number) (style .value .second))
-        → t ≡ sets tokens at (rowOfNumbers (record { slot = style .slot; important = style .important; value = record { number = fill; second = size } }))
+        → t ≡ sets tokens at (rowOfNumbers (record { slot = style .slot; important = style .important; value = record { number = fill; second = size; start = style .value .start } }))
         → Left t z (fill + size)
     content-placed size es t z ez et =
         rw (← e) (

@@ -19,7 +19,7 @@ use Rattle.syntax.specs.Style.{StyleDecl}
 use Rattle.syntax.specs.declared.styles.Value.{Value}
 use Rattle.syntax.proofs.RuleRows.{rules-read, RulesFit}
 use Rattle.syntax.proofs.Streams.{Held}
-use Rattle.declarations.specs.Styles.{one, styleOf, zeroHeight, hidesOverflow, anyDecl, ownStyles, stylesOf}
+use Rattle.declarations.specs.Styles.{one, styleOf, zeroHeight, hidesOverflow, anyDecl, ownStyles, firstZero, stylesOf}
 use Rattle.origins.specs.declared.reading.SheetRules.{SheetRules}
 use Rattle.origins.specs.declared.reading.SheetsRules.{SheetsRules}
 use Rattle.styles.specs.Said as said
@@ -32,20 +32,19 @@ use Rattle.rule_styles.proofs.PlacingLies.{written-room, written-rest, 
 use Rattle.rule_styles.proofs.Written.{rules-contents, rules-styled}
 
 -- ---- contents are among the texts of their rules
--- the text of the style of a declaration is no longer than the text of the declaration
-own-short : (i : Bool) (d : Decl) → length (styleTexts (styleOf i d)) ≤ length (declText d)
+own-short : (i : Bool) (s : ℕ) (d : Decl) → length (styleTexts (styleOf i s d)) ≤ length (declText d)
 unfolding styleTexts textsMany styleText styleTextOf styleOf one declText pick
-own-short i (color c) = omega arith
-own-short i (backgroundColor c) = omega arith
-own-short i (height z) = omega arith
-own-short i (maxHeight z) = omega arith
-own-short i (overflow o) = omega arith
-own-short i (overflowY o) = omega arith
-own-short i (display true) = omega arith
-own-short i (display false) = omega arith
-own-short i (whiteSpace w) = omega arith
-own-short i (content b) = omega (arith, length-append b [])
-own-short i (unknown b) = omega arith
+own-short i s (color c) = omega arith
+own-short i s (backgroundColor c) = omega arith
+own-short i s (height z) = omega arith
+own-short i s (maxHeight z) = omega arith
+own-short i s (overflow o) = omega arith
+own-short i s (overflowY o) = omega arith
+own-short i s (display true) = omega arith
+own-short i s (display false) = omega arith
+own-short i s (whiteSpace w) = omega arith
+own-short i s (content b) = omega (arith, length-append b [])
+own-short i s (unknown b) = omega arith
 
 -- the texts of two lists of styles are as long as those of each together
 texts-length : (xs ys : List StyleDecl) → length (styleTexts (xs ++ ys)) ≡ length (styleTexts xs) + length (styleTexts ys)
@@ -58,13 +57,13 @@ owns-short : (ds : List Declaration) → length (styleTexts (ownStyles ds)) ≤ 
 unfolding ownStyles declarationTexts textsMany declarationText
 owns-short [] = unfold styleTexts in omega arith
 owns-short (d ∷ ds) =
-    omega (arith, texts-length (styleOf (d .important) (d .decl)) (ownStyles ds), own-short (d .important) (d .decl), owns-short ds, length-append (declText (d .decl)) (declarationTexts ds))
+    omega (arith, texts-length (styleOf (d .important) (d .start) (d .decl)) (ownStyles ds), own-short (d .important) (d .start) (d .decl), owns-short ds, length-append (declText (d .decl)) (declarationTexts ds))
 
 -- the style that is added has no content
-added-short : (z : Bool) → length (styleTexts (pick z (one false style.displayNone) [])) ≡ 0
+added-short : (z : Bool) (s : ℕ) → length (styleTexts (pick z (one false s style.displayNone) [])) ≡ 0
 unfolding pick one styleTexts textsMany styleText styleTextOf
-added-short true = refl
-added-short false = refl
+added-short true s = refl
+added-short false s = refl
 
 -- the contents of a rule's styles are no longer than the rule's texts
 rule-short : (r : RuleSet) → length (ruleContents r) ≤ length (ruleText r)
@@ -72,7 +71,7 @@ unfolding ruleContents said.ruleStyles stylesOf ruleText
 rule-short r =
     let ds = r .declarations in
     let z = and (anyDecl zeroHeight ds) (anyDecl hidesOverflow ds) in
-    omega (arith, texts-length (ownStyles ds) (pick z (one false style.displayNone) []), added-short z, owns-short ds, length-append (selectorTexts (r .selectors)) (declarationTexts ds))
+    omega (arith, texts-length (ownStyles ds) (pick z (one false (firstZero ds) style.displayNone) []), added-short z (firstZero ds), owns-short ds, length-append (selectorTexts (r .selectors)) (declarationTexts ds))
 
 -- the contents of all rules' styles are no longer than the rules' texts
 pub contents-short : (rs : List RuleSet) → length (rulesContents rs) ≤ length (ruleTexts rs)

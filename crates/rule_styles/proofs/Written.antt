@@ -9,7 +9,7 @@ use lib.ListN.{length, getD, drop, length-append}
 use Rattle.combinators.specs.Choice.{pick, and, is}
 use Rattle.combinators.specs.Part.{part}
 use Rattle.syntax.specs.Declaration.{Decl, color, backgroundColor, height, maxHeight, overflow, overflowY, display, whiteSpace, content, unknown, Declaration}
-use Rattle.syntax.specs.Layout.{flag, declarationWidth, declText, declarationText, declRow, declarationRow, declarationRows, declarationTexts, contentSlot, styleWidth, styleTextOf, styleText, styleSlotOf, valueFrom, numbersFrom, rowOfNumbers, numbersAt, styleRow, styleTexts}
+use Rattle.syntax.specs.Layout.{flag, declarationWidth, declText, declarationText, declRow, declarationRow, declarationRows, declarationTexts, contentSlot, styleWidth, styleTextOf, styleText, styleSlotOf, numberFrom, valueFrom, numbersFrom, rowOfNumbers, numbersAt, styleRow, styleTexts}
 use Rattle.syntax.specs.RuleLayout.{selectorHead, componentWidth, ruleHead, ruleSelectors, ruleDeclarations, readComponent, readSelector, selectorRows, selectorTexts, readRule, ruleText, ruleRow, ruleRows, ruleTexts}
 use Rattle.syntax.specs.Selector.{Selector, RuleSet}
 use Rattle.syntax.specs.Stream.{readMany, textsMany, rowsMany}
@@ -21,9 +21,9 @@ use Rattle.syntax.proofs.Back.{row-numbers-back, row-numbers-rest}
 use Rattle.syntax.proofs.RowSizes.{length-style}
 use Rattle.syntax.proofs.RuleRows.{selectors-back, rule-back, RulesFit}
 use Rattle.syntax.proofs.Streams.{Held, held-left, held-right, held-part, texts-append}
-use Rattle.declarations.specs.Styles.{one, styleOf, zeroHeight, hidesOverflow, anyDecl, ownStyles, stylesOf}
+use Rattle.declarations.specs.Styles.{one, styleOf, zeroHeight, hidesOverflow, anyDecl, ownStyles, firstZero, stylesOf}
 use Rattle.declarations.specs.StyleNumbers.{addedStyle, zeroRow, hiddenRow, ownRows, styleNumbers}
-use Rattle.declarations.proofs.StyleLaws.{row-behind, own-row, zero-row, hidden-row, any-declared}
+use Rattle.declarations.proofs.StyleLaws.{row-behind, own-row, zero-row, hidden-row, any-declared, first-declared}
 use Rattle.cascade.specs.Record.{Styled}
 use Rattle.origins.specs.Rules.{selectorsRead, ruleStyles}
 use Rattle.origins.proofs.WalkLaws.{component-rest}
@@ -45,7 +45,7 @@ numbers-back [] t = refl
 numbers-back (x ∷ xs) t =
     rw (append-assoc (rowOfNumbers x) (textsMany rowOfNumbers xs) t, row-numbers-back x (textsMany rowOfNumbers xs ++ t), row-numbers-rest x (textsMany rowOfNumbers xs ++ t), numbers-back xs t)
 
--- they are four numbers each
+-- they are five numbers each
 pub numbers-long : (xs : List StyleNumbers) → length (textsMany rowOfNumbers xs) ≡ styleWidth * length xs
 unfolding textsMany
 numbers-long [] = refl
@@ -79,59 +79,59 @@ unfolding styleTexts
 texts-behind xs ys = texts-append (λ _ (d : StyleDecl). []) styleText xs ys
 
 -- ---- one declaration, whose text lies at h: the style that it asks for by itself
-own-numbers : ℕ → Bool → Decl → List StyleNumbers
-own-numbers h i d = map (numbersFrom h) (styleOf i d)
+own-numbers : ℕ → Bool → ℕ → Decl → List StyleNumbers
+own-numbers h i s d = map (numbersFrom h) (styleOf i s d)
 
 -- the row that is written for the style of a declaration is the row of its numbers
-own-rows-one : (h : ℕ) (i : Bool) (d : Decl) → rowsMany styleRow styleText h (styleOf i d) ≡ textsMany rowOfNumbers (own-numbers h i d)
+own-rows-one : (h : ℕ) (i : Bool) (s : ℕ) (d : Decl) → rowsMany styleRow styleText h (styleOf i s d) ≡ textsMany rowOfNumbers (own-numbers h i s d)
 unfolding own-numbers rowsMany textsMany styleOf one styleRow pick
-own-rows-one h i (color c) = refl
-own-rows-one h i (backgroundColor c) = refl
-own-rows-one h i (height z) = refl
-own-rows-one h i (maxHeight z) = refl
-own-rows-one h i (overflow o) = refl
-own-rows-one h i (overflowY o) = refl
-own-rows-one h i (display true) = refl
-own-rows-one h i (display false) = refl
-own-rows-one h i (whiteSpace w) = refl
-own-rows-one h i (content b) = refl
-own-rows-one h i (unknown b) = refl
+own-rows-one h i s (color c) = refl
+own-rows-one h i s (backgroundColor c) = refl
+own-rows-one h i s (height z) = refl
+own-rows-one h i s (maxHeight z) = refl
+own-rows-one h i s (overflow o) = refl
+own-rows-one h i s (overflowY o) = refl
+own-rows-one h i s (display true) = refl
+own-rows-one h i s (display false) = refl
+own-rows-one h i s (whiteSpace w) = refl
+own-rows-one h i s (content b) = refl
+own-rows-one h i s (unknown b) = refl
 
 module _ (t : List ℕ) where
   -- its content, and its style placed
-  own-content : (h : ℕ) (i : Bool) (d : Decl) → Held t h (declText d) → contentsOf t (own-numbers h i d) ≡ styleTexts (styleOf i d)
-  unfolding own-numbers contentsOf contentOf textsMany styleOf one numbersFrom styleSlotOf valueFrom styleTexts styleText styleTextOf declText pick is
-  own-content h i (color c) k = refl
-  own-content h i (backgroundColor c) k = refl
-  own-content h i (height z) k = refl
-  own-content h i (maxHeight z) k = refl
-  own-content h i (overflow o) k = refl
-  own-content h i (overflowY o) k = refl
-  own-content h i (display true) k = refl
-  own-content h i (display false) k = refl
-  own-content h i (whiteSpace w) k = refl
-  own-content h i (content b) k = ap (λ (l : List ℕ). l ++ []) (held-part t h b k)
-  own-content h i (unknown b) k = refl
+  own-content : (h : ℕ) (i : Bool) (s : ℕ) (d : Decl) → Held t h (declText d) → contentsOf t (own-numbers h i s d) ≡ styleTexts (styleOf i s d)
+  unfolding own-numbers contentsOf contentOf textsMany styleOf one numbersFrom styleSlotOf numberFrom valueFrom styleTexts styleText styleTextOf declText pick is
+  own-content h i s (color c) k = refl
+  own-content h i s (backgroundColor c) k = refl
+  own-content h i s (height z) k = refl
+  own-content h i s (maxHeight z) k = refl
+  own-content h i s (overflow o) k = refl
+  own-content h i s (overflowY o) k = refl
+  own-content h i s (display true) k = refl
+  own-content h i s (display false) k = refl
+  own-content h i s (whiteSpace w) k = refl
+  own-content h i s (content b) k = ap (λ (l : List ℕ). l ++ []) (held-part t h b k)
+  own-content h i s (unknown b) k = refl
 
   -- the style of a declaration, placed, is the placed style that it asks for
-  own-placed : (h f : ℕ) (i : Bool) (d : Decl) → Held t h (declText d) → map inNumbers (placedAll t f (own-numbers h i d)) ≡ placedStyles f (styleOf i d)
-  unfolding own-numbers placedAll placedNumbers placedValue contentOf styleOf one numbersFrom styleSlotOf valueFrom placedStyles inNumbers declText pick is
-  own-placed h f i (color c) k = refl
-  own-placed h f i (backgroundColor c) k = refl
-  own-placed h f i (height z) k = refl
-  own-placed h f i (maxHeight z) k = refl
-  own-placed h f i (overflow o) k = refl
-  own-placed h f i (overflowY o) k = refl
-  own-placed h f i (display true) k = refl
-  own-placed h f i (display false) k = refl
-  own-placed h f i (whiteSpace w) k = refl
-  own-placed h f i (content b) k = rw (held-part t h b k)
-  own-placed h f i (unknown b) k = refl
+  own-placed : (h f : ℕ) (i : Bool) (s : ℕ) (d : Decl) → Held t h (declText d) → map inNumbers (placedAll t f (own-numbers h i s d)) ≡ placedStyles f (styleOf i s d)
+  unfolding own-numbers placedAll placedNumbers placedValue contentOf styleOf one numbersFrom styleSlotOf numberFrom valueFrom styleTextOf placedStyles inNumbers declText pick is
+  own-placed h f i s (color c) k = refl
+  own-placed h f i s (backgroundColor c) k = refl
+  own-placed h f i s (height z) k = refl
+  own-placed h f i s (maxHeight z) k = refl
+  own-placed h f i s (overflow o) k = refl
+  own-placed h f i s (overflowY o) k = refl
+  own-placed h f i s (display true) k = refl
+  own-placed h f i s (display false) k = refl
+  own-placed h f i s (whiteSpace w) k = refl
+  own-placed h f i s (content b) k = rw (held-part t h b k)
+  own-placed h f i s (unknown b) k = refl
 
 -- ---- declarations, whose texts lie end to end from h on
 lying-own : ℕ → List Declaration → List StyleNumbers
 lying-own h [] = []
-lying-own h (d ∷ ds) = own-numbers h (d .important) (d .decl) ++ lying-own (h + length (declarationText d)) ds
+lying-own h (d ∷ ds) = own-numbers h (d .important) (d .start) (d .decl) ++ lying-own (h + length (declarationText d)) ds
 
 -- the rows that are written for declarations are those of the numbers of their styles
 lying-rows : (ds : List Declaration) (h : ℕ) (t : List ℕ) → ownRows (length ds) (declarationRows h ds ++ t) ≡ textsMany rowOfNumbers (lying-own h ds)
@@ -145,23 +145,23 @@ lying-rows (d ∷ ds) h t =
       own-row (d .important) (d .start) h (d .decl) q,
       row-behind (flag (d .important)) (d .start) h (d .decl) q,
       lying-rows ds g t,
-      own-rows-one h (d .important) (d .decl),
-      texts-append (λ _ (x : StyleNumbers). []) rowOfNumbers (own-numbers h (d .important) (d .decl)) (lying-own g ds),
+      own-rows-one h (d .important) (d .start) (d .decl),
+      texts-append (λ _ (x : StyleNumbers). []) rowOfNumbers (own-numbers h (d .important) (d .start) (d .decl)) (lying-own g ds),
     )
 
 -- with the style that zero height and hidden overflow add
 added : List Declaration → List StyleNumbers
-added ds = pick (and (anyDecl zeroHeight ds) (anyDecl hidesOverflow ds)) (addedStyle ∷ []) []
+added ds = pick (and (anyDecl zeroHeight ds) (anyDecl hidesOverflow ds)) (addedStyle (firstZero ds) ∷ []) []
 
 -- the styles of declarations whose texts lie from h on, in numbers, with the one that is added
 lying : ℕ → List Declaration → List StyleNumbers
 lying h ds = lying-own h ds ++ added ds
 
 -- the row of the style that is added is the row of its numbers
-added-rows : (z : Bool) → pick z (rowOfNumbers addedStyle) [] ≡ textsMany rowOfNumbers (pick z (addedStyle ∷ []) [])
+added-rows : (z : Bool) (s : ℕ) → pick z (rowOfNumbers (addedStyle s)) [] ≡ textsMany rowOfNumbers (pick z (addedStyle s ∷ []) [])
 unfolding pick textsMany
-added-rows true = sym (append-nil (rowOfNumbers addedStyle))
-added-rows false = refl
+added-rows true s = sym (append-nil (rowOfNumbers (addedStyle s)))
+added-rows false s = refl
 
 -- the style rows of declarations that lie in rows are the rows of those numbers
 style-rows : (ds : List Declaration) (h : ℕ) (t : List ℕ) → styleNumbers (declarationRows h ds ++ t) (length ds) ≡ textsMany rowOfNumbers (lying h ds)
@@ -171,8 +171,9 @@ style-rows ds h t =
       lying-rows ds h t,
       any-declared zeroRow zeroHeight zero-row ds h t,
       any-declared hiddenRow hidesOverflow hidden-row ds h t,
-      added-rows (and (anyDecl zeroHeight ds) (anyDecl hidesOverflow ds)),
-      texts-append (λ _ (x : StyleNumbers). []) rowOfNumbers (lying-own h ds) (pick (and (anyDecl zeroHeight ds) (anyDecl hidesOverflow ds)) (addedStyle ∷ []) []),
+      first-declared ds h t,
+      added-rows (and (anyDecl zeroHeight ds) (anyDecl hidesOverflow ds)) (firstZero ds),
+      texts-append (λ _ (x : StyleNumbers). []) rowOfNumbers (lying-own h ds) (pick (and (anyDecl zeroHeight ds) (anyDecl hidesOverflow ds)) (addedStyle (firstZero ds) ∷ []) []),
     )
 
 module _ (t : List ℕ) where
@@ -181,46 +182,46 @@ module _ (t : List ℕ) where
   unfolding lying-own ownStyles declarationTexts textsMany
   lying-contents [] h k = unfold contentsOf styleTexts in refl
   lying-contents (d ∷ ds) h k =
-      contents-append t (own-numbers h (d .important) (d .decl)) (lying-own (h + length (declarationText d)) ds)
-      ∙ ap (λ (l : List ℕ). l ++ contentsOf t (lying-own (h + length (declarationText d)) ds)) (own-content t h (d .important) (d .decl) (unfold declarationText in held-left t h (declarationText d) (declarationTexts ds) k))
-      ∙ ap (λ (l : List ℕ). styleTexts (styleOf (d .important) (d .decl)) ++ l) (lying-contents ds (h + length (declarationText d)) (held-right t h (declarationText d) (declarationTexts ds) k))
-      ∙ sym (texts-behind (styleOf (d .important) (d .decl)) (ownStyles ds))
+      contents-append t (own-numbers h (d .important) (d .start) (d .decl)) (lying-own (h + length (declarationText d)) ds)
+      ∙ ap (λ (l : List ℕ). l ++ contentsOf t (lying-own (h + length (declarationText d)) ds)) (own-content t h (d .important) (d .start) (d .decl) (unfold declarationText in held-left t h (declarationText d) (declarationTexts ds) k))
+      ∙ ap (λ (l : List ℕ). styleTexts (styleOf (d .important) (d .start) (d .decl)) ++ l) (lying-contents ds (h + length (declarationText d)) (held-right t h (declarationText d) (declarationTexts ds) k))
+      ∙ sym (texts-behind (styleOf (d .important) (d .start) (d .decl)) (ownStyles ds))
 
   -- the own styles of declarations, placed, are those that the definitions place
   lying-placed : (ds : List Declaration) (h f : ℕ) → Held t h (declarationTexts ds) → map inNumbers (placedAll t f (lying-own h ds)) ≡ placedStyles f (ownStyles ds)
   unfolding lying-own ownStyles declarationTexts textsMany
   lying-placed [] h f k = unfold placedAll placedStyles in refl
   lying-placed (d ∷ ds) h f k =
-      let own = own-numbers h (d .important) (d .decl) in
+      let own = own-numbers h (d .important) (d .start) (d .decl) in
       let rest = lying-own (h + length (declarationText d)) ds in
       let here : Held t h (declText (d .decl)) = unfold declarationText in held-left t h (declarationText d) (declarationTexts ds) k in
       let g = f + length (contentsOf t own) in
-      let e : length (contentsOf t own) ≡ length (styleTexts (styleOf (d .important) (d .decl))) = ap length (own-content t h (d .important) (d .decl) here) in
+      let e : length (contentsOf t own) ≡ length (styleTexts (styleOf (d .important) (d .start) (d .decl))) = ap length (own-content t h (d .important) (d .start) (d .decl) here) in
       ap (map inNumbers) (placed-append t own rest f)
       ∙ numbers-append (placedAll t f own) (placedAll t g rest)
-      ∙ ap (λ (l : List (Styled Value)). l ++ map inNumbers (placedAll t g rest)) (own-placed t h f (d .important) (d .decl) here)
-      ∙ ap (λ (l : List (Styled Value)). placedStyles f (styleOf (d .important) (d .decl)) ++ l) (lying-placed ds (h + length (declarationText d)) g (held-right t h (declarationText d) (declarationTexts ds) k))
-      ∙ ap (λ (n : ℕ). placedStyles f (styleOf (d .important) (d .decl)) ++ placedStyles (f + n) (ownStyles ds)) e
-      ∙ sym (styles-append (styleOf (d .important) (d .decl)) (ownStyles ds) f)
+      ∙ ap (λ (l : List (Styled Value)). l ++ map inNumbers (placedAll t g rest)) (own-placed t h f (d .important) (d .start) (d .decl) here)
+      ∙ ap (λ (l : List (Styled Value)). placedStyles f (styleOf (d .important) (d .start) (d .decl)) ++ l) (lying-placed ds (h + length (declarationText d)) g (held-right t h (declarationText d) (declarationTexts ds) k))
+      ∙ ap (λ (n : ℕ). placedStyles f (styleOf (d .important) (d .start) (d .decl)) ++ placedStyles (f + n) (ownStyles ds)) e
+      ∙ sym (styles-append (styleOf (d .important) (d .start) (d .decl)) (ownStyles ds) f)
 
   -- with the style that is added, which has no content
-  added-content : (z : Bool) → contentsOf t (pick z (addedStyle ∷ []) []) ≡ styleTexts (pick z (one false style.displayNone) [])
+  added-content : (z : Bool) (s : ℕ) → contentsOf t (pick z (addedStyle s ∷ []) []) ≡ styleTexts (pick z (one false s style.displayNone) [])
   unfolding contentsOf contentOf textsMany styleTexts styleText styleTextOf one pick is
-  added-content true = refl
-  added-content false = refl
+  added-content true s = refl
+  added-content false s = refl
 
   -- the style that is added, placed, is the one that the definitions place
-  added-placed : (z : Bool) (f : ℕ) → map inNumbers (placedAll t f (pick z (addedStyle ∷ []) [])) ≡ placedStyles f (pick z (one false style.displayNone) [])
-  unfolding placedAll placedNumbers placedValue placedStyles inNumbers numbersFrom styleSlotOf valueFrom one pick is
-  added-placed true f = refl
-  added-placed false f = refl
+  added-placed : (z : Bool) (s f : ℕ) → map inNumbers (placedAll t f (pick z (addedStyle s ∷ []) [])) ≡ placedStyles f (pick z (one false s style.displayNone) [])
+  unfolding placedAll placedNumbers placedValue placedStyles inNumbers numbersFrom styleSlotOf numberFrom valueFrom styleTextOf one pick is
+  added-placed true s f = refl
+  added-placed false s f = refl
 
   -- the contents of all styles of declarations are the texts of these styles
   all-contents : (ds : List Declaration) (h : ℕ) → Held t h (declarationTexts ds) → contentsOf t (lying h ds) ≡ styleTexts (stylesOf ds)
   unfolding lying added stylesOf
   all-contents ds h k =
       let z = and (anyDecl zeroHeight ds) (anyDecl hidesOverflow ds) in
-      rw (contents-append t (lying-own h ds) (pick z (addedStyle ∷ []) []), lying-contents ds h k, added-content z) (sym (texts-behind (ownStyles ds) (pick z (one false style.displayNone) [])))
+      rw (contents-append t (lying-own h ds) (pick z (addedStyle (firstZero ds) ∷ []) []), lying-contents ds h k, added-content z (firstZero ds)) (sym (texts-behind (ownStyles ds) (pick z (one false (firstZero ds) style.displayNone) [])))
 
   -- all styles of declarations, placed, are those that the definitions place
   all-placed : (ds : List Declaration) (h f : ℕ) → Held t h (declarationTexts ds) → map inNumbers (placedAll t f (lying h ds)) ≡ placedStyles f (stylesOf ds)
@@ -228,13 +229,13 @@ module _ (t : List ℕ) where
   all-placed ds h f k =
       let z = and (anyDecl zeroHeight ds) (anyDecl hidesOverflow ds) in
       rw (
-        placed-append t (lying-own h ds) (pick z (addedStyle ∷ []) []) f,
-        numbers-append (placedAll t f (lying-own h ds)) (placedAll t (f + length (contentsOf t (lying-own h ds))) (pick z (addedStyle ∷ []) [])),
+        placed-append t (lying-own h ds) (pick z (addedStyle (firstZero ds) ∷ []) []) f,
+        numbers-append (placedAll t f (lying-own h ds)) (placedAll t (f + length (contentsOf t (lying-own h ds))) (pick z (addedStyle (firstZero ds) ∷ []) [])),
         lying-placed ds h f k,
-        added-placed z (f + length (contentsOf t (lying-own h ds))),
+        added-placed z (firstZero ds) (f + length (contentsOf t (lying-own h ds))),
         lying-contents ds h k,
       )
-      (sym (styles-append (ownStyles ds) (pick z (one false style.displayNone) []) f))
+      (sym (styles-append (ownStyles ds) (pick z (one false (firstZero ds) style.displayNone) []) f))
 
 -- ---- a rule
 -- where selectors end does not depend on their texts

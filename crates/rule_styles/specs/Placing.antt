@@ -37,7 +37,7 @@ unfoldable pub contentOf : List ℕ → StyleNumbers → List ℕ
 contentOf text x = pick (is (x .slot) contentSlot) (part text (x .value .number) (x .value .second)) []
 
 unfoldable pub placedValue : List ℕ → ℕ → StyleNumbers → Value
-placedValue text f x = pick (is (x .slot) contentSlot) (record { number = f; second = length (contentOf text x) }) (x .value)
+placedValue text f x = pick (is (x .slot) contentSlot) (record { number = f; second = length (contentOf text x); start = x .value .start }) (x .value)
 
 unfoldable pub placedNumbers : List ℕ → ℕ → StyleNumbers → StyleNumbers
 placedNumbers text f x = record { slot = x .slot; important = x .important; value = placedValue text f x }

@@ -30,6 +30,7 @@ pub struct Sifted {
 const NO_VALUE: Value = Value {
     number: 0,
     second: 0,
+    start: 0,
 };
 
 const NO_STYLE: StyleNumbers = StyleNumbers {

@@ -100,7 +100,11 @@ fn place_style(
         let size = copy_part(texts, from, end, start, n, fill);
         let number = fill as u32;
         let second = size as u32;
-        let value = Value { number, second };
+        let value = Value {
+            number,
+            second,
+            start: text.start,
+        };
         let important = style.important;
         let placed = StyleNumbers {
             slot,

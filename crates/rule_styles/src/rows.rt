@@ -3,6 +3,7 @@ use syntax::rows::STYLE_IMPORTANT;
 use syntax::rows::STYLE_NUMBER;
 use syntax::rows::STYLE_SECOND;
 use syntax::rows::STYLE_SLOT;
+use syntax::rows::STYLE_START;
 use syntax::rows::flag_of;
 use syntax::styles::StyleNumbers;
 ghost use mathlib.Core.Path.{_≡_};
@@ -27,4 +28,5 @@ pub fn write_style(rows: &mut [u32], at: usize, style: StyleNumbers)
     rows[at + STYLE_IMPORTANT] = flag_of(style.important);
     rows[at + STYLE_NUMBER] = value.number;
     rows[at + STYLE_SECOND] = value.second;
+    rows[at + STYLE_START] = value.start;
 }

@@ -72,7 +72,7 @@ use Rattle.syntax.specs.Style as kinds
 use Rattle.syntax.specs.Style.{agentOrigin, authorOrigin}
 use Rattle.cascade.specs.Cases.{red}
 use Rattle.cascade.specs.Record.{mainRecord, beforeRecord}
-use Rattle.cascade.specs.Row.{styleRowWidth}
+use Rattle.cascade.specs.Row.{slotWidth, styleRowWidth}
 use Rattle.page.specs.Rows.{elementKind, otherKind}
 use Rattle.compiled.specs.Sheet.{CompiledSelector}
 use Rattle.styles.specs.Lent.{Page}
@@ -84,7 +84,7 @@ use Rattle.runner.specs.State.{partWidth}
 -- the agent's `a{white-space:pre}`
 abbrev preserved : CompiledSelector
 preserved =
-    record { origin = agentOrigin; pseudo = none; components = element (literal.text "a") ∷ []; styles = record { style = kinds.whiteSpace pre; important = false } ∷ [] }
+    record { origin = agentOrigin; pseudo = none; components = element (literal.text "a") ∷ []; styles = record { value = record { style = kinds.whiteSpace pre; start = 2 }; important = false } ∷ [] }
 
 -- the author's `a>b:nth-child(2)>c e{color:red}`
 abbrev coloured : CompiledSelector
@@ -94,7 +94,7 @@ coloured =
       pseudo = none;
       components =
           element (literal.text "e") ∷ descendant ∷ element (literal.text "c") ∷ child ∷ nth (pos 0) (pos 2) ∷ element (literal.text "b") ∷ child ∷ element (literal.text "a") ∷ [];
-      styles = record { style = kinds.colour (record { red = 255; green = 0; blue = 0 }); important = false } ∷ [];
+      styles = record { value = record { style = kinds.colour (record { red = 255; green = 0; blue = 0 }); start = 21 }; important = false } ∷ [];
     }
 
 -- the author's `a b>c>d::before{content:'r'}`
@@ -104,7 +104,7 @@ quoted-before =
       origin = authorOrigin;
       pseudo = before;
       components = element (literal.text "d") ∷ child ∷ element (literal.text "c") ∷ child ∷ element (literal.text "b") ∷ descendant ∷ element (literal.text "a") ∷ [];
-      styles = record { style = kinds.content (literal.text "r"); important = false } ∷ [];
+      styles = record { value = record { style = kinds.content (literal.text "r"); start = 16 }; important = false } ∷ [];
     }
 
 unfoldable sheetBytes : List ℕ
@@ -168,14 +168,14 @@ abbrev plainRun : Running
 plainRun = runWith false
 
 abbrev unset : List ℕ
-unset = replicate 9 0
+unset = replicate slotWidth 0
 
 -- a slot filled by the agent's selector, and one by the author's
 abbrev byAgent : List ℕ
-byAgent = 1 ∷ agentOrigin ∷ 0 ∷ 0 ∷ 0 ∷ 1 ∷ 0 ∷ 1 ∷ 0 ∷ []
+byAgent = 1 ∷ agentOrigin ∷ 0 ∷ 0 ∷ 0 ∷ 1 ∷ 0 ∷ 1 ∷ 0 ∷ 2 ∷ []
 
 abbrev byAuthor : List ℕ
-byAuthor = 1 ∷ authorOrigin ∷ 0 ∷ 0 ∷ 1 ∷ 4 ∷ 0 ∷ red ∷ 0 ∷ []
+byAuthor = 1 ∷ authorOrigin ∷ 0 ∷ 0 ∷ 1 ∷ 4 ∷ 0 ∷ red ∷ 0 ∷ 21 ∷ []
 
 abbrev zeros : View
 zeros = record { colour = unset; whiteSpace = unset; content = []; before-present = false; before-content = [] }
@@ -195,5 +195,5 @@ test-run : (accepted.pageRefusal (somePage .nodes) (somePage .attributes) (someP
     × (someRun .texts ≡ literal.text "xy")
     × (map (viewAt sheetBytes plainRun) (5 ∷ 6 ∷ []) ≡ plain [] ∷ plain [] ∷ []) × (plainRun .texts ≡ [])
     × (pageRows.pageRows sheetBytes (record { «document_styles» = true }) somePage ≡ someRun .rows)
-unfolding choice.pick choice.or choice.and choice.is choice.within parsed.onParsed parsed.behind parsed.orElse parsed.taken repeat.took repeat.many repeat.texts word.startsWith word.sameText literal.text utf8.continuation utf8.utf8 utf8.isContinuation utf8.leadOf utf8.two utf8.three utf8.four utf8.scalarTail utf8.scalarBy utf8.scalarOf utf8.takenOf utf8.scalarTaken utf8.valid name.isNmstart name.isNmchar name.lower name.foldedChar name.nmstartCharOf name.nmcharCharOf name.isHexDigit name.hexDigit name.hexRun name.hexCount name.hexValue name.behindOne name.escapedOf name.identEscapeOf name.either name.nmstartOf name.nmcharOf name.bytesOf name.charTaken name.charText name.charsEnd name.charsText name.nameFrom name.dash name.nameOf name.identOf name.charsOf name.identstringOf name.nameAnswer name.nameText number.isDigit number.oneDigit number.digits number.decimal number.unsigned number.sign number.signed number.number quoted.escapedByte quoted.quotedOf quoted.quotedTaken quoted.quotedText quoted.stringEnd quoted.stringText token.numericFrom token.numericOf token.identLikeOf token.stringFrom token.isQuote token.stringOf token.isIdentStart token.startOf token.markOf token.hashOf token.plusOf token.minusOf token.lessOf token.tokenBy token.tokenAt token.tokenOf token.coded token.textOf token.tokenAnswer token.tokenText token.lexedAnswer token.orDelim row.columnsOf row.word row.rowOf row.tokenRow row.markFrom row.tokenFrom row.tokenIn whitespace.commentEnd whitespace.commentOf whitespace.isWhitespace whitespace.whitespaceItem whitespace.skipWhitespace layout.flag layout.flagOf layout.whiteSpaceNumber layout.colourNumber layout.styleTextOf layout.styleText layout.styleRow layout.styleTexts ruleLayout.pseudoNumber stream.textsMany part.part property.anyOf property.firstWord property.contentOf property.declOf value.bracketBy value.bracketOf value.closing value.ending value.stepOf value.stop value.cons value.onStep value.scan value.statementOf value.tokensOf value.isMark value.isImportant value.withoutMark value.valueFrom value.valueOf words.kindOf words.firstOf words.numberOf words.unitOf words.isKind words.isWord words.isDelim words.foundOr words.lookup words.onFound words.rowAt words.split words.placeOf attribute.styleAttribute rules.colonBehind rules.propertyOf rules.valueBehind rules.declarationOf rules.startsAt rules.moreRules rules.declarationsOf styles.one styles.styleOf styles.hides styles.hidesOverflow styles.zeroHeight styles.anyDecl styles.ownStyles styles.stylesOf specificity.specificityOf specificity.noSpecificity specificity.inlineSpecificity specificity.sum specificity.lessThen specificity.less slot.heldByImportance slot.heldByOrigin slot.heldAgainst slot.maybeUpdate style.recordIn style.slotOf style.slotIn style.emptyRecord style.emptyStyle style.updateRecord style.updateStyle style.isNamed style.mergeBy style.inherit style.fromRule style.fromAttribute styleRow.slotNumbers styleRow.slotsNumbers styleRow.recordNumbers styleRow.rowOf styleRow.readSlot styleRow.windows styleRow.recordAt styleRow.styleAt matching.isNamed matching.nameIs matching.here matching.step nth.isZero nth.nthMatches counts.added counts.specificity call.attributeContents call.inlineContents page.nodeNumber page.attributeNumber page.nameOf page.attributeName page.attributeValue ancestors.ancestorsFrom ancestors.ancestorsOf ancestors.depthOf ancestors.member paths.attributesFrom accepted.withinLimits accepted.attributesBefore accepted.attributesEnd accepted.textsEnd accepted.bytesBefore accepted.endsInZeros accepted.isDocument accepted.isParent accepted.parentRight accepted.attributesFollow accepted.elementFollows accepted.kindRight accepted.rowRight accepted.textRight accepted.attributeTextRight accepted.attributeTextsRight accepted.textsRight accepted.firstFault accepted.firstBadRow accepted.firstBadText accepted.rowsRefusal accepted.pageRefusal decoded.onDecoded decoded.andThen decoded.mapped decoded.counted numbers.groupBytes numbers.numberBytes numbers.limited numbers.groupsAt numbers.numberAt numbers.rangedAt spans.textBytes spans.spanAt spans.textIn components.componentBody components.componentBytes components.isMark components.nameAt components.secondNumberAt components.bodyAt components.writtenAt components.markOf components.namedOf components.componentIn components.componentAt ruleLayout.componentKind signed.signedNumber signed.signedOf compiledStyles.styleBody compiledStyles.styleBytes compiledStyles.contentAt compiledStyles.numberUpTo compiledStyles.valueAt compiledStyles.slotAt compiledStyles.styleNumbersAt compiledSheet.headBytes compiledSheet.stylesBytes compiledSheet.selectorBytes compiledSheet.encode compiledSheet.countAt compiledSheet.pseudoAt compiledSheet.headAt walked.walkedStylesAt walked.walkedPartsAt walked.walkedSelectorAt segments.piece segments.tested sweep.pairAt sweep.pairBytes sweep.onPiece sweep.pieceAt sweep.testsPass sweep.compoundAt sweep.markBytes sweep.markedTests sweep.sweepAt segmentBefore.beginning segmentBefore.segmentBefore segmentBefore.freshBytes placed.hasStyle visits.blockBytes visits.awaits visits.endedBy visits.endedAt visits.decided visits.visitAt pass.matchedHere pass.blockSet pass.passFrom document.styledFrom document.leftmostAt document.freshFrom down.passAt down.freshIn down.readIn compiledSheet.partsAt compiledSheet.stylesAt compiledSheet.selectorOf compiledSheet.selectorAt compiledStyles.styleAt layout.styleIn layout.styleOf layout.colourOf ruleLayout.pseudoFrom state.partOf state.raised state.opened run.rowBelow run.handedFrom merged.mergedRow merged.lateDeclared styleRow.inheritedRow styleRow.presentRow styleRow.mergeRowBy styleRow.updateRow styleRow.slotAt run.documentStep run.elementStep run.openStep run.stepOn run.handedAt pageRows.styleRowAt run.runStep run.runFrom run.runOf components.numbersAt quoted.takenOf quoted.textOf specificity.lessBySelector sheetBytes someText somePage textIn viewAt runWith layout.styleSlotOf layout.valueFrom layout.numbersFrom layout.valueNumbers layout.rowOfNumbers slot.updateBy style.inheritBy said.ruleStyle said.colourStyles said.attributeStyles said.attributeStyle said.attributeSays said.countedAttributes call.attributesContents call.inNumbers call.placedStyles call.placedAttributes pageRows.selectorsDeclare compiledStyles.valuedAt styleRow.readCandidate textOf pageRows.rowContents pageRows.contentsBefore pageRows.styleBelow pageRows.lineStyle pageRows.pageRow pageRows.rowsBefore pageRows.pageRows walked.walked walked.walkedSelectorsAt down.matchingBy matching.onParent matching.onAncestors matching.matches paths.elementAt paths.elementsOf paths.pathOf ancestors.isElementChild ancestors.elementChildren ancestors.placeOf
+unfolding choice.pick choice.or choice.and choice.is choice.within parsed.onParsed parsed.behind parsed.orElse parsed.taken repeat.took repeat.many repeat.texts word.startsWith word.sameText literal.text utf8.continuation utf8.utf8 utf8.isContinuation utf8.leadOf utf8.two utf8.three utf8.four utf8.scalarTail utf8.scalarBy utf8.scalarOf utf8.takenOf utf8.scalarTaken utf8.valid name.isNmstart name.isNmchar name.lower name.foldedChar name.nmstartCharOf name.nmcharCharOf name.isHexDigit name.hexDigit name.hexRun name.hexCount name.hexValue name.behindOne name.escapedOf name.identEscapeOf name.either name.nmstartOf name.nmcharOf name.bytesOf name.charTaken name.charText name.charsEnd name.charsText name.nameFrom name.dash name.nameOf name.identOf name.charsOf name.identstringOf name.nameAnswer name.nameText number.isDigit number.oneDigit number.digits number.decimal number.unsigned number.sign number.signed number.number quoted.escapedByte quoted.quotedOf quoted.quotedTaken quoted.quotedText quoted.stringEnd quoted.stringText token.numericFrom token.numericOf token.identLikeOf token.stringFrom token.isQuote token.stringOf token.isIdentStart token.startOf token.markOf token.hashOf token.plusOf token.minusOf token.lessOf token.tokenBy token.tokenAt token.tokenOf token.coded token.textOf token.tokenAnswer token.tokenText token.lexedAnswer token.orDelim row.columnsOf row.word row.rowOf row.tokenRow row.markFrom row.tokenFrom row.tokenIn whitespace.commentEnd whitespace.commentOf whitespace.isWhitespace whitespace.whitespaceItem whitespace.skipWhitespace layout.flag layout.flagOf layout.whiteSpaceNumber layout.colourNumber layout.styleTextOf layout.styleText layout.styleRow layout.styleTexts ruleLayout.pseudoNumber stream.textsMany part.part property.anyOf property.firstWord property.contentOf property.declOf value.bracketBy value.bracketOf value.closing value.ending value.stepOf value.stop value.cons value.onStep value.scan value.statementOf value.tokensOf value.isMark value.isImportant value.withoutMark value.valueFrom value.valueOf words.kindOf words.firstOf words.numberOf words.unitOf words.isKind words.isWord words.isDelim words.foundOr words.lookup words.onFound words.rowAt words.split words.placeOf attribute.styleAttribute rules.colonBehind rules.propertyOf rules.valueBehind rules.declarationOf rules.startsAt rules.moreRules rules.declarationsOf styles.one styles.styleOf styles.hides styles.hidesOverflow styles.zeroHeight styles.anyDecl styles.ownStyles styles.firstZero styles.stylesOf specificity.specificityOf specificity.noSpecificity specificity.inlineSpecificity specificity.sum specificity.lessThen specificity.less slot.heldByImportance slot.heldByOrigin slot.heldAgainst slot.maybeUpdate style.recordIn style.slotOf style.slotIn style.emptyRecord style.emptyStyle style.updateRecord style.updateStyle style.isNamed style.mergeBy style.inherit style.fromRule style.fromAttribute styleRow.slotNumbers styleRow.slotsNumbers styleRow.recordNumbers styleRow.rowOf styleRow.readSlot styleRow.windows styleRow.recordAt styleRow.styleAt matching.isNamed matching.nameIs matching.here matching.step nth.isZero nth.nthMatches counts.added counts.specificity call.attributeContents call.inlineContents page.nodeNumber page.attributeNumber page.nameOf page.attributeName page.attributeValue ancestors.ancestorsFrom ancestors.ancestorsOf ancestors.depthOf ancestors.member paths.attributesFrom accepted.withinLimits accepted.attributesBefore accepted.attributesEnd accepted.textsEnd accepted.bytesBefore accepted.endsInZeros accepted.isDocument accepted.isParent accepted.parentRight accepted.attributesFollow accepted.elementFollows accepted.kindRight accepted.rowRight accepted.textRight accepted.attributeTextRight accepted.attributeTextsRight accepted.textsRight accepted.firstFault accepted.firstBadRow accepted.firstBadText accepted.rowsRefusal accepted.pageRefusal decoded.onDecoded decoded.andThen decoded.mapped decoded.counted numbers.groupBytes numbers.numberBytes numbers.limited numbers.groupsAt numbers.numberAt numbers.rangedAt spans.textBytes spans.spanAt spans.textIn components.componentBody components.componentBytes components.isMark components.nameAt components.secondNumberAt components.bodyAt components.writtenAt components.markOf components.namedOf components.componentIn components.componentAt ruleLayout.componentKind signed.signedNumber signed.signedOf compiledStyles.styleBody compiledStyles.styleBytes compiledStyles.contentAt compiledStyles.numberUpTo compiledStyles.valueAt compiledStyles.slotAt compiledStyles.startedAt compiledStyles.styleNumbersAt compiledSheet.headBytes compiledSheet.stylesBytes compiledSheet.selectorBytes compiledSheet.encode compiledSheet.countAt compiledSheet.pseudoAt compiledSheet.headAt walked.walkedStylesAt walked.walkedPartsAt walked.walkedSelectorAt segments.piece segments.tested sweep.pairAt sweep.pairBytes sweep.onPiece sweep.pieceAt sweep.testsPass sweep.compoundAt sweep.markBytes sweep.markedTests sweep.sweepAt segmentBefore.beginning segmentBefore.segmentBefore segmentBefore.freshBytes placed.hasStyle visits.blockBytes visits.awaits visits.endedBy visits.endedAt visits.decided visits.visitAt pass.matchedHere pass.blockSet pass.passFrom document.styledFrom document.leftmostAt document.freshFrom down.passAt down.freshIn down.readIn compiledSheet.partsAt compiledSheet.stylesAt compiledSheet.selectorOf compiledSheet.selectorAt compiledStyles.styleAt layout.valueIn layout.styleIn layout.styleOf layout.colourOf ruleLayout.pseudoFrom state.partOf state.raised state.opened run.rowBelow run.handedFrom merged.mergedRow merged.lateDeclared styleRow.inheritedRow styleRow.presentRow styleRow.mergeRowBy styleRow.updateRow styleRow.slotAt run.documentStep run.elementStep run.openStep run.stepOn run.handedAt pageRows.styleRowAt run.runStep run.runFrom run.runOf components.numbersAt quoted.takenOf quoted.textOf specificity.lessBySelector sheetBytes someText somePage textIn viewAt runWith layout.styleSlotOf layout.numberFrom layout.valueFrom layout.numbersFrom layout.valueNumbers layout.rowOfNumbers slot.updateBy style.inheritBy said.ruleStyle said.colourStyles said.attributeStyles said.attributeStyle said.attributeSays said.countedAttributes call.attributesContents call.inNumbers call.placedStyles call.placedAttributes pageRows.selectorsDeclare compiledStyles.valuedAt styleRow.readCandidate textOf pageRows.rowContents pageRows.contentsBefore pageRows.styleBelow pageRows.lineStyle pageRows.pageRow pageRows.rowsBefore pageRows.pageRows walked.walked walked.walkedSelectorsAt down.matchingBy matching.onParent matching.onAncestors matching.matches paths.elementAt paths.elementsOf paths.pathOf ancestors.isElementChild ancestors.elementChildren ancestors.placeOf
 test-run = (refl, refl, refl, refl, refl, refl)

@@ -3,7 +3,7 @@ use Prim.Native.Nat.{ℕ, zero, suc}
 use mathlib.Core.List.{List, [], _∷_, map}
 use Rattle.syntax.specs.RuleLayout.{pseudoNumber}
 use Rattle.syntax.specs.Selector.{Component}
-use Rattle.syntax.specs.Style.{agentOrigin, Style}
+use Rattle.syntax.specs.Style.{agentOrigin, StyleValue}
 use Rattle.syntax.specs.declared.styles.Value.{Value}
 use Rattle.cascade.specs.Record.{Styled}
 use Rattle.page.specs.Path.{Path}
@@ -44,7 +44,7 @@ unfoldable pub walked : List ℕ → List (WalkedSelector Value)
 walked t = onDecoded (andThen (numberAt t 0) (λ n count. walkedSelectorsAt count t agentOrigin n)) (λ _ ss. ss) (λ _. [])
 
 -- ---- a selector that is compiled, with the styles themselves
-unfoldable pub meantSelector : CompiledSelector → WalkedSelector Style
+unfoldable pub meantSelector : CompiledSelector → WalkedSelector StyleValue
 meantSelector s = record { origin = s .origin; pseudo = pseudoNumber (s .pseudo); components = s .components; styles = map meant (s .styles) }
 
 -- those that match, in reading order

@@ -14,7 +14,7 @@ use Rattle.compiled.specs.Decoded.{Decoded, read, onDecoded, mapped, counted}
 use Rattle.compiled.specs.Number.{numberAt, rangedAt}
 use Rattle.compiled.specs.Text.{spanAt}
 use Rattle.compiled.specs.Component.{componentAt}
-use Rattle.compiled.specs.Style.{greatestColour, greatestWhiteSpace, contentAt, numberUpTo, valueAt, valuedAt, slotAt, styleNumbersAt, styleAt}
+use Rattle.compiled.specs.Style.{greatestColour, greatestWhiteSpace, contentAt, numberUpTo, valueAt, valuedAt, slotAt, startedAt, styleNumbersAt, styleAt}
 use Rattle.compiled.specs.Sheet.{CompiledSelector, Head, headAt, stylesAt, selectorAt}
 use Rattle.compiled.proofs.Bounds.{Reaches, reaches-read, reaches-end, reaches-less, reaches-then, reaches-mapped, reaches-counted, number-reaches, ranged-reaches, span-reaches, head-reaches, style-reaches, styles-reach}
 use Rattle.compiled.proofs.Walking.{steps, counted-first, counted-none, counted-length, components-long, selector-steps}
@@ -26,16 +26,16 @@ use Rattle.segments.proofs.BeforeLaws.{behindAll, behind-more}
 use Rattle.segments.proofs.VisitLaws.{Lying}
 use Rattle.segments.proofs.PassLaws.{Laid}
 
--- ---- a style takes two bytes
+-- ---- a style takes two bytes or more
 module _ (t : List ℕ) where
   -- fewer bytes from the same place
   weaker : {A : Type 0} (k m n : ℕ) (d : Decoded A) → m ≤ k → Reaches k (length t) n d → Reaches m (length t) n d
   weaker k m n d l h = reaches-less (length t) d k n m n h (omega arith) (omega arith) (λ g. g)
 
   -- the value of a slot
-  value-reaches : (slot n : ℕ) → n ≤ length t → Reaches 0 (length t) n (valueAt t slot n)
+  value-reaches : (from slot n : ℕ) → n ≤ length t → Reaches 0 (length t) n (valueAt t from slot n)
   unfolding valueAt contentAt numberUpTo
-  value-reaches slot n l =
+  value-reaches from slot n l =
       pick-holds (Reaches 0 (length t) n) (is slot displaySlot) _ _ (λ _. reaches-read (length t) n 0 n _ (omega arith) l)
       (λ _. pick-holds (Reaches 0 (length t) n) (is slot contentSlot) _ _
       (λ _. weaker 1 0 n _ (omega arith) (reaches-mapped (length t) _ (spanAt t n) 1 n (span-reaches t n)))
@@ -43,14 +43,15 @@ module _ (t : List ℕ) where
       (λ _. weaker 1 0 n _ (omega arith) (reaches-mapped (length t) _ (rangedAt t n 0 greatestWhiteSpace) 1 n (ranged-reaches t n 0 greatestWhiteSpace)))
       (λ _. weaker 1 0 n _ (omega arith) (reaches-mapped (length t) _ (rangedAt t n 0 greatestColour) 1 n (ranged-reaches t n 0 greatestColour)))))
 
-  -- whether it is important, and its slot
+  -- whether it is important, its start, and its slot
   style-long : (i : ℕ) → Reaches 2 (length t) i (styleAt t i)
-  unfolding styleAt styleNumbersAt slotAt valuedAt
+  unfolding styleAt styleNumbersAt startedAt slotAt valuedAt
   style-long i =
       reaches-mapped (length t) (styleIn t) (styleNumbersAt t i) 2 i
       (reaches-then (length t) (rangedAt t i 0 1) _ 1 1 i (ranged-reaches t i 0 1)
-      (λ n important _. reaches-then (length t) (rangedAt t n colourSlot lastSlot) _ 1 0 n (ranged-reaches t n colourSlot lastSlot)
-      (λ m slot l. reaches-mapped (length t) _ (valueAt t slot m) 0 m (value-reaches slot m l))))
+      (λ n important _. reaches-then (length t) (numberAt t n) _ 1 0 n (number-reaches t n)
+      (λ k from _. weaker 1 0 k _ (omega arith) (reaches-then (length t) (rangedAt t k colourSlot lastSlot) _ 1 0 k (ranged-reaches t k colourSlot lastSlot)
+      (λ m slot l. reaches-mapped (length t) _ (valueAt t from slot m) 0 m (value-reaches from slot m l))))))
 
   -- styles, one or more, with their count take three
   styles-long : (i m : ℕ) (ds : List StyleDecl) → stylesAt t i ≡ read m ds → hasStyle ds ≡ true → i + 3 ≤ m

@@ -9,7 +9,7 @@ use Rattle.combinators.specs.Word.{startsWith, sameText}
 use Rattle.unicode.specs.Literal.{text}
 use Rattle.unicode.specs.Utf8.{utf8}
 use Rattle.syntax.specs.Stream.{textsMany}
-use Rattle.syntax.specs.Layout.{flag, flagOf, colourNumber, colourOf, styleSlotOf, styleOf, styleIn}
+use Rattle.syntax.specs.Layout.{flag, flagOf, colourNumber, colourOf, styleSlotOf, styleOf, valueIn, styleIn}
 use Rattle.syntax.specs.RuleLayout.{componentKind, pseudoNumber, pseudoFrom}
 use Rattle.syntax.specs.Selector.{star, element, child, descendant, none}
 use Rattle.syntax.specs.Style.{authorOrigin}
@@ -19,7 +19,7 @@ use Rattle.compiled.specs.Decoded.{onDecoded, andThen, mapped, counted}
 use Rattle.compiled.specs.Number.{groupBytes, numberBytes, limited, groupsAt, numberAt, rangedAt}
 use Rattle.compiled.specs.Text.{textBytes, spanAt, textIn}
 use Rattle.compiled.specs.Component.{componentBody, componentBytes, isMark, nameAt, bodyAt, writtenAt, markOf, namedOf, componentIn, componentAt}
-use Rattle.compiled.specs.Style.{styleBody, styleBytes, numberUpTo, valueAt, valuedAt, slotAt, styleNumbersAt, styleAt}
+use Rattle.compiled.specs.Style.{styleBody, styleBytes, numberUpTo, valueAt, valuedAt, slotAt, startedAt, styleNumbersAt, styleAt}
 use Rattle.compiled.specs.Sheet.{redSelector, headBytes, stylesBytes, selectorBytes, encode, headAt, pseudoAt, countAt, partsAt, stylesAt, selectorOf, selectorAt}
 use Rattle.segments.specs.Segments.{piece, tested}
 use Rattle.segments.specs.Sweep.{pairAt, pairBytes, onPiece, pieceAt, testsPass, compoundAt, markBytes, markedTests, sweepAt}
@@ -34,7 +34,7 @@ use Rattle.segments.specs.Down.{passAt, freshIn, passedDown}
 unfoldable named : List ℕ → Element
 named n = record { name = n; attributes = []; place = 1 }
 
--- `p{color:red}`, `p{}`, `a b > c{color:red}` and `* *{color:red}`: bytes 1 to 13, 14 to 20, 21 to 41 and 42 on
+-- `p{color:red}`, `p{}`, `a b > c{color:red}` and `* *{color:red}`: bytes 1 to 14, 15 to 21, 22 to 43 and 44 on
 unfoldable sheet : List ℕ
 sheet =
     encode (redSelector
@@ -52,8 +52,8 @@ unfoldable found : List (List ℕ) → List ℕ
 found names = passedDown sheet (λ _. replicate (suc (length sheet)) 77) (replicate (suc (length sheet)) 3) (map named names) .matched
 
 -- a p; a c in a b in an a; the b between them, and the c with another node between; a c whose b is in no a; the document
-test-found : (found (text "p" ∷ []) ≡ 1 ∷ 42 ∷ []) × (found (text "c" ∷ text "b" ∷ text "a" ∷ []) ≡ 21 ∷ 42 ∷ [])
-    × (found (text "c" ∷ text "b" ∷ text "p" ∷ text "a" ∷ []) ≡ 21 ∷ 42 ∷ []) × (found (text "b" ∷ text "a" ∷ []) ≡ 42 ∷ [])
-    × (found (text "c" ∷ text "p" ∷ text "b" ∷ text "a" ∷ []) ≡ 42 ∷ []) × (found (text "c" ∷ text "b" ∷ []) ≡ 42 ∷ []) × (found [] ≡ [])
-unfolding found sheet named text utf8 encode selectorBytes headBytes stylesBytes textsMany pseudoNumber componentBytes componentKind componentBody textBytes styleBytes styleSlotOf styleBody flag colourNumber numberBytes groupBytes passedDown passAt freshIn styledFrom leftmostAt freshFrom matchedHere blockSet passFrom blockBytes awaits endedBy endedAt decided visitAt hasStyle beginning segmentBefore freshBytes pairAt pairBytes onPiece pieceAt testsPass compoundAt markBytes markedTests sweepAt piece tested step here nameIs sameText startsWith headAt pseudoAt countAt partsAt stylesAt selectorOf selectorAt pseudoFrom counted componentAt componentIn writtenAt bodyAt nameAt isMark markOf namedOf textIn spanAt part styleAt styleIn styleNumbersAt slotAt valuedAt valueAt numberUpTo styleOf flagOf colourOf rangedAt numberAt groupsAt limited onDecoded andThen mapped pick or and is within
+test-found : (found (text "p" ∷ []) ≡ 1 ∷ 44 ∷ []) × (found (text "c" ∷ text "b" ∷ text "a" ∷ []) ≡ 22 ∷ 44 ∷ [])
+    × (found (text "c" ∷ text "b" ∷ text "p" ∷ text "a" ∷ []) ≡ 22 ∷ 44 ∷ []) × (found (text "b" ∷ text "a" ∷ []) ≡ 44 ∷ [])
+    × (found (text "c" ∷ text "p" ∷ text "b" ∷ text "a" ∷ []) ≡ 44 ∷ []) × (found (text "c" ∷ text "b" ∷ []) ≡ 44 ∷ []) × (found [] ≡ [])
+unfolding found sheet named text utf8 encode selectorBytes headBytes stylesBytes textsMany pseudoNumber componentBytes componentKind componentBody textBytes styleBytes styleSlotOf styleBody flag colourNumber numberBytes groupBytes passedDown passAt freshIn styledFrom leftmostAt freshFrom matchedHere blockSet passFrom blockBytes awaits endedBy endedAt decided visitAt hasStyle beginning segmentBefore freshBytes pairAt pairBytes onPiece pieceAt testsPass compoundAt markBytes markedTests sweepAt piece tested step here nameIs sameText startsWith headAt pseudoAt countAt partsAt stylesAt selectorOf selectorAt pseudoFrom counted componentAt componentIn writtenAt bodyAt nameAt isMark markOf namedOf textIn spanAt part styleAt styleIn valueIn styleNumbersAt startedAt slotAt valuedAt valueAt numberUpTo styleOf flagOf colourOf rangedAt numberAt groupsAt limited onDecoded andThen mapped pick or and is within
 test-found = (refl, refl, refl, refl, refl, refl, refl)

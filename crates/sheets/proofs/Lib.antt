@@ -1,5 +1,6 @@
 pub mod BlockLaws
 pub mod SheetBounds
+pub mod StartBounds
 pub mod RuleSetLaws
 pub mod AtRuleLaws
 pub mod StatementLaws

@@ -1,4 +1,5 @@
-// Declarations as text, from their rows. Of a height only zero is known, of a display only none.
+// Declarations as text, from their rows, each behind its line and column. Of a height only zero is known, of a display only none.
+use crate::place::print_line_and_column;
 use crate::writing::print;
 use crate::writing::print_colour;
 use crate::writing::print_name;
@@ -11,6 +12,7 @@ use syntax::rows::CONTENT;
 use syntax::rows::DECLARATION_IMPORTANT;
 use syntax::rows::DECLARATION_KIND;
 use syntax::rows::DECLARATION_SECOND;
+use syntax::rows::DECLARATION_START;
 use syntax::rows::DECLARATION_VALUE;
 use syntax::rows::DECLARATION_WIDTH;
 use syntax::rows::DISPLAY;
@@ -111,14 +113,27 @@ fn print_declaration(rows: &[u32], at: usize, store: &[u8]) {
     }
 }
 
-// The declarations from `at` on, a semicolon behind each; the place behind them.
-pub fn print_declarations(rows: &[u32], at: usize, count: usize, store: &[u8]) -> usize {
+// Where the declaration of the row at `at` starts: the row has the byte of its name in the sheet.
+fn print_start(sheet: &[u8], rows: &[u32], at: usize) {
+    print(b"  ");
+    print_line_and_column(sheet, number_at(rows, at, DECLARATION_START) as usize);
+    print(b" ");
+}
+
+// The declarations from `at` on, a line for each; the place behind them.
+pub fn print_declarations(
+    sheet: &[u8],
+    rows: &[u32],
+    at: usize,
+    count: usize,
+    store: &[u8],
+) -> usize {
     let mut place = at;
     let mut left = count;
     while left > 0 {
-        print(b" ");
+        print_start(sheet, rows, place);
         print_declaration(rows, place, store);
-        print(b";");
+        print(b";\n");
         place = forward(rows, place, DECLARATION_WIDTH);
         left -= 1;
     }

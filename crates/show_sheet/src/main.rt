@@ -1,5 +1,6 @@
-// Prints a sheet from standard input as it was read: how many bytes were read and where reading stopped, then a line for each rule with its
-// selectors and its declarations. A refusal is printed by its number, in words. Takes 2.2 MB of stack, the stores for a sheet of 32,768 bytes.
+// Prints a sheet from standard input as it was read: how many bytes were read and where reading stopped, then each rule with its selectors and
+// its declarations, of which each has a line of its own and in front the line and column of the sheet where it starts. A refusal is printed by
+// its number, in words. Takes 2.2 MB of stack, the stores for a sheet of 32,768 bytes.
 mod declaration;
 mod place;
 mod rule;
@@ -62,7 +63,7 @@ fn print_sheet(s: &[u8]) {
     match read_sheet(s, &mut rules, &mut tokens, &mut brackets, &mut store) {
         SheetAnswer::Sheet { count, stop, .. } => {
             print_read(s, stop);
-            print_rules(&rules, &store, count);
+            print_rules(s, &rules, &store, count);
         }
         SheetAnswer::TooLong => print_too_long(),
         SheetAnswer::ShortStore => print(b"refused 2: a store is too short\n"),

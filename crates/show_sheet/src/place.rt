@@ -1,5 +1,5 @@
-// A byte of a sheet, for a person: its line and column, both from 1, and the line itself with a mark under the byte. A line ends at a line
-// feed; a column is a character.
+// A byte of a sheet, for a person: its line and column, both from 1, in short or with the line itself and a mark under the byte. A line ends
+// at a line feed; a column is a character. All that is printed takes them from `line_of` and `column_of`.
 use crate::writing::Where;
 use crate::writing::is_visible;
 use crate::writing::print;
@@ -89,6 +89,20 @@ fn first_line(s: &[u8]) -> usize {
     i
 }
 
+// The bytes before `place` on its line.
+fn head_of(s: &[u8], place: usize) -> &[u8] {
+    let before = part_of(s, 0, place);
+    part_of(before, last_line(before), before.len())
+}
+
+fn line_of(s: &[u8], place: usize) -> usize {
+    count_lines(part_of(s, 0, place)) + 1
+}
+
+fn column_of(s: &[u8], place: usize) -> usize {
+    count_characters(head_of(s, place)) + 1
+}
+
 // Blanks as wide as a byte is written.
 fn print_blanks(b: u8) {
     if starts_character(b) {
@@ -130,8 +144,13 @@ fn print_numbers(byte: usize, line: usize, column: usize) {
 
 // The byte at `place`, its line and column, and the line.
 pub fn print_place(s: &[u8], place: usize) {
-    let before = part_of(s, 0, place);
-    let head = part_of(before, last_line(before), before.len());
-    print_numbers(place, count_lines(before) + 1, count_characters(head) + 1);
-    print_line(head, part_of(s, place, s.len()));
+    print_numbers(place, line_of(s, place), column_of(s, place));
+    print_line(head_of(s, place), part_of(s, place, s.len()));
+}
+
+// The line and column of the byte at `place`, as compilers write them.
+pub fn print_line_and_column(s: &[u8], place: usize) {
+    print_number(line_of(s, place));
+    print(b":");
+    print_number(column_of(s, place));
 }

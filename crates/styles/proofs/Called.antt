@@ -7,7 +7,6 @@ use native.Mathlib.Nat.{zero-add}
 use lib.ListN.{length, replicate}
 use Rattle.syntax.specs.Layout.{flag}
 use Rattle.syntax.specs.Selector.{RuleSet}
-use Rattle.syntax.specs.Style.{Style}
 use Rattle.syntax.specs.declared.styles.Value.{Value}
 use Rattle.cascade.specs.declared.slots.Cascade.{Cascade}
 use Rattle.cascade.specs.declared.slots.Cascade.the-variants.{Book}

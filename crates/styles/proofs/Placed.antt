@@ -7,12 +7,12 @@ use native.Mathlib.Nat.{zero-add}
 use lib.ListN.{length}
 use Rattle.combinators.specs.Choice.{pick}
 use Rattle.unicode.specs.Literal.{text}
-use Rattle.syntax.specs.Layout.{styleSlotOf, styleText, styleTextOf, styleTexts, valueFrom, numbersFrom}
+use Rattle.syntax.specs.Layout.{styleSlotOf, styleText, styleTextOf, styleTexts, numberFrom, valueFrom, numbersFrom}
 use Rattle.syntax.specs.RuleLayout.{pseudoNumber}
 use Rattle.syntax.specs.Selector.{Selector, RuleSet}
 use Rattle.syntax.specs.Stream.{textsMany}
 use Rattle.syntax.specs.Style as style
-use Rattle.syntax.specs.Style.{Style, StyleDecl}
+use Rattle.syntax.specs.Style.{Style, StyleValue, StyleDecl}
 use Rattle.syntax.specs.declared.styles.Value.{Value}
 use Rattle.syntax.proofs.Streams.{held-part}
 use Rattle.cascade.specs.declared.specificity.Specificity.{Specificity}
@@ -24,7 +24,7 @@ use Rattle.matching.specs.Matches.{isNamed, matches}
 use Rattle.matching.specs.Specificity.{specificity}
 use Rattle.styles.specs.Said.{Rules, StyledRule, ruleStyles, ruleStyle, selectorSays, selectorsSay, rulesSay, attributeStyles, attributeStyle, attributeSays, sourcesFrom, meant, meantRule, meantRules, attributesSay}
 use Rattle.styles.specs.StyleCall.{ruleContents, rulesContents, sheetsContents, attributeContents, attributesContents, inNumbers, placedStyles, placedRules, placedSheets, placedAttributes}
-use Rattle.styles.specs.Says.{Names, Says}
+use Rattle.styles.specs.Says.{Names, SaysStyle, Says}
 use Rattle.styles.proofs.Lying.{Lies, lies-left, lies-right, lies-at}
 
 -- ---- what rules say, from rules whose styles are the same
@@ -76,22 +76,27 @@ module _ {A B : Type 0} (R : A → B → Type 0) where
 
 module _ (t : List ℕ) where
   -- ---- a style in numbers, whose text lies at f if it is a content
+  number-says : (f b : ℕ) (s : Style) → ((x : List ℕ) → s ≡ style.content x → Lies t f x)
+      → SaysStyle t (record { number = numberFrom f s; second = length (styleTextOf s); start = b }) s
+  unfolding SaysStyle numberFrom styleTextOf
+  number-says f b (style.colour c) h = record { number = refl; second = refl }
+  number-says f b (style.background c) h = record { number = refl; second = refl }
+  number-says f b style.displayNone h = record { number = refl; second = refl }
+  number-says f b (style.whiteSpace w) h = record { number = refl; second = refl }
+  number-says f b (style.content x) h = let l = h x refl in record { long = refl; within = l .within; named = held-part t f x (l .there) }
+
   -- the value of a style in numbers says the style, where the text of a content lies at f
-  pub value-says : (f : ℕ) (s : Style) → ((x : List ℕ) → s ≡ style.content x → Lies t f x) → Says t (valueFrom f s) s
-  unfolding Says valueFrom
-  value-says f (style.colour c) h = refl
-  value-says f (style.background c) h = refl
-  value-says f style.displayNone h = refl
-  value-says f (style.whiteSpace w) h = refl
-  value-says f (style.content x) h = let l = h x refl in record { long = refl; within = l .within; named = held-part t f x (l .there) }
+  pub value-says : (f : ℕ) (v : StyleValue) → ((x : List ℕ) → v .style ≡ style.content x → Lies t f x) → Says t (valueFrom f v) v
+  unfolding valueFrom
+  value-says f v h = record { style = number-says f (v .start) (v .style) h; start = refl }
 
   -- a style in numbers says the style, where its text lies at f if it is a content
-  pub style-says : (f : ℕ) (d : StyleDecl) → ((x : List ℕ) → d .style ≡ style.content x → Lies t f x) → SameStyled (Says t) (inNumbers (numbersFrom f d)) (meant d)
+  pub style-says : (f : ℕ) (d : StyleDecl) → ((x : List ℕ) → d .value .style ≡ style.content x → Lies t f x) → SameStyled (Says t) (inNumbers (numbersFrom f d)) (meant d)
   unfolding inNumbers numbersFrom meant
-  style-says f d h = record { slots = refl; importances = refl; values = value-says f (d .style) h }
+  style-says f d h = record { slots = refl; importances = refl; values = value-says f (d .value) h }
 
   -- the text of a style that is a content is that content
-  content-text : (d : StyleDecl) (x : List ℕ) → d .style ≡ style.content x → styleText d ≡ x
+  content-text : (d : StyleDecl) (x : List ℕ) → d .value .style ≡ style.content x → styleText d ≡ x
   unfolding styleText styleTextOf
   content-text d x e = rw e
 
@@ -130,8 +135,7 @@ module _ (t : List ℕ) where
       }
 
   -- ---- what attributes say
-  -- an attribute's style that is the same is the same as said by the attribute
-  attribute-same : (i : Bool) (x : Styled Value) (y : Styled Style) → SameStyled (Says t) x y → SameAttribute (Says t) (attributeStyle i x) (attributeStyle i y)
+  attribute-same : (i : Bool) (x : Styled Value) (y : Styled StyleValue) → SameStyled (Says t) x y → SameAttribute (Says t) (attributeStyle i x) (attributeStyle i y)
   unfolding attributeStyle
   attribute-same i x y h = record { kinds = refl; styles = h }
 

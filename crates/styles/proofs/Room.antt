@@ -39,7 +39,7 @@ unfolding styleAttribute rulesOf
 style-short v =
     let ds = declarationsOf v .declarations in
     let b = bounded false v in
-    let e = ap styleTexts (sym (styles-kept false 0 ds)) ∙ own-texts (rulesOf false 0 (declarationsOf v)) (nameless 0 ds) in
+    let e = ap styleTexts (sym (styles-kept false ds)) ∙ own-texts (rulesOf false 0 (declarationsOf v)) (nameless 0 ds) in
     rw e (omega (arith, b .text, b .within))
 
 -- a colour has no text

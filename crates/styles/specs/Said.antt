@@ -1,4 +1,4 @@
--- What the rules of sheets and the attributes of elements say, for values of any type: a computed style holds the styles themselves, a row two numbers for
+-- What the rules of sheets and the attributes of elements say, for values of any type: a computed style holds the styles themselves, a row three numbers for
 -- each. `styled` takes the styles of a rule or of an attribute to the form that is asked for.
 use Prim.Native.Nat.{ℕ}
 use mathlib.Core.Bool.{Bool, false}
@@ -10,7 +10,7 @@ use Rattle.syntax.specs.Layout.{styleSlotOf}
 use Rattle.syntax.specs.RuleLayout.{pseudoNumber}
 use Rattle.syntax.specs.Selector.{Selector, RuleSet}
 use Rattle.syntax.specs.Style as style
-use Rattle.syntax.specs.Style.{Style, StyleDecl}
+use Rattle.syntax.specs.Style.{Style, StyleValue, StyleDecl}
 use Rattle.values.specs.Words.{Found, onFound}
 use Rattle.declarations.specs.Attribute.{styleAttribute, colourAttribute}
 use Rattle.declarations.specs.Styles.{stylesOf}
@@ -51,9 +51,10 @@ unfoldable pub rulesSay : {A : Type 0} → Path → List (StyledRule A) → List
 rulesSay p [] = []
 rulesSay p (r ∷ rs) = selectorsSay p (r .styles) (r .selectors) ++ rulesSay p rs
 
--- ---- the styles of an attribute: of `style` what it declares, of `color` and `bgcolor` a colour
+-- ---- the styles of an attribute: of `style` what it declares, of `color` and `bgcolor` a colour (S-3: "For inline styles the byte counts from the attribute's value;
+-- for `color` and `bgcolor` it is 0.")
 unfoldable pub colourStyles : (Colour → Style) → Found Colour → List StyleDecl
-colourStyles slot c = onFound c (λ x. record { style = slot x; important = false } ∷ []) []
+colourStyles slot c = onFound c (λ x. record { value = record { style = slot x; start = 0 }; important = false } ∷ []) []
 
 unfoldable pub attributeStyles : Attribute → List StyleDecl
 attributeStyles a =
@@ -78,17 +79,17 @@ unfoldable pub sourcesFrom : {A : Type 0} → Rules (StyledRule A) → List (Att
 sourcesFrom rules attributes p =
     record { agent = rulesSay p (rules .agent); user = rulesSay p (rules .user); author = rulesSay p (rules .author); attributes = attributes }
 
--- ---- by the styles themselves
-unfoldable pub meant : StyleDecl → Styled Style
-meant d = record { slot = styleSlotOf (d .style); important = d .important; value = d .style }
+-- ---- by the styles themselves, with their starts
+unfoldable pub meant : StyleDecl → Styled StyleValue
+meant d = record { slot = styleSlotOf (d .value .style); important = d .important; value = d .value }
 
-unfoldable pub meantRule : RuleSet → StyledRule Style
+unfoldable pub meantRule : RuleSet → StyledRule StyleValue
 meantRule r = record { selectors = r .selectors; styles = map meant (ruleStyles r) }
 
-unfoldable pub meantRules : Rules RuleSet → Rules (StyledRule Style)
+unfoldable pub meantRules : Rules RuleSet → Rules (StyledRule StyleValue)
 meantRules rules =
     record { agent = map meantRule (rules .agent); user = map meantRule (rules .user); author = map meantRule (rules .author) }
 
-unfoldable pub attributesSay : List Attribute → List (AttributeStyle Style)
+unfoldable pub attributesSay : List Attribute → List (AttributeStyle StyleValue)
 attributesSay [] = []
 attributesSay (a ∷ others) = attributeSays (map meant) a ++ attributesSay others

@@ -5,9 +5,9 @@ use mathlib.Core.Path.{_≡_}
 use mathlib.Core.List.{List}
 use lib.ListN.{length}
 use Rattle.combinators.specs.Part.{part}
-use Rattle.syntax.specs.Layout.{valueFrom}
+use Rattle.syntax.specs.Layout.{numberFrom}
 use Rattle.syntax.specs.Style as style
-use Rattle.syntax.specs.Style.{Style}
+use Rattle.syntax.specs.Style.{Style, StyleValue}
 use Rattle.syntax.specs.declared.styles.Value.{Value}
 
 -- "Content is a start and a length in the text store, which belongs to the answer and is no work store": they name a text, which lies within
@@ -16,10 +16,20 @@ pub record Names (t : List ℕ) (v : Value) (x : List ℕ) : Type 0 where
   pub within : v .number + v .second ≤ length t
   pub named : part t (v .number) (v .second) ≡ x
 
+-- a style without a text is its number, and 0
+pub record Numbered (v : Value) (s : Style) : Type 0 where
+  pub number : v .number ≡ numberFrom 0 s
+  pub second : v .second ≡ 0
+
 -- "Contents are compared by their text": a content is named, any other style is its number
-unfoldable pub Says : List ℕ → Value → Style → Type 0
-Says t v (style.colour c) = v ≡ valueFrom 0 (style.colour c)
-Says t v (style.background c) = v ≡ valueFrom 0 (style.background c)
-Says t v style.displayNone = v ≡ valueFrom 0 style.displayNone
-Says t v (style.whiteSpace w) = v ≡ valueFrom 0 (style.whiteSpace w)
-Says t v (style.content x) = Names t v x
+unfoldable pub SaysStyle : List ℕ → Value → Style → Type 0
+SaysStyle t v (style.colour c) = Numbered v (style.colour c)
+SaysStyle t v (style.background c) = Numbered v (style.background c)
+SaysStyle t v style.displayNone = Numbered v style.displayNone
+SaysStyle t v (style.whiteSpace w) = Numbered v (style.whiteSpace w)
+SaysStyle t v (style.content x) = Names t v x
+
+-- and it has the start of the same declaration (S-3: "The compiled run must name the same byte as the computed style")
+pub record Says (t : List ℕ) (v : Value) (x : StyleValue) : Type 0 where
+  pub style : SaysStyle t v (x .style)
+  pub start : v .start ≡ x .start

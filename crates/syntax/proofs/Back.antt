@@ -9,11 +9,11 @@ use lib.Seq.{sets}
 use Rattle.combinators.specs.Choice.{pick, is}
 use Rattle.combinators.specs.All.{All}
 use Rattle.syntax.specs.Declaration.{Colour, Overflow, visible, hidden, scroll, auto, WhiteSpace, normal, pre, preWrap, Decl, color, backgroundColor, height, maxHeight, overflow, overflowY, display, whiteSpace, content, unknown, Declaration}
-use Rattle.syntax.specs.Layout.{flag, flagOf, overflowNumber, overflowOf, whiteSpaceNumber, whiteSpaceOf, colourNumber, colourOf, declText, declarationText, declRow, declarationRow, declOf, readDeclaration, declarationRows, declarationTexts, declarationsAt, styleWidth, styleTextOf, styleText, styleSlotOf, valueFrom, numbersFrom, valueNumbers, rowOfNumbers, styleRow, numbersAt, styleOf, styleIn, readStyle, styleRows, styleTexts, stylesAt}
+use Rattle.syntax.specs.Layout.{flag, flagOf, overflowNumber, overflowOf, whiteSpaceNumber, whiteSpaceOf, colourNumber, colourOf, declText, declarationText, declRow, declarationRow, declOf, readDeclaration, declarationRows, declarationTexts, declarationsAt, styleWidth, styleTextOf, styleText, styleSlotOf, numberFrom, valueFrom, numbersFrom, valueNumbers, rowOfNumbers, styleRow, numbersAt, styleOf, valueIn, styleIn, readStyle, styleRows, styleTexts, stylesAt}
 use Rattle.syntax.specs.declared.styles.StyleNumbers.{StyleNumbers}
 use Rattle.syntax.specs.Stream.{Read, readMany, textsMany}
 use Rattle.syntax.specs.Style as style
-use Rattle.syntax.specs.Style.{Style, StyleDecl}
+use Rattle.syntax.specs.Style.{Style, StyleValue, StyleDecl}
 use Rattle.syntax.proofs.Streams.{Held, held-part, many-back, sets-drop, sets-held}
 
 -- ---- flags and words
@@ -79,7 +79,7 @@ abbrev pub DeclarationsFit : List Declaration → Type 0
 DeclarationsFit ds = All (λ d. DeclFits (d .decl)) ds
 
 abbrev pub StylesFit : List StyleDecl → Type 0
-StylesFit ds = All (λ d. StyleFits (d .style)) ds
+StylesFit ds = All (λ d. StyleFits (d .value .style)) ds
 
 -- the row of a style in numbers is read back
 pub row-numbers-back : (x : StyleNumbers) (t : List ℕ) → numbersAt (rowOfNumbers x ++ t) ≡ x
@@ -129,22 +129,28 @@ module _ (store : List ℕ) where
   declarations-back ds f t u h = ap (λ (r : Read (List Declaration)). r .value) (declarations-read ds f t u h)
 
   -- ---- one style
-  -- a style's two numbers, with its text in the store, read back as the style
-  style-of-back : (f : ℕ) (d : Style) → StyleFits d → Held store f (styleTextOf d) → styleOf store (styleSlotOf d) (valueFrom f d) ≡ d
-  unfolding styleOf styleSlotOf valueFrom styleTextOf StyleFits pick is
-  style-of-back f (style.colour c) b h = rw (colour-back c b)
-  style-of-back f (style.background c) b h = rw (colour-back c b)
-  style-of-back f style.displayNone u h = refl
-  style-of-back f (style.whiteSpace w) u h = rw (white-space-back w)
-  style-of-back f (style.content b) u h = rw (held-part store f b h)
+  -- a style's number and its text's length, with the text in the store, read back as the style
+  style-of-back : (f s : ℕ) (d : Style) → StyleFits d → Held store f (styleTextOf d)
+      → styleOf store (styleSlotOf d) (record { number = numberFrom f d; second = length (styleTextOf d); start = s }) ≡ d
+  unfolding styleOf styleSlotOf numberFrom styleTextOf StyleFits pick is
+  style-of-back f s (style.colour c) b h = rw (colour-back c b)
+  style-of-back f s (style.background c) b h = rw (colour-back c b)
+  style-of-back f s style.displayNone u h = refl
+  style-of-back f s (style.whiteSpace w) u h = rw (white-space-back w)
+  style-of-back f s (style.content b) u h = rw (held-part store f b h)
+
+  -- and with its start as what it gives its slot
+  value-back : (f : ℕ) (v : StyleValue) → StyleFits (v .style) → Held store f (styleTextOf (v .style)) → valueIn store (styleSlotOf (v .style)) (valueFrom f v) ≡ v
+  unfolding valueIn valueFrom
+  value-back f v u h = rw (style-of-back f (v .start) (v .style) u h)
 
   -- a style in numbers says the style, where its text lies in the store
-  pub numbers-say : (f : ℕ) (d : StyleDecl) → StyleFits (d .style) → Held store f (styleText d) → styleIn store (numbersFrom f d) ≡ d
+  pub numbers-say : (f : ℕ) (d : StyleDecl) → StyleFits (d .value .style) → Held store f (styleText d) → styleIn store (numbersFrom f d) ≡ d
   unfolding styleIn numbersFrom styleText
-  numbers-say f d u h = rw (style-of-back f (d .style) u h)
+  numbers-say f d u h = rw (value-back f (d .value) u h)
 
   -- a style that was written is read back from its row, and what stands behind it is left
-  style-back : (f : ℕ) (d : StyleDecl) (t : List ℕ) → StyleFits (d .style) → Held store f (styleText d) → readStyle store (styleRow f d ++ t) ≡ record { value = d; rest = t }
+  style-back : (f : ℕ) (d : StyleDecl) (t : List ℕ) → StyleFits (d .value .style) → Held store f (styleText d) → readStyle store (styleRow f d ++ t) ≡ record { value = d; rest = t }
   unfolding readStyle styleRow
   style-back f d t u h = rw (row-numbers-back (numbersFrom f d) t, row-numbers-rest (numbersFrom f d) t, numbers-say f d u h)
 
@@ -153,7 +159,7 @@ module _ (store : List ℕ) where
   unfolding stylesAt styleRows styleTexts
   styles-back ds f t u h =
       ap (λ (r : Read (List StyleDecl)). r .value)
-      (many-back store styleRow styleText (readStyle store) (λ d. d) (λ d. StyleFits (d .style)) (f + length (textsMany styleText ds)) (λ f d t u h _. style-back f d t u h) ds f t u h (omega arith))
+      (many-back store styleRow styleText (readStyle store) (λ d. d) (λ d. StyleFits (d .value .style)) (f + length (textsMany styleText ds)) (λ f d t u h _. style-back f d t u h) ds f t u h (omega arith))
       ∙ map-id ds
 
 -- declarations written into lent rows from p on, and their texts into a lent store from f on, are read back

@@ -1,4 +1,4 @@
--- How declarations and styles lie in lent numbers and the text store. A row says what it is, whether it is important, and two numbers:
+-- How declarations and styles lie in lent numbers and the text store. A row says what it is, whether it is important, the byte where its declaration starts, and two numbers:
 -- a colour, a flag or a word's number, and 0; or where a text starts in the store, and how long it is.
 use Prim.Native.Nat.{ℕ, _+_, _*_, _/_, _%_}
 use mathlib.Core.Bool.{Bool, true, false}
@@ -9,7 +9,7 @@ use Rattle.combinators.specs.Part.{part}
 use Rattle.syntax.specs.Declaration.{Colour, Overflow, visible, hidden, scroll, auto, WhiteSpace, normal, pre, preWrap, Decl, color, backgroundColor, height, maxHeight, overflow, overflowY, display, whiteSpace, content, unknown, Declaration}
 use Rattle.syntax.specs.Stream.{Read, readMany, textsMany, rowsMany}
 use Rattle.syntax.specs.Style as style
-use Rattle.syntax.specs.Style.{Style, StyleDecl}
+use Rattle.syntax.specs.Style.{Style, StyleValue, StyleDecl}
 use Rattle.syntax.specs.declared.styles.Value.{Value}
 use Rattle.syntax.specs.declared.styles.StyleNumbers.{StyleNumbers}
 
@@ -184,7 +184,7 @@ abbrev pub lastSlot : ℕ
 lastSlot = contentSlot
 
 abbrev pub styleWidth : ℕ
-styleWidth = 4
+styleWidth = 5
 
 abbrev pub styleSlot : ℕ
 styleSlot = 0
@@ -198,6 +198,9 @@ styleNumber = 2
 abbrev pub styleSecond : ℕ
 styleSecond = 3
 
+abbrev pub styleStart : ℕ
+styleStart = 4
+
 unfoldable pub styleTextOf : Style → List ℕ
 styleTextOf (style.colour c) = []
 styleTextOf (style.background c) = []
@@ -206,9 +209,9 @@ styleTextOf (style.whiteSpace w) = []
 styleTextOf (style.content t) = t
 
 unfoldable pub styleText : StyleDecl → List ℕ
-styleText d = styleTextOf (d .style)
+styleText d = styleTextOf (d .value .style)
 
--- the slot of a style, and what it gives the slot: a number, or a text that starts at f
+-- the slot of a style
 unfoldable pub styleSlotOf : Style → ℕ
 styleSlotOf (style.colour c) = colourSlot
 styleSlotOf (style.background c) = backgroundSlot
@@ -216,20 +219,25 @@ styleSlotOf style.displayNone = displaySlot
 styleSlotOf (style.whiteSpace w) = whiteSpaceSlot
 styleSlotOf (style.content t) = contentSlot
 
-unfoldable pub valueFrom : ℕ → Style → Value
-valueFrom f (style.colour c) = record { number = colourNumber c; second = 0 }
-valueFrom f (style.background c) = record { number = colourNumber c; second = 0 }
-valueFrom f style.displayNone = record { number = 0; second = 0 }
-valueFrom f (style.whiteSpace w) = record { number = whiteSpaceNumber w; second = 0 }
-valueFrom f (style.content t) = record { number = f; second = length t }
+-- the number that a style gives its slot: of a content where its text starts, which is f
+unfoldable pub numberFrom : ℕ → Style → ℕ
+numberFrom f (style.colour c) = colourNumber c
+numberFrom f (style.background c) = colourNumber c
+numberFrom f style.displayNone = 0
+numberFrom f (style.whiteSpace w) = whiteSpaceNumber w
+numberFrom f (style.content t) = f
+
+-- what a style gives its slot: its number, how long its text is, and where its declaration starts
+unfoldable pub valueFrom : ℕ → StyleValue → Value
+valueFrom f v = record { number = numberFrom f (v .style); second = length (styleTextOf (v .style)); start = v .start }
 
 -- the style in numbers
 unfoldable pub numbersFrom : ℕ → StyleDecl → StyleNumbers
-numbersFrom f d = record { slot = styleSlotOf (d .style); important = d .important; value = valueFrom f (d .style) }
+numbersFrom f d = record { slot = styleSlotOf (d .value .style); important = d .important; value = valueFrom f (d .value) }
 
 -- the numbers of a value, in a style's row and in a slot
 unfoldable pub valueNumbers : Value → List ℕ
-valueNumbers v = v .number ∷ v .second ∷ []
+valueNumbers v = v .number ∷ v .second ∷ v .start ∷ []
 
 -- a style's row
 unfoldable pub rowOfNumbers : StyleNumbers → List ℕ
@@ -244,7 +252,7 @@ numbersAt t =
     record {
       slot = getD t styleSlot 0;
       important = flagOf (getD t styleImportant 0);
-      value = record { number = getD t styleNumber 0; second = getD t styleSecond 0 };
+      value = record { number = getD t styleNumber 0; second = getD t styleSecond 0; start = getD t styleStart 0 };
     }
 
 -- the style of a slot and a value, whose text is a part of the store
@@ -256,9 +264,13 @@ styleOf store k v =
     (pick (is k whiteSpaceSlot) (style.whiteSpace (whiteSpaceOf (v .number)))
     (style.content (part store (v .number) (v .second))))))
 
+-- what a value says, by its slot, with the start that it carries
+unfoldable pub valueIn : List ℕ → ℕ → Value → StyleValue
+valueIn store k v = record { style = styleOf store k v; start = v .start }
+
 -- the style that numbers say
 unfoldable pub styleIn : List ℕ → StyleNumbers → StyleDecl
-styleIn store x = record { style = styleOf store (x .slot) (x .value); important = x .important }
+styleIn store x = record { value = valueIn store (x .slot) (x .value); important = x .important }
 
 unfoldable pub readStyle : List ℕ → List ℕ → Read StyleDecl
 readStyle store t = record { value = styleIn store (numbersAt t); rest = drop styleWidth t }

@@ -21,6 +21,11 @@ userOrigin = 2
 abbrev pub authorOrigin : ℕ
 authorOrigin = 3
 
-pub record StyleDecl : Type 0 where
+-- what a style gives its slot, and the byte where the declaration that asks for it starts (S-3: "Teachers want the byte where the winning declaration starts.")
+pub record StyleValue : Type 0 where
   pub style : Style
+  pub start : ℕ
+
+pub record StyleDecl : Type 0 where
+  pub value : StyleValue
   pub important : Bool

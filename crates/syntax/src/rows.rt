@@ -64,7 +64,7 @@ pub const WHITE_SPACE_PRE: u32 = 1;
 pub const WHITE_SPACE_PRE_WRAP: u32 = 2;
 
 // Numbers in the row of a style: its slot, whether it is important, and those of its value.
-pub const STYLE_WIDTH: usize = 4;
+pub const STYLE_WIDTH: usize = 5;
 
 pub const STYLE_SLOT: usize = 0;
 
@@ -73,6 +73,8 @@ pub const STYLE_IMPORTANT: usize = 1;
 pub const STYLE_NUMBER: usize = 2;
 
 pub const STYLE_SECOND: usize = 3;
+
+pub const STYLE_START: usize = 4;
 
 // The slots, which are those of the compiled sheet.
 pub const COLOUR_SLOT: u32 = 0;

@@ -4,10 +4,11 @@
 //!
 //! `hicsolmab_run` also checks the page and the compiled bytes, and clears the stores, at each call. The two checks are timed apart, in the same turns, by the functions that make
 //! nothing else, and a second figure is without them. What it takes to set the lent stores to zero, as document 01 asks of every call, is timed likewise: no call can take less. Buffers have the least lengths. Document styles are off, but for the page that has style attributes.
+use compare::asked::computed_styles;
 use compare::engine::{self, Lent, RUN_CALL, Run, RunFunction};
 use compare::pages::{self, Node, Tree};
 use compare::ran::{self, Asked, run_with};
-use judge::answers::{NODE_WIDTH, Page};
+use judge::answers::{NODE_WIDTH, Page, StyleRow};
 use judge::css::questions::{Whole, whole};
 use std::hint::black_box;
 use std::thread;
@@ -216,8 +217,11 @@ fn compared(function: RunFunction, name: &str, sheets: [&str; 3], tree: &Tree, s
     let html2text = whole(sheets, &page);
     let run = Run::new(&compiled, &page);
     let asked = Asked { styled: engine::Styled { sheets, page: &page }, compiled: &compiled };
-    let wrong = ran::wrong(&asked, &run_with(function, &run, switch, run.least(), 0), switch, &html2text.style_rows(switch != OFF));
+    let rows = computed_styles(sheets, &page, switch != OFF).expect("sheets that read");
+    let wrong = ran::wrong(&asked, &run_with(function, &run, switch, run.least(), 0), switch, &rows);
     assert_eq!(wrong, None, "both answer the same for {name}");
+    let rows: Vec<StyleRow> = rows.into_iter().map(StyleRow::without_starts).collect();
+    assert_eq!(html2text.style_rows(switch != OFF), rows, "what is measured is what was compared");
     let m = measure(&mut This::new(function, &compiled, &page, switch), &html2text);
     let (bytes, rows) = (compiled.len(), page.nodes.len() / NODE_WIDTH);
     let [this, without, clearing, theirs] = [m.this, m.without_checks, m.clearing, m.html2text].map(|t| t / 1e3);

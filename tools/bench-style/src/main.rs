@@ -3,6 +3,7 @@
 //! alone. Prints tables for docs/SPEED.md; tools/bench-style/run.sh builds and runs it.
 //!
 //! `hicsolmab_style` also checks the page and that all is UTF-8, and clears the stores, at each call. html2text is given its nodes, made before.
+use compare::asked;
 use compare::engine::{BOOK_CALL, STYLE_CALL, Stores, StyleFunction, Styled};
 use compare::pages::{self, Node, Tree};
 use compare::styled::{say, texts_of_calls};
@@ -183,8 +184,11 @@ fn compared(function: StyleFunction, name: &str, sheets: [&str; 3], tree: &Tree)
     let (row, depth) = deepest(&page);
     let styled = Styled { sheets, page: &page };
     let html2text = path(&page, row);
-    let wrong = say(function, &styled, row, 1, 0).wrong(&html2text.style_row(sheets, true), &texts_of_calls(&styled, true)[row]);
+    let rows = asked::computed_styles(sheets, &page, true).expect("sheets that read");
+    let expected = page.elements().iter().position(|&element| element == row).map(|element| rows[element].clone()).expect("an element");
+    let wrong = say(function, &styled, row, 1, 0).wrong(&expected, &texts_of_calls(&styled, true)[row]);
     assert_eq!(wrong, None, "both answer the same for {name}");
+    assert_eq!(html2text.style_row(sheets, true), expected.without_starts(), "what is measured is what was compared");
     let m = measure(&mut This::new(function, styled, row), &html2text, TURNS);
     let bytes: usize = sheets.iter().map(|s| s.len()).sum();
     println!("| {name} | {bytes} | {depth} | {:.1} | {:.1} | {:.2} |", m.this / 1e3, m.html2text / 1e3, m.ratio);

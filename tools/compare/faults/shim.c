@@ -159,7 +159,7 @@ hicsolmab_style_result hicsolmab_style(STYLE_PARAMETERS)
 {
     size_t asked = is("style_of_parent") && row > 0 && row < nodes_length / HICSOLMAB_NODE_WIDTH && parent(nodes, row) > 0 ? parent(nodes, row) : row;
     hicsolmab_style_result result = real_hicsolmab_style(STYLE_ARGUMENTS(asked, document_styles));
-    uint32_t *content, *colour;
+    uint32_t *content, *colour, *space;
     if (is("style_no_element") && result.refusal == HICSOLMAB_NO_ELEMENT)
         result.refusal = HICSOLMAB_BAD_ROW;
     if (is("style_short_store") && result.refusal == HICSOLMAB_SHORT_STORE && out_length >= WIDTH && texts_length > 0)
@@ -170,6 +170,9 @@ hicsolmab_style_result hicsolmab_style(STYLE_PARAMETERS)
     colour = slot(out, HICSOLMAB_MAIN, HICSOLMAB_COLOUR_SLOT);
     if (is("style_content_start") && filled(content) && content[HICSOLMAB_SLOT_SECOND] > 1)
         content[HICSOLMAB_SLOT_NUMBER] -= content[HICSOLMAB_SLOT_NUMBER] > 0;
+    space = slot(out, HICSOLMAB_MAIN, HICSOLMAB_WHITE_SPACE_SLOT);
+    if (is("style_declaration") && filled(space) && !space[HICSOLMAB_SLOT_INLINE])
+        space[HICSOLMAB_SLOT_START] += 1;
     if (is("style_inline_origin") && filled(colour) && colour[HICSOLMAB_SLOT_INLINE])
         colour[HICSOLMAB_SLOT_ORIGIN] = HICSOLMAB_USER_ORIGIN;
     if (is("style_empty_record") && hicsolmab_has_record(out, HICSOLMAB_AFTER) && !filled(slot(out, HICSOLMAB_AFTER, HICSOLMAB_CONTENT_SLOT)))
@@ -189,6 +192,8 @@ hicsolmab_style_result hicsolmab_style_book(STYLE_PARAMETERS)
     colour = slot(out, HICSOLMAB_MAIN, HICSOLMAB_COLOUR_SLOT);
     if (is("book_inline_important") && filled(colour) && colour[HICSOLMAB_SLOT_INLINE])
         colour[HICSOLMAB_SLOT_IMPORTANT] = 0;
+    if (is("book_declaration") && filled(colour) && colour[HICSOLMAB_SLOT_IMPORTANT] && filled(colour + HICSOLMAB_SLOT_WIDTH))
+        colour[HICSOLMAB_SLOT_START] = colour[HICSOLMAB_SLOT_WIDTH + HICSOLMAB_SLOT_START];
     if (is("book_inherited_class") && filled(colour) && colour[HICSOLMAB_SLOT_ID] > 0)
         colour[HICSOLMAB_SLOT_CLASS] += 1;
     return result;
@@ -205,6 +210,7 @@ static void change_rows(const uint32_t *nodes, size_t count, size_t compiled_len
         uint32_t *before = own - WIDTH;
         uint32_t *colour = slot(own, HICSOLMAB_MAIN, HICSOLMAB_COLOUR_SLOT);
         uint32_t *content = slot(own, HICSOLMAB_MAIN, HICSOLMAB_CONTENT_SLOT);
+        uint32_t *display = slot(own, HICSOLMAB_MAIN, HICSOLMAB_DISPLAY_SLOT);
         int element = kind(nodes, row) == HICSOLMAB_ELEMENT;
         if (is("run_row_copied") && element && row == count - 1)
             memcpy(own, before, ROW_BYTES);
@@ -220,6 +226,8 @@ static void change_rows(const uint32_t *nodes, size_t count, size_t compiled_len
             content[HICSOLMAB_SLOT_NUMBER] -= (uint32_t)compiled_length;
         if (is("run_important") && filled(colour))
             colour[HICSOLMAB_SLOT_IMPORTANT] = 0;
+        if (is("run_declaration") && filled(display) && display[HICSOLMAB_SLOT_INLINE])
+            display[HICSOLMAB_SLOT_START] = 0;
         if (is("run_type_count") && filled(colour) && colour[HICSOLMAB_SLOT_TYPE] > 1)
             colour[HICSOLMAB_SLOT_TYPE] -= 1;
     }

@@ -22,11 +22,12 @@ struct Said {
     types: u32,
     important: bool,
     style: Style,
+    start: usize,
 }
 
 // By an author, not important, of specificity 0.
-fn lightly(style: Style) -> Said {
-    Said { origin: AUTHOR, inline: false, ids: 0, classes: 0, types: 0, important: false, style }
+fn lightly(style: Style, start: usize) -> Said {
+    Said { origin: AUTHOR, inline: false, ids: 0, classes: 0, types: 0, important: false, style, start }
 }
 
 impl Said {
@@ -48,7 +49,7 @@ impl Said {
             Style::Colour(n) | Style::Background(n) | Style::WhiteSpace(n) => n,
             Style::DisplayNone | Style::Content(_) => 0,
         };
-        [1, self.origin, u32::from(self.inline), self.ids, self.classes, self.types, u32::from(self.important), value, 0]
+        [1, self.origin, u32::from(self.inline), self.ids, self.classes, self.types, u32::from(self.important), value, 0, self.start as u32]
     }
 
     fn content(&self) -> Text {
@@ -69,7 +70,7 @@ type Records = [Record; RECORDS];
 type Gathered = Vec<(usize, Said)>;
 
 fn inherited(parent: &Records) -> Gathered {
-    let of_record = |(i, record): (usize, &Record)| -> Gathered { record.slots.iter().flatten().map(|s| (i, lightly(s.style.clone()))).collect() };
+    let of_record = |(i, record): (usize, &Record)| -> Gathered { record.slots.iter().flatten().map(|s| (i, lightly(s.style.clone(), s.start))).collect() };
     parent.iter().enumerate().flat_map(of_record).collect()
 }
 
@@ -78,7 +79,7 @@ fn from_rules(applied: &[Applied], origin: u32) -> Gathered {
     for rule in applied.iter().filter(|r| r.origin == origin) {
         for said in &rule.styles {
             let [ids, classes, types] = [rule.specificity.ids, rule.specificity.classes, rule.specificity.types];
-            let said = Said { origin, inline: false, ids, classes, types, important: said.important, style: said.style.clone() };
+            let said = Said { origin, inline: false, ids, classes, types, important: said.important, style: said.style.clone(), start: said.start };
             found.push((rule.pseudo as usize, said));
         }
     }
@@ -94,7 +95,7 @@ fn from_colours(attributes: &[(&str, &str)]) -> Gathered {
             "bgcolor" => colour().map(Style::Background),
             _ => None,
         };
-        found.extend(style.map(|s| (MAIN, lightly(s))));
+        found.extend(style.map(|s| (MAIN, lightly(s, 0))));
     }
     found
 }
@@ -103,7 +104,7 @@ fn from_style_attributes(attributes: &[(&str, &str)]) -> Gathered {
     let mut found = vec![];
     for &(_, value) in attributes.iter().filter(|(name, _)| *name == "style") {
         for said in html2text::style_attribute(value).expect("a style attribute never panics") {
-            found.push((MAIN, Said { inline: true, important: said.important, ..lightly(said.style) }));
+            found.push((MAIN, Said { inline: true, important: said.important, ..lightly(said.style, said.start) }));
         }
     }
     found

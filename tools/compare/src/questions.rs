@@ -7,7 +7,7 @@ use crate::pages::{self, Tree};
 use crate::ran::ASK_RUN;
 use crate::random::Random;
 use crate::styled::{ASK_BOOK, ASK_COMPUTED};
-use judge::answers::{Component, Rows, Selector};
+use judge::answers::{Component, Rows, STYLE_WIDTH, Selector};
 use judge::css::questions as html2text;
 
 /// Sheets or an attribute value, and a page where the question has one.
@@ -165,7 +165,6 @@ fn ask_sheet(input: &Input) -> Answer {
 // ---- style attributes: the style rows and the texts of contents
 
 fn ask_style_attribute(input: &Input) -> Answer {
-    const STYLE_WIDTH: usize = 4;
     let value = &input.texts[0];
     let styles = html2text::style_attribute(value).expect("a style attribute never panics");
     let mut stores = Stores::new(value.len(), 0);

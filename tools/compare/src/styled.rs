@@ -6,6 +6,7 @@ use crate::pages;
 use crate::questions::{Answer, Input, PANICS, is_clear, may_overflow, place_of_panic};
 use judge::answers::{Decl, ELEMENT_KIND, Page, RECORD_WIDTH, SLOT_WIDTH, STYLE_ROW_WIDTH, Style, StyleRow};
 use judge::css::questions as html2text;
+use std::ops::Range;
 
 /// None where the engine does not export the call yet.
 pub const ASK_COMPUTED: Option<fn(&Input) -> Answer> = match STYLE_CALL {
@@ -27,6 +28,8 @@ const MORE: [usize; 4] = [0, 1, 0, 300];
 // Document styles are off for 0 and on for all else.
 const ON: [u32; 3] = [1, 2, u32::MAX];
 const CONTENT_SLOT: usize = 4;
+// Where a slot has the two numbers of its value.
+const VALUE: Range<usize> = 7..9;
 // Of the numbers of a page's nodes one in so many is changed.
 const DAMAGED_STEP: usize = 19;
 
@@ -44,10 +47,10 @@ pub fn row_by_texts<'a>(numbers: &[u32], text_at: impl Fn(usize, usize) -> Optio
     let mut row = StyleRow { numbers: numbers.to_vec(), contents: vec![] };
     for record in row.numbers.chunks_mut(RECORD_WIDTH) {
         let slot = &mut record[1 + CONTENT_SLOT * SLOT_WIDTH..];
-        let [start, length] = [slot[SLOT_WIDTH - 2] as usize, slot[SLOT_WIDTH - 1] as usize];
+        let [start, length] = [slot[VALUE.start] as usize, slot[VALUE.start + 1] as usize];
         // Where there is no content its numbers stay in the row, to be seen.
         if slot[0] == 1 {
-            slot[SLOT_WIDTH - 2..].fill(0);
+            slot[VALUE].fill(0);
         }
         row.contents.push(text_at(start, length)?.to_vec());
     }

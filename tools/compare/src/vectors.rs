@@ -1,9 +1,10 @@
 //! The fixed list of html2text's answers: how it is written, and how it is replayed. The format is described in tools/vectors/README.md.
+use crate::asked;
 use crate::engine::{self, Stores, Styled};
 use crate::pages;
 use crate::questions::Input;
 use crate::styled::{say, texts_of_calls};
-use judge::answers::{ELEMENT_KIND, Page, RECORD_WIDTH, Rows, SLOT_WIDTH, SLOTS, StyleRow};
+use judge::answers::{ELEMENT_KIND, Page, RECORD_WIDTH, Rows, SLOT_WIDTH, SLOTS, STYLE_WIDTH, StyleRow};
 use judge::css::questions as html2text;
 
 const SHEET: u32 = 1;
@@ -125,7 +126,7 @@ fn compile(input: &Input) -> Vec<Vec<u8>> {
     vec![out.bytes]
 }
 
-// The slots of a style row that are filled: main, before and after, each with a flag and a count.
+// The slots of a style row that are filled: main, before and after, each with a flag and a count. Starts, of which html2text has none, are left out.
 fn put_style_row(out: &mut Writer, row: &StyleRow) {
     for (record, content) in row.numbers.chunks(RECORD_WIDTH).zip(&row.contents) {
         let slots: Vec<(usize, &[u32])> = record[1..].chunks(SLOT_WIDTH).enumerate().filter(|(_, slot)| slot[0] == 1).collect();
@@ -225,7 +226,7 @@ fn replay_style_attribute(file: &mut Reader) -> bool {
     let mut stores = Stores::new(text.len(), 0);
     let this = stores.style_attribute(text);
     let expected = file.rows();
-    let rows = Rows { numbers: stores.tokens[..this.count * 4].to_vec(), texts: stores.texts[..this.bytes].to_vec() };
+    let rows = Rows { numbers: stores.tokens[..this.count * STYLE_WIDTH].to_vec(), texts: stores.texts[..this.bytes].to_vec() };
     expected == rows
 }
 
@@ -266,7 +267,7 @@ fn replay_compile(file: &mut Reader) -> Option<bool> {
     None
 }
 
-// The style row of the next element.
+// The style row of the next element, without starts.
 fn style_row(file: &mut Reader) -> StyleRow {
     let mut row = StyleRow::default();
     for _ in 0..RECORDS {
@@ -291,8 +292,12 @@ fn replay_computed(file: &mut Reader) -> Option<bool> {
     let sheets = [file.text(), file.text(), file.text()].map(|t| std::str::from_utf8(t).expect("sheets are UTF-8"));
     let page = Page { nodes: file.list(), attributes: file.list(), text: file.text().to_vec() };
     let document_styles = file.number();
-    let rows: Vec<StyleRow> = page.elements().iter().map(|_| style_row(file)).collect();
+    let recorded: Vec<StyleRow> = page.elements().iter().map(|_| style_row(file)).collect();
     let function = engine::STYLE_CALL?;
+    let rows = asked::computed_styles(sheets, &page, document_styles == 1).expect("html2text answered before");
+    if rows.iter().cloned().map(StyleRow::without_starts).ne(recorded) {
+        return Some(false);
+    }
     let styled = Styled { sheets, page: &page };
     let texts = texts_of_calls(&styled, document_styles == 1);
     let same = |(row, expected): (usize, &StyleRow)| say(function, &styled, row, document_styles, 0).wrong(expected, &texts[row]).is_none();

@@ -1,4 +1,4 @@
--- The nine numbers of the slot, read field by field.
+-- The ten numbers of the slot, read field by field.
 use mathlib.Core.Path.{refl}
 use Rattle.combinators.specs.Choice.{pick, is}
 use Rattle.syntax.specs.Layout.{flagOf}
@@ -83,11 +83,20 @@ shared-slice-read-t22-3 c = search needs
 add-t7 : tie.Need-add-t7
 add-t7 c = search needs
 
+mul-t6 : tie.Need-mul-t6
+mul-t6 c = search needs
+
+shared-slice-read-t14-2 : tie.Need-shared-slice-read-t14-2
+shared-slice-read-t14-2 c = search needs
+
+add-t12 : tie.Need-add-t12
+add-t12 c = search needs
+
 mul-t11 : tie.Need-mul-t11
 mul-t11 c = search needs
 
-shared-slice-read-t22-4 : tie.Need-shared-slice-read-t22-4
-shared-slice-read-t22-4 c = search needs
+shared-slice-read-t14-3 : tie.Need-shared-slice-read-t14-3
+shared-slice-read-t14-3 c = search needs
 
 returns : tie.Need-returns
 unfolding slotAt readSlot readCandidate slotBy flagOf is pick
@@ -122,6 +131,9 @@ read-slot-spec =
     mul-t16-3
     shared-slice-read-t22-3
     add-t7
+    mul-t6
+    shared-slice-read-t14-2
+    add-t12
     mul-t11
-    shared-slice-read-t22-4
+    shared-slice-read-t14-3
     returns)

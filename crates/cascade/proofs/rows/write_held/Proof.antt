@@ -1,4 +1,4 @@
--- The nine numbers one after the other are those of the filled slot.
+-- The ten numbers one after the other are those of the filled slot.
 use lib.ListN.{length-set}
 use native.Mathlib.Omega.{arith}
 use Rattle.syntax.specs.Layout.{valueNumbers}
@@ -96,6 +96,15 @@ mul-row-9 c = search needs
 slice-write-row-9 : tie.Need-slice-write-row-9
 slice-write-row-9 c = simp length-set (omega arith)
 
+add-row-10 : tie.Need-add-row-10
+add-row-10 c = search needs
+
+mul-row-10 : tie.Need-mul-row-10
+mul-row-10 c = search needs
+
+slice-write-row-10 : tie.Need-slice-write-row-10
+slice-write-row-10 c = simp length-set (omega arith)
+
 same-length : tie.Need-same-length
 same-length c = simp length-set
 
@@ -137,5 +146,8 @@ write-held-spec =
     add-row-9
     mul-row-9
     slice-write-row-9
+    add-row-10
+    mul-row-10
+    slice-write-row-10
     same-length
     returns)

@@ -1,4 +1,4 @@
--- A filled slot is written, one that holds nothing is nine zeros.
+-- A filled slot is written, one that holds nothing is ten zeros.
 use Rattle.cascade.proofs.Merging.{wrote-held, wrote-empty}
 use borrow.Author.Needs.{needs}
 use Rattle.cascade.proofs.rows.write_slot.Statement.{statement}

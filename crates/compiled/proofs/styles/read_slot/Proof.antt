@@ -14,13 +14,13 @@ read-valued-requires : tie.Need-read-valued-requires
 read-valued-requires c κs = search needs
 
 returns : tie.Need-returns
-returns c = let n = c .before .before in laws.slot-read _ _ _ _ (n .before .before .read-ranged .ensures .0) _ _ (n .next .given .1) _ (c .read-valued .ensures)
+returns c = let n = c .before .before in laws.slot-read _ _ _ _ _ (n .before .before .read-ranged .ensures .0) _ _ (n .next .given .1) _ (c .read-valued .ensures)
 
 enum-known-place : tie.Need-enum-known-place
 enum-known-place c = search needs
 
 returns-2 : tie.Need-returns-2
-returns-2 c = let n = c .before in laws.slot-fault _ _ _ _ (n .before .before .read-ranged .ensures .0) _ (n .place .given .1)
+returns-2 c = let n = c .before in laws.slot-fault _ _ _ _ _ (n .before .before .read-ranged .ensures .0) _ (n .place .given .1)
 
 pub read-slot-spec : {M : Type 1} → statement M
 read-slot-spec =

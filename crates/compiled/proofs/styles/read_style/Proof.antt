@@ -1,4 +1,4 @@
--- The mark of importance is 0 or 1, and the slot is read on behind it. What is read ends within the bytes.
+-- The mark of importance is 0 or 1, and the start is read on behind it. What is read ends within the bytes.
 use Rattle.compiled.proofs.StyleCode as laws
 use borrow.Author.Needs.{needs}
 use Rattle.compiled.proofs.styles.read_style.Statement.{statement}
@@ -10,11 +10,11 @@ read-ranged-requires c κs = search needs
 enum-known-next : tie.Need-enum-known-next
 enum-known-next c = search needs
 
-read-slot-requires : tie.Need-read-slot-requires
-read-slot-requires c κs = search needs
+read-started-requires : tie.Need-read-started-requires
+read-started-requires c κs = search needs
 
 returns : tie.Need-returns
-returns c = let n = c .before .before in laws.style-read _ _ _ (n .before .before .read-ranged .ensures .0) _ _ (n .next .given .1) _ (c .read-slot .ensures)
+returns c = let n = c .before .before in laws.style-read _ _ _ (n .before .before .read-ranged .ensures .0) _ _ (n .next .given .1) _ (c .read-started .ensures)
 
 enum-known-place : tie.Need-enum-known-place
 enum-known-place c = search needs
@@ -28,7 +28,7 @@ read-style-spec =
     (tie.spec
     read-ranged-requires
     enum-known-next
-    read-slot-requires
+    read-started-requires
     returns
     enum-known-place
     returns-2)

@@ -1,4 +1,4 @@
--- Four numbers stored one behind the other are a style's row.
+-- Five numbers stored one behind the other are a style's row.
 use lib.ListN.{length-set}
 use native.Mathlib.Omega.{arith}
 use Rattle.syntax.specs.Layout.{valueNumbers, rowOfNumbers}
@@ -46,6 +46,15 @@ mul-rows-4 c = search needs
 slice-write-rows-4 : tie.Need-slice-write-rows-4
 slice-write-rows-4 c = simp length-set (omega arith)
 
+add-rows-5 : tie.Need-add-rows-5
+add-rows-5 c = search needs
+
+mul-rows-5 : tie.Need-mul-rows-5
+mul-rows-5 c = search needs
+
+slice-write-rows-5 : tie.Need-slice-write-rows-5
+slice-write-rows-5 c = simp length-set (omega arith)
+
 same-length : tie.Need-same-length
 same-length c = search needs
 
@@ -71,5 +80,8 @@ write-style-spec =
     add-rows-4
     mul-rows-4
     slice-write-rows-4
+    add-rows-5
+    mul-rows-5
+    slice-write-rows-5
     same-length
     returns)

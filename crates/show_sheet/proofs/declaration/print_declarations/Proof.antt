@@ -5,28 +5,25 @@ use Rattle.show_sheet.proofs.declaration.print_declarations.Statement.{
 use Rattle.show_sheet.proofs.declaration.print_declarations.Tie as tie
 
 abbrev Inv-loop : tie.InvT-loop
-Inv-loop rows at count store place₀ left₀ t7 t8 place left = left ≤ left₀
+Inv-loop sheet rows at count store place₀ left₀ t8 place left = left ≤ left₀
 
 abbrev μ-loop : tie.MeasureT-loop
-μ-loop rows at count store place₀ left₀ t7 t8 place left = left
+μ-loop sheet rows at count store place₀ left₀ t8 place left = left
 
 loop-holds : tie.Need-loop-holds Inv-loop μ-loop
 loop-holds c = search needs
+
+print-start-requires : tie.Need-print-start-requires Inv-loop μ-loop
+print-start-requires c κs = search needs
+
+print-declaration-requires : tie.Need-print-declaration-requires Inv-loop μ-loop
+print-declaration-requires c κs = search needs
 
 slice-aggregate-print : tie.Need-slice-aggregate-print Inv-loop μ-loop
 slice-aggregate-print c = search needs
 
 print-requires : tie.Need-print-requires Inv-loop μ-loop
 print-requires c κs = search needs
-
-print-declaration-requires : tie.Need-print-declaration-requires Inv-loop μ-loop
-print-declaration-requires c κs = search needs
-
-slice-aggregate-print-2 : tie.Need-slice-aggregate-print-2 Inv-loop μ-loop
-slice-aggregate-print-2 c = search needs
-
-print-requires-2 : tie.Need-print-requires-2 Inv-loop μ-loop
-print-requires-2 c κs = search needs
 
 forward-requires : tie.Need-forward-requires Inv-loop μ-loop
 forward-requires c κs = search needs
@@ -50,11 +47,10 @@ print-declarations-spec =
     Inv-loop
     μ-loop
     loop-holds
+    print-start-requires
+    print-declaration-requires
     slice-aggregate-print
     print-requires
-    print-declaration-requires
-    slice-aggregate-print-2
-    print-requires-2
     forward-requires
     sub-left
     loop-less

@@ -5,10 +5,10 @@ use Rattle.show_sheet.proofs.rule.print_rules.Statement.{statement}
 use Rattle.show_sheet.proofs.rule.print_rules.Tie as tie
 
 abbrev Inv-loop : tie.InvT-loop
-Inv-loop rows store count place₀ left₀ place left = left ≤ left₀
+Inv-loop sheet rows store count place₀ left₀ place left = left ≤ left₀
 
 abbrev μ-loop : tie.MeasureT-loop
-μ-loop rows store count place₀ left₀ place left = left
+μ-loop sheet rows store count place₀ left₀ place left = left
 
 loop-holds : tie.Need-loop-holds Inv-loop μ-loop
 loop-holds c = search needs
