@@ -324,7 +324,7 @@ typedef struct {
  * its parent has, display and contents too.
  *
  * Least lengths for HICSOLMAB_STYLE_BYTES, and HICSOLMAB_STYLE_ROW_WIDTH for `out`. Refuses TOO_LONG, SHORT_STORE, NOT_UTF8, TOO_LARGE, BAD_ROW, BAD_TEXT,
- * NO_ELEMENT, PANIC. Stack: 63,824 bytes. */
+ * NO_ELEMENT, PANIC. Stack: 63,840 bytes. */
 hicsolmab_style_result hicsolmab_style(const uint8_t *agent, size_t agent_length,
                                        const uint8_t *user, size_t user_length,
                                        const uint8_t *author, size_t author_length,
@@ -340,9 +340,13 @@ hicsolmab_style_result hicsolmab_style(const uint8_t *agent, size_t agent_length
                                        uint8_t *brackets, size_t brackets_length);
 
 /* The same in the order of CSS Cascading Level 3: importance and origin decide first, then whether it is a `style` attribute, then
+<<<<<<< HEAD
  * specificity, then what stands later. Where nothing is declared on the element for a slot, colour and white space are the parent's, with all their numbers;
  * background, display and content are empty. So an element in one that is not displayed does not say so itself. A record of `::before` or `::after` is there where
  * a rule on the element has a style for it, and takes colour and white space, where nothing is declared for them, from the element. Stack: 63,824 bytes. */
+=======
+ * specificity, then what stands later. Stack: 63,840 bytes. */
+>>>>>>> main
 hicsolmab_style_result hicsolmab_style_book(const uint8_t *agent, size_t agent_length,
                                             const uint8_t *user, size_t user_length,
                                             const uint8_t *author, size_t author_length,
@@ -372,7 +376,7 @@ typedef struct {
  * `compiled`, a text that starts below c lies at compiled + start, any other at texts + (start - c). hicsolmab_content finds it.
  *
  * Least lengths for HICSOLMAB_RUN_BYTES, and HICSOLMAB_ROWS_LEAST and HICSOLMAB_STATE_LEAST. Refuses TOO_LONG, SHORT_STORE, TOO_LARGE, BAD_ROW, BAD_TEXT,
- * BAD_BYTES. Stack: 2,880 bytes. */
+ * BAD_BYTES. Stack: 2,896 bytes. */
 hicsolmab_run_result hicsolmab_run(const uint8_t *compiled, size_t compiled_length,
                                    const uint32_t *nodes, size_t nodes_length,
                                    const uint32_t *attributes, size_t attributes_length,
