@@ -340,13 +340,9 @@ hicsolmab_style_result hicsolmab_style(const uint8_t *agent, size_t agent_length
                                        uint8_t *brackets, size_t brackets_length);
 
 /* The same in the order of CSS Cascading Level 3: importance and origin decide first, then whether it is a `style` attribute, then
-<<<<<<< HEAD
  * specificity, then what stands later. Where nothing is declared on the element for a slot, colour and white space are the parent's, with all their numbers;
  * background, display and content are empty. So an element in one that is not displayed does not say so itself. A record of `::before` or `::after` is there where
- * a rule on the element has a style for it, and takes colour and white space, where nothing is declared for them, from the element. Stack: 63,824 bytes. */
-=======
- * specificity, then what stands later. Stack: 63,840 bytes. */
->>>>>>> main
+ * a rule on the element has a style for it, and takes colour and white space, where nothing is declared for them, from the element. Stack: 63,840 bytes. */
 hicsolmab_style_result hicsolmab_style_book(const uint8_t *agent, size_t agent_length,
                                             const uint8_t *user, size_t user_length,
                                             const uint8_t *author, size_t author_length,
