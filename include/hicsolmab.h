@@ -137,8 +137,7 @@ enum hicsolmab_white_space {
 /* The numbers of a slot: the value that won, and the declaration that it is from.
  *
  * A declaration starts at the first byte of its name, counted from 0. Where a zero height with hidden overflow hides the element, the start is that of the first
- * `height` or `max-height` that is zero. A child that inherits a value has its start too, so that of an attribute may count in an attribute of an ancestor; in
- * book order, where an inherited value is written as the author's, the row of the ancestor says in which text its start counts. */
+ * `height` or `max-height` that is zero. A child that inherits a value has all its numbers, so that an inline start may count in an attribute of an ancestor. */
 enum hicsolmab_slot_number {
     HICSOLMAB_SLOT_FILLED = 0,    /* 1, or 0 and all others 0 */
     HICSOLMAB_SLOT_ORIGIN = 1,    /* one of hicsolmab_origin */
@@ -325,7 +324,7 @@ typedef struct {
  * its parent has, display and contents too.
  *
  * Least lengths for HICSOLMAB_STYLE_BYTES, and HICSOLMAB_STYLE_ROW_WIDTH for `out`. Refuses TOO_LONG, SHORT_STORE, NOT_UTF8, TOO_LARGE, BAD_ROW, BAD_TEXT,
- * NO_ELEMENT, PANIC. Stack: 63,840 bytes. */
+ * NO_ELEMENT, PANIC. Stack: 67,936 bytes. */
 hicsolmab_style_result hicsolmab_style(const uint8_t *agent, size_t agent_length,
                                        const uint8_t *user, size_t user_length,
                                        const uint8_t *author, size_t author_length,
@@ -341,7 +340,9 @@ hicsolmab_style_result hicsolmab_style(const uint8_t *agent, size_t agent_length
                                        uint8_t *brackets, size_t brackets_length);
 
 /* The same in the order of CSS Cascading Level 3: importance and origin decide first, then whether it is a `style` attribute, then
- * specificity, then what stands later. Stack: 63,840 bytes. */
+ * specificity, then what stands later. Where nothing is declared on the element for a slot, colour and white space are the parent's, with all their numbers;
+ * background, display and content are empty. So an element in one that is not displayed does not say so itself. A record of `::before` or `::after` is there where
+ * a rule on the element has a style for it, and takes colour and white space, where nothing is declared for them, from the element. Stack: 67,936 bytes. */
 hicsolmab_style_result hicsolmab_style_book(const uint8_t *agent, size_t agent_length,
                                             const uint8_t *user, size_t user_length,
                                             const uint8_t *author, size_t author_length,

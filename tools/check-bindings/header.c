@@ -127,8 +127,8 @@ static void content(const char *name, const uint32_t *row, enum hicsolmab_record
     }
 }
 
-/* What is said of <b>: red and with a ::before, both from its parent, hidden, and with a content of its own. */
-static void helpers(const char *name, const uint32_t *row, const uint8_t *sheet, size_t sheet_length)
+/* What is said of <b>: red, from its parent, hidden, with a content of its own, and with the ::before that is wanted: its parent's, or in book order none. */
+static void helpers(const char *name, const uint32_t *row, const uint8_t *sheet, size_t sheet_length, const char *before)
 {
     const uint32_t *colour = hicsolmab_slot_of(row, HICSOLMAB_MAIN, HICSOLMAB_COLOUR_SLOT);
     expect(colour != NULL && colour[HICSOLMAB_SLOT_NUMBER] == 0xff0000, name, HICSOLMAB_COLOUR_SLOT);
@@ -136,10 +136,10 @@ static void helpers(const char *name, const uint32_t *row, const uint8_t *sheet,
     expect(hicsolmab_slot_of(row, HICSOLMAB_MAIN, HICSOLMAB_BACKGROUND_SLOT) == NULL, name, HICSOLMAB_BACKGROUND_SLOT);
     expect(hicsolmab_is_hidden(row, HICSOLMAB_MAIN) && !hicsolmab_is_hidden(row, HICSOLMAB_BEFORE), name, HICSOLMAB_DISPLAY_SLOT);
     expect(hicsolmab_has_record(row, HICSOLMAB_MAIN), name, HICSOLMAB_MAIN);
-    expect(hicsolmab_has_record(row, HICSOLMAB_BEFORE), name, HICSOLMAB_BEFORE);
+    expect(hicsolmab_has_record(row, HICSOLMAB_BEFORE) == (before != NULL), name, HICSOLMAB_BEFORE);
     expect(!hicsolmab_has_record(row, HICSOLMAB_AFTER), name, HICSOLMAB_AFTER);
     content(name, row, HICSOLMAB_MAIN, sheet, sheet_length, "own");
-    content(name, row, HICSOLMAB_BEFORE, sheet, sheet_length, "rule");
+    content(name, row, HICSOLMAB_BEFORE, sheet, sheet_length, before);
     content(name, row, HICSOLMAB_AFTER, sheet, sheet_length, NULL);
 }
 
@@ -154,12 +154,12 @@ int main(void)
     lend(HICSOLMAB_STYLE_BYTES(TEXT_LENGTH(agent), TEXT_LENGTH(user), TEXT_LENGTH(author), LENGTH(attributes), TEXT_LENGTH(text)),
          HICSOLMAB_STYLE_ROW_WIDTH, 0);
     least("hicsolmab_style_book", style_book, STATE);
-    helpers("hicsolmab_style_book", rows, NULL, 0);
+    helpers("hicsolmab_style_book", rows, NULL, 0, NULL);
     least("hicsolmab_style", style, STATE);
-    helpers("hicsolmab_style", rows, NULL, 0);
+    helpers("hicsolmab_style", rows, NULL, 0, "rule");
     lend(HICSOLMAB_RUN_BYTES(LENGTH(attributes), TEXT_LENGTH(text)), HICSOLMAB_ROWS_LEAST(LENGTH(nodes)), HICSOLMAB_STATE_LEAST(compiled_length));
     least("hicsolmab_run", run, SLICES);
-    helpers("hicsolmab_run", rows + 2 * HICSOLMAB_STYLE_ROW_WIDTH, compiled, compiled_length);
+    helpers("hicsolmab_run", rows + 2 * HICSOLMAB_STYLE_ROW_WIDTH, compiled, compiled_length, "rule");
     if (failures == 0) {
         puts("check-bindings: the header's least lengths are the least, and its helpers find what a style row says");
     }

@@ -660,8 +660,14 @@ def book_update(slot, new):
     return new if slot is None or book_key(new) >= book_key(slot) else slot
 
 
-def inherited(slot):
-    return slot and (AUTHOR, (0, 0, 0, 0), 0, slot[3])
+# S-2: "Colour and white space inherit, with the parent's nine numbers; background, display and content do not."
+INHERITED_IN_BOOK_ORDER = (COLOUR, WHITE_SPACE)
+
+
+def default_from(slots, above):
+    for k in INHERITED_IN_BOOK_ORDER:
+        if slots[k] is None:
+            slots[k] = above[k]
 
 
 class Store:
@@ -684,9 +690,9 @@ class Store:
 
 
 def element_style(page, row, parent, rules, inline, on, book):
-    """Three records from the parent's: whether it is there, and its slots."""
+    """Three records from the parent's: whether it is there, and its slots. In the book order what is declared comes first, and then what is inherited."""
     update = book_update if book else crate_update
-    records = [[present, [inherited(s) if book else s for s in slots]] for present, slots in parent]
+    records = [[0, [None] * SLOTS] if book else [present, list(slots)] for present, slots in parent]
     records[0][0] = 1
 
     def merge(pseudo, slot, *new):
@@ -714,6 +720,12 @@ def element_style(page, row, parent, rules, inline, on, book):
             merge(0, slot, AUTHOR, (1, 0, 0, 0), int(important) if book else 0, what)
         if not book:
             attribute_colour(name, text, (1, 0, 0, 0))
+    if book:
+        (_, main), *pseudos = records
+        default_from(main, parent[0][1])
+        for present, slots in pseudos:
+            if present:
+                default_from(slots, main)
     return records
 
 

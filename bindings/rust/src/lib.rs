@@ -35,7 +35,8 @@
 //!
 //! [`Compiled::run`] and [`Sheets::style`] give what html2text computes. In its cascade a child starts from all that its parent has, so that what is below a
 //! hidden element is hidden, and a parent's colour from a stronger selector stays. [`Sheets::style_book`] gives the style of one element in the order of CSS
-//! Cascading Level 3.
+//! Cascading Level 3: what is declared on the element comes before all that it inherits, and only colour and white space inherit. There an element below a hidden
+//! one is not hidden by itself, and [`Style::before`] and [`Style::after`] are there where a rule on the element has a style for them; they inherit from it.
 //!
 //! # Heights
 //!

@@ -92,8 +92,7 @@ pub struct Declaration<T> {
     pub important: bool,
     /// The byte where it starts, which is the first of its name: in the sheet of its origin where a rule has it, in the attribute's value where a `style` attribute
     /// has it; 0 where it is from `color` or `bgcolor`. Of a `display` that a zero height with hidden overflow makes, it is that of the first height that is zero.
-    /// A child that inherits a value has its start too: that of an attribute may then count in an attribute of an ancestor, and in book order, where an inherited
-    /// value is the author's, the ancestor's declaration says in which text it counts.
+    /// A child that inherits a value has its whole declaration: an inline start may then count in an attribute of an ancestor.
     pub start: usize,
 }
 

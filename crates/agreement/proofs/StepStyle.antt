@@ -11,7 +11,7 @@ use Rattle.syntax.specs.Selector.{RuleSet}
 use Rattle.syntax.specs.Style.{agentOrigin, userOrigin, authorOrigin, StyleValue}
 use Rattle.syntax.specs.declared.styles.Value.{Value}
 use Rattle.cascade.specs.declared.slots.Cascade.the-variants.{Crate}
-use Rattle.cascade.specs.Record.{ComputedStyle, emptyStyle, Declared, inheritBy, fromRule, fromAttribute, crateDeclared, declaredBy, cascadeBy}
+use Rattle.cascade.specs.Record.{ComputedStyle, emptyStyle, Declared, inheritBy, fromRule, fromAttribute, crateDeclared, declaredBy, finishBy, cascadeBy}
 use Rattle.cascade.specs.Related.{Each, SameStyle}
 use Rattle.cascade.specs.Specificity.{inlineSpecificity}
 use Rattle.cascade.proofs.Relating.{each-append, each-map, SameAttribute, SameDeclared, attribute-declared, inherit-same, merges-same, empty-same}
@@ -102,7 +102,7 @@ module _ (rules : Rules RuleSet) (settings : Settings) where
 
     -- the style of the element below one that is right
     pub styled-below : (s : ComputedStyle Value) → SaysComputed filled s up → SaysComputed (filled ++ new) (styleBelow s (matchingAt (e ∷ up) (walked code)) settings counts e) (e ∷ up)
-    unfolding styleBelow computedStyle sourcesAlong cascaded cascadeBy inheritBy
+    unfolding styleBelow computedStyle sourcesAlong cascaded cascadeBy inheritBy finishBy
     styled-below s h more =
         let t : List ℕ = code ++ ((filled ++ new) ++ more) in
         let above : SameStyle (Says t) s (computedStyle Crate rules settings up) = styled-further filled new s up h more in

@@ -1,6 +1,6 @@
 -- Where the crate's cascade is the book's: two declarations are decided alike exactly if the condition of specs/Agreeing.antt holds, and where it holds of every two
--- for a slot, both cascades leave the same in it. Assumes nothing.
-use mathlib.Core.Path.{_≡_, refl, sym, ap, subst, _∙_}
+-- for a slot, and they replace what the slot inherits, both cascades leave the same in it. Assumes nothing.
+use mathlib.Core.Path.{_≡_, refl, sym, ap, _∙_}
 use mathlib.Core.Bool.{Bool, true, false}
 use mathlib.Core.List.{List, [], _∷_, foldl}
 use mathlib.Core.Logic.{_⊎_, inl, inr, ⊎-elim}
@@ -15,10 +15,11 @@ use Rattle.combinators.proofs.AllLaws.{all-weaker, all-both}
 use Rattle.syntax.specs.Style.{agentOrigin, userOrigin, authorOrigin}
 use Rattle.cascade.specs.declared.specificity.Specificity.{Specificity}
 use Rattle.cascade.specs.declared.slots.Weight.{Weight}
-use Rattle.cascade.specs.Specificity.{specificityOf, noSpecificity, less, LessSpecific, by-inline, by-id, by-class, by-type}
-use Rattle.cascade.specs.Slot.{Candidate, Slot, empty, held, heldByImportance, heldByOrigin, heldAgainst, maybeUpdate, normalAuthor, importantAgent, rank, rankOf, weaker, heldInBook, bookUpdate, inheritedWeight, inheritedCandidate, inheritedSlot}
-use Rattle.cascade.specs.Agreeing.{KnownOrigin, DecidedAlike, EachPair, AllDecidedAlike, InheritedAlike, by-author, by-important, no-replacement, SameOrInherited, same, inherited, SameValue, nothing, one-value}
+use Rattle.cascade.specs.Specificity.{LessSpecific, by-inline, by-id, by-class, by-type}
+use Rattle.cascade.specs.Slot.{Candidate, Slot, empty, held, heldByImportance, heldByOrigin, heldAgainst, maybeUpdate, importantAgent, rank, rankOf, weaker, heldInBook, bookUpdate}
+use Rattle.cascade.specs.Agreeing.{KnownOrigin, DecidedAlike, EachPair, AllDecidedAlike}
 use Rattle.cascade.proofs.Cascading.{or-second}
+use Rattle.cascade.proofs.Defaulting.{takes, takes-won}
 use Rattle.cascade.proofs.Orders.{then-lower, then-higher, then-equal, then-true, less-says, less-said}
 
 -- each of the two follows from the other
@@ -75,14 +76,6 @@ module _ (x y : Weight) where
   by-less : LessSpecific (y .spec) (x .spec) → heldAgainst x y ≡ true
   unfolding heldAgainst
   by-less l = or-second _ _ (or-second _ _ (less-said (y .spec) (x .spec) l))
-
-  -- what is not less specific is not so by the test either
-  not-less : ¬ (LessSpecific (y .spec) (x .spec)) → less (y .spec) (x .spec) ≡ false
-  not-less n = go (less (y .spec) (x .spec)) refl
-    where
-      go : (t : Bool) → less (y .spec) (x .spec) ≡ t → less (y .spec) (x .spec) ≡ false
-      go true e = absurd (n (less-says (y .spec) (x .spec) e))
-      go false e = e
 
   -- a value that stays does so for one of four reasons
   held-says : (P : Type 0) → heldAgainst x y ≡ true → (y .important ≡ false → x .important ≡ true → P) → (y .important ≡ true → x .origin < y .origin → P)
@@ -164,91 +157,26 @@ module _ (x y : Weight) (kx : KnownOrigin x) (ky : KnownOrigin y) where
           no-later i j (inl h) = never (sym (higher (omega (arith, normal-rank x kx i, important-rank y ky j, kx .most, ky .most))) ∙ sym e ∙ by-later-origin x y j h)
           no-later i j (inr h) = h
 
--- ---- one declaration against what is inherited, likewise
-
--- nothing is less specific than itself, nor than a selector that names nothing
+-- nothing is less specific than itself
 not-itself : (s : Specificity) → ¬ (LessSpecific s s)
 not-itself s (by-inline e f) = never (sym e ∙ f)
 not-itself s (by-id i h) = absurd (omega arith)
 not-itself s (by-class i d h) = absurd (omega arith)
 not-itself s (by-type i d c h) = absurd (omega arith)
 
--- nothing is less specific than a selector that names nothing
-not-below-none : (s : Specificity) → ¬ (LessSpecific s noSpecificity)
-unfolding noSpecificity specificityOf
-not-below-none s (by-inline e f) = never f
-not-below-none s (by-id i h) = absurd (omega arith)
-not-below-none s (by-class i d h) = absurd (omega arith)
-not-below-none s (by-type i d c h) = absurd (omega arith)
+-- a value stays against none of its own weight
+not-own : (v w : Weight) → v ≡ w → heldAgainst v w ≡ false
+not-own v w d =
+    ap (λ u. heldAgainst u w) d
+    ∙ not-held w w (λ p. never (sym (p .0) ∙ p .1)) (λ p. let l = p .1 in absurd (omega arith)) (λ p. let l = p .1 in absurd (omega arith)) (not-itself (w .spec))
 
--- what is inherited ranks as a normal author declaration
-inherited-rank : rankOf inheritedWeight ≡ normalAuthor
-unfolding rankOf inheritedWeight rank pick is
-inherited-rank = refl
-
-module _ (c y : Weight) (ky : KnownOrigin y) where
-  -- the book order keeps what is inherited against a normal agent or user value, and nothing else
-  book-replaces-important : y .important ≡ true → heldInBook inheritedWeight y ≡ false
-  unfolding heldInBook weaker
-  book-replaces-important i = sym (then-higher (rankOf y) (rankOf inheritedWeight) _ (omega (arith, inherited-rank, important-rank y ky i, ky .most)))
-
-  -- the book order takes a normal author value against what is inherited
-  book-replaces-author : y .important ≡ false → authorOrigin ≤ y .origin → heldInBook inheritedWeight y ≡ false
-  unfolding heldInBook weaker inheritedWeight
-  book-replaces-author i h =
-      sym (then-equal (rankOf y) (rankOf inheritedWeight) _ false (omega (arith, inherited-rank, normal-rank y ky i, ky .most)) (sym (not-less (record { important = false; origin = authorOrigin; spec = noSpecificity }) y (not-below-none (y .spec)))))
-
-  -- the book order keeps what is inherited against a normal agent or user value
-  book-keeps-inherited : y .important ≡ false → y .origin < authorOrigin → heldInBook inheritedWeight y ≡ true
-  unfolding heldInBook weaker
-  book-keeps-inherited i h = sym (then-lower (rankOf y) (rankOf inheritedWeight) _ (omega (arith, inherited-rank, normal-rank y ky i)))
-
-  module _ (kc : KnownOrigin c) where
-    -- where the condition holds of c and y, the crate keeps c against y exactly where the book order keeps what is inherited
-    inherited-alike : InheritedAlike c y → heldAgainst c y ≡ heldInBook inheritedWeight y
-    inherited-alike (by-author i o j n) =
-        not-held c y (λ w. never (sym j ∙ w .1)) (λ w. never (sym i ∙ w .0)) (λ w. let h = w .1 in absurd (omega (arith, kc .most))) n ∙ sym (book-replaces-author i (omega arith))
-    inherited-alike (by-important i o n) =
-        not-held c y (λ w. never (sym (w .0) ∙ i)) (λ w. let h = w .1 in absurd (omega arith)) (λ w. never (sym (w .0) ∙ i)) n ∙ sym (book-replaces-important i)
-    inherited-alike (no-replacement i o w) = stays w ∙ sym (book-keeps-inherited i o)
-      where
-        stays : (c .important ≡ true) ⊎ ((y .origin < c .origin) ⊎ LessSpecific (y .spec) (c .spec)) → heldAgainst c y ≡ true
-        stays (inl j) = by-importance c y i j
-        stays (inr (inl h)) = by-earlier-origin c y i h
-        stays (inr (inr l)) = by-less c y l
-
-    -- the crate's test against c is the book's against an inherited value exactly if the condition holds
-    pub inherited-exactly : Exactly (heldAgainst c y ≡ heldInBook inheritedWeight y) (InheritedAlike c y)
-    inherited-exactly = (there, inherited-alike)
-      where
-        normal : heldAgainst c y ≡ heldInBook inheritedWeight y → y .important ≡ false → (y .origin < authorOrigin) ⊎ (authorOrigin ≤ y .origin) → InheritedAlike c y
-        normal e i (inl h) =
-            held-says c y (InheritedAlike c y) (e ∙ book-keeps-inherited i h) (λ a b. no-replacement i h (inl b)) (λ a b. never (sym i ∙ a)) (λ a b. no-replacement i h (inr (inl b))) (λ l. no-replacement i h (inr (inr l)))
-        normal e i (inr h) = not-important (c .important) refl
-          where
-            free : heldAgainst c y ≡ false
-            free = e ∙ book-replaces-author i h
-
-            not-important : (t : Bool) → c .important ≡ t → InheritedAlike c y
-            not-important true j = never (sym free ∙ by-importance c y i j)
-            not-important false j = by-author i (omega (arith, ky .most)) j (λ l. never (sym free ∙ by-less c y l))
-
-        there : heldAgainst c y ≡ heldInBook inheritedWeight y → InheritedAlike c y
-        there e = go (y .important) refl
-          where
-            go : (t : Bool) → y .important ≡ t → InheritedAlike c y
-            go false i = normal e i (lt-or-ge (y .origin) authorOrigin)
-            go true i = important (lt-or-ge (c .origin) (y .origin))
-              where
-                free : heldAgainst c y ≡ false
-                free = e ∙ book-replaces-important i
-
-                important : (c .origin < y .origin) ⊎ (y .origin ≤ c .origin) → InheritedAlike c y
-                important (inl h) = never (sym free ∙ by-later-origin c y i h)
-                important (inr h) = by-important i h (λ l. never (sym free ∙ by-less c y l))
+-- a normal author declaration replaces a normal author one than which it is not less specific
+pub author-replaces : (c y : Weight) → c .origin ≡ authorOrigin → c .important ≡ false → y .origin ≡ authorOrigin → y .important ≡ false → ¬ (LessSpecific (y .spec) (c .spec)) → heldAgainst c y ≡ false
+author-replaces c y oc ic oy iy n = not-held c y (λ p. never (sym ic ∙ p .1)) (λ p. never (sym iy ∙ p .0)) (λ p. let l = p .1 in absurd (omega arith)) n
 
 -- ---- the declarations for a slot, one after the other
 module _ {A : Type 0} where
+  -- a declaration of the agent, the user or the author
   abbrev Known : Candidate A → Type 0
   Known x = KnownOrigin (x .weight)
 
@@ -292,49 +220,15 @@ module _ {A : Type 0} where
       → Exactly (foldl maybeUpdate empty (x ∷ y ∷ []) ≡ foldl bookUpdate empty (x ∷ y ∷ [])) (DecidedAlike (x .weight) (y .weight))
   two-exactly x y kx ky = ((λ e. alike-exactly (x .weight) (y .weight) kx ky .0 (go _ _ refl refl (unfold maybeUpdate bookUpdate in e))), (λ a. same-slot (x ∷ y ∷ []) (kx, (ky, tt)) ((a, tt), (tt, tt))))
     where
-      -- a value stays against none of its own weight
-      not-own : heldAgainst (x .weight) (y .weight) ≡ true → held x ≡ held y → ⊥
-      not-own h e =
-          let d : x .weight ≡ y .weight = ap (weightOr (x .weight)) e in
-          let w = y .weight in
-          never
-          (sym (not-held w w (λ p. never (sym (p .0) ∙ p .1)) (λ p. let l = p .1 in absurd (omega arith)) (λ p. let l = p .1 in absurd (omega arith)) (not-itself (w .spec)))
-          ∙ ap (λ v. heldAgainst v w) (sym d) ∙ h)
-
       go : (a b : Bool) → heldAgainst (x .weight) (y .weight) ≡ a → heldInBook (x .weight) (y .weight) ≡ b
           → pick (heldAgainst (x .weight) (y .weight)) (held x) (held y) ≡ pick (heldInBook (x .weight) (y .weight)) (held x) (held y)
           → heldAgainst (x .weight) (y .weight) ≡ heldInBook (x .weight) (y .weight)
       go true true e f h = e ∙ sym f
       go false false e f h = e ∙ sym f
-      go true false e f h = absurd (not-own e (pick-true _ _ _ _ e refl ∙ h ∙ sym (pick-false _ _ _ _ f refl)))
+      go true false e f h = never (sym (not-own (x .weight) (y .weight) (ap (weightOr (x .weight)) (pick-true _ _ _ _ e refl ∙ h ∙ sym (pick-false _ _ _ _ f refl)))) ∙ e)
       go false true e f h = never (sym e ∙ crate-keeps-too (x .weight) (y .weight) kx ky f)
 
-  -- ---- what is inherited, c in the crate's cascade and d in the book order
-  module _ (c d : Candidate A) (kc : Known c) (w : d .weight ≡ inheritedWeight) (v : c .value ≡ d .value) where
-    -- whichever of the inherited and a new value is picked, both cascades leave the same, or what is inherited
-    inherited-chosen : (t : Bool) (y : Candidate A) (ys : List (Candidate A)) → SameOrInherited (foldl maybeUpdate (held c) ys) (foldl bookUpdate (held d) ys)
-        → foldl maybeUpdate (held y) ys ≡ foldl bookUpdate (held y) ys
-        → SameOrInherited (foldl maybeUpdate (pick t (held c) (held y)) ys) (foldl bookUpdate (pick t (held d) (held y)) ys)
-    unfolding pick
-    inherited-chosen true y ys p q = p
-    inherited-chosen false y ys p q = same q
-
-    -- one new value: both cascades leave the same or what is inherited, where they decide alike on it
-    inherited-updated : (y : Candidate A) (ys : List (Candidate A)) → heldAgainst (c .weight) (y .weight) ≡ heldInBook inheritedWeight (y .weight)
-        → SameOrInherited (foldl maybeUpdate (held c) ys) (foldl bookUpdate (held d) ys) → foldl maybeUpdate (held y) ys ≡ foldl bookUpdate (held y) ys
-        → SameOrInherited (foldl maybeUpdate (maybeUpdate (held c) y) ys) (foldl bookUpdate (bookUpdate (held d) y) ys)
-    unfolding maybeUpdate bookUpdate
-    inherited-updated y ys e p q =
-        subst (λ (b : Bool). SameOrInherited (foldl maybeUpdate (pick (heldAgainst (c .weight) (y .weight)) (held c) (held y)) ys) (foldl bookUpdate (pick b (held d) (held y)) ys)) (e ∙ ap (λ u. heldInBook u (y .weight)) (sym w))
-        (inherited-chosen (heldAgainst (c .weight) (y .weight)) y ys p q)
-
-    -- all new values: both cascades leave the same or what is inherited, where each replaces what is inherited alike
-    from-inherited : (xs : List (Candidate A)) → All Known xs → All (λ y. InheritedAlike (c .weight) (y .weight)) xs → AllDecidedAlike xs
-        → SameOrInherited (foldl maybeUpdate (held c) xs) (foldl bookUpdate (held d) xs)
-    from-inherited [] ks a p = inherited c d refl refl w v
-    from-inherited (y ∷ ys) ks a p =
-        inherited-updated y ys (inherited-exactly (c .weight) (y .weight) (ks .0) kc .1 (a .0)) (from-inherited ys (ks .1) (a .1) (p .1)) (from-held ys y (ks .0) (ks .1) (p .0) (p .1))
-
+  -- ---- a slot that holds a value of an element above
   -- P holds of what a slot holds
   abbrev pub Holds : (Candidate A → Type 0) → Slot A → Type 0
   Holds P empty = Unit
@@ -347,68 +241,37 @@ module _ {A : Type 0} where
   holds-after P (x ∷ xs) empty h a = holds-after P xs (held x) (a .0) (a .1)
   holds-after P (x ∷ xs) (held c) h a = holds-after P xs (pick (heldAgainst (c .weight) (x .weight)) (held c) (held x)) (pick-holds (Holds P) _ (held c) (held x) (λ _. h) (λ _. a .0)) (a .1)
 
-  -- what is the same or inherited in both is filled in both, with one value
-  abbrev filled : Slot A → ℕ
-  filled empty = 0
-  filled (held c) = 1
+  -- every declaration replaces what the slot holds
+  abbrev pub Replaced : List (Candidate A) → Slot A → Type 0
+  Replaced xs s = Holds (λ c. All (λ y. heldAgainst (c .weight) (y .weight) ≡ false) xs) s
 
-  abbrev valueOr : A → Slot A → A
-  valueOr a empty = a
-  valueOr a (held c) = c .value
+  -- one declaration that replaces it leaves of it nothing
+  one-replaces : (c y : Candidate A) → heldAgainst (c .weight) (y .weight) ≡ false → maybeUpdate (held c) y ≡ maybeUpdate empty y
+  unfolding maybeUpdate
+  one-replaces c y e = sym (pick-false _ _ _ _ e refl)
 
-  -- a slot that is empty in the crate's cascade alone is neither the same nor inherited
-  one-empty : (d : Candidate A) → SameOrInherited empty (held d) → ⊥
-  one-empty d (same e) = absurd (omega (arith, ap filled e))
-  one-empty d (inherited c b e f w v) = absurd (omega (arith, ap filled e))
+  -- where there are declarations, and they replace it, the slot is as if it had held nothing
+  pub all-replace : (s : Slot A) (xs : List (Candidate A)) → ¬ (xs ≡ []) → Replaced xs s → foldl maybeUpdate s xs ≡ foldl maybeUpdate empty xs
+  all-replace empty xs n h = refl
+  all-replace (held c) [] n h = absurd (n refl)
+  all-replace (held c) (y ∷ ys) n h = ap (λ (s : Slot A). foldl maybeUpdate s ys) (one-replaces c y (h .0))
 
-  -- a slot that is empty in the book order alone is neither the same nor inherited
-  other-empty : (c : Candidate A) → SameOrInherited (held c) empty → ⊥
-  other-empty c (same e) = absurd (omega (arith, ap filled e))
-  other-empty c (inherited a b e f w v) = absurd (omega (arith, ap filled f))
-
-  -- filled slots that are the same or inherited have one value
-  one-value-of : (c d : Candidate A) → SameOrInherited (held c) (held d) → c .value ≡ d .value
-  one-value-of c d (same e) = ap (valueOr (c .value)) e
-  one-value-of c d (inherited a b e f w v) = ap (valueOr (c .value)) e ∙ v ∙ ap (valueOr (d .value)) (sym f)
-
-  -- so both show the same
-  pub same-value : (s t : Slot A) → SameOrInherited s t → SameValue s t
-  same-value empty empty r = nothing
-  same-value empty (held d) r = absurd (one-empty d r)
-  same-value (held c) empty r = absurd (other-empty c r)
-  same-value (held c) (held d) r = one-value (one-value-of c d r)
-
-  -- the slot of a child, where its parent's is the same or inherited in both, and the child's declarations replace what the crate's parent holds alike
-  pub slot-agrees : (s t : Slot A) (xs : List (Candidate A)) → SameOrInherited s t → All Known xs → Holds (λ c. Known c × All (λ y. InheritedAlike (c .weight) (y .weight)) xs) s → AllDecidedAlike xs
-      → SameOrInherited (foldl maybeUpdate s xs) (foldl bookUpdate (inheritedSlot t) xs)
-  unfolding inheritedSlot inheritedCandidate
-  slot-agrees empty empty xs r ks h p = same (same-slot xs ks p)
-  slot-agrees empty (held d) xs r ks h p = absurd (one-empty d r)
-  slot-agrees (held c) empty xs r ks h p = absurd (other-empty c r)
-  slot-agrees (held c) (held d) xs r ks h p = from-inherited c (record { weight = inheritedWeight; value = d .value }) (h .0) refl (one-value-of c d r) xs ks (h .1) p
-
-  -- where both show the same of two values, both choose the same
-  shown-alike : (c d y : Candidate A) → d .value ≡ c .value → ¬ (c .value ≡ y .value) → (a b : Bool) → SameValue (pick a (held c) (held y)) (pick b (held d) (held y)) → a ≡ b
-  unfolding pick
-  shown-alike c d y e n true true v = refl
-  shown-alike c d y e n true false (one-value g) = absurd (n g)
-  shown-alike c d y e n false true (one-value g) = absurd (n (sym (g ∙ e)))
-  shown-alike c d y e n false false v = refl
-
-  -- of one declaration above the element and one of the element, with two values, that is exactly where both show the same
-  pub one-above-exactly : (c y : Candidate A) → Known c → Known y → ¬ (c .value ≡ y .value)
-      → Exactly (SameValue (foldl maybeUpdate (held c) (y ∷ [])) (foldl bookUpdate (inheritedSlot (held c)) (y ∷ []))) (InheritedAlike (c .weight) (y .weight))
-  unfolding inheritedSlot inheritedCandidate
-  one-above-exactly c y kc ky n = (there, back)
+  -- an inheriting slot: where its declarations are decided alike and replace what it inherits, both cascades leave the same in it
+  pub slot-inherits : (s : Slot A) (xs : List (Candidate A)) → All Known xs → AllDecidedAlike xs → Replaced xs s → foldl maybeUpdate s xs ≡ takes (foldl bookUpdate empty xs) true s
+  slot-inherits s [] ks p h = unfold takes pick in refl
+  slot-inherits s (y ∷ ys) ks p h = all-replace s (y ∷ ys) (λ e. never (ap isEmpty e)) h ∙ same-slot (y ∷ ys) ks p ∙ sym (takes-won y ys true s)
     where
-      d : Candidate A
-      d = record { weight = inheritedWeight; value = c .value }
+      isEmpty : List (Candidate A) → Bool
+      isEmpty [] = true
+      isEmpty (x ∷ xs) = false
 
-      there : SameValue (foldl maybeUpdate (held c) (y ∷ [])) (foldl bookUpdate (held d) (y ∷ [])) → InheritedAlike (c .weight) (y .weight)
-      there v = inherited-exactly (c .weight) (y .weight) ky kc .0 (shown-alike c d y refl n _ _ (unfold maybeUpdate bookUpdate in v))
-
-      back : InheritedAlike (c .weight) (y .weight) → SameValue (foldl maybeUpdate (held c) (y ∷ [])) (foldl bookUpdate (held d) (y ∷ []))
-      back a = same-value _ _ (from-inherited c d kc refl refl (y ∷ []) (ky, tt) (a, tt) (tt, tt))
+  -- of one declaration above the element and one of the element that is exactly where they do
+  pub one-above-exactly : (c y : Candidate A) → Exactly (foldl maybeUpdate (held c) (y ∷ []) ≡ takes (foldl bookUpdate empty (y ∷ [])) true (held c)) (heldAgainst (c .weight) (y .weight) ≡ false)
+  one-above-exactly c y = (λ e. go _ refl (unfold maybeUpdate bookUpdate takes in e), (λ e. unfold bookUpdate takes in (one-replaces c y e ∙ (unfold maybeUpdate in refl))))
+    where
+      go : (t : Bool) → heldAgainst (c .weight) (y .weight) ≡ t → pick (heldAgainst (c .weight) (y .weight)) (held c) (held y) ≡ held y → heldAgainst (c .weight) (y .weight) ≡ false
+      go true e h = not-own (c .weight) (y .weight) (ap (weightOr (c .weight)) (pick-true _ _ _ _ e refl ∙ h))
+      go false e h = e
 
 -- ---- lists of declarations that meet the condition
 

@@ -1,29 +1,39 @@
--- Where both cascades leave the same in a slot of an element's style: the declarations that they count are the same, and the laws of proofs/Agreeing.antt
--- hold of them. Assumes nothing.
+-- Where both cascades leave the same in a slot of an element's style, and make the same records present: the declarations that they count are the same, and the
+-- laws of proofs/Agreeing.antt hold of them. Assumes nothing.
 use mathlib.Core.Path.{_≡_, refl, sym, ap, ap₂, subst, _∙_}
 use mathlib.Core.Bool.{Bool, true, false}
-use mathlib.Core.List.{List, [], _∷_, _++_, map, foldl, append-assoc}
+use mathlib.Core.List.{List, [], _∷_, _++_, map, foldl}
+use mathlib.Core.Logic.{_⊎_, inl, inr}
 use Prim.Native.Nat.{ℕ, _≤_, _<_}
 use native.Mathlib.Omega.{arith}
 use Rattle.combinators.specs.All.{All}
 use Rattle.combinators.specs.Choice.{pick, or, and, is}
-use Rattle.combinators.proofs.Rules.{never, pick-true, pick-false, pick-holds, or-false, or-none, or-gives, or-assoc, and-right, and-true, is-yes, is-no, is-true, is-false}
-use Rattle.combinators.proofs.AllLaws.{all-append, all-map, all-both}
+use Rattle.combinators.proofs.Rules.{never, pick-true, pick-false, pick-holds, or-false, or-none, or-gives, or-assoc, and-both, and-left, and-right, and-true, is-yes, is-no, is-true}
+use Rattle.combinators.proofs.AllLaws.{all-append, all-map, all-weaker, all-both}
 use Rattle.syntax.specs.Style.{agentOrigin, userOrigin, authorOrigin}
 use Rattle.cascade.specs.declared.specificity.Specificity.{Specificity}
 use Rattle.cascade.specs.Specificity.{noSpecificity, inlineSpecificity, LessSpecific}
 use Rattle.cascade.specs.declared.slots.Cascade.{Cascade}
 use Rattle.cascade.specs.declared.slots.Cascade.the-variants.{Crate, Book}
-use Rattle.cascade.specs.Slot.{Candidate, Slot, empty, maybeUpdate, bookUpdate, updateBy, inheritedSlot}
-use Rattle.cascade.specs.Record.{slotCount, recordCount, mainRecord, beforeRecord, Record, ComputedStyle, Formed, recordIn, slotIn, isNamed, mergeBy, inherit, inheritRecord, inheritInBookOrder, inheritBy, declaredBy, cascadeBy, Declared, RuleStyle, AttributeStyle, Sources, fromRule, fromAttribute, crateDeclared, colourAttributes, styleAttributes, bookDeclared, candidatesFor}
-use Rattle.cascade.specs.Agreeing.{KnownOrigin, AllDecidedAlike, InheritedAlike, by-author, SameOrInherited, CountedAlike, declaredFor, ReplacedAlike, AgreesDown, NormalAuthor, NotLessSpecific, AuthorDown}
-use Rattle.cascade.proofs.Agreeing.{Holds, same-slot, slot-agrees, one-origin}
-use Rattle.cascade.proofs.Cascading.{book-folds, crate-folds, merge-present, cascade-main-present}
+use Rattle.cascade.specs.Slot.{Candidate, Slot, empty, heldAgainst, maybeUpdate, bookUpdate, updateBy}
+use Rattle.cascade.specs.Record.{slotCount, recordCount, mainRecord, Record, ComputedStyle, Formed, recordIn, slotIn, isNamed, inherit, inheritBy, inherits, finishBy, declaredBy, cascadeBy, Declared, RuleStyle, AttributeStyle, Sources, fromRule, fromAttribute, crateDeclared, colourAttributes, styleAttributes, bookDeclared, candidatesFor, declares}
+use Rattle.cascade.specs.Agreeing.{KnownOrigin, AllDecidedAlike, CountedAlike, declaredFor, SaidAlike, NoneDeclared, Replaces, ReplacesAll, InheritedAlike, NotInherited, no-record, NormalAuthor, NotLessSpecific, AuthorDown, AgreesDown}
+use Rattle.cascade.proofs.RowLaws.{Which, isMain, isBefore, isAfter, which}
+use Rattle.cascade.proofs.Merging.{named}
+use Rattle.cascade.proofs.Cascading.{or-second, in-main, crate-folds, cascade-main-present}
+use Rattle.cascade.proofs.Defaulting.{takes, takes-none, takes-empty, takes-won, candidates-append, present-after, book-main-slot, book-present, book-pseudo-slot}
+use Rattle.cascade.proofs.Agreeing.{Replaced, same-slot, slot-inherits, author-replaces, one-origin}
 
 -- what holds of every value holds of those of a list
 of-all : {A : Type 0} (P : A → Type 0) → ((a : A) → P a) → (l : List A) → All P l
 of-all P f [] = tt
 of-all P f (a ∷ l) = (f a, of-all P f l)
+
+-- where `or` of two tests fails, both do
+neither : (a b : Bool) → or a b ≡ false → (a ≡ false) × (b ≡ false)
+unfolding or
+neither true b e = never (sym e)
+neither false b e = (refl, e)
 
 module _ {A : Type 0} where
   -- ---- declarations have one of the three origins
@@ -56,14 +66,6 @@ module _ {A : Type 0} where
     known-origins x = all-for (λ c. KnownOrigin (c .weight)) (crateDeclared x) (declared-known x)
 
     -- ---- the declarations for a slot that both count
-    -- of declarations behind declarations, those for a slot are those of the first, then those of the second
-    pub candidates-append : (ds es : List (Declared A)) → candidatesFor r k (ds ++ es) ≡ candidatesFor r k ds ++ candidatesFor r k es
-    unfolding candidatesFor
-    candidates-append [] es = refl
-    candidates-append (d ∷ ds) es =
-        ap (λ l. pick (and (is (d .pseudo) r) (is (d .slot) k)) (d .candidate ∷ []) [] ++ l) (candidates-append ds es)
-        ∙ sym (append-assoc (pick (and (is (d .pseudo) r) (is (d .slot) k)) (d .candidate ∷ []) []) (candidatesFor r k ds) (candidatesFor r k es))
-
     -- an attribute is for the slot
     abbrev isFor : AttributeStyle A → Bool
     isFor a = and (is mainRecord r) (is (a .style .slot) k)
@@ -109,16 +111,16 @@ module _ {A : Type 0} where
     colours-none : (l : List (AttributeStyle A)) → All (CountedAlike r k) l → candidatesFor r k (colourAttributes l) ≡ []
     unfolding colourAttributes candidatesFor
     colours-none [] h = refl
-    colours-none (a ∷ l) h = candidates-append (pick (a .isStyle) [] (fromAttribute false noSpecificity a ∷ [])) (colourAttributes l) ∙ ap₂ (λ x y. x ++ y) (colour-none a (h .0)) (colours-none l (h .1))
+    colours-none (a ∷ l) h = candidates-append r k (pick (a .isStyle) [] (fromAttribute false noSpecificity a ∷ [])) (colourAttributes l) ∙ ap₂ (λ x y. x ++ y) (colour-none a (h .0)) (colours-none l (h .1))
 
     -- the `style` attributes declare the same for the slot as all attributes do without importance, where all count alike
     styles-same : (l : List (AttributeStyle A)) → All (CountedAlike r k) l → candidatesFor r k (styleAttributes l) ≡ candidatesFor r k (map (fromAttribute false inlineSpecificity) l)
     unfolding styleAttributes
     styles-same [] h = refl
     styles-same (a ∷ l) h =
-        candidates-append (pick (a .isStyle) (fromAttribute (a .style .important) inlineSpecificity a ∷ []) []) (styleAttributes l)
+        candidates-append r k (pick (a .isStyle) (fromAttribute (a .style .important) inlineSpecificity a ∷ []) []) (styleAttributes l)
         ∙ ap₂ (λ x y. x ++ y) (style-same a (h .0)) (styles-same l (h .1))
-        ∙ sym (candidates-append (fromAttribute false inlineSpecificity a ∷ []) (map (fromAttribute false inlineSpecificity) l))
+        ∙ sym (candidates-append r k (fromAttribute false inlineSpecificity a ∷ []) (map (fromAttribute false inlineSpecificity) l))
 
     -- where no attribute for a slot is a colour attribute or important, both cascades count the same declarations for it
     pub counted-same : (x : Sources A) → All (CountedAlike r k) (x .attributes) → candidatesFor r k (crateDeclared x) ≡ candidatesFor r k (bookDeclared x)
@@ -130,51 +132,17 @@ module _ {A : Type 0} where
         let m = map (fromAttribute false inlineSpecificity) (x .attributes) in
         let c = colourAttributes (x .attributes) in
         let s = styleAttributes (x .attributes) in
-        candidates-append a (u ++ (w ++ m))
-        ∙ ap (λ l. candidatesFor r k a ++ l) (candidates-append u (w ++ m) ∙ ap (λ l. candidatesFor r k u ++ l) (behind w m c s (styles-same (x .attributes) h) (colours-none (x .attributes) h)) ∙ sym (candidates-append u (c ++ (w ++ s))))
-        ∙ sym (candidates-append a (u ++ (c ++ (w ++ s))))
+        candidates-append r k a (u ++ (w ++ m))
+        ∙ ap (λ l. candidatesFor r k a ++ l) (candidates-append r k u (w ++ m) ∙ ap (λ l. candidatesFor r k u ++ l) (behind w m c s (styles-same (x .attributes) h) (colours-none (x .attributes) h)) ∙ sym (candidates-append r k u (c ++ (w ++ s))))
+        ∙ sym (candidates-append r k a (u ++ (c ++ (w ++ s))))
       where
         behind : (w m c s : List (Declared A)) → candidatesFor r k s ≡ candidatesFor r k m → candidatesFor r k c ≡ [] → candidatesFor r k (w ++ m) ≡ candidatesFor r k (c ++ (w ++ s))
         behind w m c s e f =
-            candidates-append w m ∙ ap (λ l. candidatesFor r k w ++ l) (sym e) ∙ sym (candidates-append w s)
-            ∙ sym (candidates-append c (w ++ s) ∙ ap (λ l. l ++ candidatesFor r k (w ++ s)) f)
-
-  -- ---- the style of an element, whose parent has p in the crate's cascade and q in the book order
-  module _ (p q : ComputedStyle A) (x : Sources A) (fp : Formed p) (fq : Formed q) (r k : ℕ) (h : r < recordCount) (l : k < slotCount)
-      (counted : All (CountedAlike r k) (x .attributes)) (alike : AllDecidedAlike (declaredFor r k x)) where
-    -- where nothing is inherited, both leave the same in the slot, with its origin, specificity and importance
-    pub same-declared : slotIn p r k ≡ empty → slotIn q r k ≡ empty → slotIn (cascadeBy Crate p x) r k ≡ slotIn (cascadeBy Book q x) r k
-    same-declared e f =
-        crate-folds p x r k fp h l ∙ ap (λ (s : Slot A). foldl maybeUpdate s (declaredFor r k x)) e
-        ∙ same-slot (declaredFor r k x) (known-origins r k x) alike
-        ∙ ap (foldl bookUpdate empty) (counted-same r k x counted)
-        ∙ ap (λ (s : Slot A). foldl bookUpdate s (candidatesFor r k (bookDeclared x))) (sym (ap inheritedSlot f ∙ (unfold inheritedSlot in refl)))
-        ∙ sym (book-folds q x r k fq h l)
-
-    -- where what is inherited is replaced alike, they leave the same, or both what is inherited
-    pub cascade-agrees : SameOrInherited (slotIn p r k) (slotIn q r k) → Holds (λ c. KnownOrigin (c .weight) × ReplacedAlike r k x c) (slotIn p r k)
-        → SameOrInherited (slotIn (cascadeBy Crate p x) r k) (slotIn (cascadeBy Book q x) r k)
-    cascade-agrees s held =
-        rw (crate-folds p x r k fp h l, book-folds q x r k fq h l, ← counted-same r k x counted)
-        (slot-agrees (slotIn p r k) (slotIn q r k) (declaredFor r k x) s (known-origins r k x) held alike)
+            candidates-append r k w m ∙ ap (λ l. candidatesFor r k w ++ l) (sym e) ∙ sym (candidates-append r k w s)
+            ∙ sym (candidates-append r k c (w ++ s) ∙ ap (λ l. l ++ candidatesFor r k (w ++ s)) f)
 
   -- ---- which records are present
-
-  -- some declaration names a slot of the record
-  unfoldable declares : ℕ → List (Declared A) → Bool
-  declares r [] = false
-  declares r (d ∷ ds) = or (and (isNamed (d .pseudo) (d .slot)) (is (d .pseudo) r)) (declares r ds)
-
   module _ (r : ℕ) where
-    -- by any update of slots, a record is present if it was or if a declaration names it
-    present-after : r < recordCount → (u : Slot A → Candidate A → Slot A) (ds : List (Declared A)) (s : ComputedStyle A)
-        → recordIn (foldl (mergeBy u) s ds) r .present ≡ or (recordIn s r .present) (declares r ds)
-    unfolding declares
-    present-after h u [] s = sym (or-false (recordIn s r .present) false refl)
-    present-after h u (d ∷ ds) s =
-        present-after h u ds (mergeBy u s d) ∙ ap (λ b. or b (declares r ds)) (merge-present u s d r h)
-        ∙ sym (or-assoc (recordIn s r .present) (and (isNamed (d .pseudo) (d .slot)) (is (d .pseudo) r)) (declares r ds))
-
     -- some of two lists of declarations name the record exactly if some of either do
     declares-append : (ds es : List (Declared A)) → declares r (ds ++ es) ≡ or (declares r ds) (declares r es)
     unfolding declares or
@@ -200,7 +168,7 @@ module _ {A : Type 0} where
       colours-declare-none [] = refl
       colours-declare-none (a ∷ l) =
           declares-append (pick (a .isStyle) [] (fromAttribute false noSpecificity a ∷ [])) (colourAttributes l)
-          ∙ or-none _ _ (pick-holds (λ ds. declares r ds ≡ false) (a .isStyle) [] _ (λ _. refl) (λ _. own-record-only false noSpecificity a [] refl)) (colours-declare-none l)
+          ∙ or-none _ _ (pick-holds (λ (ds : List (Declared A)). declares r ds ≡ false) (a .isStyle) [] _ (λ _. refl) (λ _. own-record-only false noSpecificity a [] refl)) (colours-declare-none l)
 
       -- `style` attributes name no other record than the element's own
       styles-declare-none : (l : List (AttributeStyle A)) → declares r (styleAttributes l) ≡ false
@@ -208,7 +176,7 @@ module _ {A : Type 0} where
       styles-declare-none [] = refl
       styles-declare-none (a ∷ l) =
           declares-append (pick (a .isStyle) (fromAttribute (a .style .important) inlineSpecificity a ∷ []) []) (styleAttributes l)
-          ∙ or-none _ _ (pick-holds (λ ds. declares r ds ≡ false) (a .isStyle) _ [] (λ _. own-record-only (a .style .important) inlineSpecificity a [] refl) (λ _. refl)) (styles-declare-none l)
+          ∙ or-none _ _ (pick-holds (λ (ds : List (Declared A)). declares r ds ≡ false) (a .isStyle) _ [] (λ _. own-record-only (a .style .important) inlineSpecificity a [] refl) (λ _. refl)) (styles-declare-none l)
 
       -- so both cascades name the same pseudo records
       declared-alike : (x : Sources A) → declares r (crateDeclared x) ≡ declares r (bookDeclared x)
@@ -228,52 +196,137 @@ module _ {A : Type 0} where
           behind w m c s e f g =
               declares-append w m ∙ or-false _ _ e ∙ sym (declares-append c (w ++ s) ∙ sym (or-gives (declares r c) (declares r (w ++ s)) _ f refl) ∙ declares-append w s ∙ or-false _ _ g)
 
-      -- a child has the pseudo records of its parent
-      pseudo-record : (s : ComputedStyle A) → recordIn s r ≡ pick (is r beforeRecord) (s .before) (s .after)
-      unfolding recordIn
-      pseudo-record s = sym (pick-false _ _ _ _ (is-no r mainRecord other) refl)
-
-      -- a child has exactly the pseudo records of its parent before anything is declared, in either cascade
-      inherit-present : (c : Cascade) (s : ComputedStyle A) → recordIn (inheritBy c s) r .present ≡ recordIn s r .present
-      unfolding inheritBy
-      inherit-present Crate s = ap (λ (p : Record A). p .present) (pseudo-record (inherit s) ∙ both ∙ sym (pseudo-record s))
+      -- in the crate's cascade a pseudo record is present if it is in the parent, or if something is declared for it
+      pub crate-present : r < recordCount → (p : ComputedStyle A) (x : Sources A) → recordIn (cascadeBy Crate p x) r .present ≡ or (recordIn p r .present) (declares r (crateDeclared x))
+      unfolding cascadeBy inheritBy declaredBy finishBy
+      crate-present h p x = present-after r h (updateBy Crate) (crateDeclared x) (inherit p) ∙ ap (λ (b : Bool). or b (declares r (crateDeclared x))) (inherited (which r h))
         where
-          both : pick (is r beforeRecord) (inherit s .before) (inherit s .after) ≡ pick (is r beforeRecord) (s .before) (s .after)
-          both = unfold inherit in refl
-      inherit-present Book s =
-          ap (λ (p : Record A). p .present) (pseudo-record (inheritInBookOrder s)) ∙ by-pseudo (is r beforeRecord) ∙ ap (λ (p : Record A). p .present) (sym (pseudo-record s))
-        where
-          by-pseudo : (t : Bool) → pick t (inheritInBookOrder s .before) (inheritInBookOrder s .after) .present ≡ pick t (s .before) (s .after) .present
-          by-pseudo true = unfold pick inheritInBookOrder inheritRecord in refl
-          by-pseudo false = unfold pick inheritInBookOrder inheritRecord in refl
+          inherited : Which r → recordIn (inherit p) r .present ≡ recordIn p r .present
+          inherited (isMain e) = absurd (other e)
+          inherited (isBefore e) = rw e (unfold recordIn inherit pick is in refl)
+          inherited (isAfter e) = rw e (unfold recordIn inherit pick is in refl)
 
-  -- both cascades make the same records present, whatever is declared
-  pub same-presence : (p q : ComputedStyle A) (x : Sources A) (r : ℕ) → r < recordCount → recordIn p r .present ≡ recordIn q r .present
-      → recordIn (cascadeBy Crate p x) r .present ≡ recordIn (cascadeBy Book q x) r .present
-  same-presence p q x r h e = go (is r mainRecord) refl
+      -- both cascades make the same pseudo records present, where something is declared for them or the parent has them not
+      pub same-presence : r < recordCount → (p q : ComputedStyle A) (x : Sources A) → (declares r (crateDeclared x) ≡ true) ⊎ (recordIn p r .present ≡ false)
+          → recordIn (cascadeBy Crate p x) r .present ≡ recordIn (cascadeBy Book q x) r .present
+      same-presence h p q x c = crate-present h p x ∙ own c ∙ declared-alike x ∙ sym (book-present q x r h other)
+        where
+          own : (declares r (crateDeclared x) ≡ true) ⊎ (recordIn p r .present ≡ false) → or (recordIn p r .present) (declares r (crateDeclared x)) ≡ declares r (crateDeclared x)
+          own (inl e) = or-second (recordIn p r .present) _ e ∙ sym e
+          own (inr e) = sym (or-gives (recordIn p r .present) (declares r (crateDeclared x)) _ e refl)
+
+  -- the main record is present in both
+  pub main-presence : (p q : ComputedStyle A) (x : Sources A) → recordIn (cascadeBy Crate p x) mainRecord .present ≡ recordIn (cascadeBy Book q x) mainRecord .present
+  main-presence p q x = there Crate p ∙ sym (there Book q)
     where
-      main-of : (s : ComputedStyle A) → r ≡ mainRecord → recordIn s r .present ≡ s .main .present
-      main-of s z = ap (λ (m : Record A). m .present) it
-        where
-          it : recordIn s r ≡ s .main
-          it = unfold recordIn in sym (pick-true _ _ _ _ (is-yes r mainRecord z) refl)
+      there : (c : Cascade) (s : ComputedStyle A) → recordIn (cascadeBy c s x) mainRecord .present ≡ true
+      there c s = ap (λ (m : Record A). m .present) (in-main (cascadeBy c s x) mainRecord refl) ∙ cascade-main-present c s x
 
-      after : (c : Cascade) (s : ComputedStyle A) → ¬ (r ≡ mainRecord) → recordIn (cascadeBy c s x) r .present ≡ or (recordIn s r .present) (declares r (declaredBy c x))
-      after c s z = merged ∙ ap (λ b. or b (declares r (declaredBy c x))) (inherit-present r z c s)
-        where
-          merged : recordIn (cascadeBy c s x) r .present ≡ or (recordIn (inheritBy c s) r .present) (declares r (declaredBy c x))
-          merged = unfold cascadeBy in present-after r h (updateBy c) (declaredBy c x) (inheritBy c s)
+  -- ---- the slots of an element whose parent has p in the crate's cascade and q in the book order
+  module _ (p q : ComputedStyle A) (x : Sources A) (fp : Formed p) (r k : ℕ) (h : r < recordCount) (l : k < slotCount) (said : SaidAlike r k x) where
+    -- what the declarations for a slot make of nothing is the same
+    same-declared : foldl maybeUpdate empty (declaredFor r k x) ≡ foldl bookUpdate empty (candidatesFor r k (bookDeclared x))
+    same-declared = same-slot (declaredFor r k x) (known-origins r k x) (said .1) ∙ ap (foldl bookUpdate empty) (counted-same r k x (said .0))
 
-      named-alike : ¬ (r ≡ mainRecord) → declares r (declaredBy Crate x) ≡ declares r (declaredBy Book x)
-      named-alike z = unfold declaredBy in declared-alike r z x
+    -- what the crate's cascade inherits makes no difference to the slot
+    abbrev pub Unmoved : Type 0
+    Unmoved = foldl maybeUpdate (slotIn p r k) (declaredFor r k x) ≡ foldl maybeUpdate empty (declaredFor r k x)
 
-      go : (t : Bool) → is r mainRecord ≡ t → recordIn (cascadeBy Crate p x) r .present ≡ recordIn (cascadeBy Book q x) r .present
-      go true f =
-          let z = is-true r mainRecord f in
-          main-of (cascadeBy Crate p x) z ∙ cascade-main-present Crate p x ∙ sym (main-of (cascadeBy Book q x) z ∙ cascade-main-present Book q x)
-      go false f =
-          let z = is-false r mainRecord f in
-          after Crate p z ∙ ap₂ or e (named-alike z) ∙ sym (after Book q z)
+    -- it then leaves what the declarations make of nothing
+    crate-leaves : Unmoved → slotIn (cascadeBy Crate p x) r k ≡ foldl bookUpdate empty (candidatesFor r k (bookDeclared x))
+    crate-leaves e = crate-folds p x r k fp h l ∙ e ∙ same-declared
+
+    -- a main slot that inherits: where both parents have the same in it, and the declarations replace that, both leave the same
+    pub inheriting-same : r ≡ mainRecord → inherits k ≡ true → slotIn p mainRecord k ≡ slotIn q mainRecord k → Replaced (declaredFor r k x) (slotIn p r k)
+        → slotIn (cascadeBy Crate p x) r k ≡ slotIn (cascadeBy Book q x) r k
+    inheriting-same m i e a =
+        crate-folds p x r k fp h l ∙ slot-inherits (slotIn p r k) (declaredFor r k x) (known-origins r k x) (said .1) a
+        ∙ ap₂ (λ (s t : Slot A). takes s true t) (ap (foldl bookUpdate empty) (counted-same r k x (said .0)) ∙ ap (λ (n : ℕ). foldl bookUpdate empty (candidatesFor n k (bookDeclared x))) m) (ap (λ (n : ℕ). slotIn p n k) m ∙ e)
+        ∙ ap (λ (b : Bool). takes (foldl bookUpdate empty (candidatesFor mainRecord k (bookDeclared x))) b (slotIn q mainRecord k)) (sym i)
+        ∙ sym (book-main-slot q x k l) ∙ ap (λ (n : ℕ). slotIn (cascadeBy Book q x) n k) (sym m)
+
+    -- a main slot that does not
+    pub other-same : r ≡ mainRecord → inherits k ≡ false → Unmoved → slotIn (cascadeBy Crate p x) r k ≡ slotIn (cascadeBy Book q x) r k
+    other-same m i e =
+        crate-leaves e ∙ ap (λ (n : ℕ). foldl bookUpdate empty (candidatesFor n k (bookDeclared x))) m ∙ sym (takes-none (foldl bookUpdate empty (candidatesFor mainRecord k (bookDeclared x))) (slotIn q mainRecord k))
+        ∙ ap (λ (b : Bool). takes (foldl bookUpdate empty (candidatesFor mainRecord k (bookDeclared x))) b (slotIn q mainRecord k)) (sym i)
+        ∙ sym (book-main-slot q x k l) ∙ ap (λ (n : ℕ). slotIn (cascadeBy Book q x) n k) (sym m)
+
+    -- a slot of a pseudo record, where the book order does not fill it from the element's own: the record is absent, something is declared for the slot, or nothing is
+    -- there to hand on
+    pub pseudo-same : (n : ¬ (r ≡ mainRecord)) → Unmoved
+        → (inherits k ≡ true → (declares r (crateDeclared x) ≡ false) ⊎ (¬ (declaredFor r k x ≡ []) ⊎ (slotIn (cascadeBy Book q x) mainRecord k ≡ empty)))
+        → slotIn (cascadeBy Crate p x) r k ≡ slotIn (cascadeBy Book q x) r k
+    pseudo-same n e w = crate-leaves e ∙ sym (book-pseudo-slot q x r h n k l ∙ go (inherits k) refl)
+      where
+        own : Slot A
+        own = foldl bookUpdate empty (candidatesFor r k (bookDeclared x))
+
+        handed : Slot A
+        handed = slotIn (cascadeBy Book q x) mainRecord k
+
+        present : Bool
+        present = recordIn (cascadeBy Book q x) r .present
+
+        not-taken : and present (inherits k) ≡ false → takes own (and present (inherits k)) handed ≡ own
+        not-taken f = ap (λ (b : Bool). takes own b handed) f ∙ takes-none own handed
+
+        own-stays : (xs : List (Candidate A)) → ¬ (xs ≡ []) → (b : Bool) → takes (foldl bookUpdate empty xs) b handed ≡ foldl bookUpdate empty xs
+        own-stays [] z b = absurd (z refl)
+        own-stays (y ∷ ys) z b = takes-won y ys b handed
+
+        by-reason : (declares r (crateDeclared x) ≡ false) ⊎ (¬ (declaredFor r k x ≡ []) ⊎ (handed ≡ empty)) → takes own (and present (inherits k)) handed ≡ own
+        by-reason (inl f) = not-taken (and-left _ _ (book-present q x r h n ∙ sym (declared-alike r n x) ∙ f))
+        by-reason (inr (inl z)) = own-stays (candidatesFor r k (bookDeclared x)) (λ f. z (counted-same r k x (said .0) ∙ f)) (and present (inherits k))
+        by-reason (inr (inr f)) = ap (takes own (and present (inherits k))) f ∙ takes-empty own (and present (inherits k))
+
+        go : (t : Bool) → inherits k ≡ t → takes own (and present (inherits k)) handed ≡ own
+        go true f = by-reason (w f)
+        go false f = not-taken (and-right _ _ f)
+
+  -- ---- nothing is declared
+  module _ (r k : ℕ) where
+    -- of declarations that are for other slots none is for this one
+    pub none-for : (ds : List (Declared A)) → All (λ d. ¬ ((d .pseudo ≡ r) × (d .slot ≡ k))) ds → candidatesFor r k ds ≡ []
+    unfolding candidatesFor
+    none-for [] n = refl
+    none-for (d ∷ ds) n = ap₂ (λ (a b : List (Candidate A)). a ++ b) (pick-holds (λ (a : List (Candidate A)). a ≡ []) _ _ _ (λ e. absurd (n .0 (both e))) (λ _. refl)) (none-for ds (n .1))
+      where
+        both : and (is (d .pseudo) r) (is (d .slot) k) ≡ true → (d .pseudo ≡ r) × (d .slot ≡ k)
+        both e = let w = and-true _ _ e in (is-true (d .pseudo) r (w .0), is-true (d .slot) k (w .1))
+
+    -- where nothing is declared for a record, nothing is for its slots
+    pub undeclared : r < recordCount → k < slotCount → (ds : List (Declared A)) → declares r ds ≡ false → candidatesFor r k ds ≡ []
+    undeclared h l ds e = none-for ds (others ds e)
+      where
+        others : (ds : List (Declared A)) → declares r ds ≡ false → All (λ d. ¬ ((d .pseudo ≡ r) × (d .slot ≡ k))) ds
+        others [] e = tt
+        others (d ∷ ds) e =
+            let w = neither (and (isNamed (d .pseudo) (d .slot)) (is (d .pseudo) r)) (declares r ds) (unfold declares in e) in
+            ((λ z. never (sym (w .0) ∙ and-both _ _ (rw (z .0, z .1) (named r k h l)) (is-yes (d .pseudo) r (z .0)))), others ds (w .1))
+
+    -- where nothing is declared for a slot down a path, it meets the condition for slots that inherit
+    pub none-inherited : (xs : List (Sources A)) → All (λ z. All (CountedAlike r k) (z .attributes)) xs → NoneDeclared r k xs → InheritedAlike r k xs
+    none-inherited [] c n = tt
+    none-inherited (x ∷ above) c n = ((c .0, subst AllDecidedAlike (sym (n .0)) tt), (none-above above (n .1), none-inherited above (c .1) (n .1)))
+      where
+        none-above : (zs : List (Sources A)) → NoneDeclared r k zs → ReplacesAll r k x zs
+        none-above zs m = all-weaker (λ z. declaredFor r k z ≡ []) (λ z. All (Replaces r k x) (declaredFor r k z)) (λ z e. subst (All (Replaces r k x)) (sym e) tt) zs m
+
+  -- where no pseudo record is declared for, of the element or above it, the conditions on the main record are all
+  pub main-alone : (x : Sources A) (above : List (Sources A)) → ((k : ℕ) → k < slotCount → inherits k ≡ true → InheritedAlike mainRecord k (x ∷ above))
+      → ((k : ℕ) → k < slotCount → inherits k ≡ false → SaidAlike mainRecord k x × NotInherited mainRecord k x above)
+      → ((r : ℕ) → r < recordCount → ¬ (r ≡ mainRecord) → All (λ z. declares r (crateDeclared z) ≡ false) (x ∷ above)) → AgreesDown x above
+  main-alone x above i o n = record {
+    inheriting = i;
+    others = o;
+    pseudo-records = λ r h z. inr (n r h z .1);
+    pseudo-slots = λ r k h z l. (
+      (of-all (CountedAlike r k) (λ a m. absurd (z m)) (x .attributes), subst AllDecidedAlike (sym (undeclared r k h l (crateDeclared x) (n r h z .0))) tt),
+      inl (all-weaker (λ y. declares r (crateDeclared y) ≡ false) (λ y. declaredFor r k y ≡ []) (λ y e. undeclared r k h l (crateDeclared y) e) above (n r h z .1)),
+    );
+    pseudo-inheriting = λ r k h z l e. no-record (n r h z .0);
+  }
 
   -- ---- down a path, sheets of the author alone without `!important`
   module _ (r k : ℕ) where
@@ -301,21 +354,19 @@ module _ {A : Type 0} where
     author-above (x ∷ above) h = (h .1 .0, author-above above (h .1 .1 .1))
 
     -- a normal author declaration replaces a normal author one above it, where it is not less specific
-    replaced : (x : Sources A) (c : Candidate A) → All (NormalAuthor r k) (declaredFor r k x) → NormalAuthor r k c → NotLessSpecific r k x c → ReplacedAlike r k x c
+    replaced : (x : Sources A) (c : Candidate A) → All (NormalAuthor r k) (declaredFor r k x) → NormalAuthor r k c → NotLessSpecific r k x c → Replaces r k x c
     replaced x c a n l =
-        all-both (NormalAuthor r k) (λ y. ¬ (LessSpecific (y .weight .spec) (c .weight .spec))) (λ y. InheritedAlike (c .weight) (y .weight)) (λ y p q. by-author (p .1) (p .0) (n .1) q) (declaredFor r k x) a l
+        all-both (NormalAuthor r k) (λ y. ¬ (LessSpecific (y .weight .spec) (c .weight .spec))) (λ y. heldAgainst (c .weight) (y .weight) ≡ false)
+        (λ y p q. author-replaces (c .weight) (y .weight) (n .0) (n .1) (p .0) (p .1) q) (declaredFor r k x) a l
 
     -- sheets of the author alone, without `!important`, meet the condition down a path, where specificities do not fall
-    pub author-agrees : (xs : List (Sources A)) → AuthorDown r k xs → AgreesDown r k xs
+    pub author-agrees : (xs : List (Sources A)) → AuthorDown r k xs → InheritedAlike r k xs
     author-agrees [] h = tt
     author-agrees (x ∷ above) h = (
-      h .0,
+      (h .0, one-origin (declaredFor r k x) authorOrigin false (h .1 .0)),
       (
-        one-origin (declaredFor r k x) authorOrigin false (h .1 .0),
-        (
-          all-both (λ z. All (NormalAuthor r k) (declaredFor r k z)) (λ z. All (NotLessSpecific r k x) (declaredFor r k z)) (λ z. All (ReplacedAlike r k x) (declaredFor r k z))
-              (λ z a l. all-both (NormalAuthor r k) (NotLessSpecific r k x) (ReplacedAlike r k x) (λ c n m. replaced x c (h .1 .0) n m) (declaredFor r k z) a l) above (author-above above (h .1 .1 .1)) (h .1 .1 .0),
-          author-agrees above (h .1 .1 .1),
-        ),
+        all-both (λ z. All (NormalAuthor r k) (declaredFor r k z)) (λ z. All (NotLessSpecific r k x) (declaredFor r k z)) (λ z. All (Replaces r k x) (declaredFor r k z))
+            (λ z a l. all-both (NormalAuthor r k) (NotLessSpecific r k x) (Replaces r k x) (λ c n m. replaced x c (h .1 .0) n m) (declaredFor r k z) a l) above (author-above above (h .1 .1 .1)) (h .1 .1 .0),
+        author-agrees above (h .1 .1 .1),
       ),
     )

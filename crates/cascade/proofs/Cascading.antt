@@ -1,4 +1,4 @@
--- What the cascades make of a style: nothing of no declarations; of each slot what its own candidates make of it; and in the book order the winner's value.
+-- What the cascades make of a style: nothing of no declarations; of each slot what its own candidates make of it.
 -- Assumes nothing.
 use mathlib.Core.Path.{_≡_, refl, sym, ap, _∙_}
 use mathlib.Core.Bool.{Bool, true, false}
@@ -6,20 +6,19 @@ use mathlib.Core.List.{List, [], _∷_, _++_, map, foldl}
 use mathlib.Core.Logic.{_⊎_, inl, inr, ⊎-elim}
 use Prim.Native.Nat.{ℕ, _<_}
 use native.Mathlib.Omega.{arith}
-use lib.ListN.{length, getD, length-set, length-map, List·getD-map}
+use lib.ListN.{length, getD, length-set}
 use lib.Seq.{getD-set-same, getD-set-other}
 use Rattle.combinators.specs.Choice.{pick, or, and, is}
-use Rattle.combinators.proofs.Rules.{pick-true, pick-false, or-false, and-both, and-left, and-right, is-yes, is-no, is-true, is-false}
+use Rattle.combinators.proofs.Rules.{pick-true, pick-false, pick-holds, or-false, and-both, and-left, and-right, is-yes, is-no, is-true, is-false}
 use Rattle.cascade.specs.declared.slots.Cascade.{Cascade}
 use Rattle.cascade.specs.declared.slots.Cascade.the-variants.{Crate, Book}
-use Rattle.cascade.specs.Slot.{Candidate, Slot, empty, held, Decided, unset, decided, maybeUpdate, bookUpdate, updateBy, inheritedCandidate, inheritedSlot}
-use Rattle.cascade.specs.Record.{slotCount, recordCount, mainRecord, beforeRecord, afterRecord, Record, ComputedStyle, Formed, recordIn, slotOf, slotIn, updateRecord, updateStyle, Declared, isNamed, mergeBy, inherit, inheritRecord, inheritInBookOrder, inheritBy, Sources, crateDeclared, bookDeclared, declaredBy, cascadeBy, colourAttributes, styleAttributes, candidatesFor, inheritedCandidates}
+use Rattle.cascade.specs.Slot.{Candidate, Slot, empty, maybeUpdate, bookUpdate, updateBy, fillUpdate}
+use Rattle.cascade.specs.Record.{slotCount, recordCount, mainRecord, beforeRecord, afterRecord, Record, ComputedStyle, Formed, recordIn, slotOf, slotIn, updateRecord, updateStyle, Declared, isNamed, mergeBy, inherit, inheritBy, Handed, handedBy, handedOn, fillRecord, fillPseudo, finishBy, Sources, emptyRecord, emptyStyle, crateDeclared, bookDeclared, declaredBy, cascadeBy, colourAttributes, styleAttributes, candidatesFor}
 use Rattle.cascade.proofs.RowLaws.{Which, isMain, isBefore, isAfter, which, update-main, update-before, update-after}
 use Rattle.cascade.proofs.Merging.{named, named-says}
-use Rattle.cascade.proofs.Winners.{won, won-inherited}
 
 -- a test holds or it does not
-either-way : (t : Bool) → (t ≡ true) ⊎ (t ≡ false)
+pub either-way : (t : Bool) → (t ≡ true) ⊎ (t ≡ false)
 either-way true = inl refl
 either-way false = inr refl
 
@@ -30,7 +29,7 @@ or-second true b e = refl
 or-second false b e = e
 
 -- a fold over two lists in a row is that over the second, from where the first ends
-fold-append : {A B : Type 0} (f : B → A → B) (b : B) (xs ys : List A) → foldl f b (xs ++ ys) ≡ foldl f (foldl f b xs) ys
+pub fold-append : {A B : Type 0} (f : B → A → B) (b : B) (xs ys : List A) → foldl f b (xs ++ ys) ≡ foldl f (foldl f b xs) ys
 fold-append f b [] ys = refl
 fold-append f b (x ∷ xs) ys = fold-append f (f b x) xs ys
 
@@ -44,7 +43,7 @@ module _ {A : Type 0} where
   noSources = record { agent = []; user = []; author = []; attributes = [] }
 
   -- where nothing is said, a child has what it inherits
-  pub nothing-said : (c : Cascade) (s : ComputedStyle A) → cascadeBy c s noSources ≡ inheritBy c s
+  pub nothing-said : (c : Cascade) (s : ComputedStyle A) → cascadeBy c s noSources ≡ finishBy c (handedBy s) (inheritBy c s)
   unfolding cascadeBy declaredBy crateDeclared bookDeclared colourAttributes styleAttributes
   nothing-said Crate s = refl
   nothing-said Book s = refl
@@ -52,7 +51,7 @@ module _ {A : Type 0} where
   -- ---- records by their numbers
   module _ (s : ComputedStyle A) (r : ℕ) where
     -- the record of the element's own number is the main one
-    in-main : r ≡ mainRecord → recordIn s r ≡ s .main
+    pub in-main : r ≡ mainRecord → recordIn s r ≡ s .main
     unfolding recordIn
     in-main e = sym (pick-true _ _ _ _ (is-yes r mainRecord e) refl)
 
@@ -75,7 +74,7 @@ module _ {A : Type 0} where
     own-record r (isAfter e) = in-after (updateStyle r k u s) r e ∙ ap (λ (t : ComputedStyle A). t .after) (update-after r k u s e) ∙ ap (updateRecord k u) (sym (in-after s r e))
 
     -- every other record of the style stays
-    other-record : (q r : ℕ) → Which q → Which r → ¬ (q ≡ r) → recordIn (updateStyle q k u s) r ≡ recordIn s r
+    pub other-record : (q r : ℕ) → Which q → Which r → ¬ (q ≡ r) → recordIn (updateStyle q k u s) r ≡ recordIn s r
     other-record q r (isMain e) (isMain f) n = absurd (n (e ∙ sym f))
     other-record q r (isMain e) (isBefore f) n = in-before (updateStyle q k u s) r f ∙ ap (λ (t : ComputedStyle A). t .before) (update-main q k u s e) ∙ sym (in-before s r f)
     other-record q r (isMain e) (isAfter f) n = in-after (updateStyle q k u s) r f ∙ ap (λ (t : ComputedStyle A). t .after) (update-main q k u s e) ∙ sym (in-after s r f)
@@ -114,12 +113,12 @@ module _ {A : Type 0} where
     v x = u x (d .candidate)
 
     -- a declaration that names a slot updates it
-    merge-named : isNamed (d .pseudo) (d .slot) ≡ true → mergeBy u s d ≡ updateStyle (d .pseudo) (d .slot) v s
+    pub merge-named : isNamed (d .pseudo) (d .slot) ≡ true → mergeBy u s d ≡ updateStyle (d .pseudo) (d .slot) v s
     unfolding mergeBy
     merge-named e = sym (pick-true _ _ _ _ e refl)
 
     -- a declaration that names none leaves the style
-    merge-unnamed : isNamed (d .pseudo) (d .slot) ≡ false → mergeBy u s d ≡ s
+    pub merge-unnamed : isNamed (d .pseudo) (d .slot) ≡ false → mergeBy u s d ≡ s
     unfolding mergeBy
     merge-unnamed e = sym (pick-false _ _ _ _ e refl)
 
@@ -232,7 +231,7 @@ module _ {A : Type 0} where
 
   -- ---- what a child begins with
   -- every record of a formed style has all its slots
-  formed-record : (s : ComputedStyle A) (r : ℕ) → Formed s → r < recordCount → Whole s r
+  pub formed-record : (s : ComputedStyle A) (r : ℕ) → Formed s → r < recordCount → Whole s r
   formed-record s r f h = go (which r h)
     where
       go : Which r → Whole s r
@@ -245,38 +244,16 @@ module _ {A : Type 0} where
   unfolding inherit
   inherit-formed s f = record { main = f .main; before = f .before; after = f .after }
 
-  -- the same in the book order
-  pub inherit-book-formed : (s : ComputedStyle A) → Formed s → Formed (inheritInBookOrder s)
-  unfolding inheritInBookOrder inheritRecord
-  inherit-book-formed s f = record {
-    main = length-map (s .main .slots) inheritedSlot ∙ f .main;
-    before = length-map (s .before .slots) inheritedSlot ∙ f .before;
-    after = length-map (s .after .slots) inheritedSlot ∙ f .after;
-  }
+  -- the style in which nothing is declared has all its slots
+  pub empty-whole : Formed (emptyStyle {A = A})
+  unfolding emptyStyle emptyRecord
+  empty-whole = record { main = refl; before = refl; after = refl }
 
-  -- nothing is inherited of an empty slot
-  empty-inherited : inheritedSlot {A = A} empty ≡ empty
-  unfolding inheritedSlot
-  empty-inherited = refl
-
-  module _ (s : ComputedStyle A) (r k : ℕ) (h : r < recordCount) where
-    -- where the slots of a record are inherited one by one, so is each by its number
-    mapped : (a b : Record A) → a .slots ≡ map inheritedSlot (b .slots) → slotOf a k ≡ inheritedSlot (slotOf b k)
-    unfolding slotOf
-    mapped a b e =
-        ap (λ (l : List (Slot A)). getD l k empty) e
-        ∙ ap (λ (d : Slot A). getD (map inheritedSlot (b .slots)) k d) (sym empty-inherited)
-        ∙ List·getD-map inheritedSlot (b .slots) k empty
-
-    -- each slot is inherited by itself
-    pub inherits-slot : slotIn (inheritInBookOrder s) r k ≡ inheritedSlot (slotIn s r k)
-    unfolding slotIn inheritInBookOrder inheritRecord
-    inherits-slot = go (which r h)
-      where
-        go : Which r → slotOf (recordIn (inheritInBookOrder s) r) k ≡ inheritedSlot (slotOf (recordIn s r) k)
-        go (isMain e) = rw (in-main (inheritInBookOrder s) r e, in-main s r e) (mapped _ (s .main) refl)
-        go (isBefore e) = rw (in-before (inheritInBookOrder s) r e, in-before s r e) (mapped _ (s .before) refl)
-        go (isAfter e) = rw (in-after (inheritInBookOrder s) r e, in-after s r e) (mapped _ (s .after) refl)
+  -- so records are whole before any declaration, in either cascade
+  pub inherit-by-formed : (c : Cascade) (s : ComputedStyle A) → Formed s → Formed (inheritBy c s)
+  unfolding inheritBy
+  inherit-by-formed Crate s f = inherit-formed s f
+  inherit-by-formed Book s f = inherit-formed emptyStyle empty-whole
 
   -- ---- the update of a cascade, by its name
   -- the crate's cascade, by its name, updates a slot with all its candidates as the crate does
@@ -285,30 +262,9 @@ module _ {A : Type 0} where
   by-crate (x ∷ xs) s = by-crate xs (updateBy Crate s x) ∙ ap (λ (t : Slot A). foldl maybeUpdate t xs) (unfold updateBy in refl)
 
   -- the update of the book order, by the name of that cascade
-  by-book : (xs : List (Candidate A)) (s : Slot A) → foldl (updateBy Book) s xs ≡ foldl bookUpdate s xs
+  pub by-book : (xs : List (Candidate A)) (s : Slot A) → foldl (updateBy Book) s xs ≡ foldl bookUpdate s xs
   by-book [] s = refl
   by-book (x ∷ xs) s = by-book xs (updateBy Book s x) ∙ ap (λ (t : Slot A). foldl bookUpdate t xs) (unfold updateBy in refl)
-
-  -- ---- the book order
-  -- from what is inherited on, a slot holds the winner among the inherited value and the candidates, or nothing where there are none
-  decides : (s : Slot A) (xs : List (Candidate A)) → Decided (foldl bookUpdate (inheritedSlot s) xs) (inheritedCandidates s ++ xs)
-  decides empty [] = unfold inheritedSlot in unfold inheritedCandidates in unset refl
-  decides empty (x ∷ xs) = unfold inheritedSlot in unfold inheritedCandidates in decided (won x xs)
-  decides (held c) xs = unfold inheritedCandidates in decided (won-inherited c xs)
-
-  -- each slot of the style is what its candidates make, one after the other, of what is inherited
-  pub book-folds : (parent : ComputedStyle A) (x : Sources A) (r k : ℕ) → Formed parent → r < recordCount → k < slotCount
-      → slotIn (cascadeBy Book parent x) r k ≡ foldl bookUpdate (inheritedSlot (slotIn parent r k)) (candidatesFor r k (bookDeclared x))
-  unfolding cascadeBy inheritBy declaredBy
-  book-folds parent x r k f h l =
-      let cs = candidatesFor r k (bookDeclared x) in
-      slot-folds (updateBy Book) r h k l (bookDeclared x) (inheritInBookOrder parent) (formed-record (inheritInBookOrder parent) r (inherit-book-formed parent f) h)
-      ∙ ap (λ (s : Slot A). foldl (updateBy Book) s cs) (inherits-slot parent r k h) ∙ by-book cs (inheritedSlot (slotIn parent r k))
-
-  -- it holds the value of the last greatest of all its candidates: what is inherited, then the declarations in order of appearance
-  pub book-decides : (parent : ComputedStyle A) (x : Sources A) (r k : ℕ) → Formed parent → r < recordCount → k < slotCount
-      → Decided (slotIn (cascadeBy Book parent x) r k) (inheritedCandidates (slotIn parent r k) ++ candidatesFor r k (bookDeclared x))
-  book-decides parent x r k f h l = rw (book-folds parent x r k f h l) (decides (slotIn parent r k) (candidatesFor r k (bookDeclared x)))
 
   -- ---- what holds of every style that a cascade leaves
   -- all its records have all their slots
@@ -326,11 +282,19 @@ module _ {A : Type 0} where
         after = ap (λ (p : Record A). length (p .slots)) (sym (in-after t afterRecord refl)) ∙ w afterRecord (omega arith);
       }
 
+  -- a style that ends with what it inherits has them too
+  pub finish-formed : (c : Cascade) (h : Handed A) (s : ComputedStyle A) → Formed s → Formed (finishBy c h s)
+  unfolding finishBy fillPseudo fillRecord
+  finish-formed Crate h s f = f
+  finish-formed Book h s f = pseudo afterRecord _ (pseudo beforeRecord _ (merges-formed fillUpdate (handedOn mainRecord h) s f))
+    where
+      pseudo : (r : ℕ) (t : ComputedStyle A) → Formed t → Formed (pick (recordIn t r .present) (foldl (mergeBy fillUpdate) t (handedOn r (handedBy t))) t)
+      pseudo r t g = pick-holds Formed _ _ _ (λ _. merges-formed fillUpdate (handedOn r (handedBy t)) t g) (λ _. g)
+
   -- so those of a cascade do
   pub cascade-formed : (c : Cascade) (parent : ComputedStyle A) (x : Sources A) → Formed parent → Formed (cascadeBy c parent x)
-  unfolding cascadeBy inheritBy
-  cascade-formed Crate parent x f = merges-formed (updateBy Crate) (declaredBy Crate x) (inherit parent) (inherit-formed parent f)
-  cascade-formed Book parent x f = merges-formed (updateBy Book) (declaredBy Book x) (inheritInBookOrder parent) (inherit-book-formed parent f)
+  unfolding cascadeBy
+  cascade-formed c parent x f = finish-formed c (handedBy parent) _ (merges-formed (updateBy c) (declaredBy c x) (inheritBy c parent) (inherit-by-formed c parent f))
 
   -- and its main record is present
   main-present : (u : Slot A → Candidate A → Slot A) (ds : List (Declared A)) (s : ComputedStyle A) → s .main .present ≡ true → foldl (mergeBy u) s ds .main .present ≡ true
@@ -338,15 +302,27 @@ module _ {A : Type 0} where
       ap (λ (p : Record A). p .present) (sym (in-main (foldl (mergeBy u) s ds) mainRecord refl))
       ∙ stay-present u mainRecord (omega arith) ds s (ap (λ (p : Record A). p .present) (in-main s mainRecord refl) ∙ e)
 
+  -- it stays so where what is inherited fills slots
+  finish-present : (c : Cascade) (h : Handed A) (s : ComputedStyle A) → s .main .present ≡ true → finishBy c h s .main .present ≡ true
+  unfolding finishBy fillPseudo fillRecord
+  finish-present Crate h s e = e
+  finish-present Book h s e = pseudo afterRecord _ (pseudo beforeRecord _ (main-present fillUpdate (handedOn mainRecord h) s e))
+    where
+      pseudo : (r : ℕ) (t : ComputedStyle A) → t .main .present ≡ true → pick (recordIn t r .present) (foldl (mergeBy fillUpdate) t (handedOn r (handedBy t))) t .main .present ≡ true
+      pseudo r t g = pick-holds (λ (q : ComputedStyle A). q .main .present ≡ true) _ _ _ (λ _. main-present fillUpdate (handedOn r (handedBy t)) t g) (λ _. g)
+
   -- so it is in both cascades
   pub cascade-main-present : (c : Cascade) (parent : ComputedStyle A) (x : Sources A) → cascadeBy c parent x .main .present ≡ true
-  unfolding cascadeBy inheritBy inherit inheritInBookOrder
-  cascade-main-present Crate parent x = main-present (updateBy Crate) (declaredBy Crate x) (inherit parent) refl
-  cascade-main-present Book parent x = main-present (updateBy Book) (declaredBy Book x) (inheritInBookOrder parent) refl
+  unfolding cascadeBy
+  cascade-main-present c parent x = finish-present c (handedBy parent) _ (main-present (updateBy c) (declaredBy c x) (inheritBy c parent) (begins c))
+    where
+      begins : (c : Cascade) → inheritBy c parent .main .present ≡ true
+      begins Crate = unfold inheritBy inherit in refl
+      begins Book = unfold inheritBy inherit in refl
 
   -- ---- the crate's cascade is the fold: each slot is what its candidates make, one after the other, of the parent's
   -- before its declarations a child has the slots of its parent, in the crate's cascade
-  inherit-slot : (s : ComputedStyle A) (r k : ℕ) → r < recordCount → slotIn (inherit s) r k ≡ slotIn s r k
+  pub inherit-slot : (s : ComputedStyle A) (r k : ℕ) → r < recordCount → slotIn (inherit s) r k ≡ slotIn s r k
   unfolding slotIn inherit slotOf
   inherit-slot s r k h = go (which r h)
     where
@@ -358,7 +334,7 @@ module _ {A : Type 0} where
   -- it is the fold of the crate's update over the candidates, and no order's maximum
   pub crate-folds : (parent : ComputedStyle A) (x : Sources A) (r k : ℕ) → Formed parent → r < recordCount → k < slotCount
       → slotIn (cascadeBy Crate parent x) r k ≡ foldl maybeUpdate (slotIn parent r k) (candidatesFor r k (crateDeclared x))
-  unfolding cascadeBy inheritBy declaredBy
+  unfolding cascadeBy inheritBy declaredBy finishBy
   crate-folds parent x r k f h l =
       slot-folds (updateBy Crate) r h k l (crateDeclared x) (inherit parent) (formed-record (inherit parent) r (inherit-formed parent f) h)
       ∙ by-crate (candidatesFor r k (crateDeclared x)) (slotIn (inherit parent) r k)

@@ -7,6 +7,7 @@ pub mod Rewriting
 pub mod Merging
 pub mod RowBack
 pub mod Cascading
+pub mod Defaulting
 pub mod Inheriting
 pub mod Relating
 pub mod Agreeing

@@ -6,14 +6,15 @@ use Prim.Native.Nat.{ℕ, zero, suc}
 use lib.ListN.{getD, set, replicate}
 use Rattle.combinators.specs.Choice.{pick, is}
 use Rattle.combinators.proofs.Rules.{never}
+use Rattle.syntax.specs.Layout.{colourSlot, whiteSpaceSlot}
 use Rattle.syntax.specs.Style.{agentOrigin, userOrigin, authorOrigin}
 use Rattle.cascade.specs.declared.specificity.Specificity.{Specificity}
 use Rattle.cascade.specs.declared.slots.Weight.{Weight}
 use Rattle.cascade.specs.declared.slots.Cascade.{Cascade}
 use Rattle.cascade.specs.declared.slots.Cascade.the-variants.{Crate, Book}
 use Rattle.cascade.specs.Specificity.{noSpecificity, inlineSpecificity}
-use Rattle.cascade.specs.Slot.{Candidate, Slot, empty, held, heldAgainst, maybeUpdate, heldInBook, bookUpdate, updateBy, inheritedCandidate, inheritedSlot}
-use Rattle.cascade.specs.Record.{slotCount, mainRecord, beforeRecord, Record, ComputedStyle, slotOf, emptyRecord, emptyStyle, updateRecord, updateStyle, Declared, isNamed, mergeBy, inherit, inheritRecord, inheritInBookOrder, inheritBy, Styled, RuleStyle, AttributeStyle, Sources, fromRule, fromAttribute, crateDeclared, colourAttributes, styleAttributes, bookDeclared, declaredBy, cascadeBy}
+use Rattle.cascade.specs.Slot.{Candidate, Slot, empty, held, heldAgainst, maybeUpdate, heldInBook, bookUpdate, updateBy, fillUpdate}
+use Rattle.cascade.specs.Record.{slotCount, mainRecord, beforeRecord, afterRecord, Record, ComputedStyle, recordIn, slotOf, slotIn, emptyRecord, emptyStyle, updateRecord, updateStyle, Declared, isNamed, mergeBy, inherit, inheritBy, Handed, handedBy, handedSlot, handedOn, fillRecord, fillPseudo, finishBy, Styled, RuleStyle, AttributeStyle, Sources, fromRule, fromAttribute, crateDeclared, colourAttributes, styleAttributes, bookDeclared, declaredBy, cascadeBy}
 use Rattle.cascade.specs.Related.{Each, none, next, SameCandidate, SameSlot, both-empty, both-held, SameRecord, SameStyle}
 
 -- ---- a choice between things that are related
@@ -99,60 +100,51 @@ module _ {A B : Type 0} (R : A → B → Type 0) where
   update-same Book empty empty x y both-empty q = both-held q
   update-same Book (held c) (held d) x y (both-held p) q = chosen-same heldInBook c x d y p q
 
-  module _ (k : Cascade) (x : Candidate A) (y : Candidate B) (c : SameCandidate R x y) where
-    -- records that are the same stay so when one slot of both is updated
-    record-updated : (i : ℕ) (p : Record A) (q : Record B) → SameRecord R p q → SameRecord R (updateRecord i (λ s. updateBy k s x) p) (updateRecord i (λ s. updateBy k s y) q)
-    unfolding updateRecord slotOf
-    record-updated i p q h =
-        record { presence = refl; all = each-set (SameSlot R) i _ _ (update-same k _ _ x y (each-get (SameSlot R) i empty empty both-empty (h .all)) c) (h .all) }
+  -- and when an inherited value fills both
+  fill-same : (s : Slot A) (t : Slot B) (x : Candidate A) (y : Candidate B) → SameSlot R s t → SameCandidate R x y → SameSlot R (fillUpdate s x) (fillUpdate t y)
+  unfolding fillUpdate
+  fill-same empty empty x y both-empty q = both-held q
+  fill-same (held c) (held d) x y (both-held p) q = both-held p
 
-    -- styles that are the same stay so when one slot of one record of both is updated
-    style-updated : (r i : ℕ) (s : ComputedStyle A) (t : ComputedStyle B) → SameStyle R s t → SameStyle R (updateStyle r i (λ z. updateBy k z x) s) (updateStyle r i (λ z. updateBy k z y) t)
-    unfolding updateStyle
-    style-updated r i s t h =
-        pick-same (SameStyle R) (is r mainRecord) (is r mainRecord) _ _ _ _ refl (record { main = record-updated i (s .main) (t .main) (h .main); before = h .before; after = h .after })
-        (pick-same (SameStyle R) (is r beforeRecord) (is r beforeRecord) _ _ _ _ refl (record { main = h .main; before = record-updated i (s .before) (t .before) (h .before); after = h .after })
-        (record { main = h .main; before = h .before; after = record-updated i (s .after) (t .after) (h .after) }))
+  -- ---- by any two updates that keep slots the same
+  module _ (u : Slot A → Candidate A → Slot A) (v : Slot B → Candidate B → Slot B)
+      (kept : (s : Slot A) (t : Slot B) (x : Candidate A) (y : Candidate B) → SameSlot R s t → SameCandidate R x y → SameSlot R (u s x) (v t y)) where
+    module _ (x : Candidate A) (y : Candidate B) (c : SameCandidate R x y) where
+      -- records that are the same stay so when one slot of both is updated
+      record-updated : (i : ℕ) (p : Record A) (q : Record B) → SameRecord R p q → SameRecord R (updateRecord i (λ s. u s x) p) (updateRecord i (λ s. v s y) q)
+      unfolding updateRecord slotOf
+      record-updated i p q h =
+          record { presence = refl; all = each-set (SameSlot R) i _ _ (kept _ _ x y (each-get (SameSlot R) i empty empty both-empty (h .all)) c) (h .all) }
 
-  -- styles that are the same stay so when one declaration is merged into both
-  pub merge-same : (k : Cascade) (s : ComputedStyle A) (t : ComputedStyle B) (x : Declared A) (y : Declared B) → SameStyle R s t → SameDeclared x y
-      → SameStyle R (mergeBy (updateBy k) s x) (mergeBy (updateBy k) t y)
-  unfolding mergeBy
-  merge-same k s t x y h d =
-      let n : isNamed (x .pseudo) (x .slot) ≡ isNamed (y .pseudo) (y .slot) = rw (d .pseudos, d .slots) in
-      let u = style-updated k (x .candidate) (y .candidate) (d .candidates) (x .pseudo) (x .slot) s t h in
-      pick-same (SameStyle R) _ _ _ s _ t n (moved (x .pseudo) (y .pseudo) (x .slot) (y .slot) (d .pseudos) (d .slots) (λ z. updateBy k z (x .candidate)) (λ z. updateBy k z (y .candidate)) u) h
-    where
-      moved : (a b i j : ℕ) → a ≡ b → i ≡ j → (f : Slot A → Slot A) (g : Slot B → Slot B) → SameStyle R (updateStyle a i f s) (updateStyle a i g t) → SameStyle R (updateStyle a i f s) (updateStyle b j g t)
-      moved a b i j e l f g u = rw (← e, ← l) u
+      -- styles that are the same stay so when one slot of one record of both is updated
+      style-updated : (r i : ℕ) (s : ComputedStyle A) (t : ComputedStyle B) → SameStyle R s t → SameStyle R (updateStyle r i (λ z. u z x) s) (updateStyle r i (λ z. v z y) t)
+      unfolding updateStyle
+      style-updated r i s t h =
+          pick-same (SameStyle R) (is r mainRecord) (is r mainRecord) _ _ _ _ refl (record { main = record-updated i (s .main) (t .main) (h .main); before = h .before; after = h .after })
+          (pick-same (SameStyle R) (is r beforeRecord) (is r beforeRecord) _ _ _ _ refl (record { main = h .main; before = record-updated i (s .before) (t .before) (h .before); after = h .after })
+          (record { main = h .main; before = h .before; after = record-updated i (s .after) (t .after) (h .after) }))
 
-  -- styles that are the same stay so when many declarations are merged into both
+    -- styles that are the same stay so when one declaration is merged into both
+    one-merged : (s : ComputedStyle A) (t : ComputedStyle B) (x : Declared A) (y : Declared B) → SameStyle R s t → SameDeclared x y → SameStyle R (mergeBy u s x) (mergeBy v t y)
+    unfolding mergeBy
+    one-merged s t x y h d =
+        let n : isNamed (x .pseudo) (x .slot) ≡ isNamed (y .pseudo) (y .slot) = rw (d .pseudos, d .slots) in
+        let w = style-updated (x .candidate) (y .candidate) (d .candidates) (x .pseudo) (x .slot) s t h in
+        pick-same (SameStyle R) _ _ _ s _ t n (moved (x .pseudo) (y .pseudo) (x .slot) (y .slot) (d .pseudos) (d .slots) (λ z. u z (x .candidate)) (λ z. v z (y .candidate)) w) h
+      where
+        moved : (a b i j : ℕ) → a ≡ b → i ≡ j → (f : Slot A → Slot A) (g : Slot B → Slot B) → SameStyle R (updateStyle a i f s) (updateStyle a i g t) → SameStyle R (updateStyle a i f s) (updateStyle b j g t)
+        moved a b i j e l f g w = rw (← e, ← l) w
+
+    -- styles that are the same stay so when many declarations are merged into both
+    all-merged : {xs : List (Declared A)} {ys : List (Declared B)} → Each SameDeclared xs ys → (s : ComputedStyle A) (t : ComputedStyle B) → SameStyle R s t
+        → SameStyle R (foldl (mergeBy u) s xs) (foldl (mergeBy v) t ys)
+    all-merged none s t h = h
+    all-merged (next {a = x} {b = y} d ds) s t h = all-merged ds (mergeBy u s x) (mergeBy v t y) (one-merged s t x y h d)
+
+  -- so they do in either cascade
   pub merges-same : (k : Cascade) {xs : List (Declared A)} {ys : List (Declared B)} → Each SameDeclared xs ys → (s : ComputedStyle A) (t : ComputedStyle B) → SameStyle R s t
       → SameStyle R (foldl (mergeBy (updateBy k)) s xs) (foldl (mergeBy (updateBy k)) t ys)
-  merges-same k none s t h = h
-  merges-same k (next {a = x} {b = y} d ds) s t h = merges-same k ds (mergeBy (updateBy k) s x) (mergeBy (updateBy k) t y) (merge-same k s t x y h d)
-
-  -- ---- what a child begins with
-  -- slots that are the same are inherited as the same in the book order
-  slot-inherited : (s : Slot A) (t : Slot B) → SameSlot R s t → SameSlot R (inheritedSlot s) (inheritedSlot t)
-  unfolding inheritedSlot inheritedCandidate
-  slot-inherited empty empty both-empty = both-empty
-  slot-inherited (held c) (held d) (both-held p) = both-held (record { weights = refl; values = p .values })
-
-  -- records that are the same are inherited as the same in the book order
-  record-inherited : (p : Record A) (q : Record B) → SameRecord R p q → SameRecord R (inheritRecord p) (inheritRecord q)
-  unfolding inheritRecord
-  record-inherited p q h = record { presence = h .presence; all = each-map (SameSlot R) (SameSlot R) inheritedSlot inheritedSlot slot-inherited (h .all) }
-
-  -- styles that are the same are inherited as the same, in either cascade
-  pub inherit-same : (k : Cascade) (s : ComputedStyle A) (t : ComputedStyle B) → SameStyle R s t → SameStyle R (inheritBy k s) (inheritBy k t)
-  unfolding inheritBy inherit inheritInBookOrder
-  inherit-same Crate s t h = record { main = record { presence = refl; all = h .main .all }; before = h .before; after = h .after }
-  inherit-same Book s t h = record {
-    main = record { presence = refl; all = each-map (SameSlot R) (SameSlot R) inheritedSlot inheritedSlot slot-inherited (h .main .all) };
-    before = record-inherited (s .before) (t .before) (h .before);
-    after = record-inherited (s .after) (t .after) (h .after);
-  }
+  merges-same k ds s t h = all-merged (updateBy k) (updateBy k) (update-same k) ds s t h
 
   -- records in which nothing is declared are the same
   empty-record-same : SameRecord R emptyRecord emptyRecord
@@ -163,6 +155,61 @@ module _ {A B : Type 0} (R : A → B → Type 0) where
   pub empty-same : SameStyle R emptyStyle emptyStyle
   unfolding emptyStyle
   empty-same = record { main = empty-record-same; before = empty-record-same; after = empty-record-same }
+
+  -- ---- what an element begins with, and what it ends with
+  -- with the main record present on both sides, they are the same
+  inherits-same : (s : ComputedStyle A) (t : ComputedStyle B) → SameStyle R s t → SameStyle R (inherit s) (inherit t)
+  unfolding inherit
+  inherits-same s t h = record { main = record { presence = refl; all = h .main .all }; before = h .before; after = h .after }
+
+  -- styles that are the same are inherited as the same, in either cascade
+  pub inherit-same : (k : Cascade) (s : ComputedStyle A) (t : ComputedStyle B) → SameStyle R s t → SameStyle R (inheritBy k s) (inheritBy k t)
+  unfolding inheritBy
+  inherit-same Crate s t h = inherits-same s t h
+  inherit-same Book s t h = inherits-same emptyStyle emptyStyle empty-same
+
+  -- what two styles hand on that are the same
+  pub record SameHanded (g : Handed A) (h : Handed B) : Type 0 where
+    pub colours : SameSlot R (g .colour) (h .colour)
+    pub white-spaces : SameSlot R (g .whiteSpace) (h .whiteSpace)
+
+  -- records that are the same by their number
+  record-in-same : (r : ℕ) (s : ComputedStyle A) (t : ComputedStyle B) → SameStyle R s t → SameRecord R (recordIn s r) (recordIn t r)
+  unfolding recordIn
+  record-in-same r s t h = pick-same (SameRecord R) _ _ _ _ _ _ refl (h .main) (pick-same (SameRecord R) _ _ _ _ _ _ refl (h .before) (h .after))
+
+  -- slots that are the same by their numbers
+  slot-in-same : (r k : ℕ) (s : ComputedStyle A) (t : ComputedStyle B) → SameStyle R s t → SameSlot R (slotIn s r k) (slotIn t r k)
+  unfolding slotIn slotOf
+  slot-in-same r k s t h = each-get (SameSlot R) k empty empty both-empty (record-in-same r s t h .all)
+
+  -- styles that are the same hand on the same
+  handed-same : (s : ComputedStyle A) (t : ComputedStyle B) → SameStyle R s t → SameHanded (handedBy s) (handedBy t)
+  unfolding handedBy
+  handed-same s t h = record { colours = slot-in-same mainRecord colourSlot s t h; white-spaces = slot-in-same mainRecord whiteSpaceSlot s t h }
+
+  -- slots that are the same are handed on as the same declarations
+  slot-handed : (r k : ℕ) (s : Slot A) (t : Slot B) → SameSlot R s t → Each SameDeclared (handedSlot r k s) (handedSlot r k t)
+  unfolding handedSlot
+  slot-handed r k empty empty both-empty = none
+  slot-handed r k (held c) (held d) (both-held p) = next (record { pseudos = refl; slots = refl; candidates = p }) none
+
+  -- a record filled from what is the same
+  record-filled : (r : ℕ) (g : Handed A) (h : Handed B) (s : ComputedStyle A) (t : ComputedStyle B) → SameHanded g h → SameStyle R s t → SameStyle R (fillRecord r g s) (fillRecord r h t)
+  unfolding fillRecord handedOn
+  record-filled r g h s t e d =
+      all-merged fillUpdate fillUpdate fill-same (each-append SameDeclared (slot-handed r colourSlot (g .colour) (h .colour) (e .colours)) (slot-handed r whiteSpaceSlot (g .whiteSpace) (h .whiteSpace) (e .white-spaces))) s t d
+
+  -- a pseudo record filled from its element's main record
+  pseudo-filled : (r : ℕ) (s : ComputedStyle A) (t : ComputedStyle B) → SameStyle R s t → SameStyle R (fillPseudo r s) (fillPseudo r t)
+  unfolding fillPseudo
+  pseudo-filled r s t d = pick-same (SameStyle R) _ _ _ _ _ _ (record-in-same r s t d .presence) (record-filled r (handedBy s) (handedBy t) s t (handed-same s t d) d) d
+
+  -- styles that are the same end as the same, in either cascade
+  finish-same : (k : Cascade) (g : Handed A) (h : Handed B) (s : ComputedStyle A) (t : ComputedStyle B) → SameHanded g h → SameStyle R s t → SameStyle R (finishBy k g s) (finishBy k h t)
+  unfolding finishBy
+  finish-same Crate g h s t e d = d
+  finish-same Book g h s t e d = pseudo-filled afterRecord _ _ (pseudo-filled beforeRecord _ _ (record-filled mainRecord g h s t e d))
 
   -- ---- all declarations of an element
   -- weights of one origin with the same importance and the same specificity are the same
@@ -224,4 +271,5 @@ module _ {A B : Type 0} (R : A → B → Type 0) where
   pub cascade-same : (k : Cascade) (s : ComputedStyle A) (t : ComputedStyle B) (x : Sources A) (y : Sources B) → SameStyle R s t → SameSources x y
       → SameStyle R (cascadeBy k s x) (cascadeBy k t y)
   unfolding cascadeBy
-  cascade-same k s t x y h d = merges-same k (declared-same k x y d) (inheritBy k s) (inheritBy k t) (inherit-same k s t h)
+  cascade-same k s t x y h d =
+      finish-same k (handedBy s) (handedBy t) _ _ (handed-same s t h) (merges-same k (declared-same k x y d) (inheritBy k s) (inheritBy k t) (inherit-same k s t h))

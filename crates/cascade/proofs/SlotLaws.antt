@@ -3,15 +3,13 @@ use mathlib.Core.Path.{_≡_, refl, sym, ap, _∙_}
 use mathlib.Core.Bool.{Bool, true, false}
 use Prim.Native.Nat.{ℕ, _≤_, _<_}
 use Rattle.combinators.proofs.Rules.{pick-true, pick-false, told}
-use Rattle.syntax.specs.Style.{authorOrigin}
 use Rattle.syntax.specs.declared.styles.Value.{Value}
-use Rattle.cascade.specs.declared.specificity.Specificity.{Specificity}
 use Rattle.cascade.specs.declared.slots.Weight.{Weight}
 use Rattle.cascade.specs.declared.slots.Slot as code
 use Rattle.cascade.specs.declared.slots.Cascade.{Cascade}
 use Rattle.cascade.specs.declared.slots.Cascade.the-variants.{Crate, Book}
-use Rattle.cascade.specs.Specificity.{specificityOf, noSpecificity, less}
-use Rattle.cascade.specs.Slot.{Candidate, Slot, empty, held, heldAgainst, maybeUpdate, rank, rankOf, weaker, heldInBook, bookUpdate, updateBy, inheritedWeight, inheritedCandidate, inheritedSlot, slotBy}
+use Rattle.cascade.specs.Specificity.{less}
+use Rattle.cascade.specs.Slot.{Candidate, Slot, empty, held, heldAgainst, maybeUpdate, rank, rankOf, weaker, heldInBook, bookUpdate, updateBy, fillUpdate, slotBy}
 use Rattle.cascade.proofs.Orders.{then-lower, then-higher, then-same}
 
 -- ---- the slot that the code's value says
@@ -78,18 +76,16 @@ module _ (s : code.Slot) (w : Weight) (v : Value) where
   book-fills n f h = rw (unfilled-slot s f) h
 
 -- ---- inheriting in the book order
-module _ (s : code.Slot) where
-  -- a value is handed on as a normal author one of specificity 0
-  pub handed-on : (n : code.Slot) → s .filled ≡ true
-      → slotBy n ≡ held (record { weight = record { important = false; origin = authorOrigin; spec = record { inline = false; id = 0; class = 0; typ = 0 } }; value = s .value })
-      → slotBy n ≡ inheritedSlot (slotBy s)
-  unfolding inheritedSlot inheritedCandidate inheritedWeight noSpecificity specificityOf
-  handed-on n f h = rw (filled-slot s f) h
+module _ (s : code.Slot) (w : Weight) (v : Value) where
+  -- a filled slot keeps its value
+  pub fill-keeps : s .filled ≡ true → slotBy s ≡ fillUpdate (slotBy s) (record { weight = w; value = v })
+  unfolding fillUpdate
+  fill-keeps f = rw (filled-slot s f)
 
-  -- an empty slot stays as it is
-  pub handed-on-empty : s .filled ≡ false → slotBy s ≡ inheritedSlot (slotBy s)
-  unfolding inheritedSlot
-  handed-on-empty f = rw (unfilled-slot s f) refl
+  -- an empty one takes what is inherited
+  pub fill-takes : (n : code.Slot) → s .filled ≡ false → slotBy n ≡ held (record { weight = w; value = v }) → slotBy n ≡ fillUpdate (slotBy s) (record { weight = w; value = v })
+  unfolding fillUpdate
+  fill-takes n f h = rw (unfilled-slot s f) h
 
 -- ---- a slot updated in the cascade that is asked for
 module _ (k : Cascade) (s n : Slot Value) (x : Candidate Value) where

@@ -10,7 +10,7 @@ use Rattle.combinators.specs.All.{All}
 use Rattle.combinators.proofs.Rules.{never, pick-true, pick-false}
 use Rattle.combinators.proofs.AllLaws.{all-append, all-weaker}
 use Rattle.cascade.specs.declared.slots.Weight.{Weight}
-use Rattle.cascade.specs.Slot.{Candidate, Slot, empty, held, rankOf, Weaker, by-rank, by-specificity, weaker, Winner, Won, heldInBook, bookUpdate, inheritedCandidate, inheritedSlot}
+use Rattle.cascade.specs.Slot.{Candidate, Slot, empty, held, rankOf, Weaker, by-rank, by-specificity, weaker, Winner, Won, heldInBook, bookUpdate}
 use Rattle.cascade.proofs.Orders.{then-lower, then-equal, then-true, then-trans, then-trans-not, less-trans, less-trans-not, less-says, less-said}
 
 -- ---- the test is the order
@@ -121,11 +121,6 @@ module _ {A : Type 0} where
   pub won : (x : Candidate A) (xs : List (Candidate A)) → Won (foldl bookUpdate empty (x ∷ xs)) (x ∷ xs)
   unfolding bookUpdate
   won x xs = won-from x xs
-
-  -- what is inherited is the first of the candidates
-  pub won-inherited : (c : Candidate A) (xs : List (Candidate A)) → Won (foldl bookUpdate (inheritedSlot (held c)) xs) (inheritedCandidate c ∷ xs)
-  unfolding inheritedSlot
-  won-inherited c xs = won-from (inheritedCandidate c) xs
 
   -- ---- there is one winner only
   -- what holds of every member of a list holds of the one at any place in it

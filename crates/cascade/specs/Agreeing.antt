@@ -1,5 +1,5 @@
--- Where the crate's cascade and the book order agree: conditions on what is declared for a slot, of an element and of those above it, that ordinary sheets meet.
--- The laws are in proofs/Agreeing.antt. Assumes nothing: these are definitions.
+-- Where the crate's cascade and the book order leave the same: conditions on what is declared for a slot, of an element and of those above it, that ordinary
+-- sheets meet. The laws are in proofs/Agreeing.antt and proofs/AgreeingStyles.antt. Assumes nothing: these are definitions.
 use mathlib.Core.Path.{_≡_}
 use mathlib.Core.Bool.{true, false}
 use mathlib.Core.List.{List, [], _∷_}
@@ -9,8 +9,8 @@ use Rattle.combinators.specs.All.{All}
 use Rattle.syntax.specs.Style.{agentOrigin, authorOrigin}
 use Rattle.cascade.specs.declared.slots.Weight.{Weight}
 use Rattle.cascade.specs.Specificity.{LessSpecific}
-use Rattle.cascade.specs.Slot.{Candidate, Slot, empty, held, rankOf, inheritedWeight}
-use Rattle.cascade.specs.Record.{mainRecord, recordCount, slotCount, ComputedStyle, recordIn, slotIn, AttributeStyle, Sources, crateDeclared, candidatesFor}
+use Rattle.cascade.specs.Slot.{Candidate, heldAgainst, rankOf}
+use Rattle.cascade.specs.Record.{mainRecord, recordCount, slotCount, inherits, AttributeStyle, Sources, crateDeclared, candidatesFor, declares}
 
 -- agent, user or author
 pub record KnownOrigin (w : Weight) : Type 0 where
@@ -32,25 +32,6 @@ EachPair P (x ∷ xs) = All (P x) xs × EachPair P xs
 abbrev pub AllDecidedAlike : {A : Type 0} → List (Candidate A) → Type 0
 AllDecidedAlike xs = EachPair (λ x y. DecidedAlike (x .weight) (y .weight)) xs
 
--- ---- a declaration c for a slot of an ancestor, and y for that slot of the element
-pub data InheritedAlike (c y : Weight) : Type 0 where
-  -- a normal author one replaces a normal one than which it is not less specific
-  by-author : y .important ≡ false → y .origin ≡ authorOrigin → c .important ≡ false → ¬ (LessSpecific (y .spec) (c .spec)) → InheritedAlike c y
-  -- an important one replaces one of its own origin or a later one, than which it is not less specific
-  by-important : y .important ≡ true → y .origin ≤ c .origin → ¬ (LessSpecific (y .spec) (c .spec)) → InheritedAlike c y
-  -- a normal agent or user one does not replace one that is important, of a later origin or more specific
-  no-replacement : y .important ≡ false → y .origin < authorOrigin → (c .important ≡ true) ⊎ ((y .origin < c .origin) ⊎ LessSpecific (y .spec) (c .spec)) → InheritedAlike c y
-
--- ---- what the two cascades leave in a slot: the same, or both what is inherited, which the book order writes as a normal author value of specificity 0
-pub data SameOrInherited {A : Type 0} (s t : Slot A) : Type 0 where
-  same : s ≡ t → SameOrInherited s t
-  inherited : (c d : Candidate A) → s ≡ held c → t ≡ held d → d .weight ≡ inheritedWeight → c .value ≡ d .value → SameOrInherited s t
-
--- so they show the same: nothing, or one value
-pub data SameValue {A : Type 0} : Slot A → Slot A → Type 0 where
-  nothing : SameValue empty empty
-  one-value : {c d : Candidate A} → c .value ≡ d .value → SameValue (held c) (held d)
-
 -- ---- an attribute that both cascades count alike for a slot: none for another record or slot matters; else it is a `style` attribute, and not important
 abbrev pub CountedAlike : {A : Type 0} → ℕ → ℕ → AttributeStyle A → Type 0
 CountedAlike r k a = r ≡ mainRecord → a .style .slot ≡ k → (a .isStyle ≡ true) × (a .style .important ≡ false)
@@ -61,16 +42,32 @@ module _ {A : Type 0} (r k : ℕ) where
   abbrev pub declaredFor : Sources A → List (Candidate A)
   declaredFor x = candidatesFor r k (crateDeclared x)
 
-  -- every declaration of the element against one of an element above it
-  abbrev pub ReplacedAlike : Sources A → Candidate A → Type 0
-  ReplacedAlike x c = All (λ y. InheritedAlike (c .weight) (y .weight)) (declaredFor x)
+  -- all that is said of one element for the slot counts alike: its attributes, and every two declarations
+  abbrev pub SaidAlike : Sources A → Type 0
+  SaidAlike x = All (CountedAlike r k) (x .attributes) × AllDecidedAlike (declaredFor x)
 
-  -- an attribute counts alike, and so do every two declarations of one element, and one of an element with one of an element above it
-  abbrev pub AgreesDown : List (Sources A) → Type 0
-  AgreesDown [] = Unit
-  AgreesDown (x ∷ above) =
-      All (CountedAlike r k) (x .attributes) × (AllDecidedAlike (declaredFor x) × (All (λ z. All (ReplacedAlike x) (declaredFor z)) above × AgreesDown above))
+  -- nothing is declared for it of any of these elements
+  abbrev pub NoneDeclared : List (Sources A) → Type 0
+  NoneDeclared xs = All (λ z. declaredFor z ≡ []) xs
 
+  -- every declaration of an element replaces c in the crate's cascade
+  abbrev pub Replaces : Sources A → Candidate A → Type 0
+  Replaces x c = All (λ y. heldAgainst (c .weight) (y .weight) ≡ false) (declaredFor x)
+
+  -- and so every declaration of the elements above it
+  abbrev pub ReplacesAll : Sources A → List (Sources A) → Type 0
+  ReplacesAll x above = All (λ z. All (Replaces x) (declaredFor z)) above
+
+  -- a slot that the book order inherits too: down a path all that is said counts alike, and each declaration replaces those above it
+  abbrev pub InheritedAlike : List (Sources A) → Type 0
+  InheritedAlike [] = Unit
+  InheritedAlike (x ∷ above) = SaidAlike x × (ReplacesAll x above × InheritedAlike above)
+
+  -- a slot that it does not inherit, as the crate's cascade does: nothing is declared for it above, or something of the element, which replaces all that is
+  abbrev pub NotInherited : Sources A → List (Sources A) → Type 0
+  NotInherited x above = NoneDeclared above ⊎ (¬ (declaredFor x ≡ []) × ReplacesAll x above)
+
+  -- ---- sheets of the author alone, without `!important`
   -- a normal declaration of the author
   abbrev pub NormalAuthor : Candidate A → Type 0
   NormalAuthor c = (c .weight .origin ≡ authorOrigin) × (c .weight .important ≡ false)
@@ -79,13 +76,28 @@ module _ {A : Type 0} (r k : ℕ) where
   abbrev pub NotLessSpecific : Sources A → Candidate A → Type 0
   NotLessSpecific x c = All (λ y. ¬ (LessSpecific (y .weight .spec) (c .weight .spec))) (declaredFor x)
 
-  -- what sheets of the author alone say without `!important`, where no declaration is less specific than one of an element above
+  -- what they say, where no declaration is less specific than one of an element above
   abbrev pub AuthorDown : List (Sources A) → Type 0
   AuthorDown [] = Unit
   AuthorDown (x ∷ above) =
       All (CountedAlike r k) (x .attributes) × (All NormalAuthor (declaredFor x) × (All (λ z. All (NotLessSpecific x) (declaredFor z)) above × AuthorDown above))
 
--- ---- two styles show the same: the same records, and in each slot the same value or none
-pub record ShowsSame {A : Type 0} (s t : ComputedStyle A) : Type 0 where
-  pub presence : (r : ℕ) → r < recordCount → recordIn s r .present ≡ recordIn t r .present
-  pub values : (r k : ℕ) → r < recordCount → k < slotCount → SameValue (slotIn s r k) (slotIn t r k)
+-- ---- a slot of a pseudo record that the book order does not fill from the element's own record: nothing is declared for that record, or something for the slot, or
+-- nothing for the main slot, of the element or above it
+pub data NotFilled {A : Type 0} (r k : ℕ) (x : Sources A) (above : List (Sources A)) : Type 0 where
+  no-record : declares r (crateDeclared x) ≡ false → NotFilled r k x above
+  own-value : ¬ (declaredFor r k x ≡ []) → NotFilled r k x above
+  none-handed : NoneDeclared mainRecord k (x ∷ above) → NotFilled r k x above
+
+-- ---- an element x below others, of which both cascades leave the same style
+pub record AgreesDown {A : Type 0} (x : Sources A) (above : List (Sources A)) : Type 0 where
+  -- each slot of the main record that inherits
+  pub inheriting : (k : ℕ) → k < slotCount → inherits k ≡ true → InheritedAlike mainRecord k (x ∷ above)
+  -- each that does not
+  pub others : (k : ℕ) → k < slotCount → inherits k ≡ false → SaidAlike mainRecord k x × NotInherited mainRecord k x above
+  -- each pseudo record: something is declared for it of the element, or nothing above
+  pub pseudo-records : (r : ℕ) → r < recordCount → ¬ (r ≡ mainRecord) → (declares r (crateDeclared x) ≡ true) ⊎ All (λ z. declares r (crateDeclared z) ≡ false) above
+  -- each of its slots
+  pub pseudo-slots : (r k : ℕ) → r < recordCount → ¬ (r ≡ mainRecord) → k < slotCount → SaidAlike r k x × NotInherited r k x above
+  -- and those that inherit
+  pub pseudo-inheriting : (r k : ℕ) → r < recordCount → ¬ (r ≡ mainRecord) → k < slotCount → inherits k ≡ true → NotFilled r k x above

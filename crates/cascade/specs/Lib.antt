@@ -3,5 +3,5 @@ pub mod Slot
 pub mod Record
 pub mod Row
 pub mod Related
-pub mod Cases
 pub mod Agreeing
+pub mod Cases

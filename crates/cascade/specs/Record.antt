@@ -3,16 +3,17 @@
 use mathlib.Core.Path.{_≡_}
 use mathlib.Core.Bool.{Bool, true, false}
 use mathlib.Core.List.{List, [], _∷_, _++_, map, foldl}
-use Prim.Native.Nat.{ℕ}
+use Prim.Native.Nat.{ℕ, _<_}
 use lib.Dec.{ltb}
 use lib.ListN.{length, getD, set, replicate}
-use Rattle.combinators.specs.Choice.{pick, and, is}
+use Rattle.combinators.specs.Choice.{pick, or, and, is}
+use Rattle.syntax.specs.Layout.{colourSlot, whiteSpaceSlot}
 use Rattle.syntax.specs.Style.{agentOrigin, userOrigin, authorOrigin}
 use Rattle.cascade.specs.declared.specificity.Specificity.{Specificity}
 use Rattle.cascade.specs.declared.slots.Cascade.{Cascade}
 use Rattle.cascade.specs.declared.slots.Cascade.the-variants.{Crate, Book}
 use Rattle.cascade.specs.Specificity.{noSpecificity, inlineSpecificity}
-use Rattle.cascade.specs.Slot.{Candidate, Slot, empty, held, updateBy, inheritedCandidate, inheritedSlot}
+use Rattle.cascade.specs.Slot.{Candidate, Slot, empty, held, updateBy, fillUpdate, Specified}
 
 -- ---- a record has a slot for each slot number of the compiled sheet (`syntax`: colour, background, display, white space, content)
 abbrev pub slotCount : ℕ
@@ -87,26 +88,48 @@ isNamed r k = and (ltb r recordCount) (ltb k slotCount)
 unfoldable pub mergeBy : {A : Type 0} → (Slot A → Candidate A → Slot A) → ComputedStyle A → Declared A → ComputedStyle A
 mergeBy u s d = pick (isNamed (d .pseudo) (d .slot)) (updateStyle (d .pseudo) (d .slot) (λ x. u x (d .candidate)) s) s
 
--- ---- what a child begins with: the main record is always present
+-- ---- what an element begins with: the main record is always present
 -- in the crate's cascade all slots of its parent (`inherit`)
 unfoldable pub inherit : {A : Type 0} → ComputedStyle A → ComputedStyle A
 inherit s = record { main = record { present = true; slots = s .main .slots }; before = s .before; after = s .after }
 
--- in the book order all of them, each as a normal author value of specificity 0
-unfoldable pub inheritRecord : {A : Type 0} → Record A → Record A
-inheritRecord p = record { present = p .present; slots = map inheritedSlot (p .slots) }
-
-unfoldable pub inheritInBookOrder : {A : Type 0} → ComputedStyle A → ComputedStyle A
-inheritInBookOrder s =
-    record {
-      main = record { present = true; slots = map inheritedSlot (s .main .slots) };
-      before = inheritRecord (s .before);
-      after = inheritRecord (s .after);
-    }
-
+-- in the book order nothing, for what it inherits comes behind what is declared
 unfoldable pub inheritBy : {A : Type 0} → Cascade → ComputedStyle A → ComputedStyle A
 inheritBy Crate s = inherit s
-inheritBy Book s = inheritInBookOrder s
+inheritBy Book s = inherit emptyStyle
+
+-- ---- what an element hands on in the book order, from its main record. S-2: "Colour and white space inherit, with the parent's nine numbers; background,
+-- display and content do not."
+unfoldable pub inherits : ℕ → Bool
+inherits k = or (is k colourSlot) (is k whiteSpaceSlot)
+
+pub record Handed (A : Type 0) : Type 0 where
+  pub colour : Slot A
+  pub whiteSpace : Slot A
+
+unfoldable pub handedBy : {A : Type 0} → ComputedStyle A → Handed A
+handedBy s = record { colour = slotIn s mainRecord colourSlot; whiteSpace = slotIn s mainRecord whiteSpaceSlot }
+
+-- what a slot hands on to slot k of record r: its value with all that weighs for it, where it holds one
+unfoldable pub handedSlot : {A : Type 0} → ℕ → ℕ → Slot A → List (Declared A)
+handedSlot r k empty = []
+handedSlot r k (held c) = record { pseudo = r; slot = k; candidate = c } ∷ []
+
+unfoldable pub handedOn : {A : Type 0} → ℕ → Handed A → List (Declared A)
+handedOn r h = handedSlot r colourSlot (h .colour) ++ handedSlot r whiteSpaceSlot (h .whiteSpace)
+
+-- a record filled from what is handed on
+unfoldable pub fillRecord : {A : Type 0} → ℕ → Handed A → ComputedStyle A → ComputedStyle A
+fillRecord r h s = foldl (mergeBy fillUpdate) s (handedOn r h)
+
+-- "A pseudo record is present only if a rule on this element adds to it, and inherits from this element's main record."
+unfoldable pub fillPseudo : {A : Type 0} → ℕ → ComputedStyle A → ComputedStyle A
+fillPseudo r s = pick (recordIn s r .present) (fillRecord r (handedBy s) s) s
+
+-- ---- what an element ends with, behind its declarations: in the crate's cascade nothing more, in the book order what it inherits
+unfoldable pub finishBy : {A : Type 0} → Cascade → Handed A → ComputedStyle A → ComputedStyle A
+finishBy Crate parent s = s
+finishBy Book parent s = fillPseudo afterRecord (fillPseudo beforeRecord (fillRecord mainRecord parent s))
 
 -- ---- what the sheets and the attributes say of an element
 -- a style: its slot, whether it is important, and its value
@@ -182,14 +205,23 @@ declaredBy Book x = bookDeclared x
 
 -- ---- the style of a child, from its parent's and from what is said of it
 unfoldable pub cascadeBy : {A : Type 0} → Cascade → ComputedStyle A → Sources A → ComputedStyle A
-cascadeBy c parent x = foldl (mergeBy (updateBy c)) (inheritBy c parent) (declaredBy c x)
+cascadeBy c parent x = finishBy c (handedBy parent) (foldl (mergeBy (updateBy c)) (inheritBy c parent) (declaredBy c x))
 
 -- ---- the candidates for a slot, in order of appearance
 unfoldable pub candidatesFor : {A : Type 0} → ℕ → ℕ → List (Declared A) → List (Candidate A)
 candidatesFor r k [] = []
 candidatesFor r k (d ∷ ds) = pick (and (is (d .pseudo) r) (is (d .slot) k)) (d .candidate ∷ []) [] ++ candidatesFor r k ds
 
--- what is inherited comes before all others, where there is anything
-unfoldable pub inheritedCandidates : {A : Type 0} → Slot A → List (Candidate A)
-inheritedCandidates empty = []
-inheritedCandidates (held c) = inheritedCandidate c ∷ []
+-- some declaration names a slot of a record
+unfoldable pub declares : {A : Type 0} → ℕ → List (Declared A) → Bool
+declares r [] = false
+declares r (d ∷ ds) = or (and (isNamed (d .pseudo) (d .slot)) (is (d .pseudo) r)) (declares r ds)
+
+-- ---- what the book order is to leave of what is declared, below a parent: each slot of the main record by what is declared for it, else by the parent's main
+-- record; a pseudo record present only if something is declared for it, and then each of its slots by that, else by the element's own main record
+pub record BookDecides {A : Type 0} (parent s : ComputedStyle A) (ds : List (Declared A)) : Type 0 where
+  pub main : (k : ℕ) → k < slotCount → Specified (slotIn s mainRecord k) (inherits k) (candidatesFor mainRecord k ds) (slotIn parent mainRecord k)
+  pub main-present : s .main .present ≡ true
+  pub present : (r : ℕ) → r < recordCount → ¬ (r ≡ mainRecord) → recordIn s r .present ≡ declares r ds
+  pub pseudo : (r k : ℕ) → r < recordCount → ¬ (r ≡ mainRecord) → k < slotCount
+      → Specified (slotIn s r k) (and (recordIn s r .present) (inherits k)) (candidatesFor r k ds) (slotIn s mainRecord k)

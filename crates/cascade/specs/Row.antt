@@ -1,17 +1,18 @@
 -- How a style lies in a row of numbers, and what the functions leave there. Assumes nothing: these are definitions.
 use mathlib.Core.Path.{_≡_}
-use mathlib.Core.List.{List, [], _∷_, _++_, map}
+use mathlib.Core.List.{List, [], _∷_, _++_, map, foldl}
 use Prim.Native.Nat.{ℕ, zero, suc, _+_, _*_, _≤_}
 use lib.ListN.{length, getD, set, take, drop, replicate}
 use lib.Seq.{sets}
 use Rattle.combinators.specs.Choice.{pick}
 use Rattle.combinators.specs.Store.{wiped}
-use Rattle.syntax.specs.Layout.{flag, flagOf, valueNumbers}
+use Rattle.syntax.specs.Layout.{flag, flagOf, valueNumbers, colourSlot, whiteSpaceSlot}
 use Rattle.syntax.specs.declared.styles.Value.{Value}
+use Rattle.cascade.specs.declared.rows.Handed as code
 use Rattle.cascade.specs.declared.slots.Cascade.{Cascade}
 use Rattle.cascade.specs.declared.slots.Cascade.the-variants.{Crate, Book}
-use Rattle.cascade.specs.Slot.{Candidate, Slot, empty, held, updateBy, inheritedSlot}
-use Rattle.cascade.specs.Record.{slotCount, recordCount, mainRecord, beforeRecord, afterRecord, Record, ComputedStyle, emptyStyle, Declared, isNamed, mergeBy, inheritBy}
+use Rattle.cascade.specs.Slot.{Candidate, Slot, empty, held, updateBy, fillUpdate, slotBy}
+use Rattle.cascade.specs.Record.{slotCount, recordCount, mainRecord, beforeRecord, afterRecord, Record, ComputedStyle, emptyStyle, Declared, isNamed, mergeBy, inheritBy, Handed, handedOn, finishBy}
 
 -- ---- the numbers of a slot: "filled, origin, inline, id, class, type, important, value, second", and the start (S-3: "A slot gains a tenth number")
 abbrev pub slotFilled : ℕ
@@ -175,19 +176,29 @@ mergeRowBy u xs d = pick (isNamed (d .pseudo) (d .slot)) (updateRow (d .pseudo) 
 unfoldable pub presentRow : List ℕ → List ℕ
 presentRow xs = set xs (recordPlace mainRecord) presentFlag
 
--- n slots from i on, each rewritten
-unfoldable pub rewrites : (Slot Value → Slot Value) → ℕ → ℕ → List ℕ → List ℕ
-rewrites u i zero xs = xs
-rewrites u i (suc n) xs = rewrites u (i + slotWidth) n (sets xs i (slotNumbers (u (slotAt xs i))))
-
--- all slots of a record
-unfoldable pub rewriteRecord : (Slot Value → Slot Value) → ℕ → List ℕ → List ℕ
-rewriteRecord u r xs = rewrites u (recordPlace r + presenceWidth) slotCount xs
-
 unfoldable pub inheritedRow : Cascade → List ℕ → List ℕ
 inheritedRow Crate xs = presentRow xs
-inheritedRow Book xs =
-    presentRow (rewriteRecord inheritedSlot afterRecord (rewriteRecord inheritedSlot beforeRecord (rewriteRecord inheritedSlot mainRecord xs)))
+inheritedRow Book xs = presentRow (wiped 0 styleRowWidth xs)
+
+-- ---- rows that it ends with, from what its parent hands on
+-- that, as the code's value of it says
+unfoldable pub handedSays : code.Handed → Handed Value
+handedSays h = record { colour = slotBy (h .color); whiteSpace = slotBy (h .«white_space») }
+
+-- the slots of a row's main record that are handed on
+unfoldable pub handedAt : List ℕ → Handed Value
+handedAt xs = record { colour = slotAt xs (slotPlace mainRecord colourSlot); whiteSpace = slotAt xs (slotPlace mainRecord whiteSpaceSlot) }
+
+unfoldable pub filledRow : ℕ → Handed Value → List ℕ → List ℕ
+filledRow r h xs = foldl (mergeRowBy fillUpdate) xs (handedOn r h)
+
+-- a pseudo record that is present, from the main one
+unfoldable pub filledPseudo : ℕ → List ℕ → List ℕ
+filledPseudo r xs = pick (flagOf (getD xs (recordPlace r) 0)) (filledRow r (handedAt xs) xs) xs
+
+unfoldable pub finishedRow : Cascade → Handed Value → List ℕ → List ℕ
+finishedRow Crate h xs = xs
+finishedRow Book h xs = filledPseudo afterRecord (filledPseudo beforeRecord (filledRow mainRecord h xs))
 
 -- ---- what the functions leave: every number, and the style that the row then holds
 pub record Merged (c : Cascade) (xs ys : List ℕ) (d : Declared Value) : Type 0 where
@@ -197,6 +208,10 @@ pub record Merged (c : Cascade) (xs ys : List ℕ) (d : Declared Value) : Type 0
 pub record Inherited (c : Cascade) (xs ys : List ℕ) : Type 0 where
   pub numbers : ys ≡ inheritedRow c xs
   pub meaning : styleAt ys ≡ inheritBy c (styleAt xs)
+
+pub record Finished (c : Cascade) (h : Handed Value) (xs ys : List ℕ) : Type 0 where
+  pub numbers : ys ≡ finishedRow c h xs
+  pub meaning : styleAt ys ≡ finishBy c h (styleAt xs)
 
 pub record Emptied (xs ys : List ℕ) : Type 0 where
   pub numbers : ys ≡ wiped 0 styleRowWidth xs

@@ -14,7 +14,7 @@ use Rattle.cascade.specs.declared.slots.Weight.{Weight}
 use Rattle.cascade.specs.declared.slots.Slot as code
 use Rattle.cascade.specs.declared.slots.Cascade.{Cascade}
 use Rattle.cascade.specs.declared.slots.Cascade.the-variants.{Crate, Book}
-use Rattle.cascade.specs.Specificity.{noSpecificity, lessThen, less, LessSpecific}
+use Rattle.cascade.specs.Specificity.{lessThen, less, LessSpecific}
 
 -- ---- a value that a declaration offers a slot, with what weighs for it: whether it is important, its origin and its specificity
 pub record Candidate (A : Type 0) : Type 0 where
@@ -96,11 +96,6 @@ pub record Won {A : Type 0} (s : Slot A) (l : List (Candidate A)) : Type 0 where
   pub holds : s ≡ held candidate
   pub wins : Winner candidate l
 
--- what a slot is to hold of a list of candidates: nothing of none, else the value of the winner
-pub data Decided {A : Type 0} (s : Slot A) : List (Candidate A) → Type 0 where
-  unset : s ≡ empty → Decided s []
-  decided : {l : List (Candidate A)} → Won s l → Decided s l
-
 -- ---- the update in that order
 -- a value stays against a weaker one
 unfoldable pub heldInBook : Weight → Weight → Bool
@@ -116,18 +111,18 @@ unfoldable pub updateBy : {A : Type 0} → Cascade → Slot A → Candidate A �
 updateBy Crate s x = maybeUpdate s x
 updateBy Book s x = bookUpdate s x
 
--- ---- what a child has of a slot in the book order: "An inherited value counts as a normal author one of specificity 0, before all others, in every
--- slot of all three records, and is written so in the row."
-unfoldable pub inheritedWeight : Weight
-inheritedWeight = record { important = false; origin = authorOrigin; spec = noSpecificity }
+-- ---- what an inherited value makes of a slot in the book order. S-2: "By CSS Cascading an inherited value fills a slot only if nothing declared on the
+-- element fills it."
+unfoldable pub fillUpdate : {A : Type 0} → Slot A → Candidate A → Slot A
+fillUpdate empty x = held x
+fillUpdate (held c) x = held c
 
-unfoldable pub inheritedCandidate : {A : Type 0} → Candidate A → Candidate A
-inheritedCandidate c = record { weight = inheritedWeight; value = c .value }
-
--- an empty slot stays empty
-unfoldable pub inheritedSlot : {A : Type 0} → Slot A → Slot A
-inheritedSlot empty = empty
-inheritedSlot (held c) = held (inheritedCandidate c)
+-- ---- what a slot is to hold by CSS Cascading Level 3. Section 4: the value that wins the cascade; section 7, "Defaulting": where the cascade results in none,
+-- an inherited property takes its parent's value (7.2), any other its initial value (7.1), which here is nothing
+pub data Specified {A : Type 0} (s : Slot A) (inherits : Bool) (declared : List (Candidate A)) (parent : Slot A) : Type 0 where
+  by-cascade : Won s declared → Specified s inherits declared parent
+  by-inheritance : declared ≡ [] → inherits ≡ true → s ≡ parent → Specified s inherits declared parent
+  by-default : declared ≡ [] → inherits ≡ false → s ≡ empty → Specified s inherits declared parent
 
 -- ---- the slot that the code's value of it says
 unfoldable pub slotBy : code.Slot → Slot Value

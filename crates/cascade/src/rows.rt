@@ -4,7 +4,9 @@ use crate::slots::Slot;
 use crate::slots::Weight;
 use crate::specificity::Specificity;
 use combinators::stores::wipe_numbers;
+use syntax::rows::COLOUR_SLOT;
 use syntax::rows::FLAG_TRUE;
+use syntax::rows::WHITE_SPACE_SLOT;
 use syntax::rows::flag_of;
 use syntax::styles::StyleNumbers;
 use syntax::styles::Value;
@@ -12,9 +14,10 @@ ghost use mathlib.Core.Path.{_≡_};
 ghost use Prim.Native.Nat.{_+_, _*_, _<_};
 ghost use lib.ListN.{set, take, drop};
 ghost use lib.Seq.{sets};
-ghost use Rattle.cascade.specs.Slot.{slotBy, held, inheritedSlot};
-ghost use Rattle.cascade.specs.Record.{recordCount};
-ghost use Rattle.cascade.specs.Row.{slotAt, slotNumbers, recordPlace, presentFlag, styleRowWidth, rewriteRecord, RowRoom, SlotRoom, TwoRooms, Merged, Inherited, Emptied};
+ghost use mathlib.Core.List.{foldl};
+ghost use Rattle.cascade.specs.Slot.{slotBy, held, fillUpdate};
+ghost use Rattle.cascade.specs.Record.{recordCount, slotCount, handedSlot};
+ghost use Rattle.cascade.specs.Row.{slotAt, slotNumbers, recordPlace, presentFlag, styleRowWidth, mergeRowBy, handedSays, handedAt, filledRow, filledPseudo, RowRoom, SlotRoom, TwoRooms, Merged, Inherited, Finished, Emptied};
 
 // The numbers of a slot.
 pub const SLOT_FILLED: usize = 0;
@@ -57,6 +60,21 @@ pub const BEFORE: usize = 1;
 pub const AFTER: usize = 2;
 
 pub const STYLE_ROW_WIDTH: usize = RECORD_COUNT * RECORD_WIDTH;
+
+// What an element hands on in the book order to its children and to its own pseudo elements, from its main record.
+pub struct Handed {
+    pub color: Slot,
+    pub white_space: Slot,
+}
+
+// Where these slots begin in a row.
+const COLOR_PLACE: usize = MAIN * RECORD_WIDTH
+    + PRESENCE_WIDTH
+    + (COLOUR_SLOT as usize) * SLOT_WIDTH;
+
+const WHITE_SPACE_PLACE: usize = MAIN * RECORD_WIDTH
+    + PRESENCE_WIDTH
+    + (WHITE_SPACE_SLOT as usize) * SLOT_WIDTH;
 
 // The slot that begins at a place.
 fn read_slot(row: &[u32], at: usize) -> Slot
@@ -167,22 +185,7 @@ pub fn copy_within(rows: &mut [u32], parent: usize, child: usize)
     }
 }
 
-// All slots of a record as a child has them in the book order.
-fn inherit_record(row: &mut [u32], pseudo: usize)
-    requires { ⌜ RowRoom (now row) × (pseudo < recordCount) ⌝ }
-    ensures { λ _. ⌜ now (row .exit) ≡ rewriteRecord inheritedSlot pseudo (now (row .entry)) ⌝ }
-{
-    let mut at = pseudo * RECORD_WIDTH + PRESENCE_WIDTH;
-    let mut left = SLOT_COUNT;
-    while left > 0 {
-        let s = read_slot(row, at);
-        write_slot(row, at, s.inherited());
-        at += SLOT_WIDTH;
-        left -= 1;
-    }
-}
-
-// The parent's row as the child begins with it: in the crate's cascade all of it.
+// The row that a child begins with, in place of its parent's: in the crate's cascade all of it, in the book order nothing.
 pub fn inherit(row: &mut [u32], cascade: Cascade)
     requires { ⌜ RowRoom (now row) ⌝ }
     ensures { λ _. ⌜ Inherited cascade (now (row .entry)) (now (row .exit)) ⌝ }
@@ -193,10 +196,71 @@ pub fn inherit(row: &mut [u32], cascade: Cascade)
             return;
         }
         Cascade::Book => {
-            inherit_record(row, MAIN);
-            inherit_record(row, BEFORE);
-            inherit_record(row, AFTER);
+            wipe_numbers(row, 0, STYLE_ROW_WIDTH); // all three records
             row[MAIN * RECORD_WIDTH] = FLAG_TRUE;
+            return;
+        }
+    }
+}
+
+// What the element of a row hands on in the book order.
+pub fn handed_on(row: &[u32]) -> Handed
+    requires { ⌜ RowRoom (now row) ⌝ }
+    ensures { λ r. ⌜ handedSays r ≡ handedAt (now (row .entry)) ⌝ }
+{
+    let color = read_slot(row, COLOR_PLACE);
+    let white_space = read_slot(row, WHITE_SPACE_PLACE);
+    Handed { color, white_space }
+}
+
+// A slot of a record filled from one that is handed on.
+fn fill_slot(row: &mut [u32], pseudo: usize, slot: usize, from: Slot)
+    requires { ⌜ RowRoom (now row) × (pseudo < recordCount) × (slot < slotCount) ⌝ }
+    ensures { λ _. ⌜ now (row .exit) ≡ foldl (mergeRowBy fillUpdate) (now (row .entry)) (handedSlot pseudo slot (slotBy from)) ⌝ }
+{
+    if from.filled {
+        let at = pseudo * RECORD_WIDTH + PRESENCE_WIDTH + slot * SLOT_WIDTH;
+        let old = read_slot(row, at);
+        let new = old.fill(from.weight, from.value);
+        put_back(row, pseudo, at, new);
+        return;
+    }
+}
+
+// Both slots of a record that inherit.
+fn fill_record(row: &mut [u32], pseudo: usize, from: Handed)
+    requires { ⌜ RowRoom (now row) × (pseudo < recordCount) ⌝ }
+    ensures { λ _. ⌜ now (row .exit) ≡ filledRow pseudo (handedSays from) (now (row .entry)) ⌝ }
+{
+    fill_slot(row, pseudo, COLOUR_SLOT as usize, from.color);
+    fill_slot(row, pseudo, WHITE_SPACE_SLOT as usize, from.white_space);
+}
+
+// Those of a pseudo record, from the element's own main record, if a rule has made it present.
+fn fill_pseudo(row: &mut [u32], pseudo: usize)
+    requires { ⌜ RowRoom (now row) × (pseudo < recordCount) ⌝ }
+    ensures { λ _. ⌜ now (row .exit) ≡ filledPseudo pseudo (now (row .entry)) ⌝ }
+{
+    if row[pseudo * RECORD_WIDTH] == FLAG_TRUE {
+        let own = handed_on(row);
+        fill_record(row, pseudo, own);
+        return;
+    }
+}
+
+// What an element inherits where nothing is declared, behind all that is declared: in the crate's cascade it began with it.
+pub fn finish(row: &mut [u32], cascade: Cascade, parent: Handed)
+    requires { ⌜ RowRoom (now row) ⌝ }
+    ensures { λ _. ⌜ Finished cascade (handedSays parent) (now (row .entry)) (now (row .exit)) ⌝ }
+{
+    match cascade {
+        Cascade::Crate => {
+            return;
+        }
+        Cascade::Book => {
+            fill_record(row, MAIN, parent);
+            fill_pseudo(row, BEFORE);
+            fill_pseudo(row, AFTER);
             return;
         }
     }

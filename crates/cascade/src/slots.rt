@@ -5,7 +5,7 @@ use syntax::rows::AUTHOR_ORIGIN;
 use syntax::rows::USER_ORIGIN;
 use syntax::styles::Value;
 ghost use mathlib.Core.Path.{_≡_};
-ghost use Rattle.cascade.specs.Slot.{heldByImportance, heldByOrigin, heldAgainst, maybeUpdate, rank, heldInBook, bookUpdate, updateBy, inheritedWeight, inheritedSlot, slotBy, held};
+ghost use Rattle.cascade.specs.Slot.{heldByImportance, heldByOrigin, heldAgainst, maybeUpdate, rank, heldInBook, bookUpdate, updateBy, fillUpdate, slotBy, held};
 
 // Ranks of the book order, lowest first.
 const NORMAL_AGENT: u32 = 0;
@@ -63,18 +63,6 @@ fn rank_of(origin: u32, important: bool) -> u32
 }
 
 impl Weight {
-    // That of what a child inherits in the book order: a normal author value of specificity 0.
-    pub const INHERITED: Weight = Weight {
-        important: false,
-        origin: AUTHOR_ORIGIN,
-        spec: Specificity {
-            inline: false,
-            id: 0,
-            class: 0,
-            typ: 0,
-        },
-    };
-
     // An important value stays before one that is not.
     fn held_by_importance(self, new: Self) -> bool
         ensures { λ r. ⌜ r ≡ heldByImportance self new ⌝ }
@@ -180,13 +168,13 @@ impl Slot {
         }
     }
 
-    // What a child has of it in the book order.
-    pub fn inherited(self) -> Self
-        ensures { λ r. ⌜ slotBy r ≡ inheritedSlot (slotBy self) ⌝ }
+    // What a value that is inherited in the book order makes of it: it fills a slot that holds nothing.
+    pub fn fill(self, weight: Weight, value: Value) -> Self
+        ensures { λ r. ⌜ slotBy r ≡ fillUpdate (slotBy self) (record { weight = weight; value = value }) ⌝ }
     {
         if self.filled {
-            return Self::new(Weight::INHERITED, self.value);
+            return self;
         }
-        self
+        Self::new(weight, value)
     }
 }

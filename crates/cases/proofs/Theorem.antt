@@ -47,5 +47,5 @@ use Rattle.cases.specs.Proved.{All, cases, tinyHeight, selects}
 
 -- every case of the list holds
 pub all-proved : All cases
-unfolding tinyHeight selects rulesOf sheetsOf elementOf having compiled.numberBytes compiled.groupBytes choice.pick choice.or choice.and choice.is choice.within parsed.onParsed parsed.behind parsed.orElse parsed.taken repeat.took repeat.many repeat.texts word.startsWith word.sameText literal.text trim.whiteOf trim.whiteTaken trim.trimmedStart trim.wordOf trim.wordTaken utf8.isScalar utf8.orReplacement utf8.continuation utf8.utf8 utf8.isContinuation utf8.leadOf utf8.two utf8.three utf8.four utf8.scalarTail utf8.scalarBy utf8.scalarOf utf8.takenOf utf8.scalarTaken utf8.valid utf8.encode white.member white.isWhiteSpace white.upFrom white.numbers white.inRanges name.isNmstart name.isNmchar name.lower name.foldedChar name.nmstartCharOf name.nmcharCharOf name.isHexDigit name.hexDigit name.hexRun name.hexCount name.hexValue name.behindOne name.escapedOf name.identEscapeOf name.either name.nmstartOf name.nmcharOf name.bytesOf name.charTaken name.charText name.charsEnd name.charsText name.nameFrom name.dash name.nameOf name.identOf name.charsOf name.identstringOf name.nameAnswer name.nameText number.isDigit number.oneDigit number.digits number.decimal number.unsigned number.sign number.signed number.number quoted.escapedByte quoted.quotedOf quoted.takenOf quoted.textOf quoted.quotedTaken quoted.quotedText quoted.stringEnd quoted.stringText token.numericFrom token.numericOf token.identLikeOf token.stringFrom token.isQuote token.stringOf token.isIdentStart token.startOf token.markOf token.hashOf token.plusOf token.minusOf token.lessOf token.tokenBy token.tokenAt token.tokenOf token.coded token.textOf token.tokenAnswer token.tokenText token.lexedAnswer token.orDelim row.columnsOf row.word row.rowOf row.tokenRow row.markFrom row.tokenFrom row.tokenIn whitespace.commentEnd whitespace.commentOf whitespace.isWhitespace whitespace.whitespaceItem whitespace.skipWhitespace decimal.digit decimal.number decimal.digits decimal.numerator decimal.denominator decimal.roundsToZero layout.flag layout.flagOf layout.whiteSpaceNumber layout.colourNumber layout.styleTextOf layout.styleText layout.styleRow layout.styleTexts ruleLayout.pseudoNumber stream.textsMany part.part colour.rgb colour.allOf colour.numeral colour.withoutPlus colour.digitsIn colour.parseU8 colour.parseHex colour.threeDigits colour.sixDigits colour.hashColour colour.threeNumbers colour.rgbColour colour.oneToken colour.colourOf colour.behindComma colour.backgroundOf property.unsignedZero property.numberZero property.anyOf property.heightOf property.firstWord property.overflowOf property.displayOf property.whiteSpaceOf property.contentOf property.declOf value.bracketBy value.bracketOf value.closing value.ending value.stepOf value.stop value.cons value.onStep value.scan value.statementOf value.tokensOf value.isMark value.isImportant value.withoutMark value.valueFrom value.valueOf words.kindOf words.firstOf words.numberOf words.unitOf words.isKind words.isWord words.isDelim words.foundOr words.lookup words.onFound words.rowAt words.split words.placeOf attribute.styleAttribute attribute.allWhite attribute.trimmedEnd attribute.trimmed attribute.pairs attribute.faultyColour attribute.orFaulty attribute.colourAttribute rules.colonBehind rules.propertyOf rules.valueBehind rules.declarationOf rules.startsAt rules.moreRules rules.declarationsOf styles.one styles.styleOf styles.hides styles.hidesOverflow styles.zeroHeight styles.anyDecl styles.ownStyles styles.firstZero styles.stylesOf outcome.onOutcome outcome.behind outcome.parsed outcome.orElse selector.classOf selector.hashOf selector.closed selector.quotedOf selector.valueOf selector.attrOf selector.isMinus selector.isSign selector.signTaken selector.signed selector.digitsWorth selector.converted selector.bothOf selector.justA selector.justB selector.worded selector.nthOf selector.nthArgsOf selector.nthChildArgs selector.pseudoClassOf selector.marked selector.blankOf selector.componentOf selector.componentsOf selector.componentsFrom selector.someOf selector.withElementOf selector.withoutElementOf selector.bodyOf selector.isDescendant selector.withoutBlank selector.withoutFirst selector.pseudoOf selector.pseudoTaken selector.selectorOf sheet.spaced selectorList.moreSelectors selectorList.moreFrom selectorList.selectorsOf sheet.beforeEnd sheet.blockOf sheet.rulesetOf sheet.statementEnd sheet.atRuleOf sheet.statementsOf sheet.movedBy sheet.movedTo sheet.sheetFrom sheet.sheetOf specificity.specificityOf specificity.noSpecificity specificity.inlineSpecificity specificity.sum specificity.lessThen specificity.lessBySelector specificity.less slot.heldByImportance slot.heldByOrigin slot.heldAgainst slot.maybeUpdate slot.rank slot.heldInBook slot.bookUpdate slot.inheritedCandidate slot.inheritedSlot style.recordIn style.slotOf style.slotIn style.emptyRecord style.emptyStyle style.updateRecord style.updateStyle style.isNamed style.mergeBy style.inherit style.inheritRecord style.inheritInBookOrder style.fromRule style.fromAttribute style.crateDeclared style.colourAttributes style.styleAttributes style.bookDeclared styleRow.slotNumbers styleRow.slotsNumbers styleRow.recordNumbers styleRow.rowOf styleRow.readSlot styleRow.slotAt styleRow.windows styleRow.recordAt styleRow.styleAt matching.anyAttribute matching.isNamed matching.isClass matching.hasClass matching.isId matching.hasId matching.hasAttribute matching.firstIs matching.attributeIs matching.nameIs matching.here matching.onParent matching.onAncestors matching.step matching.matches nth.isZero nth.nthMatches texts.wordLength texts.wordAmong texts.hasWord counts.added counts.specificity computed.cascaded computed.sourcesAlong computed.computedStyle call.rulesContents call.sheetsContents call.attributeContents call.inlineContents call.pathContents call.placedSheets call.placedFrom call.placedAlong call.callStore call.callRow layout.styleSlotOf layout.numberFrom layout.valueFrom layout.numbersFrom layout.valueNumbers layout.rowOfNumbers slot.rankOf slot.weaker slot.updateBy slot.inheritedWeight style.inheritBy style.declaredBy style.cascadeBy said.ruleStyles said.ruleStyle said.selectorSays said.selectorsSay said.rulesSay said.colourStyles said.attributeStyles said.attributeStyle said.attributeSays said.countedAttributes said.sourcesFrom said.meant said.meantRule said.meantRules said.attributesSay
+unfolding tinyHeight selects rulesOf sheetsOf elementOf having compiled.numberBytes compiled.groupBytes choice.pick choice.or choice.and choice.is choice.within parsed.onParsed parsed.behind parsed.orElse parsed.taken repeat.took repeat.many repeat.texts word.startsWith word.sameText literal.text trim.whiteOf trim.whiteTaken trim.trimmedStart trim.wordOf trim.wordTaken utf8.isScalar utf8.orReplacement utf8.continuation utf8.utf8 utf8.isContinuation utf8.leadOf utf8.two utf8.three utf8.four utf8.scalarTail utf8.scalarBy utf8.scalarOf utf8.takenOf utf8.scalarTaken utf8.valid utf8.encode white.member white.isWhiteSpace white.upFrom white.numbers white.inRanges name.isNmstart name.isNmchar name.lower name.foldedChar name.nmstartCharOf name.nmcharCharOf name.isHexDigit name.hexDigit name.hexRun name.hexCount name.hexValue name.behindOne name.escapedOf name.identEscapeOf name.either name.nmstartOf name.nmcharOf name.bytesOf name.charTaken name.charText name.charsEnd name.charsText name.nameFrom name.dash name.nameOf name.identOf name.charsOf name.identstringOf name.nameAnswer name.nameText number.isDigit number.oneDigit number.digits number.decimal number.unsigned number.sign number.signed number.number quoted.escapedByte quoted.quotedOf quoted.takenOf quoted.textOf quoted.quotedTaken quoted.quotedText quoted.stringEnd quoted.stringText token.numericFrom token.numericOf token.identLikeOf token.stringFrom token.isQuote token.stringOf token.isIdentStart token.startOf token.markOf token.hashOf token.plusOf token.minusOf token.lessOf token.tokenBy token.tokenAt token.tokenOf token.coded token.textOf token.tokenAnswer token.tokenText token.lexedAnswer token.orDelim row.columnsOf row.word row.rowOf row.tokenRow row.markFrom row.tokenFrom row.tokenIn whitespace.commentEnd whitespace.commentOf whitespace.isWhitespace whitespace.whitespaceItem whitespace.skipWhitespace decimal.digit decimal.number decimal.digits decimal.numerator decimal.denominator decimal.roundsToZero layout.flag layout.flagOf layout.whiteSpaceNumber layout.colourNumber layout.styleTextOf layout.styleText layout.styleRow layout.styleTexts ruleLayout.pseudoNumber stream.textsMany part.part colour.rgb colour.allOf colour.numeral colour.withoutPlus colour.digitsIn colour.parseU8 colour.parseHex colour.threeDigits colour.sixDigits colour.hashColour colour.threeNumbers colour.rgbColour colour.oneToken colour.colourOf colour.behindComma colour.backgroundOf property.unsignedZero property.numberZero property.anyOf property.heightOf property.firstWord property.overflowOf property.displayOf property.whiteSpaceOf property.contentOf property.declOf value.bracketBy value.bracketOf value.closing value.ending value.stepOf value.stop value.cons value.onStep value.scan value.statementOf value.tokensOf value.isMark value.isImportant value.withoutMark value.valueFrom value.valueOf words.kindOf words.firstOf words.numberOf words.unitOf words.isKind words.isWord words.isDelim words.foundOr words.lookup words.onFound words.rowAt words.split words.placeOf attribute.styleAttribute attribute.allWhite attribute.trimmedEnd attribute.trimmed attribute.pairs attribute.faultyColour attribute.orFaulty attribute.colourAttribute rules.colonBehind rules.propertyOf rules.valueBehind rules.declarationOf rules.startsAt rules.moreRules rules.declarationsOf styles.one styles.styleOf styles.hides styles.hidesOverflow styles.zeroHeight styles.anyDecl styles.ownStyles styles.firstZero styles.stylesOf outcome.onOutcome outcome.behind outcome.parsed outcome.orElse selector.classOf selector.hashOf selector.closed selector.quotedOf selector.valueOf selector.attrOf selector.isMinus selector.isSign selector.signTaken selector.signed selector.digitsWorth selector.converted selector.bothOf selector.justA selector.justB selector.worded selector.nthOf selector.nthArgsOf selector.nthChildArgs selector.pseudoClassOf selector.marked selector.blankOf selector.componentOf selector.componentsOf selector.componentsFrom selector.someOf selector.withElementOf selector.withoutElementOf selector.bodyOf selector.isDescendant selector.withoutBlank selector.withoutFirst selector.pseudoOf selector.pseudoTaken selector.selectorOf sheet.spaced selectorList.moreSelectors selectorList.moreFrom selectorList.selectorsOf sheet.beforeEnd sheet.blockOf sheet.rulesetOf sheet.statementEnd sheet.atRuleOf sheet.statementsOf sheet.movedBy sheet.movedTo sheet.sheetFrom sheet.sheetOf specificity.specificityOf specificity.noSpecificity specificity.inlineSpecificity specificity.sum specificity.lessThen specificity.lessBySelector specificity.less slot.heldByImportance slot.heldByOrigin slot.heldAgainst slot.maybeUpdate slot.rank slot.heldInBook slot.bookUpdate slot.fillUpdate style.recordIn style.slotOf style.slotIn style.emptyRecord style.emptyStyle style.updateRecord style.updateStyle style.isNamed style.mergeBy style.inherit style.handedBy style.handedSlot style.handedOn style.fillRecord style.fillPseudo style.finishBy style.fromRule style.fromAttribute style.crateDeclared style.colourAttributes style.styleAttributes style.bookDeclared styleRow.slotNumbers styleRow.slotsNumbers styleRow.recordNumbers styleRow.rowOf styleRow.readSlot styleRow.slotAt styleRow.windows styleRow.recordAt styleRow.styleAt matching.anyAttribute matching.isNamed matching.isClass matching.hasClass matching.isId matching.hasId matching.hasAttribute matching.firstIs matching.attributeIs matching.nameIs matching.here matching.onParent matching.onAncestors matching.step matching.matches nth.isZero nth.nthMatches texts.wordLength texts.wordAmong texts.hasWord counts.added counts.specificity computed.cascaded computed.sourcesAlong computed.computedStyle call.rulesContents call.sheetsContents call.attributeContents call.inlineContents call.pathContents call.placedSheets call.placedFrom call.placedAlong call.callStore call.callRow layout.styleSlotOf layout.numberFrom layout.valueFrom layout.numbersFrom layout.valueNumbers layout.rowOfNumbers slot.rankOf slot.weaker slot.updateBy style.inheritBy style.declaredBy style.cascadeBy said.ruleStyles said.ruleStyle said.selectorSays said.selectorsSay said.rulesSay said.colourStyles said.attributeStyles said.attributeStyle said.attributeSays said.countedAttributes said.sourcesFrom said.meant said.meantRule said.meantRules said.attributesSay
 all-proved = (refl, (refl, (refl, (refl, (refl, ((refl, refl), ((refl, refl), (refl, ((refl, refl, refl, refl), (refl, (refl, ((refl, refl, refl), tt))))))))))))

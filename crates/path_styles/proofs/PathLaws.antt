@@ -14,13 +14,14 @@ use Rattle.combinators.proofs.Lists.{rest}
 use Rattle.syntax.specs.Stream.{textsMany}
 use Rattle.syntax.specs.Style.{agentOrigin, userOrigin, authorOrigin}
 use Rattle.syntax.specs.declared.styles.Value.{Value}
+use Rattle.cascade.specs.declared.rows.Handed as code
 use Rattle.cascade.specs.declared.slots.Cascade.{Cascade}
 use Rattle.cascade.specs.declared.slots.Cascade.the-variants.{Crate, Book}
-use Rattle.cascade.specs.Record.{ComputedStyle, Formed, Declared, AttributeStyle, Sources, fromRule, declaredBy, inheritBy, cascadeBy}
-use Rattle.cascade.specs.Row.{styleRowWidth, RowRoom, Inherited, Emptied, inheritedRow, rowOf}
+use Rattle.cascade.specs.Record.{Declared, AttributeStyle, Sources, fromRule, declaredBy, inheritBy, Handed, handedBy, cascadeBy}
+use Rattle.cascade.specs.Row.{styleRowWidth, RowRoom, Inherited, Finished, Emptied, inheritedRow, handedSays, handedAt, finishedRow, rowOf}
 use Rattle.cascade.specs.Slot.{updateBy}
-use Rattle.cascade.proofs.Cascading.{inherit-formed, inherit-book-formed}
-use Rattle.cascade.proofs.Inheriting.{inherit-layout}
+use Rattle.cascade.proofs.Cascading.{inherit-by-formed, merges-formed}
+use Rattle.cascade.proofs.Inheriting.{inherit-layout, handed-layout, finish-layout}
 use Rattle.cascade.proofs.RowBack.{merges-layout}
 use Rattle.origins.proofs.Parts.{lentPart, part-length}
 use Rattle.page.specs.Path.{Attribute, Element, Path}
@@ -49,6 +50,10 @@ use Rattle.path_styles.proofs.TopsLaws.{right-parent}
 pub begun : (c : Cascade) (xs a b ys : List ℕ) (ds es : List (Declared Value)) → Inherited c xs a → b ≡ mergedRow c a ds → ys ≡ mergedRow c b es
     → ys ≡ mergedRow c (inheritedRow c xs) (ds ++ es)
 begun c xs a b ys ds es h e k = rw (merged-append c (inheritedRow c xs) ds es) (k ∙ ap (λ (r : List ℕ). mergedRow c r es) (e ∙ ap (λ (r : List ℕ). mergedRow c r ds) (h .numbers)))
+
+-- and ends with what it inherits
+pub ended : (c : Cascade) (h : code.Handed) (xs ys zs row : List ℕ) → handedSays h ≡ handedAt xs → ys ≡ row → Finished c (handedSays h) ys zs → zs ≡ finishedRow c (handedAt xs) row
+ended c h xs ys zs row e f g = g .numbers ∙ ap (λ (k : Handed Value). finishedRow c k ys) e ∙ ap (finishedRow c (handedAt xs)) f
 
 -- ---- a store lent from a place on
 module _ (l : List ℕ) (a : ℕ) (h : a ≤ length l) where
@@ -318,12 +323,6 @@ module _ (nodes attributes text : List ℕ) (row : ℕ) (h : Rooted nodes row) w
 sets-all : (l vs : List ℕ) → length vs ≡ length l → sets l 0 vs ≡ vs
 sets-all l vs e = sets-eq vs l 0 (omega (arith, e)) ∙ ap (λ (r : List ℕ). vs ++ r) (drop-of-length-le l {i = 0 + length vs} (omega (arith, e))) ∙ append-nil vs
 
--- what is inherited of a formed style is formed, in either cascade
-pub inherit-formed-by : (c : Cascade) (x : ComputedStyle Value) → Formed x → Formed (inheritBy c x)
-unfolding inheritBy
-inherit-formed-by Crate x h = inherit-formed x h
-inherit-formed-by Book x h = inherit-book-formed x h
-
 module _ (c : Cascade) (s : ReadySheets) (settings : Settings) (kept : Rules (StyledRule Value)) where
   -- at its top is the empty style
   pub top-row : (p : Path) (xs ys : List ℕ) → OneRow xs → Emptied xs ys → p ≡ [] → ys ≡ rowOf (cascaded c (placedFrom kept (s .fill) settings p))
@@ -335,7 +334,7 @@ module _ (c : Cascade) (s : ReadySheets) (settings : Settings) (kept : Rules (St
   pub below-row : (p : Path) (e : Element) (up : Path) (fill : ℕ) (kept₁ : Rules (StyledRule Value)) (ys zs : List ℕ) → p ≡ e ∷ up → kept₁ ≡ kept
       → fill ≡ s .fill + length (pathContents settings up)
       → ys ≡ rowOf (cascaded c (placedFrom kept (s .fill) settings up))
-      → zs ≡ mergedRow c (inheritedRow c ys) (declaredBy c (sourcesFrom kept₁ (placedAttributes fill (countedAttributes settings e)) p))
+      → zs ≡ finishedRow c (handedAt ys) (mergedRow c (inheritedRow c ys) (declaredBy c (sourcesFrom kept₁ (placedAttributes fill (countedAttributes settings e)) p)))
       → zs ≡ rowOf (cascaded c (placedFrom kept (s .fill) settings p))
   unfolding placedFrom cascaded cascadeBy mergedRow
   below-row p e up fill kept₁ ys zs n k f y z =
@@ -344,8 +343,9 @@ module _ (c : Cascade) (s : ReadySheets) (settings : Settings) (kept : Rules (St
       let said = declaredBy c (sourcesFrom kept (placedAttributes (s .fill + length (pathContents settings up)) (countedAttributes settings e)) (e ∷ up)) in
       rw n (
       (rw (k, f, n, y) at z)
-      ∙ ap (λ (r : List ℕ). mergedRow c r said) (inherit-layout c above formed)
-      ∙ merges-layout (updateBy c) said (inheritBy c above) (inherit-formed-by c above formed)
+      ∙ ap (λ (h : Handed Value). finishedRow c h (mergedRow c (inheritedRow c (rowOf above)) said)) (handed-layout above formed)
+      ∙ ap (finishedRow c (handedBy above)) (ap (λ (r : List ℕ). mergedRow c r said) (inherit-layout c above formed) ∙ merges-layout (updateBy c) said (inheritBy c above) (inherit-by-formed c above formed))
+      ∙ finish-layout c (handedBy above) _ (merges-formed (updateBy c) said (inheritBy c above) (inherit-by-formed c above formed))
       )
 
 -- the contents of a path: those above, then its own

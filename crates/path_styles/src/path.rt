@@ -5,6 +5,8 @@ use crate::tops::ReadySheets;
 use attributes::merging::merge_attributes;
 use attributes::merging::merge_early_attributes;
 use cascade::rows::clear_row;
+use cascade::rows::finish;
+use cascade::rows::handed_on;
 use cascade::rows::inherit;
 use cascade::slots::Cascade;
 use page::rows::attribute_count;
@@ -19,7 +21,7 @@ ghost use mathlib.Core.List.{_++_, map};
 ghost use Prim.Native.Nat.{ℕ, _+_};
 ghost use lib.ListN.{length, take, drop};
 ghost use Rattle.syntax.specs.Style.{agentOrigin, userOrigin};
-ghost use Rattle.cascade.specs.Row.{RowRoom, inheritedRow, rowOf};
+ghost use Rattle.cascade.specs.Row.{RowRoom, inheritedRow, handedAt, finishedRow, rowOf};
 ghost use Rattle.cascade.specs.Record.{fromRule, declaredBy};
 ghost use Rattle.page.specs.PathOf.{elementAt, pathOf};
 ghost use Rattle.matching.specs.Rows.{Rooted};
@@ -70,7 +72,7 @@ fn merge_sheet(
     );
 }
 
-// What an element has of its parent's row, and what the agent's and the user's rules say of it.
+// What an element begins with, and what the agent's and the user's rules say of it.
 fn begin_element(
     cascade: Cascade,
     sheets: ReadySheets,
@@ -206,8 +208,8 @@ fn merge_late(
     fill
 }
 
-// The row of an element, from its parent's; the fill behind its contents.
-fn style_element(
+// What an element begins with, and all that is declared for it; the fill behind its contents.
+fn declare_element(
     cascade: Cascade,
     settings: Settings,
     sheets: ReadySheets,
@@ -287,6 +289,52 @@ fn style_element(
         texts,
         fill,
     )
+}
+
+// The row of an element, from its parent's; the fill behind its contents.
+fn style_element(
+    cascade: Cascade,
+    settings: Settings,
+    sheets: ReadySheets,
+    nodes: &[u32],
+    attributes: &[u32],
+    text: &[u8],
+    row: usize,
+    out: &mut [u32],
+    rules: &mut [u32],
+    tokens: &mut [u32],
+    brackets: &mut [u8],
+    texts: &mut [u8],
+    fill: usize,
+) -> usize
+    requires { ⌜ RowRoom (now out) ⌝ }
+    requires { ⌜ Rooted (now nodes) row ⌝ }
+    requires { ⌜ Steady sheets (now nodes) (now attributes) (now text) row (now rules) (now tokens) (now texts) ⌝ }
+    requires { ⌜ ElementRoom sheets (elementAt (now nodes) (now attributes) (now text) row) fill (now rules) (now tokens) (now brackets) (now texts) ⌝ }
+    ensures { λ _. ⌜ now (out .exit) ≡ finishedRow cascade (handedAt (now (out .entry))) (mergedRow cascade (inheritedRow cascade (now (out .entry)))
+        (declaredBy cascade (sourcesFrom (keptSheets (now (rules .entry)) (now (tokens .entry)) (now (texts .entry)) sheets) (placedAttributes fill (countedAttributes settings (elementAt (now (nodes .entry)) (now (attributes .entry)) (now (text .entry)) row))) (pathOf (now (nodes .entry)) (now (attributes .entry)) (now (text .entry)) row)))) ⌝ }
+    ensures { λ r. ⌜ r ≡ fill + length (inlineContents settings (elementAt (now (nodes .entry)) (now (attributes .entry)) (now (text .entry)) row)) ⌝ }
+    ensures { λ r. ⌜ take (sheets .end + r) (now (texts .exit)) ≡ take (sheets .end + fill) (now (texts .entry)) ++ inlineContents settings (elementAt (now (nodes .entry)) (now (attributes .entry)) (now (text .entry)) row) ⌝ }
+    ensures { λ _. ⌜ SameKept sheets (now (rules .entry)) (now (tokens .entry)) (now (texts .entry)) (now (rules .exit)) (now (tokens .exit)) (now (texts .exit)) ⌝ }
+{
+    let parent = handed_on(out);
+    let end = declare_element(
+        cascade,
+        settings,
+        sheets,
+        nodes,
+        attributes,
+        text,
+        row,
+        out,
+        rules,
+        tokens,
+        brackets,
+        texts,
+        fill,
+    );
+    finish(out, cascade, parent);
+    end
 }
 
 // The row of an element, from the top of its path down to it; the fill behind the contents of the path. What the stores hold behind what is

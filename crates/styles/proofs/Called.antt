@@ -1,20 +1,19 @@
 -- The style call: its row, with its store, says the computed style.
-use mathlib.Core.Path.{_≡_, refl, sym, ap, _∙_}
+use mathlib.Core.Path.{_≡_, refl}
 use mathlib.Core.Bool.{true}
 use mathlib.Core.List.{List, [], _∷_, _++_, append-nil}
-use Prim.Native.Nat.{ℕ, _+_, _<_}
+use Prim.Native.Nat.{ℕ, _+_}
 use native.Mathlib.Nat.{zero-add}
 use lib.ListN.{length, replicate}
 use Rattle.syntax.specs.Layout.{flag}
 use Rattle.syntax.specs.Selector.{RuleSet}
-use Rattle.syntax.specs.declared.styles.Value.{Value}
 use Rattle.cascade.specs.declared.slots.Cascade.{Cascade}
 use Rattle.cascade.specs.declared.slots.Cascade.the-variants.{Book}
-use Rattle.cascade.specs.Record.{slotCount, recordCount, emptyRecord, emptyStyle, ComputedStyle, Formed, slotIn, Sources, cascadeBy, bookDeclared, candidatesFor, inheritedCandidates}
+use Rattle.cascade.specs.Record.{emptyRecord, emptyStyle, Formed, Sources, bookDeclared, BookDecides}
 use Rattle.cascade.specs.Row.{styleRowWidth, slotNumbers, slotsNumbers, recordNumbers, rowOf, styleAt}
 use Rattle.cascade.specs.Related.{SameStyle}
-use Rattle.cascade.specs.Slot.{Decided}
-use Rattle.cascade.proofs.Cascading.{cascade-formed, cascade-main-present, book-decides}
+use Rattle.cascade.proofs.Cascading.{cascade-formed, cascade-main-present}
+use Rattle.cascade.proofs.Defaulting.{book-decides}
 use Rattle.cascade.proofs.Relating.{SameSources, empty-same, cascade-same}
 use Rattle.cascade.proofs.RowBack.{row-long, style-back, empty-formed}
 use Rattle.page.specs.Path.{Element, Path}
@@ -43,12 +42,11 @@ pub cascaded-present : {A : Type 0} (c : Cascade) (x : Sources A) (xs : List (So
 unfolding cascaded
 cascaded-present c x xs = cascade-main-present c (cascaded c xs) x
 
--- ---- each slot of a style in the book order holds the last greatest of what is inherited and what is said of the element (result 7)
-pub book-style-decides : (rules : Rules RuleSet) (settings : Settings) (e : Element) (up : Path) (r k : ℕ) → r < recordCount → k < slotCount
-    → Decided (slotIn (computedStyle Book rules settings (e ∷ up)) r k)
-    (inheritedCandidates (slotIn (computedStyle Book rules settings up) r k) ++ candidatesFor r k (bookDeclared (sourcesFrom (meantRules rules) (attributesSay (countedAttributes settings e)) (e ∷ up))))
+-- ---- the style of an element in the book order is what CSS Cascading specifies of what is said of it, below the style of its parent (result 7)
+pub book-style-decides : (rules : Rules RuleSet) (settings : Settings) (e : Element) (up : Path)
+    → BookDecides (computedStyle Book rules settings up) (computedStyle Book rules settings (e ∷ up)) (bookDeclared (sourcesFrom (meantRules rules) (attributesSay (countedAttributes settings e)) (e ∷ up)))
 unfolding computedStyle sourcesAlong cascaded
-book-style-decides rules settings e up r k h l = book-decides (cascaded Book (sourcesAlong rules settings up)) _ r k (cascaded-formed Book (sourcesAlong rules settings up)) h l
+book-style-decides rules settings e up = book-decides (cascaded Book (sourcesAlong rules settings up)) _
 
 -- ---- along a path: where t has the contents of the sheets, and those of the path behind them
 module _ (t : List ℕ) (c : Cascade) (rules : Rules RuleSet) (settings : Settings) (sheets : Lies t 0 (sheetsContents rules)) where

@@ -1,4 +1,4 @@
--- The claim about a style call, from its contract's own definition; and of the book order that each slot holds the last greatest of its candidates (result 7).
+-- The claim about a style call, from its contract's own definition; and of the book order that each slot is what CSS Cascading has (result 7, S-2).
 use mathlib.Core.Path.{_≡_, refl, ap, sym, subst, _∙_}
 use mathlib.Core.Bool.{Bool, true, false}
 use mathlib.Core.List.{List, [], _∷_, _++_}
@@ -18,11 +18,9 @@ use Rattle.origins.specs.Checks.{anyTooLong, allValid}
 use Rattle.origins.specs.Reading.{Sheets, rules, panicked, sheetsOf}
 use Rattle.cascade.specs.declared.slots.Cascade.{Cascade}
 use Rattle.cascade.specs.declared.slots.Cascade.the-variants.{Book}
-use Rattle.cascade.specs.Related.{SameSlot, SameRecord, SameStyle, both-empty}
-use Rattle.cascade.proofs.Relating.{each-get, pick-same}
-use Rattle.cascade.specs.Record.{ComputedStyle, Record, recordIn, slotOf, mainRecord, beforeRecord, slotCount, recordCount, slotIn, bookDeclared, candidatesFor, inheritedCandidates}
+use Rattle.cascade.specs.Related.{SameStyle}
+use Rattle.cascade.specs.Record.{bookDeclared, BookDecides}
 use Rattle.cascade.specs.Row.{styleRowWidth, rowOf, styleAt, RowFine}
-use Rattle.cascade.specs.Slot.{empty, Decided}
 use Rattle.cascade.proofs.RowBack.{row-fine}
 use Rattle.page.specs.Accepted.{pageRefusal}
 use Rattle.page.specs.Path.{Element, Path}
@@ -109,17 +107,8 @@ module _ (c : Cascade) (settings : Settings) (s : SheetTexts) (g : Page) (asked 
       (λ _. refusing (refused notUtf8) (λ e. omega (arith, e))))
       (λ _. refusing (refused shortStore) (λ e. omega (arith, e))))
 
--- two styles that are the same have the same slots
-slot-same : {A B : Type 0} (R : A → B → Type 0) (x : ComputedStyle A) (y : ComputedStyle B) → SameStyle R x y → (i j : ℕ) → SameSlot R (slotIn x i j) (slotIn y i j)
-unfolding slotIn slotOf recordIn
-slot-same R x y q i j =
-    each-get (SameSlot R) j empty empty both-empty
-    (pick-same (SameRecord R) (is i mainRecord) (is i mainRecord) _ _ _ _ refl (q .main)
-    (pick-same (SameRecord R) (is i beforeRecord) (is i beforeRecord) _ _ _ _ refl (q .before) (q .after)) .all)
-
--- ---- result 7 of the call: each slot of the row in the book order holds what wins among what is inherited and what is said of the element
-pub book-says : (settings : Settings) (s : SheetTexts) (e : Element) (up : Path) (l : StyleLeft) (h : RowSays Book settings s (e ∷ up) l) (r k : ℕ) → r < recordCount → k < slotCount
-    → SameSlot (Says (textsLeft l)) (slotIn (styleAt (rowLeft l)) r k) (slotIn (computedStyle Book (h .sheets) settings (e ∷ up)) r k)
-    × Decided (slotIn (computedStyle Book (h .sheets) settings (e ∷ up)) r k)
-    (inheritedCandidates (slotIn (computedStyle Book (h .sheets) settings up) r k) ++ candidatesFor r k (bookDeclared (sourcesFrom (meantRules (h .sheets)) (attributesSay (countedAttributes settings e)) (e ∷ up))))
-book-says settings s e up l h r k m n = (slot-same (Says (textsLeft l)) _ _ (h .says) r k, book-style-decides (h .sheets) settings e up r k m n)
+-- ---- result 7 of the call: the row in the book order says the computed style, each slot of which is what CSS Cascading has of what is said of the element and of its parent's style
+pub book-says : (settings : Settings) (s : SheetTexts) (e : Element) (up : Path) (l : StyleLeft) (h : RowSays Book settings s (e ∷ up) l)
+    → SameStyle (Says (textsLeft l)) (styleAt (rowLeft l)) (computedStyle Book (h .sheets) settings (e ∷ up))
+    × BookDecides (computedStyle Book (h .sheets) settings up) (computedStyle Book (h .sheets) settings (e ∷ up)) (bookDeclared (sourcesFrom (meantRules (h .sheets)) (attributesSay (countedAttributes settings e)) (e ∷ up)))
+book-says settings s e up l h = (h .says, book-style-decides (h .sheets) settings e up)

@@ -6,9 +6,9 @@ use lib.ListN.{length}
 use Rattle.syntax.specs.Style.{agentOrigin, userOrigin, authorOrigin}
 use Rattle.syntax.specs.declared.styles.Value.{Value}
 use Rattle.cascade.specs.declared.slots.Cascade.{Cascade}
-use Rattle.cascade.specs.Record.{ComputedStyle, Formed, Declared, RuleStyle, AttributeStyle, Sources, mergeBy, fromRule, declaredBy, inheritBy, cascadeBy}
+use Rattle.cascade.specs.Record.{ComputedStyle, Formed, Declared, RuleStyle, AttributeStyle, Sources, mergeBy, fromRule, declaredBy, inheritBy, handedBy, finishBy, cascadeBy}
 use Rattle.cascade.specs.Slot.{updateBy}
-use Rattle.cascade.proofs.Cascading.{merges-formed}
+use Rattle.cascade.proofs.Cascading.{inherit-by-formed, merges-formed}
 use Rattle.page.specs.Path.{Path}
 use Rattle.styles.specs.declared.settings.Settings.{Settings}
 use Rattle.styles.specs.Computed.{cascaded}
@@ -20,7 +20,6 @@ use Rattle.styles.proofs.Merging.{declared-parts}
 use Rattle.rule_styles.specs.Deciding.{decidingRule}
 use Rattle.rule_styles.proofs.DecidingSame.{rules-same}
 use Rattle.rule_styles.proofs.DecidingSlot.{fold-append}
-use Rattle.path_styles.proofs.PathLaws.{inherit-formed-by}
 
 -- three sheets, by the styles that decide
 abbrev pub decided : Rules (StyledRule Value) → Rules (StyledRule Value)
@@ -44,7 +43,7 @@ module _ (c : Cascade) (rules : Rules (StyledRule Value)) where
   unfolding cascadeBy sourcesFrom
   element-decided parent f xs p =
       let s₀ = inheritBy c parent in
-      let f₀ = inherit-formed-by c parent f in
+      let f₀ = inherit-by-formed c parent f in
       let A = map (fromRule agentOrigin) (rulesSay p (rules .agent)) in
       let U = map (fromRule userOrigin) (rulesSay p (rules .user)) in
       let W = map (fromRule authorOrigin) (rulesSay p (rules .author)) in
@@ -56,13 +55,14 @@ module _ (c : Cascade) (rules : Rules (StyledRule Value)) where
       let f₁ = merges-formed (updateBy c) A s₀ f₀ in
       let f₂ = merges-formed (updateBy c) U (merged s₀ A) f₁ in
       let f₃ = merges-formed (updateBy c) E (merged (merged s₀ A) U) f₂ in
-      ap (merged s₀) (declared-parts c (sourcesFrom (decided rules) xs p))
+      ap (finishBy c (handedBy parent))
+      (ap (merged s₀) (declared-parts c (sourcesFrom (decided rules) xs p))
       ∙ parts s₀ A′ U′ E W′ L
       ∙ ap (λ (s : ComputedStyle Value). merged (merged (merged (merged s U′) E) W′) L) (rules-same c agentOrigin p (rules .agent) s₀ f₀)
       ∙ ap (λ (s : ComputedStyle Value). merged (merged (merged s E) W′) L) (rules-same c userOrigin p (rules .user) (merged s₀ A) f₁)
       ∙ ap (λ (s : ComputedStyle Value). merged s L) (rules-same c authorOrigin p (rules .author) (merged (merged (merged s₀ A) U) E) f₃)
       ∙ sym (parts s₀ A U E W L)
-      ∙ ap (merged s₀) (sym (declared-parts c (sourcesFrom rules xs p)))
+      ∙ ap (merged s₀) (sym (declared-parts c (sourcesFrom rules xs p))))
 
   -- so down a path, from the top on: the deciding styles compute the same style as all of them
   pub path-decided : (from : ℕ) (settings : Settings) (p : Path) → cascaded c (placedFrom (decided rules) from settings p) ≡ cascaded c (placedFrom rules from settings p)

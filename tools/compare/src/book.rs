@@ -1,4 +1,5 @@
-//! Book order a second time, plainly: all that speaks for a slot is gathered in order and sorted by its key, and the last of the greatest wins.
+//! Book order a second time, plainly: all that is declared for a slot is gathered in order and sorted by its key, and the last of the greatest wins. Where nothing is
+//! declared, colour and white space are inherited: by the element from its parent, by its pseudo elements from the element.
 //! What is read and which selectors match is html2text's; html2text has no such cascade.
 use crate::asked;
 use judge::answers::{Page, SLOT_WIDTH, SLOTS, Style, StyleRow, Text};
@@ -69,11 +70,6 @@ type Records = [Record; RECORDS];
 
 type Gathered = Vec<(usize, Said)>;
 
-fn inherited(parent: &Records) -> Gathered {
-    let of_record = |(i, record): (usize, &Record)| -> Gathered { record.slots.iter().flatten().map(|s| (i, lightly(s.style.clone(), s.start))).collect() };
-    parent.iter().enumerate().flat_map(of_record).collect()
-}
-
 fn from_rules(applied: &[Applied], origin: u32) -> Gathered {
     let mut found = vec![];
     for rule in applied.iter().filter(|r| r.origin == origin) {
@@ -112,9 +108,8 @@ fn from_style_attributes(attributes: &[(&str, &str)]) -> Gathered {
 
 // ---- choosing
 
-fn records_of(parent: &Records, applied: &[Applied], attributes: &[(&str, &str)]) -> Records {
-    let mut gathered = inherited(parent);
-    gathered.extend(from_rules(applied, AGENT));
+fn declared(applied: &[Applied], attributes: &[(&str, &str)]) -> Records {
+    let mut gathered = from_rules(applied, AGENT);
     gathered.extend(from_rules(applied, USER));
     gathered.extend(from_colours(attributes));
     gathered.extend(from_rules(applied, AUTHOR));
@@ -122,15 +117,40 @@ fn records_of(parent: &Records, applied: &[Applied], attributes: &[(&str, &str)]
     // Equal keys keep their order, so that the later one is written over the earlier.
     gathered.sort_by_key(|(_, said)| said.key());
     let mut records = Records::default();
-    for (i, record) in records.iter_mut().enumerate() {
-        record.present = i == MAIN || parent[i].present;
-    }
+    records[MAIN].present = true;
     for (i, said) in gathered {
         let slot = said.style.slot() as usize;
         records[i].present = true;
         records[i].slots[slot] = Some(said);
     }
     records
+}
+
+// ---- defaulting
+
+fn inherits(said: &Said) -> bool {
+    match said.style {
+        Style::Colour(_) | Style::WhiteSpace(_) => true,
+        Style::Background(_) | Style::DisplayNone | Style::Content(_) => false,
+    }
+}
+
+// What is not declared is that of the record above, with all that it weighs.
+fn inherit(record: &mut Record, above: &Record) {
+    for (slot, said) in record.slots.iter_mut().zip(&above.slots) {
+        if slot.is_none() {
+            *slot = said.clone().filter(inherits);
+        }
+    }
+}
+
+fn records_of(parent: &Records, applied: &[Applied], attributes: &[(&str, &str)]) -> Records {
+    let [mut main, mut before, mut after] = declared(applied, attributes);
+    inherit(&mut main, &parent[MAIN]);
+    for pseudo in [&mut before, &mut after].into_iter().filter(|r| r.present) {
+        inherit(pseudo, &main);
+    }
+    [main, before, after]
 }
 
 fn style_row(records: &Records) -> StyleRow {

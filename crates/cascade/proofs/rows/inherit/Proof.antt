@@ -1,6 +1,4 @@
--- In the crate's cascade the copy stays, with its own record present; in the book order each record is rewritten.
-use mathlib.Core.Path.{refl, _∙_}
-use lib.ListN.{length-set}
+-- In the crate's cascade the parent's row stays, with its own record present; in the book order the row is wiped first.
 use Rattle.cascade.proofs.Rewriting.{inherited-by-crate, inherited-in-book-order}
 use borrow.Author.Needs.{needs}
 use Rattle.cascade.proofs.rows.inherit.Statement.{statement}
@@ -27,14 +25,8 @@ returns c = search (needs, inherited-by-crate)
 enum-told-2 : tie.Need-enum-told-2
 enum-told-2 c = search needs
 
-inherit-record-requires : tie.Need-inherit-record-requires
-inherit-record-requires c κs = search needs
-
-inherit-record-requires-2 : tie.Need-inherit-record-requires-2
-inherit-record-requires-2 c κs = search needs
-
-inherit-record-requires-3 : tie.Need-inherit-record-requires-3
-inherit-record-requires-3 c κs = search needs
+wipe-numbers-requires : tie.Need-wipe-numbers-requires
+wipe-numbers-requires c κs = search needs
 
 mul-row-3 : tie.Need-mul-row-3
 mul-row-3 c = search needs
@@ -46,7 +38,7 @@ slice-write-row-2 : tie.Need-slice-write-row-2
 slice-write-row-2 c = search needs
 
 same-length-2 : tie.Need-same-length-2
-same-length-2 c = simp length-set (c .before .before .inherit-record3 .kept .0 ∙ c .before .before .before .before .before .before .inherit-record2 .kept .0 ∙ c .before .before .before .before .before .before .before .before .before .before .inherit-record .kept .0)
+same-length-2 c = search needs
 
 returns-2 : tie.Need-returns-2
 returns-2 c = search (needs, inherited-in-book-order)
@@ -62,9 +54,7 @@ inherit-spec =
     same-length
     returns
     enum-told-2
-    inherit-record-requires
-    inherit-record-requires-2
-    inherit-record-requires-3
+    wipe-numbers-requires
     mul-row-3
     mul-row-4
     slice-write-row-2
