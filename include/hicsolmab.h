@@ -324,7 +324,7 @@ typedef struct {
  * its parent has, display and contents too.
  *
  * Least lengths for HICSOLMAB_STYLE_BYTES, and HICSOLMAB_STYLE_ROW_WIDTH for `out`. Refuses TOO_LONG, SHORT_STORE, NOT_UTF8, TOO_LARGE, BAD_ROW, BAD_TEXT,
- * NO_ELEMENT, PANIC. Stack: 67,936 bytes. */
+ * NO_ELEMENT, PANIC. Stack: 68,432 bytes. */
 hicsolmab_style_result hicsolmab_style(const uint8_t *agent, size_t agent_length,
                                        const uint8_t *user, size_t user_length,
                                        const uint8_t *author, size_t author_length,
@@ -342,7 +342,7 @@ hicsolmab_style_result hicsolmab_style(const uint8_t *agent, size_t agent_length
 /* The same in the order of CSS Cascading Level 3: importance and origin decide first, then whether it is a `style` attribute, then
  * specificity, then what stands later. Where nothing is declared on the element for a slot, colour and white space are the parent's, with all their numbers;
  * background, display and content are empty. So an element in one that is not displayed does not say so itself. A record of `::before` or `::after` is there where
- * a rule on the element has a style for it, and takes colour and white space, where nothing is declared for them, from the element. Stack: 67,936 bytes. */
+ * a rule on the element has a style for it, and takes colour and white space, where nothing is declared for them, from the element. Stack: 68,432 bytes. */
 hicsolmab_style_result hicsolmab_style_book(const uint8_t *agent, size_t agent_length,
                                             const uint8_t *user, size_t user_length,
                                             const uint8_t *author, size_t author_length,

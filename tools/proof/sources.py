@@ -767,9 +767,11 @@ def top_level_signature(ts):
 
 
 def _clauses(d, head, reader, outer):
+    last, local = _local_declarations(d, head)
+    bound = outer + [said.split()[0] for _, said in local if re.match(r"\S+ : ", said)]
     here = []
     blocks = []
-    for number in range(head + 1, d.last + 1):
+    for number in range(head + 1, last + 1):
         line = d.file.lines[number - 1]
         text = without_comment(line)
         if not text.strip():
@@ -784,8 +786,24 @@ def _clauses(d, head, reader, outer):
             continue
         here += tokens([line], number)
     for ts in blocks:
-        reader.bound = list(outer)
+        reader.bound = list(bound)
         reader.clause(ts)
+    for number, said in local:
+        ts = tokens([said], number)
+        reader.bound = list(bound)
+        if re.match(r"\S+ : ", said):
+            reader.term(ts[top_level_signature(ts) + 1 :])
+        else:
+            reader.clause(ts)
+
+
+def _local_declarations(d, head):
+    """The last line before a `where` of its own, and the lines behind that, each a signature or a clause, with their numbers."""
+    for number in range(head + 1, d.last + 1):
+        if without_comment(d.file.lines[number - 1]).strip() == "where":
+            said = [(n, without_comment(d.file.lines[n - 1]).strip()) for n in range(number + 1, d.last + 1)]
+            return number - 1, [(n, text) for n, text in said if text]
+    return d.last, []
 
 
 def _declared_type(d, reader):

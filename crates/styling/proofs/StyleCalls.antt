@@ -50,7 +50,7 @@ use Rattle.rule_styles.proofs.SheetsHeldLaws as held
 
 -- ---- what is left, by its parts
 -- what is left is the same where the answer and each of the five buffers are
-left-by : {a a′ : StyleAnswer} {o o′ t t′ y y′ x x′ b b′ : List ℕ} → a ≡ a′ → o ≡ o′ → t ≡ t′ → y ≡ y′ → x ≡ x′ → b ≡ b′
+pub left-by : {a a′ : StyleAnswer} {o o′ t t′ y y′ x x′ b b′ : List ℕ} → a ≡ a′ → o ≡ o′ → t ≡ t′ → y ≡ y′ → x ≡ x′ → b ≡ b′
     → _≡_ {A = StyleLeft} (record { answer = a; row = o; texts = t; rules = y; tokens = x; brackets = b }) (record { answer = a′; row = o′; texts = t′; rules = y′; tokens = x′; brackets = b′ })
 left-by p q r s t u = rw (p, q, r, s, t, u) refl
 

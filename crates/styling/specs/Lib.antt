@@ -1,3 +1,4 @@
 pub mod StyleAnswer
 pub mod Styling
+pub mod Fronts
 pub mod Claim

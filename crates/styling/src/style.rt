@@ -1,7 +1,13 @@
 // `style` and `style_book`: the computed style of one element. Refusals are looked for in the order of document 01; nothing is written before all of them but
 // 4 are ruled out.
+use crate::front::clear_behind;
+use crate::front::path_room;
 use cascade::rows::STYLE_ROW_WIDTH;
 use cascade::slots::Cascade;
+use combinators::least::NUMBER_MORE;
+use combinators::least::NUMBER_WIDTH;
+use combinators::least::TEXT_MORE;
+use combinators::least::TEXT_WIDTH;
 use combinators::least::stores_suffice;
 use combinators::refusals::NO_ELEMENT;
 use combinators::refusals::NO_REFUSAL;
@@ -53,6 +59,7 @@ ghost use Rattle.matching.specs.Rows.{Rooted};
 ghost use Rattle.styles.specs.StyleCall.{callRow, callStore};
 ghost use Rattle.rule_styles.specs.Held.{sheetsFrom, SheetsHeld};
 ghost use Rattle.styling.specs.StyleAnswer.{isElement, styledLeft, askedLeft, styleOf};
+ghost use Rattle.styling.specs.Fronts.{FrontLent};
 ghost use Rattle.styling.specs.Styling.{FewBytes, ContentsIn, ReadRoom, CallLent, AskedLent};
 
 // The refusal; of an element that was styled the bytes of its texts. What does not apply is 0.
@@ -246,6 +253,115 @@ fn style_texts(
     }
 }
 
+// Styles an element in the fronts of stores that suffice for so many bytes; zeros behind the fronts.
+fn style_front(
+    cascade: Cascade,
+    settings: Settings,
+    agent: &[u8],
+    user: &[u8],
+    author: &[u8],
+    nodes: &[u32],
+    attributes: &[u32],
+    text: &[u8],
+    row: usize,
+    out: &mut [u32],
+    texts: &mut [u8],
+    rules: &mut [u32],
+    tokens: &mut [u32],
+    brackets: &mut [u8],
+    room: usize,
+) -> StyleAnswer
+    requires { ⌜ Rooted (now nodes) row ⌝ }
+    requires { ⌜ row < numberBound ⌝ }
+    requires { ⌜ FrontLent (now agent) (now user) (now author) (pathOf (now nodes) (now attributes) (now text) row) room (now out) (now rules) (now tokens) (now brackets) (now texts) ⌝ }
+    ensures { λ r. ⌜ record { answer = r; row = now (out .exit); texts = now (texts .exit); rules = now (rules .exit); tokens = now (tokens .exit); brackets = now (brackets .exit) }
+        ≡ styledLeft (now (out .entry)) (now (texts .entry)) (now (rules .entry)) (now (tokens .entry)) (now (brackets .entry)) cascade settings (pathOf (now (nodes .entry)) (now (attributes .entry)) (now (text .entry)) row) (sheetsOf (now (agent .entry)) (now (user .entry)) (now (author .entry))) ⌝ }
+{
+    let bytes = TEXT_WIDTH * room + TEXT_MORE;
+    let numbers = NUMBER_WIDTH * room + NUMBER_MORE;
+    clear_behind(texts, rules, tokens, brackets, bytes, numbers, room);
+    style_texts(
+        cascade,
+        settings,
+        agent,
+        user,
+        author,
+        nodes,
+        attributes,
+        text,
+        row,
+        out,
+        &mut texts[..bytes],
+        &mut rules[..numbers],
+        &mut tokens[..numbers],
+        &mut brackets[..room],
+    )
+}
+
+// Styles an element in as much of the stores as it asks for, or in the whole of them, which always suffices: so nothing is to be known of what it asks for
+// but that it is enough.
+fn style_in_front(
+    cascade: Cascade,
+    settings: Settings,
+    agent: &[u8],
+    user: &[u8],
+    author: &[u8],
+    nodes: &[u32],
+    attributes: &[u32],
+    text: &[u8],
+    row: usize,
+    out: &mut [u32],
+    texts: &mut [u8],
+    rules: &mut [u32],
+    tokens: &mut [u32],
+    brackets: &mut [u8],
+) -> StyleAnswer
+    requires { ⌜ Rooted (now nodes) row ⌝ }
+    requires { ⌜ row < numberBound ⌝ }
+    requires { ⌜ Lent (now agent) (now user) (now author) (now rules) (now tokens) (now brackets) (now texts) ⌝ }
+    requires { ⌜ CallLent (length (now agent) + length (now user) + length (now author)) (pathOf (now nodes) (now attributes) (now text) row) (now out) (now rules) (now tokens) (now brackets) (now texts) ⌝ }
+    ensures { λ r. ⌜ record { answer = r; row = now (out .exit); texts = now (texts .exit); rules = now (rules .exit); tokens = now (tokens .exit); brackets = now (brackets .exit) }
+        ≡ styledLeft (now (out .entry)) (now (texts .entry)) (now (rules .entry)) (now (tokens .entry)) (now (brackets .entry)) cascade settings (pathOf (now (nodes .entry)) (now (attributes .entry)) (now (text .entry)) row) (sheetsOf (now (agent .entry)) (now (user .entry)) (now (author .entry))) ⌝ }
+{
+    let sheets = agent.len() + user.len() + author.len();
+    let room = sheets + path_room(nodes, attributes, row);
+    if stores_suffice(room, rules.len(), tokens.len(), brackets.len(), texts.len()) {
+        return style_front(
+            cascade,
+            settings,
+            agent,
+            user,
+            author,
+            nodes,
+            attributes,
+            text,
+            row,
+            out,
+            texts,
+            rules,
+            tokens,
+            brackets,
+            room,
+        );
+    }
+    style_texts(
+        cascade,
+        settings,
+        agent,
+        user,
+        author,
+        nodes,
+        attributes,
+        text,
+        row,
+        out,
+        texts,
+        rules,
+        tokens,
+        brackets,
+    )
+}
+
 // Styles an element of a page that is accepted or not, by sheets for which the stores suffice.
 fn style_asked(
     cascade: Cascade,
@@ -270,7 +386,7 @@ fn style_asked(
     let refusal = refusal_of(check_page(nodes, attributes, text));
     if refusal.number == NO_REFUSAL {
         if is_element(nodes, row) {
-            return style_texts(
+            return style_in_front(
                 cascade,
                 settings,
                 agent,

@@ -14,8 +14,8 @@ refusal-of-requires c κs = search needs
 is-element-requires : tie.Need-is-element-requires
 is-element-requires c κs = search needs
 
-style-texts-requires : tie.Need-style-texts-requires
-style-texts-requires c κs = let S = c .before .before .before .before .before .before .before .before .before .before .before .before .before .before .before .before .before .before .before .before .before .before in
+style-in-front-requires : tie.Need-style-in-front-requires
+style-in-front-requires c κs = let S = c .before .before .before .before .before .before .before .before .before .before .before .before .before .before .before .before .before .before .before .before .before .before in
     let a = S .args in
     let e = c .before .before .before .before .before .before .before .before .before .refusal-of .ensures ∙ c .before .before .before .before .before .before .before .before .before .before .check-page .ensures in
     let x = c .before .before .before .before .before .before .before .if1 .taken in
@@ -24,25 +24,25 @@ style-texts-requires c κs = let S = c .before .before .before .before .before .
     (laws.rooted (a .cascade) (a .settings) (record { agent = a .agent .now; user = a .user .now; author = a .author .now }) (record { nodes = a .nodes .now; attributes = a .attributes .now; text = a .text .now }) (a .row) (a .out .now) (a .texts .now) (a .rules .now) (a .tokens .now) (a .brackets .now) (S .pre) e x y z, (laws.few-rows (a .cascade) (a .settings) (record { agent = a .agent .now; user = a .user .now; author = a .author .now }) (record { nodes = a .nodes .now; attributes = a .attributes .now; text = a .text .now }) (a .row) (a .out .now) (a .texts .now) (a .rules .now) (a .tokens .now) (a .brackets .now) (S .pre) e x y z, (laws.lent (a .cascade) (a .settings) (record { agent = a .agent .now; user = a .user .now; author = a .author .now }) (record { nodes = a .nodes .now; attributes = a .attributes .now; text = a .text .now }) (a .row) (a .out .now) (a .texts .now) (a .rules .now) (a .tokens .now) (a .brackets .now) (S .pre) e x y z, laws.call-lent (a .cascade) (a .settings) (record { agent = a .agent .now; user = a .user .now; author = a .author .now }) (record { nodes = a .nodes .now; attributes = a .attributes .now; text = a .text .now }) (a .row) (a .out .now) (a .texts .now) (a .rules .now) (a .tokens .now) (a .brackets .now) (S .pre) e x y z)))
 
 same-length : tie.Need-same-length
-same-length c = c .before .before .before .before .before .before .before .before .before .before .style-texts .kept .1 .1 .1 .1 .1 .1 .1 .1 .1 .0
+same-length c = c .before .before .before .before .before .before .before .before .before .before .style-in-front .kept .1 .1 .1 .1 .1 .1 .1 .1 .1 .0
 
 same-length-2 : tie.Need-same-length-2
-same-length-2 c = c .before .before .before .before .before .before .before .before .before .before .style-texts .kept .1 .1 .1 .1 .1 .1 .1 .1 .1 .1 .0
+same-length-2 c = c .before .before .before .before .before .before .before .before .before .before .style-in-front .kept .1 .1 .1 .1 .1 .1 .1 .1 .1 .1 .0
 
 same-length-3 : tie.Need-same-length-3
-same-length-3 c = c .before .before .before .before .before .before .before .before .before .before .style-texts .kept .1 .1 .1 .1 .1 .1 .1 .1 .1 .1 .1 .0
+same-length-3 c = c .before .before .before .before .before .before .before .before .before .before .style-in-front .kept .1 .1 .1 .1 .1 .1 .1 .1 .1 .1 .1 .0
 
 same-length-4 : tie.Need-same-length-4
-same-length-4 c = c .before .before .before .before .before .before .before .before .before .before .style-texts .kept .1 .1 .1 .1 .1 .1 .1 .1 .1 .1 .1 .1 .0
+same-length-4 c = c .before .before .before .before .before .before .before .before .before .before .style-in-front .kept .1 .1 .1 .1 .1 .1 .1 .1 .1 .1 .1 .1 .0
 
 same-length-5 : tie.Need-same-length-5
-same-length-5 c = c .before .before .before .before .before .before .before .before .before .before .style-texts .kept .1 .1 .1 .1 .1 .1 .1 .1 .1 .1 .1 .1 .1 .0
+same-length-5 c = c .before .before .before .before .before .before .before .before .before .before .style-in-front .kept .1 .1 .1 .1 .1 .1 .1 .1 .1 .1 .1 .1 .1 .0
 
 returns : tie.Need-returns
 returns c = let S = c .before .before .before .before .before .before .before .before .before .before .before .before .before .before .before .before .before .before .before .before .before .before .before .before .before .before .before .before .before .before .before .before .before in
     let a = S .args in
     let e = c .before .before .before .before .before .before .before .before .before .before .before .before .before .before .before .before .before .before .before .before .refusal-of .ensures ∙ c .before .before .before .before .before .before .before .before .before .before .before .before .before .before .before .before .before .before .before .before .before .check-page .ensures in
-    laws.asked (a .cascade) (a .settings) (record { agent = a .agent .now; user = a .user .now; author = a .author .now }) (record { nodes = a .nodes .now; attributes = a .attributes .now; text = a .text .now }) (a .row) (a .out .now) (a .texts .now) (a .rules .now) (a .tokens .now) (a .brackets .now) (S .pre) e (c .before .before .before .before .before .before .before .before .before .before .before .before .before .before .before .before .before .before .if1 .taken) (c .before .before .before .before .before .before .before .before .before .before .before .before .before .before .before .before .before .is-element .ensures) (c .before .before .before .before .before .before .before .before .before .before .before .before .before .before .before .before .if2 .taken) (c .before .before .before .before .before .before .before .before .before .before .style-texts .ensures)
+    laws.asked (a .cascade) (a .settings) (record { agent = a .agent .now; user = a .user .now; author = a .author .now }) (record { nodes = a .nodes .now; attributes = a .attributes .now; text = a .text .now }) (a .row) (a .out .now) (a .texts .now) (a .rules .now) (a .tokens .now) (a .brackets .now) (S .pre) e (c .before .before .before .before .before .before .before .before .before .before .before .before .before .before .before .before .before .before .if1 .taken) (c .before .before .before .before .before .before .before .before .before .before .before .before .before .before .before .before .before .is-element .ensures) (c .before .before .before .before .before .before .before .before .before .before .before .before .before .before .before .before .if2 .taken) (c .before .before .before .before .before .before .before .before .before .before .style-in-front .ensures)
 
 refused-requires : tie.Need-refused-requires
 refused-requires c κs = search needs
@@ -72,7 +72,7 @@ style-asked-spec =
     check-page-requires
     refusal-of-requires
     is-element-requires
-    style-texts-requires
+    style-in-front-requires
     same-length
     same-length-2
     same-length-3
