@@ -10,14 +10,14 @@ use styles::settings::Settings;
 use styling::style::{StyleAnswer, style};
 
 // What compiling and the run answer.
-#[derive(Drop)]
+#[derive(Clone, Copy)]
 pub struct RunAnswers {
     pub compiling: CompileNumbers,
     pub running: RunAnswer,
 }
 
 // What the three calls answer.
-#[derive(Drop)]
+#[derive(Clone, Copy)]
 pub struct CallAnswers {
     pub compiling: CompileNumbers,
     pub running: RunAnswer,

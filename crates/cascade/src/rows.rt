@@ -55,7 +55,7 @@ pub const AFTER: usize = 2;
 pub const STYLE_ROW_WIDTH: usize = RECORD_COUNT * RECORD_WIDTH;
 
 // What an element hands on in the book order to its children and to its own pseudo elements, from its main record.
-#[derive(Drop)]
+#[derive(Clone, Copy)]
 pub struct Handed {
     pub color: Slot,
     pub white_space: Slot,

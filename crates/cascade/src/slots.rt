@@ -20,14 +20,14 @@ const IMPORTANT_USER: u32 = 4;
 const IMPORTANT_AGENT: u32 = 5;
 
 // The crate's cascade, or that of CSS Cascading Level 3.
-#[derive(Drop)]
+#[derive(Clone, Copy)]
 pub enum Cascade {
     Crate,
     Book,
 }
 
 // How important a value is, from which origin, and how specific.
-#[derive(Drop)]
+#[derive(Clone, Copy)]
 pub struct Weight {
     pub important: bool,
     pub origin: u32,
@@ -35,7 +35,7 @@ pub struct Weight {
 }
 
 // Whether it holds a value, what weighs for that value, and the value.
-#[derive(Drop)]
+#[derive(Clone, Copy)]
 pub struct Slot {
     pub filled: bool,
     pub weight: Weight,

@@ -4,7 +4,7 @@ ghost use Rattle.combinators.specs.Choice.{or};
 ghost use Rattle.cascade.specs.Specificity.{specificity_of, inline_specificity, SumFits, sum, less_by_selector, less};
 
 // A `style` attribute, or how many ids, classes and types a selector names.
-#[derive(Drop)]
+#[derive(Clone, Copy)]
 pub struct Specificity {
     pub inline: bool,
     pub id: u32,

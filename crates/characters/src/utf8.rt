@@ -7,14 +7,14 @@ use combinators::bytes::{between, peek, wide};
 use combinators::stores::emit;
 
 // What a text begins with: a scalar value, with the bytes that it takes; or no well-formed sequence.
-#[derive(Drop)]
+#[derive(Clone, Copy)]
 pub enum Scalar {
     Value(usize, u32),
     NoScalar,
 }
 
 // What a first byte says: how many bytes the sequence has (0: it starts none), and from where to where the second byte goes.
-#[derive(Drop)]
+#[derive(Clone, Copy)]
 pub struct Lead {
     pub long: usize,
     pub low: u8,

@@ -1,4 +1,6 @@
 // What every reader and writer is made of: tests of bytes and fixed words, parts of texts, lent stores, and the refusals.
+#![tactic(auto)]
+
 pub mod bytes; // bytes.rt: a byte, a range of bytes, a word at the start of a text
 pub mod texts; // texts.rt: a part of a text, and two texts compared
 pub mod stores; // stores.rt: bytes emitted to a lent store, and stores cleared

@@ -39,7 +39,7 @@ pub const BAD_LENGTH: u32 = 12;
 pub const NO_ROOM: u32 = 10;
 
 // A refusal's number, the text that it is in and its place; all 0 where nothing is refused.
-#[derive(Drop)]
+#[derive(Clone, Copy)]
 pub struct Refusal {
     pub number: u32,
     pub text: usize,

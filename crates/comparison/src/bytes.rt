@@ -7,7 +7,7 @@ use compiled::sheets::{COMPILED_LIMIT, check_sheet, refusal_of};
 
 // The refusal's number and place.
 #[repr(C)]
-#[derive(Drop)]
+#[derive(Clone, Copy)]
 pub struct BytesResult {
     pub refusal: u32,
     pub place: usize,

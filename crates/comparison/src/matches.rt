@@ -13,7 +13,7 @@ use syntax::rows::{COMPONENT_WIDTH, flag_of};
 
 // The refusal's number and place; 1 where the selector matches; how many ids, classes (with attributes and nth-child) and types it names.
 #[repr(C)]
-#[derive(Drop)]
+#[derive(Clone, Copy)]
 pub struct MatchResult {
     pub refusal: u32,
     pub place: usize,

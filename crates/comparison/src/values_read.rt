@@ -10,7 +10,7 @@ use values::colours::ColourAnswer;
 
 // The refusal's number; how many styles were read, and the bytes of their texts.
 #[repr(C)]
-#[derive(Drop)]
+#[derive(Clone, Copy)]
 pub struct StylesResult {
     pub refusal: u32,
     pub count: usize,
@@ -19,7 +19,7 @@ pub struct StylesResult {
 
 // The refusal's number; 1 where a colour was found, and the colour.
 #[repr(C)]
-#[derive(Drop)]
+#[derive(Clone, Copy)]
 pub struct ColourResult {
     pub refusal: u32,
     pub found: u32,

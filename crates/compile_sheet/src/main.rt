@@ -1,5 +1,7 @@
 // Compiles an author sheet from standard input, beside an empty agent's and an empty user's sheet, and prints one line: the compiled bytes as
 // hexadecimal pairs parted by spaces, or `refused`, the refusal's number and its place; after 4 the text and then the byte.
+#![tactic(auto)]
+
 mod hexadecimal; // hexadecimal.rt: bytes as a line of pairs
 
 use combinators::least::{NUMBER_MORE, NUMBER_WIDTH, TEXT_MORE, TEXT_WIDTH};

@@ -28,7 +28,7 @@ pub const MARK_SIZE: usize = 1;
 // A component, each with the place behind it first: star, child and descendant with their kind; class, element, hash and attribute with their kind,
 // where their text starts and how long it is; the two numbers of nth; the two texts of an attribute that is equal to a value. Or the place of the
 // fault.
-#[derive(Drop)]
+#[derive(Clone, Copy)]
 pub enum ComponentAnswer {
     Mark(usize, u32),
     Name {

@@ -1,4 +1,6 @@
 // Compiled sheets: what their bytes are (specs/), how they are read, checked and written.
+#![tactic(auto)]
+
 pub mod places; // places.rt: what is answered of bytes that are passed over
 pub mod numbers; // numbers.rt: numbers, plain and in a range
 pub mod texts; // texts.rt: texts with their length

@@ -15,7 +15,7 @@ const MOST_GROUPS: u32 = 5;
 const NUMBER_LIMIT: u64 = 4294967296;
 
 // The place behind a number and its value, or the place of the fault.
-#[derive(Drop)]
+#[derive(Clone, Copy)]
 pub enum NumberAnswer {
     Number(usize, u32),
     Fault(usize),

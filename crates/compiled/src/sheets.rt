@@ -25,7 +25,7 @@ const TO_COUNT: usize = 2;
 
 // The place behind the numbers before a selector's components: its origin, its pseudo element and how many components it has. Or the place of the
 // fault.
-#[derive(Drop)]
+#[derive(Clone, Copy)]
 pub enum HeadAnswer {
     Head {
         next: usize,
@@ -37,14 +37,14 @@ pub enum HeadAnswer {
 }
 
 // The place behind a selector, and its origin; or the place of the fault.
-#[derive(Drop)]
+#[derive(Clone, Copy)]
 pub enum SelectorAnswer {
     Selector(usize, u32),
     Fault(usize),
 }
 
 // That bytes are a sheet, or the place of the fault.
-#[derive(Drop)]
+#[derive(Clone, Copy)]
 pub enum CheckAnswer {
     Sheet,
     Fault(usize),

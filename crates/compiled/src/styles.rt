@@ -23,14 +23,14 @@ use syntax::styles::{StyleNumbers, Value};
 const GREATEST_COLOUR: u32 = 16777215;
 
 // The place behind a slot's value, and the value: a content's first number is where it starts in the bytes. Or the place of the fault.
-#[derive(Drop)]
+#[derive(Clone, Copy)]
 pub enum ValueAnswer {
     Value(usize, Value),
     Fault(usize),
 }
 
 // The place behind a style, and the style; or the place of the fault.
-#[derive(Drop)]
+#[derive(Clone, Copy)]
 pub enum StyleAnswer {
     Style(usize, StyleNumbers),
     Fault(usize),

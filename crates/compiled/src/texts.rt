@@ -11,7 +11,7 @@ use combinators::stores::emit_part;
 use combinators::texts::part_of;
 
 // The place behind a text, where it starts and how long it is; or the place of the fault.
-#[derive(Drop)]
+#[derive(Clone, Copy)]
 pub enum TextAnswer {
     Text {
         next: usize,

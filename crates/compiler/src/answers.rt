@@ -8,7 +8,7 @@ use combinators::refusals::{
 };
 
 // The refusal; of sheets that were compiled how many bytes they take, and those of the texts that their rules name. What does not apply is 0.
-#[derive(Drop)]
+#[derive(Clone, Copy)]
 pub struct CompileNumbers {
     pub refusal: Refusal,
     pub bytes: usize,

@@ -14,7 +14,7 @@ use origins::reading::{SheetsRead, read_sheets};
 use sheets::sheet::clear_stores;
 
 // How many bytes the compiled sheet has, and the texts that its rules name; or the refusal, with the sheet and the byte where the crate panics.
-#[derive(Drop)]
+#[derive(Clone, Copy)]
 pub enum CompileAnswer {
     Compiled(usize, usize),
     TooLong,

@@ -1,4 +1,6 @@
 // The compiler: the selectors of three sheets (specs/) as the bytes of a compiled sheet.
+#![tactic(auto)]
+
 pub mod past; // past.rt: whether bytes passed the end of a store
 pub mod styles; // styles.rt: the styles of a rule, counted and written
 pub mod selector; // selector.rt: one selector, written

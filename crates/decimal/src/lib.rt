@@ -1,5 +1,7 @@
 // Whether a decimal rounds to zero as an f32 (IEEE 754 binary32, ties to even): "it is zero exactly if, sign aside, it is at most
 // 2^-150". Its digits stand as ASCII, as many as there are, before and behind the point; none is looked at behind the one that decides.
+#![tactic(auto)]
+
 ghost use Rattle.std.specs.Prelude.{◌≡◌};
 ghost use Rattle.decimal.specs.Decimal.{digit, rounds_to_zero};
 ghost use Rattle.decimal.specs.Looked.{digits_test, zero_test};
@@ -20,7 +22,7 @@ const PLACES: [u8; 150] = [
 const NO_PLACES: [u8; 0] = [];
 
 // What the zero test answers, and how many digits it looked at.
-#[derive(Drop)]
+#[derive(Clone, Copy)]
 pub struct ZeroTest {
     pub zero: bool,
     pub looked: usize,

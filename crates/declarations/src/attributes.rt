@@ -15,7 +15,7 @@ use values::colours::{ColourAnswer, MAXIMUM_BYTE, NumberAnswer, colour_number, p
 use values::statements::{ValueAnswer, parse_value};
 
 // The count of styles, and the bytes of text that they keep.
-#[derive(Drop)]
+#[derive(Clone, Copy)]
 pub struct StylesRead {
     pub count: usize,
     pub text: usize,

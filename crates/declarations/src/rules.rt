@@ -20,21 +20,21 @@ use values::properties::decl_of;
 use values::statements::{ValueAnswer, parse_value};
 
 // Where the value of a property starts, and the length of its name; or the length of a name that no ':' follows.
-#[derive(Drop)]
+#[derive(Clone, Copy)]
 pub enum Property {
     Name(usize, usize),
     NoName(usize),
 }
 
 // The bytes that a declaration takes, and the bytes of text that it keeps.
-#[derive(Drop)]
+#[derive(Clone, Copy)]
 pub enum DeclarationAnswer {
     Declaration(usize, usize),
     NoDeclaration,
 }
 
 // The first byte not read, the count of declarations, and the bytes of text that they keep.
-#[derive(Drop)]
+#[derive(Clone, Copy)]
 pub struct RulesRead {
     pub taken: usize,
     pub count: usize,

@@ -17,7 +17,7 @@ use syntax::rows::{
 use syntax::styles::{StyleNumbers, Value};
 
 // The style that a declaration asks for by itself; or that it asks for none.
-#[derive(Drop)]
+#[derive(Clone, Copy)]
 pub enum OwnStyle {
     Style(StyleNumbers),
     NoStyle,

@@ -9,7 +9,7 @@ use compiler::compile::{CompileAnswer, compile};
 // The refusal's number, text and place; of sheets that were compiled how many bytes they take, and those of the texts that their rules name. What does
 // not apply is 0.
 #[repr(C)]
-#[derive(Drop)]
+#[derive(Clone, Copy)]
 pub struct CompileResult {
     pub refusal: u32,
     pub text: usize,

@@ -8,7 +8,7 @@ use lengths::height::height_length;
 
 // The refusal's number and place; of a length what it counts, and how much of it. What does not apply is 0.
 #[repr(C)]
-#[derive(Drop)]
+#[derive(Clone, Copy)]
 pub struct LengthResult {
     pub refusal: u32,
     pub place: usize,

@@ -7,7 +7,7 @@ use page::check::{check_page, refusal_of};
 
 // The refusal's number, and the first row that is refused.
 #[repr(C)]
-#[derive(Drop)]
+#[derive(Clone, Copy)]
 pub struct PageResult {
     pub refusal: u32,
     pub place: usize,

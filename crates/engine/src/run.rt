@@ -9,7 +9,7 @@ use running::run::{RunAnswer, run};
 
 // The refusal's number and place; of a page that was styled the bytes of its texts. What does not apply is 0.
 #[repr(C)]
-#[derive(Drop)]
+#[derive(Clone, Copy)]
 pub struct RunResult {
     pub refusal: u32,
     pub place: usize,

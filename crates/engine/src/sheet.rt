@@ -9,7 +9,7 @@ use sheets::sheet::{SheetAnswer, read_sheet};
 // The refusal's number and place; of a sheet that was read the count of its rules, the first byte not read, the numbers that the rules take and
 // the bytes of their texts. What does not apply is 0.
 #[repr(C)]
-#[derive(Drop)]
+#[derive(Clone, Copy)]
 pub struct SheetResult {
     pub refusal: u32,
     pub place: usize,

@@ -12,7 +12,7 @@ const SWITCH_OFF: u32 = 0;
 
 // The refusal's number, text and place; of an element that was styled the bytes of its texts. What does not apply is 0.
 #[repr(C)]
-#[derive(Drop)]
+#[derive(Clone, Copy)]
 pub struct StyleResult {
     pub refusal: u32,
     pub text: usize,

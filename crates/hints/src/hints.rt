@@ -32,13 +32,13 @@ const CLASS_NAME: [u8; 5] = *b"class";
 const ID_START: usize = 0x69;
 
 // What texts begin with: at most two bytes, or any.
-#[derive(Drop)]
+#[derive(Clone, Copy)]
 pub struct Starts {
     pub one: usize,
     pub two: usize,
 }
 
-#[derive(Drop)]
+#[derive(Clone, Copy)]
 pub struct Hint {
     pub size: usize,
     pub first: usize,

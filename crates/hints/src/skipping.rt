@@ -41,7 +41,7 @@ const NTH_SIZE: usize = 3;
 const ONE_GROUP: usize = 128;
 
 // The place of a selector, and how many are left from there on.
-#[derive(Drop)]
+#[derive(Clone, Copy)]
 pub struct Skipped {
     pub place: usize,
     pub left: u32,

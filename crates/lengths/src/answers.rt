@@ -16,7 +16,7 @@ pub const EM_KIND: u32 = 2;
 pub const EX_KIND: u32 = 3;
 
 // A value that is no length; a length, so much of a kind; or the refusal, with the first byte of the number that is no exact length.
-#[derive(Drop)]
+#[derive(Clone, Copy)]
 pub enum LengthAnswer {
     NoLength,
     Length { kind: u32, amount: u64 },
@@ -27,7 +27,7 @@ pub enum LengthAnswer {
 }
 
 // The refusal; of a length its kind and its amount. What does not apply is 0.
-#[derive(Drop)]
+#[derive(Clone, Copy)]
 pub struct LengthNumbers {
     pub refusal: Refusal,
     pub kind: u32,

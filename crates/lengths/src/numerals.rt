@@ -16,7 +16,7 @@ const TEN: u64 = 10;
 pub const MOST_DIGITS: u64 = 100000000;
 
 // A number: whether a '-' stands before it, how many decimals it has, and its digits read as one number, or one above the most.
-#[derive(Drop)]
+#[derive(Clone, Copy)]
 pub struct Numeral {
     pub negative: bool,
     pub decimals: usize,

@@ -1,5 +1,7 @@
 // Tokens of CSS, as html2text 0.17.4 reads them (src/css/parser.rs). Each reader is handed the rest of the text and answers how
 // many bytes it takes; the text that they stand for goes to a lent store from a fill on. Readers are total: any bytes, any fill.
+#![tactic(auto)]
+
 pub mod whitespace; // whitespace.rt: white space and comments
 pub mod numbers; // numbers.rt: numbers, recognised
 pub mod strings; // strings.rt: the characters of a quoted string
@@ -8,7 +10,7 @@ pub mod tokens; // tokens.rt: tokens
 pub mod rows; // rows.rt: tokens written to lent numbers
 
 // What a repetition took from the text, and how many bytes it stands for in the store.
-#[derive(Drop)]
+#[derive(Clone, Copy)]
 pub struct Written {
     pub taken: usize,
     pub length: usize,

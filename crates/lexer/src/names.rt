@@ -11,7 +11,7 @@ use characters::utf8::{
 use combinators::bytes::{between, byte_is, peek, same, wide};
 
 // A name: the bytes that it takes, and the length of its text, which lies in the store from the fill on.
-#[derive(Drop)]
+#[derive(Clone, Copy)]
 pub enum Name {
     Text(usize, usize),
     NoName,

@@ -60,7 +60,7 @@ pub const OPEN_BRACE: u32 = 19;
 pub const CLOSE_BRACE: u32 = 20;
 
 // A token's kind, and its two numbers: the length of its text, or of a dimension's number and unit, or a delimiter's scalar value.
-#[derive(Drop)]
+#[derive(Clone, Copy)]
 pub struct Columns {
     pub kind: u32,
     pub first: usize,

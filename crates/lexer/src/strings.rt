@@ -9,7 +9,7 @@ use combinators::bytes::peek;
 use combinators::stores::emit;
 
 // One turn of the string's loop: a byte of its text for so many bytes read, bytes read that stand for nothing, or the end.
-#[derive(Drop)]
+#[derive(Clone, Copy)]
 pub enum Quoted {
     Byte(usize, u8),
     Skip(usize),
@@ -17,7 +17,7 @@ pub enum Quoted {
 }
 
 // What one turn took from the text, how many bytes it stands for, and the store's fill behind them.
-#[derive(Drop)]
+#[derive(Clone, Copy)]
 struct Turn {
     taken: usize,
     length: usize,

@@ -15,7 +15,7 @@ use combinators::bytes::{byte_is, peek, same, starts_with};
 use combinators::stores::emit_part;
 
 // A token, with the lengths of its texts, which lie in the store one behind the other, or the scalar value of a delimiter.
-#[derive(Drop)]
+#[derive(Clone, Copy)]
 pub enum Token {
     Ident(usize),
     Function(usize),
@@ -40,21 +40,21 @@ pub enum Token {
 }
 
 // A token for so many bytes of the text, or none.
-#[derive(Drop)]
+#[derive(Clone, Copy)]
 pub enum TokenAnswer {
     Took(usize, Token),
     NoToken,
 }
 
 // The next token: where it starts, the bytes read with it, and the token; or that there is none.
-#[derive(Drop)]
+#[derive(Clone, Copy)]
 pub enum Lexed {
     At(usize, usize, Token),
     Nothing,
 }
 
 // Which reader a first character selects.
-#[derive(Drop)]
+#[derive(Clone, Copy)]
 pub enum Start {
     Quote,
     Hash,

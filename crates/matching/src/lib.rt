@@ -1,4 +1,6 @@
 // Matching: which selectors match an element, and how specific they are (`Selector` of html2text's src/css.rs).
+#![tactic(auto)]
+
 pub mod nth; // nth.rt: nth-child(an+b) on signed numbers
 pub mod texts; // texts.rt: words parted by White_Space
 pub mod components; // components.rt: the rows of a selector's components, and its specificity

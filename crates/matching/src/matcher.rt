@@ -134,7 +134,7 @@ fn passes(
 
 // What comes of matching a selector: it matches the row; it fails locally, which says nothing of the rows above; it fails completely, on the row and on
 // each of its ancestors (law `result-holds`).
-#[derive(Drop)]
+#[derive(Clone, Copy)]
 pub enum SelectorMatch {
     Matches,
     FailsLocally,
@@ -142,7 +142,7 @@ pub enum SelectorMatch {
 }
 
 // Where tests and child combinators lead: to the end, or to a descendant combinator that stands behind so many components, on a row.
-#[derive(Drop)]
+#[derive(Clone, Copy)]
 pub enum Climbed {
     Ended(SelectorMatch),
     Descendant(usize, usize),

@@ -19,7 +19,7 @@ pub const USER_TEXT: usize = 1;
 pub const AUTHOR_TEXT: usize = 2;
 
 // Of one sheet: how many rules, the numbers that they take and the bytes of their texts; or the byte where the crate panics.
-#[derive(Drop)]
+#[derive(Clone, Copy)]
 pub enum RulesRead {
     Rules {
         count: usize,
@@ -30,7 +30,7 @@ pub enum RulesRead {
 }
 
 // Of a sheet in stores that hold several: how many rules, and where their numbers and their texts start.
-#[derive(Drop)]
+#[derive(Clone, Copy)]
 pub struct SheetRules {
     pub count: usize,
     pub place: usize,
@@ -38,7 +38,7 @@ pub struct SheetRules {
 }
 
 // Those of three sheets, and where the texts end.
-#[derive(Drop)]
+#[derive(Clone, Copy)]
 pub struct SheetsRules {
     pub agent: SheetRules,
     pub user: SheetRules,
@@ -47,7 +47,7 @@ pub struct SheetsRules {
 }
 
 // Of three sheets: where their rules lie; or the sheet and the byte where the crate panics.
-#[derive(Drop)]
+#[derive(Clone, Copy)]
 pub enum SheetsRead {
     Rules(SheetsRules),
     Panic(usize, usize),

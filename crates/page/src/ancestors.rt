@@ -6,7 +6,7 @@ ghost use Rattle.page.specs.Ancestors.{depth_of, climbed, is_element_child, elem
 use crate::rows::{ELEMENT, kind_of, parent_of};
 
 // Where the climb from one row to another above it ends: at the depth of the other, or it is not there.
-#[derive(Drop)]
+#[derive(Clone, Copy)]
 pub enum Climb {
     Reached(usize),
     NotThere,

@@ -17,7 +17,7 @@ pub const TEXT_LIMIT: usize = 65536;
 
 // What a page is: accepted; over a limit, or a list that is no whole count of rows (refusal 5); with a first row that is against the rules
 // (6); or with a first row one of whose texts lies outside the byte text or is not UTF-8 (7).
-#[derive(Drop)]
+#[derive(Clone, Copy)]
 pub enum PageAnswer {
     Page,
     TooLarge,

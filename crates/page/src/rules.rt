@@ -14,21 +14,21 @@ use crate::rows::{
 pub const DEPTH_LIMIT: usize = 64;
 
 // Where texts end that lie end to end; or they do not.
-#[derive(Drop)]
+#[derive(Clone, Copy)]
 enum Follow {
     End(usize),
     Broken,
 }
 
 // The first attribute and the byte that the row behind goes on from; or the row is against the rules.
-#[derive(Drop)]
+#[derive(Clone, Copy)]
 enum Totals {
     Behind(usize, usize),
     Against,
 }
 
 // The same with the row's depth.
-#[derive(Drop)]
+#[derive(Clone, Copy)]
 enum RowAnswer {
     Right {
         depth: usize,

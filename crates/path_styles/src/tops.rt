@@ -22,7 +22,7 @@ use syntax::walk::forward;
 pub const TOP_WIDTH: usize = 1;
 
 // A sheet: its rules, and where its styles and the numbers of its selectors start in the store of tokens.
-#[derive(Drop)]
+#[derive(Clone, Copy)]
 pub struct ReadySheet {
     pub rules: SheetRules,
     pub styles: usize,
@@ -30,7 +30,7 @@ pub struct ReadySheet {
 }
 
 // Three of them; where the texts of their rules end, where their rows and all that is kept of them do, and how far the store of contents behind the texts is filled.
-#[derive(Drop)]
+#[derive(Clone, Copy)]
 pub struct ReadySheets {
     pub agent: ReadySheet,
     pub user: ReadySheet,

@@ -12,14 +12,14 @@ const ANYTHING: u32 = 0;
 const BYTE_VALUES: u32 = 256;
 
 // How far a buffer is written, and whether that changed nothing.
-#[derive(Drop)]
+#[derive(Clone, Copy)]
 pub struct Written {
     pub fill: usize,
     pub same: bool,
 }
 
 // The same, with the place behind the content in the vector.
-#[derive(Drop)]
+#[derive(Clone, Copy)]
 pub struct Put {
     pub next: usize,
     pub fill: usize,
@@ -27,7 +27,7 @@ pub struct Put {
 }
 
 // The place behind what was expected, and whether it came.
-#[derive(Drop)]
+#[derive(Clone, Copy)]
 pub struct Verdict {
     pub next: usize,
     pub same: bool,

@@ -1,6 +1,8 @@
 // Replays vectors, which it reads from standard input: asks the exported functions of crates/engine and crates/comparison, and holds what they answer and
 // leave in the lent buffers against what each vector expects. Prints the number, the call and the words of each vector that differs, then for each list how
 // many vectors it has and how many differ. tools/vectors/README.md says how vectors lie in bytes; tools/vectors/vectors.py writes them. Takes 5 MB of stack.
+#![tactic(auto)]
+
 mod calls; // calls.rt: the calls, and where their arguments stand
 mod content; // content.rt: what stands in a buffer
 mod pages; // pages.rt: calls with a page or with compiled bytes
@@ -69,14 +71,14 @@ const ANYTHING: usize = 0;
 const END: u32 = 0;
 
 // The place behind a vector, and the counts with it.
-#[derive(Drop)]
+#[derive(Clone, Copy)]
 struct Replayed {
     next: usize,
     tally: Tally,
 }
 
 // Where the replay stands: whether it goes on, how far the window is read and filled, and the counts.
-#[derive(Drop)]
+#[derive(Clone, Copy)]
 struct Step {
     more: bool,
     at: usize,

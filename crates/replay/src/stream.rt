@@ -11,13 +11,13 @@ const TOP: u8 = 128;
 // What is kept of a number before a group is added: so much that the sum has 32 bits.
 const KEPT: u32 = 0x0200_0000;
 
-#[derive(Drop)]
+#[derive(Clone, Copy)]
 pub struct Number {
     pub value: u32,
     pub next: usize,
 }
 
-#[derive(Drop)]
+#[derive(Clone, Copy)]
 pub struct Text {
     pub start: usize,
     pub size: usize,

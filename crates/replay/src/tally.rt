@@ -6,7 +6,7 @@ use crate::calls::{
 use libc::STDOUT_FILENO;
 use std::num::wrapping_add_u64;
 
-#[derive(Drop)]
+#[derive(Clone, Copy)]
 pub struct Tally {
     pub vectors: u64,
     pub differ: u64,

@@ -9,7 +9,7 @@ pub const WINDOW: usize = 65536;
 const HALF: usize = 32768;
 
 // How far the window is read, and how many bytes it holds.
-#[derive(Drop)]
+#[derive(Clone, Copy)]
 pub struct Place {
     pub at: usize,
     pub held: usize,

@@ -15,7 +15,7 @@ use syntax::styles::{StyleNumbers, Value, style_at};
 use syntax::walk::forward;
 
 // What is known of the styles for one slot so far: the last normal one, the last important one, and whether an important one stands behind a normal one.
-#[derive(Drop)]
+#[derive(Clone, Copy)]
 pub struct Sifted {
     pub has_normal: bool,
     pub normal: StyleNumbers,

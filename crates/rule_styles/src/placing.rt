@@ -25,14 +25,14 @@ use syntax::styles::{StyleNumbers, Value, style_at};
 const KEPT_WIDTH: usize = 2 * SLOT_COUNT * STYLE_WIDTH;
 
 // Behind what is kept of a rule, in the store of tokens, and behind its contents.
-#[derive(Drop)]
+#[derive(Clone, Copy)]
 pub struct Placed {
     pub place: usize,
     pub fill: usize,
 }
 
 // Behind rules in their rows, behind what is kept of them, and behind their contents.
-#[derive(Drop)]
+#[derive(Clone, Copy)]
 pub struct StyledEnd {
     pub rows: usize,
     pub place: usize,

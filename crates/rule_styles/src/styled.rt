@@ -8,14 +8,14 @@ use crate::placing::style_rules;
 use origins::reading::{SheetRules, SheetsRules};
 
 // A sheet: its rules, and where its styles start in the store of tokens.
-#[derive(Drop)]
+#[derive(Clone, Copy)]
 pub struct StyledSheet {
     pub rules: SheetRules,
     pub styles: usize,
 }
 
 // Three of them; where the texts of their rules end, where their rows and their styles do, and how far the store of contents behind the texts is filled.
-#[derive(Drop)]
+#[derive(Clone, Copy)]
 pub struct StyledSheets {
     pub agent: StyledSheet,
     pub user: StyledSheet,

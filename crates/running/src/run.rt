@@ -18,7 +18,7 @@ use page::rows::node_count;
 use styles::settings::Settings;
 
 // The refusal; of a page that was styled the bytes of its texts. What does not apply is 0.
-#[derive(Drop)]
+#[derive(Clone, Copy)]
 pub struct RunAnswer {
     pub refusal: Refusal,
     pub texts: usize,

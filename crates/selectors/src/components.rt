@@ -21,7 +21,7 @@ use lexer::whitespace::{skip_from, skip_optional_whitespace};
 use syntax::rows::{CHILD, CLASS, DESCENDANT, ELEMENT, HASH, NTH, STAR};
 
 // The bytes taken and the columns of a component's row: its kind and two numbers; or the byte where the crate panics.
-#[derive(Drop)]
+#[derive(Clone, Copy)]
 pub enum ComponentAnswer {
     Component {
         taken: usize,

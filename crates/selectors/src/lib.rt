@@ -1,4 +1,6 @@
 // Selectors and lists of them (specs/), read as html2text 0.17.4 reads them (src/css/parser.rs).
+#![tactic(auto)]
+
 pub mod readings; // readings.rt: what a reader answers
 pub mod nth; // nth.rt: the arguments of nth-child
 pub mod attr; // attr.rt: attribute selectors

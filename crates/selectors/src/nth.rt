@@ -11,7 +11,7 @@ use lexer::whitespace::skip_from;
 use values::colours::{DECIMAL, NumberAnswer, digits_in};
 
 // The bytes taken, a and b; or the byte where the crate panics.
-#[derive(Drop)]
+#[derive(Clone, Copy)]
 pub enum NthAnswer {
     Nth { taken: usize, a: u32, b: u32 },
     NoNth,
@@ -19,7 +19,7 @@ pub enum NthAnswer {
 }
 
 // A sign or none and digits or none: the bytes of the sign, the bytes of both, and the number where it fits.
-#[derive(Drop)]
+#[derive(Clone, Copy)]
 struct SignedInteger {
     sign: usize,
     taken: usize,

@@ -6,7 +6,7 @@ use combinators::stores::{wipe_bytes, wipe_numbers};
 
 // The bytes that it takes, how many things it read, how many numbers their rows take and how many bytes their texts; that it does not read; or
 // the byte where the crate panics (refusal 4).
-#[derive(Drop)]
+#[derive(Clone, Copy)]
 pub enum Reading {
     Reads {
         taken: usize,
@@ -19,7 +19,7 @@ pub enum Reading {
 }
 
 // The same of a reader of things as long as they read, which never fails (nom's `many0`).
-#[derive(Drop)]
+#[derive(Clone, Copy)]
 pub enum ManyReading {
     Reads {
         taken: usize,

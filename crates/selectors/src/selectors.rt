@@ -28,7 +28,7 @@ const BEFORE: [u8; 8] = *b"::before";
 const AFTER: [u8; 7] = *b"::after";
 
 // A pseudo element, and the bytes that it takes.
-#[derive(Drop)]
+#[derive(Clone, Copy)]
 pub struct PseudoRead {
     pub taken: usize,
     pub pseudo: u32,

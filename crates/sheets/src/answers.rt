@@ -9,7 +9,7 @@ use combinators::refusals::{
 
 // The refusal; of a sheet that was read the count of its rules, the first byte not read, the numbers that the rules take and the bytes of their texts.
 // What does not apply is 0.
-#[derive(Drop)]
+#[derive(Clone, Copy)]
 pub struct SheetNumbers {
     pub refusal: Refusal,
     pub count: usize,

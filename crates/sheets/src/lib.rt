@@ -1,4 +1,6 @@
 // Sheets: rules and at-rules (specs/), read as html2text 0.17.4 reads them (src/css/parser.rs).
+#![tactic(auto)]
+
 pub mod rulesets; // rulesets.rt: rules
 pub mod at_rules; // at_rules.rt: at-rules
 pub mod statements; // statements.rt: statements, and a sheet of them

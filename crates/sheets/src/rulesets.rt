@@ -43,7 +43,7 @@ fn before_end(s: &[u8], n: usize) -> usize
 
 // The place behind a block, how many declarations it has, how many numbers their rows take and how many bytes their texts; or that there is none. The
 // crate never panics in a block.
-#[derive(Drop)]
+#[derive(Clone, Copy)]
 pub enum BlockAnswer {
     Block {
         end: usize,

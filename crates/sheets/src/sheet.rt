@@ -15,7 +15,7 @@ pub const SHEET_LIMIT: usize = 32768;
 
 // What reading a sheet comes to: the count of rules, the first byte not read, the numbers that the rules take and the bytes of their texts; or the
 // refusal, with the byte where the crate panics.
-#[derive(Drop)]
+#[derive(Clone, Copy)]
 pub enum SheetAnswer {
     Sheet {
         count: usize,

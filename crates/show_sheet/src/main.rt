@@ -1,6 +1,8 @@
 // Prints a sheet from standard input as it was read: how many bytes were read and where reading stopped, then each rule with its selectors and
 // its declarations, of which each has a line of its own and in front the line and column of the sheet where it starts. A refusal is printed by
 // its number, in words. Takes 2.2 MB of stack, the stores for a sheet of 32,768 bytes.
+#![tactic(auto)]
+
 mod declaration;
 mod place;
 mod rule;

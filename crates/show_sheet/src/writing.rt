@@ -4,7 +4,7 @@ ghost use Rattle.std.specs.Prelude.{◌≤◌, length};
 use libc::STDOUT_FILENO;
 
 // Where a text is written, which says what stands for itself there.
-#[derive(Drop)]
+#[derive(Clone, Copy)]
 pub enum Where {
     Line,
     Quotes,

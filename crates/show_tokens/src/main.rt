@@ -1,5 +1,7 @@
 // Prints the tokens of a text from standard input, a line for each: the byte where it starts, the byte behind it, its kind and
 // its texts in double quotes. A last line says where reading stopped.
+#![tactic(auto)]
+
 ghost use Rattle.std.specs.Prelude.{◌≡◌, ◌+◌, ◌≤◌, length};
 ghost use Rattle.show_tokens.specs.Texts.{texts_of, texts_length};
 
@@ -20,7 +22,7 @@ const STORE: usize = TEXT_WIDTH * LONGEST + TEXT_MORE;
 const DELETE: u8 = 0x7f;
 
 // What a token's texts are: lengths in the store, or the scalar value of a delimiter.
-#[derive(Drop)]
+#[derive(Clone, Copy)]
 enum Texts {
     NoText,
     One(usize),

@@ -10,7 +10,7 @@ use compiled::components::{ComponentAnswer, MARK_SIZE, read_component, short_siz
 use syntax::rows::{ELEMENT, HASH};
 
 // What components add to the specificity of their selector, with the place behind them. Or the place of the fault.
-#[derive(Drop)]
+#[derive(Clone, Copy)]
 pub enum Weight {
     Added(usize, Specificity),
     Fault(usize),

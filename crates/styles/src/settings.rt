@@ -1,5 +1,5 @@
 // What a call is told beside its texts.
-#[derive(Drop)]
+#[derive(Clone, Copy)]
 pub struct Settings {
     // Whether `style`, `color` and `bgcolor` attributes count.
     pub document_styles: bool,

@@ -41,7 +41,7 @@ use sheets::sheet::clear_stores;
 use styles::settings::Settings;
 
 // The refusal; of an element that was styled the bytes of its texts. What does not apply is 0.
-#[derive(Drop)]
+#[derive(Clone, Copy)]
 pub struct StyleAnswer {
     pub refusal: Refusal,
     pub texts: usize,

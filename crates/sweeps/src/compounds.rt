@@ -7,14 +7,14 @@ ghost use Rattle.sweeps.specs.Met.{row_alone, handed_element, place_limit};
 use crate::pieces::{Met, pass_met, read_met};
 
 // Whether a compound ends here, and the place behind the step that it stands at.
-#[derive(Drop)]
+#[derive(Clone, Copy)]
 pub struct Compound {
     pub ends: bool,
     pub place: usize,
 }
 
 // Where a segment begins, how many child steps it has, and how many tests its leftmost compound.
-#[derive(Drop)]
+#[derive(Clone, Copy)]
 pub struct Segment {
     pub start: usize,
     pub steps: usize,

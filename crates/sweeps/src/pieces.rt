@@ -16,7 +16,7 @@ use page::rows::ATTRIBUTE_WIDTH;
 use syntax::rows::{CHILD, CLASS, ELEMENT, HASH, STAR};
 
 // What a component is for a row, each with the place behind it: a test, with whether the tests up to it pass; a child step; a descendant step. Or a fault.
-#[derive(Drop)]
+#[derive(Clone, Copy)]
 pub enum Met {
     Test(usize, bool),
     Child(usize),
@@ -25,7 +25,7 @@ pub enum Met {
 }
 
 // A component of one text: the place behind it, its kind, where its text starts and how long it is. Or that it is none.
-#[derive(Drop)]
+#[derive(Clone, Copy)]
 pub struct NameAt {
     pub there: bool,
     pub next: usize,

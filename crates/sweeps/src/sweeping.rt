@@ -16,7 +16,7 @@ use combinators::texts::part_of;
 const MAY_END: u8 = 1;
 
 // One compound: whether it is the leftmost, which has a mark, whether it ends here, how many tests the leftmost has, and the place behind the others.
-#[derive(Drop)]
+#[derive(Clone, Copy)]
 pub struct Swept {
     pub marked: bool,
     pub ends: bool,

@@ -9,7 +9,7 @@ use combinators::stores::number_at;
 
 // What a style gives its slot: a number, and a second one, which of a content are where its text starts and how long it is; and the byte where
 // the declaration starts that asks for it.
-#[derive(Drop)]
+#[derive(Clone, Copy)]
 pub struct Value {
     pub number: u32,
     pub second: u32,
@@ -17,7 +17,7 @@ pub struct Value {
 }
 
 // A style: its slot, whether it is important, and what it gives the slot.
-#[derive(Drop)]
+#[derive(Clone, Copy)]
 pub struct StyleNumbers {
     pub slot: u32,
     pub important: bool,

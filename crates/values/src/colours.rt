@@ -11,14 +11,14 @@ use combinators::bytes::byte_is;
 use lexer::names::{hex_digit_of, is_hex_digit};
 
 // A colour, or that a text is none.
-#[derive(Drop)]
+#[derive(Clone, Copy)]
 pub enum ColourAnswer {
     Colour(u32),
     NoColour,
 }
 
 // What a text of digits is worth, where it is a number within the bound.
-#[derive(Drop)]
+#[derive(Clone, Copy)]
 pub enum NumberAnswer {
     Number(u32),
     NoNumber,

@@ -8,7 +8,7 @@ use crate::tokens::{is_kind, text_at};
 use lexer::rows::{STRING, TOKEN_WIDTH};
 
 // The bytes of a content, or that a value is none.
-#[derive(Drop)]
+#[derive(Clone, Copy)]
 pub enum ContentAnswer {
     Content(usize),
     NoContent,

@@ -15,7 +15,7 @@ use lexer::rows::{DIMENSION, NUMBER, TOKEN_FIRST, TOKEN_SECOND, TOKEN_START};
 use lexer::whitespace::skip_optional_whitespace;
 
 // Whether a height is zero, or that a value is none.
-#[derive(Drop)]
+#[derive(Clone, Copy)]
 pub enum HeightAnswer {
     Height(bool),
     NoHeight,

@@ -11,7 +11,7 @@ use crate::words::place_of;
 use lexer::rows::{IDENT, TOKEN_WIDTH};
 
 // The number of a keyword, or that a value has none.
-#[derive(Drop)]
+#[derive(Clone, Copy)]
 pub enum WordAnswer {
     Word(u32),
     NoWord,

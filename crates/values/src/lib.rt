@@ -1,5 +1,7 @@
 // Values of declarations, read from the rest of a text as html2text 0.17.4 reads them (src/css/parser.rs), and the declarations that
 // properties make of them.
+#![tactic(auto)]
+
 pub mod words; // words.rt: fixed words, and tables of them
 pub mod tokens; // tokens.rt: what token rows say
 pub mod statements; // statements.rt: the tokens of a statement with its brackets, and values

@@ -10,7 +10,7 @@ use lexer::rows::{DELIM, IDENT, TOKEN_FIRST, TOKEN_WIDTH, put_token};
 use lexer::tokens::{Lexed, Token, parse_token};
 
 // The bytes taken, the tokens and the bytes of text of a statement; or of what stands before a closing bracket that is wrong.
-#[derive(Drop)]
+#[derive(Clone, Copy)]
 pub enum StatementAnswer {
     Statement {
         taken: usize,
@@ -26,7 +26,7 @@ pub enum StatementAnswer {
 
 // A value: the bytes taken, its tokens and their bytes of text, and whether it ends in the mark `!important`; or the tokens and the
 // bytes of text before a closing bracket that is wrong.
-#[derive(Drop)]
+#[derive(Clone, Copy)]
 pub enum ValueAnswer {
     Value {
         taken: usize,
@@ -38,7 +38,7 @@ pub enum ValueAnswer {
 }
 
 // What a token does to the brackets, by the byte that is awaited.
-#[derive(Drop)]
+#[derive(Clone, Copy)]
 pub enum Bracket {
     Opens(u8),
     Closes(u8),
@@ -47,7 +47,7 @@ pub enum Bracket {
 }
 
 // How a statement goes on at a token: with so many brackets awaited; it ends before the token, or behind it; or the brackets are wrong.
-#[derive(Drop)]
+#[derive(Clone, Copy)]
 pub enum Step {
     Next(usize),
     Before,

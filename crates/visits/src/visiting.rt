@@ -33,14 +33,14 @@ pub const TO_TESTS: usize = 6;
 pub const TO_END: usize = 8;
 
 // The segment that is awaited behind a row: the same one, with whether the selector matches; or the one before it, of so many components from a place on.
-#[derive(Drop)]
+#[derive(Clone, Copy)]
 pub enum Awaited {
     Same(bool),
     Before(u32, usize),
 }
 
 // Whether a selector matches, and the place of the next one.
-#[derive(Drop)]
+#[derive(Clone, Copy)]
 pub struct VisitAnswer {
     pub matched: bool,
     pub next: usize,

@@ -1,0 +1,14 @@
+-- A content's start is counted from `base` on, any other value stays.
+use Rattle.attributes.proofs.InlineLaws.{shifted-content, shifted-other}
+use native.Mathlib.Omega.{arith}
+use borrow.Author.Rules.{rules}
+use Rattle.attributes.proofs.inline.shifted.Goals as goal
+
+pub overflow_add-result : goal.overflow_add-result
+overflow_add-result c = omega (arith, c.requires.fits c.if-style-eq-CONTENT_SLOT.true)
+
+pub returns-then-style-eq-CONTENT_SLOT : goal.returns-then-style-eq-CONTENT_SLOT
+returns-then-style-eq-CONTENT_SLOT c = shifted-content _ _ c.if-style-eq-CONTENT_SLOT.true
+
+pub returns : goal.returns
+returns c = shifted-other _ _ c.if-style-eq-CONTENT_SLOT.false

@@ -1,0 +1,6 @@
+-- The slot's numbers and the mark of its record are written at two places that do not meet.
+use borrow.Author.Rules.{rules}
+use Rattle.cascade.proofs.rows.put_back.Goals as goal
+
+pub returns : goal.returns
+returns c = rw c.write_slot.ensures

@@ -1,0 +1,15 @@
+-- The characters so far are no White_Space; what is counted is what the definition repeats.
+use Rattle.characters.proofs.Trimming.{word-le}
+use Rattle.combinators.proofs.Repeating.{Repeating, repeat-begin, repeat-more, repeat-stop, repeat-end, lent, lent-le}
+use Rattle.characters.specs.Trim.{word_taken}
+use lib.ListN.{length}
+use native.Mathlib.Omega.{arith}
+use Prim.Native.Nat.{◌+◌, ◌-◌, ◌≤◌}
+use mathlib.Core.Path.{◌∙◌}
+use Rattle.characters.proofs.trim.word_end.Given as goal
+
+abbrev pub invariant-loop-i : goal.invariant-loop-i
+invariant-loop-i l = Repeating word_taken l.s l.i
+
+abbrev pub decreases-loop-i : goal.decreases-loop-i
+decreases-loop-i l = length l.s - l.i

@@ -1,0 +1,20 @@
+-- The refusals in their order, each by its own test; a page that is accepted is asked for the row.
+use mathlib.Core.Path.{◌∙◌}
+use Rattle.comparison.proofs.MatchResults as results
+use borrow.Author.Rules.{rules}
+use Rattle.comparison.proofs.matches.comparison_matches.Goals as goal
+
+pub returns-then-count-gt-COMPONENT_LIMIT : goal.returns-then-count-gt-COMPONENT_LIMIT
+returns-then-count-gt-COMPONENT_LIMIT c = c.refused.ensures ∙ results.too_many c.args.components.now c.args.count c.args.texts.now c.args.nodes.now c.args.attributes.now c.args.text.now c.args.row c.if-count-gt-COMPONENT_LIMIT.true
+
+pub returns-then-components-count : goal.returns-then-components-count
+returns-then-components-count c = c.refused-then-components-count.ensures ∙ results.too_few c.args.components.now c.args.count c.args.texts.now c.args.nodes.now c.args.attributes.now c.args.text.now c.args.row c.if-count-gt-COMPONENT_LIMIT.false c.if-components-count.true
+
+pub match_row-requires : goal.match_row-requires
+match_row-requires c = record { count_le_component_limit = c.if-count-gt-COMPONENT_LIMIT.false; text_value = results.accepts c.args.components.now c.args.count c.args.texts.now c.args.nodes.now c.args.attributes.now c.args.text.now c.args.row c.if-count-gt-COMPONENT_LIMIT.false c.if-components-count.false (c.refusal_of-page.ensures ∙ c.check_page.ensures) c.if-page-eq0.true }
+
+pub returns-then-page-eq0 : goal.returns-then-page-eq0
+returns-then-page-eq0 c = results.on-page c.args.components.now c.args.count c.args.texts.now c.args.nodes.now c.args.attributes.now c.args.text.now c.args.row c.if-count-gt-COMPONENT_LIMIT.false c.if-components-count.false (c.refusal_of-page.ensures ∙ c.check_page.ensures) c.if-page-eq0.true c.match_row.ensures
+
+pub returns : goal.returns
+returns c = c.refused-2.ensures ∙ results.no-page c.args.components.now c.args.count c.args.texts.now c.args.nodes.now c.args.attributes.now c.args.text.now c.args.row c.if-count-gt-COMPONENT_LIMIT.false c.if-components-count.false (c.refusal_of-page.ensures ∙ c.check_page.ensures) c.if-page-eq0.false

@@ -1,0 +1,13 @@
+-- The declaration is made of the tokens, its text is kept, and its row is put down.
+use Rattle.declarations.proofs.Putting as laws
+use borrow.Author.Rules.{rules}
+use Rattle.declarations.proofs.rules.put_declared.Goals as goal
+
+pub keep_text-requires : goal.keep_text-requires
+keep_text-requires c = laws.put-keeping c.args.names c.args.important c.requires c.part_of.ensures c.decl_of-read.ensures c.named-decl.ensures
+
+pub put_declaration-requires : goal.put_declaration-requires
+put_declaration-requires c = laws.put-narrow c.args.names c.args.important c.requires c.part_of.ensures c.decl_of-read.ensures c.named-decl.ensures
+
+pub returns : goal.returns
+returns c = laws.put-done c.args.names c.args.important c.requires c.part_of.ensures c.decl_of-read.ensures c.named-decl.ensures c.keep_text.ensures c.put_declaration.ensures

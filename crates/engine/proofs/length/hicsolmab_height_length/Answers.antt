@@ -1,0 +1,7 @@
+-- What the call leaves, with its answer in numbers.
+use Rattle.engine.proofs.Results as results
+use borrow.Author.Rules.{rules}
+use Rattle.engine.proofs.length.hicsolmab_height_length.Goals as goal
+
+pub returns : goal.returns
+returns c = results.length-called c.height_length.ensures c.result_of.ensures

@@ -1,0 +1,17 @@
+-- Each attribute adds what its name begins with, and those that are left are still to be asked.
+use Prim.Native.Nat.{◌-◌}
+use mathlib.Core.Path.{◌∙◌}
+use Rattle.matching.specs.Matches.{is_named}
+use Rattle.hints.proofs.StartLaws as laws
+use borrow.Author.Rules.{rules}
+use Rattle.hints.proofs.hints.name_starts.Goals as goal
+
+pub loop-i-init : goal.loop-i-init
+loop-i-init c = laws.gather-begin _ _ _ _ _
+
+pub loop-i-preserved : goal.loop-i-preserved
+loop-i-preserved c = laws.gather-more _ _ _ _ _ _ c.loop-i.invariant c.loop-i-test.true _ c.with_start-starts.ensures.keeps
+    (laws.name-told _ _ _ _ c.attribute_name-name.ensures _ (c.wide.ensures.value ∙ c.peek.ensures) _ c.with_start-starts.ensures.byte_value)
+
+pub returns : goal.returns
+returns c = laws.gather-end _ _ _ _ _ _ c.loop-i.invariant c.loop-i-test.false

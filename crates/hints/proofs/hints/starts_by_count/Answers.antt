@@ -1,0 +1,12 @@
+-- Without attributes nothing is asked of what is told; any byte is always right.
+use mathlib.Core.Path.{refl}
+use Rattle.hints.proofs.HintLaws as laws
+use Rattle.hints.proofs.StartLaws.{may-any}
+use borrow.Author.Rules.{rules}
+use Rattle.hints.proofs.hints.starts_by_count.Goals as goal
+
+pub returns-then-attributes-lt-ATTRIBUTE_WIDTH : goal.returns-then-attributes-lt-ATTRIBUTE_WIDTH
+returns-then-attributes-lt-ATTRIBUTE_WIDTH c = let t : goal.returns-then-attributes-lt-ATTRIBUTE_WIDTH-raw c = laws.none-begin _ c.if-attributes-lt-ATTRIBUTE_WIDTH.true _ in record { by_index = t.0; by_index_2 = t.1 }
+
+pub returns : goal.returns
+returns c = record { by_index = (λ _ _ _. may-any _ _ refl); by_index_2 = (λ _ _ _. may-any _ _ refl) }

@@ -1,0 +1,26 @@
+-- The digits left, behind what was counted, make what all make; beyond the most they only make it more.
+use mathlib.Core.Path.{◌≡◌, refl}
+use Prim.Native.Nat.{◌-◌}
+use lib.ListN.{length, drop}
+use Rattle.lexer.specs.Name.{hex_digit}
+use Rattle.values.specs.Colour.{numeral}
+use Rattle.lengths.specs.Length.{ten}
+use Rattle.lengths.specs.Numeral.{capped}
+use Rattle.lengths.proofs.NumeralLaws as laws
+use borrow.Author.Rules.{rules}
+use Rattle.lengths.proofs.numerals.digits_from.Goals as goal
+
+pub loop-i-init : goal.loop-i-init
+loop-i-init c = refl
+
+pub returns-then-value-gt-MOST_DIGITS : goal.returns-then-value-gt-MOST_DIGITS
+returns-then-value-gt-MOST_DIGITS c = search (rules, laws.digits-over)
+
+pub loop-i-preserved : goal.loop-i-preserved
+loop-i-preserved c = search (rules, laws.digits_more)
+
+pub returns-then-value-gt-MOST_DIGITS-2 : goal.returns-then-value-gt-MOST_DIGITS-2
+returns-then-value-gt-MOST_DIGITS-2 c = search (rules, laws.digits-over)
+
+pub returns : goal.returns
+returns c = search (rules, laws.digits-done)

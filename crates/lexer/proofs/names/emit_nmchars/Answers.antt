@@ -1,0 +1,46 @@
+-- At each turn what is left to read and to write has the result of the whole (`Chars`); the text is at most two bytes longer than `s`, so its length fits.
+use Prim.Native.Nat.{◌+◌, ◌-◌}
+use native.Mathlib.Omega.{arith}
+use lib.ListN.{length}
+use Rattle.lexer.proofs.Writing.{writing-begin}
+use Rattle.lexer.proofs.CharacterRuns as laws
+use borrow.Author.Rules.{rules}
+use Rattle.lexer.proofs.names.emit_nmchars.Goals as goal
+
+-- the next turn, where a character was read
+next : (c : tie.After-length-of invariant-loop decreases-loop) →
+    let d = c.before.before.before in
+    let v = d.before.before.before.before.before.before.before.before in
+    let a = v.before.before.before.args in
+    laws.Chars a.s.now a.store.now a.fill d.emit-scalar.new.1.0 d.emit-scalar.result (v.loop.i + d.before.before.before.k.given.0.0) (v.loop.n + c.length-of.result)
+next c =
+    let d = c.before.before.before in
+    let m = d.before.before.before.before.before in
+    laws.chars-more _ _ _ _ _ _ _ m.before.before.before.loop.invariant _ m.nmchar.ensures _ _ d.before.before.before.k.given.1 _ _ d.emit-scalar.ensures d.emit-scalar.auto.1.0 _ c.length-of.ensures
+
+pub loop-i-init : goal.loop-i-init
+loop-i-init c = writing-begin _ _ _ _ _
+
+pub overflow_add-n : goal.overflow_add-n
+overflow_add-n c = omega (arith, laws.chars-small _ _ _ _ _ _ _ (next c))
+
+pub overflow_add-i : goal.overflow_add-i
+overflow_add-i c = omega (arith, (next c).within_text)
+
+pub loop-i-smaller : goal.loop-i-smaller
+loop-i-smaller c = omega (arith, (next c).within_text, laws.chars-some _ _ c.nmchar.ensures _ _ c.in-Value.is)
+
+pub loop-i-preserved : goal.loop-i-preserved
+loop-i-preserved c = next c
+
+pub shape_of-store-in-NoScalar : goal.shape_of-store-in-NoScalar
+shape_of-store-in-NoScalar c = c.loop-i.invariant.long
+
+pub returns-in-NoScalar : goal.returns-in-NoScalar
+returns-in-NoScalar c = let t : goal.returns-in-NoScalar-raw c = laws.chars-stop _ _ _ _ _ _ _ c.loop-i.invariant _ c.nmchar.ensures c.in-NoScalar.is in record { taken_value = t.0; store_after = t.1 }
+
+pub shape_of-store : goal.shape_of-store
+shape_of-store c = c.loop-i.invariant.long
+
+pub returns : goal.returns
+returns c = let t : goal.returns-raw c = laws.chars-end _ _ _ _ _ _ _ c.loop-i.invariant c.loop-i-test.false in record { taken_value = t.0; store_after = t.1 }

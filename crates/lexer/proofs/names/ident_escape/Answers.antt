@@ -1,0 +1,17 @@
+-- Behind a backslash `escaped` reads the rest of the text, as the definition does; without a backslash there is no escape.
+use native.Mathlib.Omega.{arith}
+use Rattle.lexer.proofs.Escapes as laws
+use borrow.Author.Rules.{rules}
+use Rattle.lexer.proofs.names.ident_escape.Goals as goal
+
+pub slice_bounds-escaped-count : goal.slice_bounds-escaped-count
+slice_bounds-escaped-count c = omega (arith, laws.escape-there c.args.s.now _ c.byte_is.ensures c.if-byte_is.true)
+
+pub slice_bounds-escaped-start : goal.slice_bounds-escaped-start
+slice_bounds-escaped-start c = omega (arith, laws.escape-there c.args.s.now _ c.byte_is.ensures c.if-byte_is.true)
+
+pub returns-then-byte_is : goal.returns-then-byte_is
+returns-then-byte_is c = laws.escape-yes _ _ c.byte_is.ensures c.if-byte_is.true _ c.escaped.ensures
+
+pub returns : goal.returns
+returns c = laws.escape-no _ _ c.byte_is.ensures c.if-byte_is.false

@@ -1,0 +1,17 @@
+-- What was added, of the components so far, is their specificity; each adds at most one to a count, so the sums fit.
+use Prim.Native.Nat.{◌-◌}
+use Rattle.matching.proofs.ComponentLaws.{Adding, add_begin, add-fits, add-more, add-end}
+use borrow.Author.Rules.{rules}
+use Rattle.matching.proofs.components.specificity.Goals as goal
+
+pub loop-i-init : goal.loop-i-init
+loop-i-init c = add_begin _ _
+
+pub add-result-requires : goal.add-result-requires
+add-result-requires c = add-fits _ _ _ _ c.loop-i.invariant c.loop-i-test.true _ c.kind_at-kind.ensures _ c.added_by.ensures (search rules)
+
+pub loop-i-preserved : goal.loop-i-preserved
+loop-i-preserved c = add-more _ _ _ _ c.loop-i.invariant c.loop-i-test.true _ c.kind_at-kind.ensures _ c.added_by.ensures _ c.add-result.ensures
+
+pub returns : goal.returns
+returns c = add-end _ _ _ _ c.loop-i.invariant c.loop-i-test.false

@@ -1,0 +1,18 @@
+-- The attributes that are left have the answer of all; the first of the name decides.
+use Prim.Native.Nat.{◌-◌}
+use Rattle.matching.specs.Matches.{any_attribute, is_named}
+use Rattle.matching.proofs.AttributeLaws.{Looking, look-begin, any_found, any-more, any-end}
+use borrow.Author.Rules.{rules}
+use Rattle.matching.proofs.elements.has_attribute.Goals as goal
+
+pub loop-i-init : goal.loop-i-init
+loop-i-init c = look-begin _ _ _ _ _
+
+pub returns-then-is_named : goal.returns-then-is_named
+returns-then-is_named c = search (rules, any_found)
+
+pub loop-i-preserved : goal.loop-i-preserved
+loop-i-preserved c = search (rules, any-more)
+
+pub returns : goal.returns
+returns c = search (rules, any-end)

@@ -1,0 +1,18 @@
+-- The attributes that are left have the answer of all; the first that passes decides.
+use Prim.Native.Nat.{◌-◌}
+use Rattle.matching.specs.Matches.{any_attribute, is_class}
+use Rattle.matching.proofs.AttributeLaws.{Looking, look-begin, any_found, any-more, any-end}
+use borrow.Author.Rules.{rules}
+use Rattle.matching.proofs.elements.has_class.Goals as goal
+
+pub loop-i-init : goal.loop-i-init
+loop-i-init c = look-begin _ _ _ _ _
+
+pub returns-then-is_class : goal.returns-then-is_class
+returns-then-is_class c = search (rules, any_found)
+
+pub loop-i-preserved : goal.loop-i-preserved
+loop-i-preserved c = search (rules, any-more)
+
+pub returns : goal.returns
+returns c = search (rules, any-end)

@@ -1,0 +1,11 @@
+-- The attributes that are left have the answer of all; the first that passes decides.
+use Prim.Native.Nat.{◌-◌}
+use Rattle.matching.specs.Matches.{any_attribute, is_class}
+use Rattle.matching.proofs.AttributeLaws.{Looking, look-begin, any_found, any-more, any-end}
+use Rattle.matching.proofs.elements.has_class.Given as goal
+
+abbrev pub invariant-loop-i : goal.invariant-loop-i
+invariant-loop-i l = Looking (any_attribute (is_class l.class)) l.attributes l.text l.at l.count l.i
+
+abbrev pub decreases-loop-i : goal.decreases-loop-i
+decreases-loop-i l = l.count - l.i

@@ -1,0 +1,8 @@
+-- The declarations lie behind the head and all selectors.
+use Rattle.origins.proofs.WalkLaws as laws
+use borrow.Author.Rules.{rules}
+use Rattle.origins.proofs.walk.rule_declarations.Goals as goal
+
+pub returns : goal.returns
+returns c = let a = c.args in
+    laws.behind-selectors a.rows.now a.at _ c.forward.result c.skip_selectors.result c.number_at.ensures c.forward.ensures.rows_value c.skip_selectors.ensures

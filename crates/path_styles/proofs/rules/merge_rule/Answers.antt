@@ -1,0 +1,21 @@
+-- The rule says what its selectors say with the styles that are kept for it, and without a style they say nothing; its declarations lie behind them.
+use Rattle.path_styles.proofs.RulesMerging as laws
+use Rattle.page.specs.PathOf.{path_of}
+use borrow.Author.Rules.{rules}
+use Rattle.path_styles.proofs.rules.merge_rule.Goals as goal
+
+pub returns-then-count-eq0 : goal.returns-then-count-eq0
+returns-then-count-eq0 c = let t : goal.returns-then-count-eq0-raw c = let a = c.args in
+    (laws.rule-unstyled _ a.origin (path_of a.nodes.now a.attributes.now a.text.now a.row) a.texts.now a.rows.now a.at a.styles.now a.first _ c.number_at-count.ensures c.if-count-eq0.true _, c.skip_rule.ensures a.texts.now) in record { out_after = t.0; rows_value = t.1 }
+
+pub merge_selectors-behind-requires : goal.merge_selectors-behind-requires
+merge_selectors-behind-requires c = let t : goal.merge_selectors-behind-requires-raw c = let a = c.args in
+    (c.requires.row_room, (c.requires.rooted, laws.lent-tops a.nodes.now a.attributes.now a.text.now a.row a.texts.now a.rows.now a.at _ c.forward.result c.number_at.ensures c.forward.ensures.rows_value _ c.requires.right_tops)) in record { row_room = t.0; rooted = t.1.0; right_tops = t.1.1 }
+
+pub returns : goal.returns
+returns c = let t : goal.returns-raw c = let a = c.args in (
+  laws.rule-merged _ a.origin (path_of a.nodes.now a.attributes.now a.text.now a.row) a.texts.now a.rows.now a.at a.styles.now a.first _ c.number_at-count.ensures c.forward-2.result
+      c.forward-2.ensures.rows_value _ c.forward.result c.number_at.ensures c.forward.ensures.rows_value _ _ c.merge_selectors-behind.ensures.out_after,
+  laws.behind-merged a.texts.now a.rows.now a.at _ c.forward.result c.number_at.ensures c.forward.ensures.rows_value c.merge_selectors-behind.result c.merge_selectors-behind.ensures.rows_value _ c.forward-3.result
+      c.number_at-declarations.ensures c.forward-3.ensures.rows_value,
+) in record { out_after = t.0; rows_value = t.1 }

@@ -1,0 +1,13 @@
+-- The text that is lent is the sheet's, so its rules are those of the sheet.
+use Rattle.rule_styles.specs.Placing.{sheet_text}
+use Rattle.path_styles.specs.Tops.{sheet_selectors}
+use borrow.Author.Rules.{rules}
+use Rattle.path_styles.proofs.tops.find_sheet_tops.Goals as goal
+
+pub find_rules_tops-requires : goal.find_rules_tops-requires
+unfolding sheet_selectors sheet_text
+find_rules_tops-requires c = record { rooted = c.requires.rooted; row_lt_number_bound = c.requires.row_lt_number_bound; tops_room = c.requires.tops_room }
+
+pub returns : goal.returns
+unfolding sheet_selectors sheet_text
+returns c = record { tokens_after = c.find_rules_tops.ensures.tokens_after; value = c.find_rules_tops.ensures.value }

@@ -1,0 +1,19 @@
+-- A content is copied and its row says where it lies; any other row is written as it was read.
+use Rattle.rule_styles.proofs.PlacingStyles as laws
+use borrow.Author.Rules.{rules}
+use Rattle.rule_styles.proofs.placing.place_style.Goals as goal
+
+pub copy_part-size-requires : goal.copy_part-size-requires
+copy_part-size-requires c = laws.content-room c.args.tokens.now c.args.texts.now c.args.at c.args.from c.args.end c.args.fill _ c.style_at-style.ensures c.if-slot-eq-CONTENT_SLOT.true c.requires.contents_room
+
+pub overflow_cast-second : goal.overflow_cast-second
+overflow_cast-second c = search (rules, laws.content-bits c.args.tokens.now c.args.texts.now c.args.at c.args.from c.args.end c.args.fill _ c.style_at-style.ensures c.if-slot-eq-CONTENT_SLOT.true c.requires.contents_room _ c.copy_part-size.ensures.value)
+
+pub overflow_add-result : goal.overflow_add-result
+overflow_add-result c = search (rules, laws.content-bits c.args.tokens.now c.args.texts.now c.args.at c.args.from c.args.end c.args.fill _ c.style_at-style.ensures c.if-slot-eq-CONTENT_SLOT.true c.requires.contents_room _ c.copy_part-size.ensures.value)
+
+pub returns-then-slot-eq-CONTENT_SLOT : goal.returns-then-slot-eq-CONTENT_SLOT
+returns-then-slot-eq-CONTENT_SLOT c = let t : goal.returns-then-slot-eq-CONTENT_SLOT-raw c = laws.content-placed c.args.tokens.now c.args.texts.now c.args.at c.args.from c.args.end c.args.fill _ c.style_at-style.ensures c.if-slot-eq-CONTENT_SLOT.true _ c.copy_part-size.ensures.value _ _ c.copy_part-size.ensures.texts_after c.write_style.ensures in record { tokens_after = t.0; texts_after = t.1.0; value = t.1.1 }
+
+pub returns : goal.returns
+returns c = let t : goal.returns-raw c = laws.other-placed c.args.tokens.now c.args.texts.now c.args.at c.args.from c.args.end c.args.fill _ c.style_at-style.ensures c.if-slot-eq-CONTENT_SLOT.false _ c.write_style-2.ensures in record { tokens_after = t.0; texts_after = t.1.0; value = t.1.1 }

@@ -1,0 +1,13 @@
+-- What was read and what is still to be read make up the whole at each turn (`Reading-on`); each return is the law of its case.
+use mathlib.Core.Path.{◌∙◌}
+use native.Mathlib.Omega.{arith}
+use Prim.Native.Nat.{◌-◌}
+use lib.ListN.{length}
+use Rattle.selectors.proofs.SelectorLists as laws
+use Rattle.selectors.proofs.selector_lists.parse_selectors.Given as goal
+
+abbrev pub invariant-loop-p : goal.invariant-loop-p
+invariant-loop-p l = laws.Reading-on l.s l.initial.rules l.place l.initial.store l.fill l.rules l.store l.taken l.count l.numbers l.text l.next
+
+abbrev pub decreases-loop-p : goal.decreases-loop-p
+decreases-loop-p l = length l.s - l.next

@@ -1,0 +1,43 @@
+-- The page is refused, the row is no element, or the element is styled.
+use mathlib.Core.Path.{◌∙◌}
+use Rattle.styling.proofs.StyleCalls as laws
+use borrow.Author.Rules.{rules}
+use Rattle.styling.proofs.style.style_asked.Goals as goal
+
+pub style_in_front-requires : goal.style_in_front-requires
+style_in_front-requires c = let t : goal.style_in_front-requires-raw c = let a = c.args in
+    let e = c.refusal_of-refusal.ensures ∙ c.check_page.ensures in
+    let x = c.if-refusal-eq-NO_REFUSAL.true in
+    let y = c.is_element.ensures in
+    let z = c.if-is_element.true in
+    (laws.rooted a.cascade a.settings (record { agent = a.agent.now; user = a.user.now; author = a.author.now }) (record { nodes = a.nodes.now; attributes = a.attributes.now; text = a.text.now }) a.row a.out.now a.texts.now a.rules.now a.tokens.now a.brackets.now c.requires e x y z, (laws.few-rows a.cascade a.settings (record { agent = a.agent.now; user = a.user.now; author = a.author.now }) (record { nodes = a.nodes.now; attributes = a.attributes.now; text = a.text.now }) a.row a.out.now a.texts.now a.rules.now a.tokens.now a.brackets.now c.requires e x y z, (laws.lent a.cascade a.settings (record { agent = a.agent.now; user = a.user.now; author = a.author.now }) (record { nodes = a.nodes.now; attributes = a.attributes.now; text = a.text.now }) a.row a.out.now a.texts.now a.rules.now a.tokens.now a.brackets.now c.requires e x y z, laws.call-lent a.cascade a.settings (record { agent = a.agent.now; user = a.user.now; author = a.author.now }) (record { nodes = a.nodes.now; attributes = a.attributes.now; text = a.text.now }) a.row a.out.now a.texts.now a.rules.now a.tokens.now a.brackets.now c.requires e x y z))) in record { rooted = t.0; row_lt_number_bound = t.1.0; lent = t.1.1.0; call_lent = t.1.1.1 }
+
+pub shape_of-out-then-is_element : goal.shape_of-out-then-is_element
+shape_of-out-then-is_element c = c.style_in_front.auto.out
+
+pub shape_of-texts-then-is_element : goal.shape_of-texts-then-is_element
+shape_of-texts-then-is_element c = c.style_in_front.auto.texts
+
+pub shape_of-rules-then-is_element : goal.shape_of-rules-then-is_element
+shape_of-rules-then-is_element c = c.style_in_front.auto.rules
+
+pub shape_of-tokens-then-is_element : goal.shape_of-tokens-then-is_element
+shape_of-tokens-then-is_element c = c.style_in_front.auto.tokens
+
+pub shape_of-brackets-then-is_element : goal.shape_of-brackets-then-is_element
+shape_of-brackets-then-is_element c = c.style_in_front.auto.brackets
+
+pub returns-then-is_element : goal.returns-then-is_element
+returns-then-is_element c = let a = c.args in
+    let e = c.refusal_of-refusal.ensures ∙ c.check_page.ensures in
+    laws.asked a.cascade a.settings (record { agent = a.agent.now; user = a.user.now; author = a.author.now }) (record { nodes = a.nodes.now; attributes = a.attributes.now; text = a.text.now }) a.row a.out.now a.texts.now a.rules.now a.tokens.now a.brackets.now c.requires e c.if-refusal-eq-NO_REFUSAL.true c.is_element.ensures c.if-is_element.true c.style_in_front.ensures
+
+pub returns-then-refusal-eq-NO_REFUSAL : goal.returns-then-refusal-eq-NO_REFUSAL
+returns-then-refusal-eq-NO_REFUSAL c = let a = c.args in
+    let e = c.refusal_of-refusal.ensures ∙ c.check_page.ensures in
+    laws.no-element a.cascade a.settings (record { agent = a.agent.now; user = a.user.now; author = a.author.now }) (record { nodes = a.nodes.now; attributes = a.attributes.now; text = a.text.now }) a.row a.out.now a.texts.now a.rules.now a.tokens.now a.brackets.now c.requires e c.if-refusal-eq-NO_REFUSAL.true c.is_element.ensures c.if-is_element.false c.refused.ensures c.refused_style.ensures
+
+pub returns : goal.returns
+returns c = let a = c.args in
+    let e = c.refusal_of-refusal.ensures ∙ c.check_page.ensures in
+    laws.page-refused a.cascade a.settings (record { agent = a.agent.now; user = a.user.now; author = a.author.now }) (record { nodes = a.nodes.now; attributes = a.attributes.now; text = a.text.now }) a.row a.out.now a.texts.now a.rules.now a.tokens.now a.brackets.now c.requires e c.if-refusal-eq-NO_REFUSAL.false c.refused_style-2.ensures

@@ -1,0 +1,20 @@
+-- What is left to read from the byte on, with the brackets awaited and into the stores as they are, leaves what the whole leaves; each turn takes a token,
+-- which takes a byte.
+use mathlib.Core.Path.{◌≡◌, sym, ap, ◌∙◌}
+use mathlib.Core.List.{List}
+use Prim.Native.Nat.{ℕ, ◌-◌, ◌+◌}
+use native.Mathlib.Omega.{arith}
+use lib.ListN.{length, drop}
+use lib.Seq.{sets}
+use Rattle.combinators.proofs.Lists.{rest}
+use Rattle.lexer.specs.Token.{token_of, token_text, lexed_answer}
+use Rattle.lexer.specs.Whitespace.{skip_whitespace}
+use Rattle.lexer.specs.declared.tokens.Lexed.TheVariants.{At}
+use Rattle.values.proofs.Turns as laws
+use Rattle.values.proofs.statements.parse_to_end_of_statement.Given as goal
+
+abbrev pub invariant-loop-start : goal.invariant-loop-start
+invariant-loop-start l = laws.Running l.s l.include_semicolon l.initial.rows l.initial.brackets l.initial.store l.fill l.rows l.brackets l.store l.taken l.count l.place l.depth l.text
+
+abbrev pub decreases-loop-start : goal.decreases-loop-start
+decreases-loop-start l = length l.s - l.taken

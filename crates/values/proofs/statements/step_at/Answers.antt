@@ -1,0 +1,16 @@
+-- The store of brackets is a stack of those awaited; each kind of token does to it what the definition does.
+use Rattle.values.proofs.Nesting as laws
+use borrow.Author.Rules.{rules}
+use Rattle.values.proofs.statements.step_at.Goals as goal
+
+pub returns-in-Opens : goal.returns-in-Opens
+returns-in-Opens c = laws.moved-opens _ _ _ c.bracket_of.ensures _ _ _ c.in-Opens.is c.requires
+
+pub returns-in-Closes : goal.returns-in-Closes
+returns-in-Closes c = laws.moved-closes _ _ _ c.bracket_of.ensures _ _ _ c.in-Closes.is _ (c.closing_step.ensures.brackets_value, c.closing_step.ensures.d_value)
+
+pub returns-in-Ends : goal.returns-in-Ends
+returns-in-Ends c = laws.moved_ends _ _ _ c.bracket_of.ensures _ _ c.in-Ends.is _ c.ending_step.ensures
+
+pub returns-in-NoBracket : goal.returns-in-NoBracket
+returns-in-NoBracket c = laws.moved_none _ _ _ c.bracket_of.ensures _ _ c.in-NoBracket.is

@@ -1,0 +1,10 @@
+-- Where the selector has a style its block is stored, with the place of the next one that has; where it has none, nothing is.
+use Rattle.visits.proofs.CodeTellLaws as laws
+use borrow.Author.Rules.{rules}
+use Rattle.visits.proofs.document.put_styled.Goals as goal
+
+pub returns-then-has_style : goal.returns-then-has_style
+returns-then-has_style c = laws.styled-put _ _ _ _ _ _ _ _ c.has_style.ensures c.if-has_style.true _ c.first_styled-next.ensures.value _ c.put_leftmost.ensures
+
+pub returns-else-has_style : goal.returns-else-has_style
+returns-else-has_style c = laws.styled-bare _ _ _ _ _ _ _ _ c.has_style.ensures c.if-has_style.false
