@@ -11,7 +11,7 @@ pub overflow_add-i : goal.overflow_add-i
 overflow_add-i c = omega (arith, laws.name-end c.args.s.now c.args.tokens.now c.args.brackets.now c.args.store.now c.args.fill c.requires c.skip_optional_whitespace-a.ensures.value c.byte_is.ensures c.if-byte_is.true c.skip_from-i.ensures.value c.skip_from-i.ensures.upper_bound c.parse_ident.ensures.value c.parse_ident.ensures.store_after c.in-Text.is)
 
 pub parse_statement_end-requires : goal.parse_statement_end-requires
-parse_statement_end-requires c = record { work_room = laws.name-room c.args.s.now c.args.tokens.now c.args.brackets.now c.args.store.now c.args.fill c.requires c.skip_optional_whitespace-a.ensures.value c.byte_is.ensures c.if-byte_is.true c.skip_from-i.ensures.value c.skip_from-i.ensures.upper_bound c.parse_ident.ensures.value c.parse_ident.ensures.store_after c.in-Text.is c.wipe_bytes.ensures; n_in_bounds = laws.name-end c.args.s.now c.args.tokens.now c.args.brackets.now c.args.store.now c.args.fill c.requires c.skip_optional_whitespace-a.ensures.value c.byte_is.ensures c.if-byte_is.true c.skip_from-i.ensures.value c.skip_from-i.ensures.upper_bound c.parse_ident.ensures.value c.parse_ident.ensures.store_after c.in-Text.is, }
+parse_statement_end-requires c = record { work_room = laws.name-room c.args.s.now c.args.tokens.now c.args.brackets.now c.args.store.now c.args.fill c.requires c.skip_optional_whitespace-a.ensures.value c.byte_is.ensures c.if-byte_is.true c.skip_from-i.ensures.value c.skip_from-i.ensures.upper_bound c.parse_ident.ensures.value c.parse_ident.ensures.store_after c.in-Text.is c.wipe_bytes.ensures; n_in_bounds = laws.name-end c.args.s.now c.args.tokens.now c.args.brackets.now c.args.store.now c.args.fill c.requires c.skip_optional_whitespace-a.ensures.value c.byte_is.ensures c.if-byte_is.true c.skip_from-i.ensures.value c.skip_from-i.ensures.upper_bound c.parse_ident.ensures.value c.parse_ident.ensures.store_after c.in-Text.is }
 
 pub returns-in-Text : goal.returns-in-Text
 returns-in-Text c = let t : goal.returns-in-Text-raw c = laws.name-told c.args.s.now c.args.tokens.now c.args.brackets.now c.args.store.now c.args.fill c.requires c.skip_optional_whitespace-a.ensures.value c.byte_is.ensures c.if-byte_is.true c.skip_from-i.ensures.value c.skip_from-i.ensures.upper_bound c.parse_ident.ensures.value c.parse_ident.ensures.store_after c.in-Text.is c.wipe_bytes.ensures (c.parse_statement_end.ensures.value, (c.parse_statement_end.ensures.tokens_unchanged, (c.parse_statement_end.ensures.brackets_unchanged, c.parse_statement_end.ensures.store_unchanged))) in record { value = t.0; tokens_unchanged = t.1.0; brackets_unchanged = t.1.1.0; store_unchanged = t.1.1.1 }
