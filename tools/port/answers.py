@@ -266,7 +266,7 @@ class Function:
         if "tie." in kind and one and one[1] == one[2]:
             self.place_macros[name] = ["before"] * one[3].count(".before")
             return
-        macro = re.match(rf"{re.escape(name)} ((?:\S+ )*?)= (.*)$", "\n".join(body), re.S)
+        macro = re.match(rf"{re.escape(name)} ((?:\S+ )*?)=\s(.*)$", "\n".join(body), re.S)
         if "tie." in kind and macro and not unfold:
             params = macro[1].split()
             tail = macro[2].strip()

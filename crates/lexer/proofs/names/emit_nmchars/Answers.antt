@@ -7,31 +7,20 @@ use Rattle.lexer.proofs.CharacterRuns as laws
 use borrow.Author.Rules.{rules}
 use Rattle.lexer.proofs.names.emit_nmchars.Goals as goal
 
--- the next turn, where a character was read
-next : (c : tie.After-length-of invariant-loop decreases-loop) →
-    let d = c.before.before.before in
-    let v = d.before.before.before.before.before.before.before.before in
-    let a = v.before.before.before.args in
-    laws.Chars a.s.now a.store.now a.fill d.emit-scalar.new.1.0 d.emit-scalar.result (v.loop.i + d.before.before.before.k.given.0.0) (v.loop.n + c.length-of.result)
-next c =
-    let d = c.before.before.before in
-    let m = d.before.before.before.before.before in
-    laws.chars-more _ _ _ _ _ _ _ m.before.before.before.loop.invariant _ m.nmchar.ensures _ _ d.before.before.before.k.given.1 _ _ d.emit-scalar.ensures d.emit-scalar.auto.1.0 _ c.length-of.ensures
-
 pub loop-i-init : goal.loop-i-init
 loop-i-init c = writing-begin _ _ _ _ _
 
 pub overflow_add-n : goal.overflow_add-n
-overflow_add-n c = omega (arith, laws.chars-small _ _ _ _ _ _ _ (next c))
+overflow_add-n c = omega (arith, laws.chars-small _ _ _ _ _ _ _ ((laws.chars-more _ _ _ _ _ _ _ c.loop-i.invariant _ c.nmchar.ensures _ _ c.in-Value.is _ _ c.emit_scalar-f.ensures c.emit_scalar-f.auto.store _ c.length_of-n.ensures)))
 
 pub overflow_add-i : goal.overflow_add-i
-overflow_add-i c = omega (arith, (next c).within_text)
+overflow_add-i c = omega (arith, ((laws.chars-more _ _ _ _ _ _ _ c.loop-i.invariant _ c.nmchar.ensures _ _ c.in-Value.is _ _ c.emit_scalar-f.ensures c.emit_scalar-f.auto.store _ c.length_of-n.ensures)).within_text)
 
 pub loop-i-smaller : goal.loop-i-smaller
-loop-i-smaller c = omega (arith, (next c).within_text, laws.chars-some _ _ c.nmchar.ensures _ _ c.in-Value.is)
+loop-i-smaller c = omega (arith, ((laws.chars-more _ _ _ _ _ _ _ c.loop-i.invariant _ c.nmchar.ensures _ _ c.in-Value.is _ _ c.emit_scalar-f.ensures c.emit_scalar-f.auto.store _ c.length_of-n.ensures)).within_text, laws.chars-some _ _ c.nmchar.ensures _ _ c.in-Value.is)
 
 pub loop-i-preserved : goal.loop-i-preserved
-loop-i-preserved c = next c
+loop-i-preserved c = (laws.chars-more _ _ _ _ _ _ _ c.loop-i.invariant _ c.nmchar.ensures _ _ c.in-Value.is _ _ c.emit_scalar-f.ensures c.emit_scalar-f.auto.store _ c.length_of-n.ensures)
 
 pub shape_of-store-in-NoScalar : goal.shape_of-store-in-NoScalar
 shape_of-store-in-NoScalar c = c.loop-i.invariant.long
