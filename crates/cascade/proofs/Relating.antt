@@ -96,14 +96,20 @@ module _ {A B : Type 0} (R : A → B → Type 0) where
   pub update_same : (k : Cascade) (s : Slot A) (t : Slot B) (x : Candidate A) (y : Candidate B) → SameSlot R s t → SameCandidate R x y → SameSlot R (update_by k s x) (update_by k t y)
   unfolding update_by maybe_update book_update
   update_same Crate empty empty x y both-empty q = both-held q
+  update_same Crate empty (held d) x y h q = elim h [ ]
+  update_same Crate (held c) empty x y h q = elim h [ ]
   update_same Crate (held c) (held d) x y (both-held p) q = chosen-same held_against c x d y p q
   update_same Book empty empty x y both-empty q = both-held q
+  update_same Book empty (held d) x y h q = elim h [ ]
+  update_same Book (held c) empty x y h q = elim h [ ]
   update_same Book (held c) (held d) x y (both-held p) q = chosen-same held_in_book c x d y p q
 
   -- and when an inherited value fills both
   fill-same : (s : Slot A) (t : Slot B) (x : Candidate A) (y : Candidate B) → SameSlot R s t → SameCandidate R x y → SameSlot R (fill_update s x) (fill_update t y)
   unfolding fill_update
   fill-same empty empty x y both-empty q = both-held q
+  fill-same empty (held d) x y h q = elim h [ ]
+  fill-same (held c) empty x y h q = elim h [ ]
   fill-same (held c) (held d) x y (both-held p) q = both-held p
 
   -- ---- by any two updates that keep slots the same
@@ -192,6 +198,8 @@ module _ {A B : Type 0} (R : A → B → Type 0) where
   slot-handed : (r k : ℕ) (s : Slot A) (t : Slot B) → SameSlot R s t → Each SameDeclared (handed_slot r k s) (handed_slot r k t)
   unfolding handed_slot
   slot-handed r k empty empty both-empty = none
+  slot-handed r k empty (held d) h = elim h [ ]
+  slot-handed r k (held c) empty h = elim h [ ]
   slot-handed r k (held c) (held d) (both-held p) = next (record { pseudos = refl; slots = refl; candidates = p }) none
 
   -- a record filled from what is the same

@@ -71,10 +71,10 @@ pub loop-p-preserved : goal.loop-p-preserved
 loop-p-preserved c = laws.goes c.loop-p.invariant c.requires.row_room c.requires.text_room (c.parse_selector.ensures.value, (c.parse_selector.ensures.rules_after, c.parse_selector.ensures.store_after)) c.in-Reads.is c.byte_is.ensures c.if-byte_is.true c.skip_from-next.ensures.value c.skip_from-next.ensures.upper_bound
 
 pub shape_of-rules-else-byte_is : goal.shape_of-rules-else-byte_is
-shape_of-rules-else-byte_is c = c.parse_selector.kept.1.0 ∙ laws.rules-kept c.loop-p.invariant c.requires.row_room c.requires.text_room
+shape_of-rules-else-byte_is c = c.parse_selector.auto.rules ∙ laws.rules-kept c.loop-p.invariant c.requires.row_room c.requires.text_room
 
 pub shape_of-store-else-byte_is : goal.shape_of-store-else-byte_is
-shape_of-store-else-byte_is c = c.parse_selector.kept.1.1.1.0 ∙ laws.store_kept c.loop-p.invariant c.requires.row_room c.requires.text_room
+shape_of-store-else-byte_is c = c.parse_selector.auto.store ∙ laws.store_kept c.loop-p.invariant c.requires.row_room c.requires.text_room
 
 pub returns-else-byte_is : goal.returns-else-byte_is
 returns-else-byte_is c = let t : goal.returns-else-byte_is-raw c = laws.no-comma c.loop-p.invariant c.requires.row_room c.requires.text_room (c.parse_selector.ensures.value, (c.parse_selector.ensures.rules_after, c.parse_selector.ensures.store_after)) c.in-Reads.is c.byte_is.ensures c.if-byte_is.false in record { value = t.0; rules_after = t.1.0; store_after = t.1.1 }

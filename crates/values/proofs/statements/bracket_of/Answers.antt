@@ -48,4 +48,4 @@ returns-in-CloseBrace c = sym (ap bracket_by c.in-CloseBrace.is)
 
 pub returns-in_default : goal.returns-in_default
 unfolding meant
-returns-in_default c = laws.without-bracket _ c.in_default.keys11
+returns-in_default c = laws.without-bracket _ c.in_default.in_default-own.keys11

@@ -49,7 +49,7 @@ pub shape_of-brackets-in-Before : goal.shape_of-brackets-in-Before
 shape_of-brackets-in-Before c = (c.step_at.auto.brackets ∙ c.loop-start.invariant.brackets-long)
 
 pub shape_of-store-in-Before : goal.shape_of-store-in-Before
-shape_of-store-in-Before c = (c.parse_token.kept.1.0 ∙ c.loop-start.invariant.store_long)
+shape_of-store-in-Before c = (c.parse_token.auto.store ∙ c.loop-start.invariant.store_long)
 
 pub returns-in-Before : goal.returns-in-Before
 returns-in-Before c = let t : goal.returns-in-Before-raw c = laws.ends-before c.loop-start.invariant ((sym c.in-At.is ∙ (c.parse_token.ensures.value ∙ ap (λ l. lexed_answer (skip_whitespace l) (token_of l)) (rest c.args.s.now c.loop-start.taken)))) ((c.parse_token.ensures.store_after
@@ -62,7 +62,7 @@ pub shape_of-brackets-in-Wrong : goal.shape_of-brackets-in-Wrong
 shape_of-brackets-in-Wrong c = (c.step_at.auto.brackets ∙ c.loop-start.invariant.brackets-long)
 
 pub shape_of-store-in-Wrong : goal.shape_of-store-in-Wrong
-shape_of-store-in-Wrong c = (c.parse_token.kept.1.0 ∙ c.loop-start.invariant.store_long)
+shape_of-store-in-Wrong c = (c.parse_token.auto.store ∙ c.loop-start.invariant.store_long)
 
 pub returns-in-Wrong : goal.returns-in-Wrong
 returns-in-Wrong c = let t : goal.returns-in-Wrong-raw c = laws.ends-wrong c.loop-start.invariant ((sym c.in-At.is ∙ (c.parse_token.ensures.value ∙ ap (λ l. lexed_answer (skip_whitespace l) (token_of l)) (rest c.args.s.now c.loop-start.taken)))) ((c.parse_token.ensures.store_after
@@ -84,7 +84,7 @@ pub shape_of-brackets-in-Behind : goal.shape_of-brackets-in-Behind
 shape_of-brackets-in-Behind c = (c.step_at.auto.brackets ∙ c.loop-start.invariant.brackets-long)
 
 pub shape_of-store-in-Behind : goal.shape_of-store-in-Behind
-shape_of-store-in-Behind c = (c.parse_token.kept.1.0 ∙ c.loop-start.invariant.store_long)
+shape_of-store-in-Behind c = (c.parse_token.auto.store ∙ c.loop-start.invariant.store_long)
 
 pub returns-in-Behind : goal.returns-in-Behind
 returns-in-Behind c = let t : goal.returns-in-Behind-raw c = laws.ends-behind c.loop-start.invariant ((sym c.in-At.is ∙ (c.parse_token.ensures.value ∙ ap (λ l. lexed_answer (skip_whitespace l) (token_of l)) (rest c.args.s.now c.loop-start.taken)))) ((c.parse_token.ensures.store_after
@@ -107,4 +107,4 @@ pub loop-start-preserved : goal.loop-start-preserved
 loop-start-preserved c = laws.goes c.loop-start.invariant ((sym c.in-At.is ∙ (c.parse_token.ensures.value ∙ ap (λ l. lexed_answer (skip_whitespace l) (token_of l)) (rest c.args.s.now c.loop-start.taken)))) ((c.parse_token.ensures.store_after
     ∙ ap (λ l. sets c.loop-start.store (c.args.fill + c.loop-start.text) (token_text (token_of l))) (rest c.args.s.now c.loop-start.taken))) c.put_token-place.ensures c.text_length-length.ensures
     (laws.moved_as _ _ _ _ _ _ _ c.step_at.ensures c.in-Next.is) c.put_token-place.auto.rows c.step_at.auto.brackets
-    c.parse_token.kept.1.0
+    c.parse_token.auto.store

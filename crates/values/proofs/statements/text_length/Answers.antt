@@ -4,6 +4,7 @@ use native.Mathlib.Omega.{arith}
 use Rattle.values.specs.Layout.{length_by}
 use Rattle.values.proofs.Nesting as laws
 use borrow.Author.Rules.{rules}
+use borrow.Enum.Refused.{opened}
 use Rattle.values.proofs.statements.text_length.Goals as goal
 
 pub overflow_add-result : goal.overflow_add-result
@@ -43,4 +44,4 @@ unfolding length_by
 returns-in-Percentage c = sym (ap length_by c.in-Percentage.is)
 
 pub returns-in_default : goal.returns-in_default
-returns-in_default c = laws.without-text _ c.in_default.keys9
+returns-in_default c = laws.without-text _ (opened c.in_default.in_default-own.keys9)
