@@ -112,6 +112,7 @@ utf8-formed v =
 -- the end of a text that begins with a character is before it or behind it
 end-behind : (l t : List ℕ) → Formed l → trimmed_end (l ++ t) ≡ pick (all_white (l ++ t)) [] (l ++ trimmed_end t)
 unfolding trimmed_end
+end-behind [] t x' = elim x' [ ]
 end-behind (b ∷ cs) t (formed e) = ap (λ r. pick (all_white (b ∷ cs ++ t)) [] (b ∷ r)) (pass cs t e)
 
 -- ---- all characters
