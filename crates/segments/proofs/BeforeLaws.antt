@@ -125,13 +125,17 @@ module _ (code : List ℕ) where
   unfolding segment_before on_decoded on_piece reading
   before-first k [] s i l h = absurd (unfold steps in omega arith)
   before-first k (test c ∷ ws) s i l h =
-      rw (place-less code (test c) ws k i l.0 l.1 (omega arith), l.1) (before-first k ws _ l.0 l.2 (unfold steps in h))
+      let s' : Segment = record { start = s.start; steps = s.steps; tests = suc s.tests } in
+      let e = place-less code (test c) ws k i l.0 l.1 (omega arith) in
+      rw l.1 (ap (λ (p : ℕ). segment_before code p (length ws) s' l.0) e ∙ before-first k ws s' l.0 l.2 (unfold steps in h))
   before-first k (direct ∷ ws) s i l h =
-      rw (place-less code direct ws k i l.0 l.1 (omega arith), l.1) (before-first k ws _ l.0 l.2 (unfold steps in h))
+      let s' : Segment = record { start = s.start; steps = suc s.steps; tests = 0 } in
+      let e = place-less code direct ws k i l.0 l.1 (omega arith) in
+      rw l.1 (ap (λ (p : ℕ). segment_before code p (length ws) s' l.0) e ∙ before-first k ws s' l.0 l.2 (unfold steps in h))
   before-first k (anywhere ∷ ws) s i l h =
       let e : k ≡ steps ws = unfold steps in omega arith in
-      rw (place-less code anywhere ws k i l.0 l.1 (omega arith), l.1, e, place-all code ws l.0)
-      (sym (pick_true _ _ _ _ (is-yes l.0 l.0 refl) refl))
+      let f = place-less code anywhere ws k i l.0 l.1 (omega arith) ∙ ap (λ (j : ℕ). segment_place code j ws l.0) e ∙ place-all code ws l.0 in
+      rw l.1 (sym (pick_true _ _ _ _ (is-yes l.0 _ (sym f)) refl))
 
   -- the same of pieces that begin with the segment before, and of pieces that begin with a later one
   Next : ℕ → List Piece → Segment → ℕ → Type 0
@@ -155,16 +159,22 @@ module _ (code : List ℕ) where
   unfolding Next segment_before on_decoded on_piece
   next-later k [] s i l h = absurd (unfold steps in omega arith)
   next-later k (test c ∷ ws) s i l h =
-      rw (place-less code (test c) ws k i l.0 l.1 (omega arith), place-less code (test c) ws (suc k) i l.0 l.1 h, segment-less (test c) ws (suc k) h, l.1)
-      (next-later k ws _ l.0 l.2 (unfold steps in h))
+      let s' : Segment = record { start = s.start; steps = s.steps; tests = suc s.tests } in
+      let e = place-less code (test c) ws k i l.0 l.1 (omega arith) in
+      rw (place-less code (test c) ws (suc k) i l.0 l.1 h, segment-less (test c) ws (suc k) h, l.1)
+      (ap (λ (p : ℕ). segment_before code p (length ws) s' l.0) e ∙ next-later k ws s' l.0 l.2 (unfold steps in h))
   next-later k (direct ∷ ws) s i l h =
-      rw (place-less code direct ws k i l.0 l.1 (omega arith), place-less code direct ws (suc k) i l.0 l.1 h, segment-less direct ws (suc k) h, l.1)
-      (next-later k ws _ l.0 l.2 (unfold steps in h))
+      let s' : Segment = record { start = s.start; steps = suc s.steps; tests = 0 } in
+      let e = place-less code direct ws k i l.0 l.1 (omega arith) in
+      rw (place-less code direct ws (suc k) i l.0 l.1 h, segment-less direct ws (suc k) h, l.1)
+      (ap (λ (p : ℕ). segment_before code p (length ws) s' l.0) e ∙ next-later k ws s' l.0 l.2 (unfold steps in h))
   next-later k (anywhere ∷ ws) s i l h =
       let a : suc k ≤ steps ws = unfold steps in omega arith in
       let b = place-past code k ws l.0 l.2 a in
-      rw (place-less code anywhere ws k i l.0 l.1 (omega arith), place-less code anywhere ws (suc k) i l.0 l.1 h, segment-less anywhere ws (suc k) h, l.1)
-      (sym (pick-false _ _ _ _ (is-no _ _ (λ e. omega arith)) (sym (either k ws l.0 l.2 a (next-later k ws (beginning l.0) l.0 l.2)))))
+      let e = place-less code anywhere ws k i l.0 l.1 (omega arith) in
+      rw (place-less code anywhere ws (suc k) i l.0 l.1 h, segment-less anywhere ws (suc k) h, l.1)
+      (ap (λ (p : ℕ). pick (is l.0 p) s (segment_before code p (length ws) (beginning l.0) l.0)) e
+      ∙ sym (pick-false _ _ _ _ (is-no _ _ (λ d. omega (arith, b, d))) (sym (either k ws l.0 l.2 a (next-later k ws (beginning l.0) l.0 l.2)))))
 
   -- the segment before the segment number k is the next one
   pub next-segment : (k : ℕ) (ws : List Piece) (i : ℕ) → Lies code i ws → k < steps ws

@@ -167,18 +167,23 @@ unfolding has_style
 has-style [] = pick_true _ _ _ _ (is-yes 0 0 refl) refl
 has-style (d ∷ ds) = pick-false _ _ _ _ (is-no _ 0 (λ e. omega arith)) refl
 
+-- by whether a selector has styles, the next is the first styled one or this is
+count-styled : (code : List ℕ) (k i n p : ℕ) (s : CompiledSelector) (b : Bool) → is (length s.styles) 0 ≡ b → (length s.styles ≡ 0 → n ≡ p) → first_styled code k n ≡ styled_from code k n
+    → pick b (first_styled code k p) i ≡ pick (pick b false true) i (styled_from code k n)
+unfolding pick
+count-styled code k i n p s true h f t = rw (← f (is_true _ _ h)) t
+count-styled code k i n p s false h f t = refl
+
+-- one selector that is passed over or found
+first-step : (code : List ℕ) (k i n : ℕ) (s : CompiledSelector) → selector_at code agent_origin i ≡ read n s → StyleCount code i n s → first_styled code k n ≡ styled_from code k n
+    → first_styled code (suc k) i ≡ styled_from code (suc k) i
+unfolding first_styled styled_from on_decoded
+first-step code k i n s r c t = rw (c.told, r, has-style s.styles) (count-styled code k i n c.place s (is (length s.styles) 0) refl c.none-behind t)
+
 -- the walk that reads no styles finds the same
 pub first-styled : (code : List ℕ) (k least i m : ℕ) (ss : List CompiledSelector) → agent_origin ≤ least → selectors_at k code least i ≡ read m ss → first_styled code k i ≡ styled_from code k i
 first-styled code zero least i m ss l e = unfold first_styled styled_from in refl
 first-styled code (suc k) least i m ss l e =
     let w = selectors-first code k least i m ss e in
     let a = selector-lower code least i w.place w.selector l w.first in
-    go w.place w.selector a.0 (style-count code i w.place w.selector a.0) (first-styled code k w.selector.origin w.place m w.others a.1 w.rest)
-  where
-    count : (n p : ℕ) (s : CompiledSelector) (b : Bool) → is (length s.styles) 0 ≡ b → (length s.styles ≡ 0 → n ≡ p) → first_styled code k n ≡ styled_from code k n
-        → pick b (first_styled code k p) i ≡ pick (pick b false true) i (styled_from code k n)
-    count n p s true h f t = unfold pick in rw (← f (is_true _ _ h)) t
-    count n p s false h f t = unfold pick in refl
-
-    go : (n : ℕ) (s : CompiledSelector) → selector_at code agent_origin i ≡ read n s → StyleCount code i n s → first_styled code k n ≡ styled_from code k n → first_styled code (suc k) i ≡ styled_from code (suc k) i
-    go n s r c t = unfold first_styled styled_from on_decoded in rw (c.told, r, has-style s.styles) (count n c.place s (is (length s.styles) 0) refl c.none-behind t)
+    first-step code k i w.place w.selector a.0 (style-count code i w.place w.selector a.0) (first-styled code k w.selector.origin w.place m w.others a.1 w.rest)

@@ -54,10 +54,10 @@ pub overflow_add-result-in-Reads : goal.overflow_add-result-in-Reads
 overflow_add-result-in-Reads c = omega (arith, laws.kept-few c.requires.row_room c.requires.text_room (c.parse_body.ensures.value, (c.parse_body.ensures.rules_after, c.parse_body.ensures.store_after)) c.in-Reads.is c.drop_blank-kept.ensures.value c.drop_blank-kept.ensures.rules_after, c.requires.text_room.bits)
 
 pub shape_of-rules-in-Reads : goal.shape_of-rules-in-Reads
-shape_of-rules-in-Reads c = c.put_selector_head.auto.rules ∙ c.drop_blank-kept.auto.rules ∙ c.parse_body.kept.1.0
+shape_of-rules-in-Reads c = c.put_selector_head.auto.rules ∙ c.drop_blank-kept.auto.rules ∙ c.parse_body.auto.rules
 
 pub shape_of-store-in-Reads : goal.shape_of-store-in-Reads
-shape_of-store-in-Reads c = c.parse_body.kept.1.1.1.0
+shape_of-store-in-Reads c = c.parse_body.auto.store
 
 pub returns-in-Reads : goal.returns-in-Reads
 returns-in-Reads c = let t : goal.returns-in-Reads-raw c = laws.reads-left c.requires.row_room c.requires.text_room (c.parse_body.ensures.value, (c.parse_body.ensures.rules_after, c.parse_body.ensures.store_after)) c.in-Reads.is c.drop_blank-kept.ensures.value c.drop_blank-kept.ensures.rules_after c.parse_pseudo_element-pseudo.ensures c.put_selector_head.ensures in record { value = t.0; rules_after = t.1.0; store_after = t.1.1 }
