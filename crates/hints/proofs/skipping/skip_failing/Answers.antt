@@ -17,8 +17,12 @@ pub block_stays-requires : goal.block_stays-requires
 block_stays-requires c = record { compiled_len_bound = c.loop-left.invariant.lent.few_bytes; width_in_bounds = c.loop-left.invariant.held; p_le_compiled_limit = c.loop-left.invariant.lent.near }
 
 pub copy_block-p-requires : goal.copy_block-p-requires
-copy_block-p-requires c = let t : goal.copy_block-p-requires-raw c = let b = c.block_stays.ensures c.if-block_stays.true in
-    (omega (arith, b.inside, c.loop-left.invariant.held), omega (arith, b.inside, c.loop-left.invariant.lent.room)) in record { to_end_in_bounds = t.0; to_end_in_bounds_2 = t.1 }
+copy_block-p-requires c =
+    let b = c.block_stays.ensures c.if-block_stays.true in
+    record {
+      to_end_in_bounds = omega (arith, b.inside, c.loop-left.invariant.held);
+      to_end_in_bounds_2 = omega (arith, b.inside, c.loop-left.invariant.lent.room);
+    }
 
 pub loop-left-preserved-then-block_stays : goal.loop-left-preserved-then-block_stays
 loop-left-preserved-then-block_stays c = laws.skip-marked _ _ _ _ _ _ _ _ _ _ _ c.loop-left.invariant c.loop-left-test.true _ c.copy_block-p.ensures.value c.copy_block-p.ensures.upper_bound _ (c.block_stays.ensures c.if-block_stays.true) c.copy_block-p.ensures.state_after
@@ -27,8 +31,12 @@ pub step_stays-requires : goal.step_stays-requires
 step_stays-requires c = record { compiled_len_bound = c.loop-left.invariant.lent.few_bytes; width_in_bounds = c.loop-left.invariant.held; p_le_compiled_limit = c.loop-left.invariant.lent.near }
 
 pub copy_step-p-requires : goal.copy_step-p-requires
-copy_step-p-requires c = let t : goal.copy_step-p-requires-raw c = let b = c.step_stays.ensures c.if-step_stays.true in
-    (omega (arith, b.inside, c.loop-left.invariant.held), omega (arith, b.inside, c.loop-left.invariant.lent.room)) in record { to_step_end_in_bounds = t.0; to_step_end_in_bounds_2 = t.1 }
+copy_step-p-requires c =
+    let b = c.step_stays.ensures c.if-step_stays.true in
+    record {
+      to_step_end_in_bounds = omega (arith, b.inside, c.loop-left.invariant.held);
+      to_step_end_in_bounds_2 = omega (arith, b.inside, c.loop-left.invariant.lent.room);
+    }
 
 pub loop-left-preserved : goal.loop-left-preserved
 loop-left-preserved c = laws.skip_step _ _ _ _ _ _ _ _ _ _ _ c.loop-left.invariant c.loop-left-test.true _ c.copy_step-p.ensures.value c.copy_step-p.ensures.upper_bound _ (c.step_stays.ensures c.if-step_stays.true) c.copy_step-p.ensures.state_after

@@ -9,8 +9,13 @@ returns-then-count-eq0 c = let t : goal.returns-then-count-eq0-raw c = let a = c
     (laws.rule-unstyled _ a.origin (path_of a.nodes.now a.attributes.now a.text.now a.row) a.texts.now a.rows.now a.at a.styles.now a.first _ c.number_at-count.ensures c.if-count-eq0.true _, c.skip_rule.ensures a.texts.now) in record { out_after = t.0; rows_value = t.1 }
 
 pub merge_selectors-behind-requires : goal.merge_selectors-behind-requires
-merge_selectors-behind-requires c = let t : goal.merge_selectors-behind-requires-raw c = let a = c.args in
-    (c.requires.row_room, (c.requires.rooted, laws.lent-tops a.nodes.now a.attributes.now a.text.now a.row a.texts.now a.rows.now a.at _ c.forward.result c.number_at.ensures c.forward.ensures.rows_value _ c.requires.right_tops)) in record { row_room = t.0; rooted = t.1.0; right_tops = t.1.1 }
+merge_selectors-behind-requires c =
+    let a = c.args in
+    record {
+      row_room = c.requires.row_room;
+      rooted = c.requires.rooted;
+      right_tops = laws.lent-tops a.nodes.now a.attributes.now a.text.now a.row a.texts.now a.rows.now a.at _ c.forward.result c.number_at.ensures c.forward.ensures.rows_value _ c.requires.right_tops;
+    }
 
 pub returns : goal.returns
 returns c = let t : goal.returns-raw c = let a = c.args in (

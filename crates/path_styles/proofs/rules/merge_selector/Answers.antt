@@ -6,8 +6,12 @@ use borrow.Author.Rules.{rules}
 use Rattle.path_styles.proofs.rules.merge_selector.Goals as goal
 
 pub matches_by_number-matched-requires : goal.matches_by_number-matched-requires
-matches_by_number-matched-requires c = let t : goal.matches_by_number-matched-requires-raw c = let a = c.args in
-    (c.requires.rooted, lent-top a.texts.now a.rows.now a.at _ c.forward-behind_head.result c.number_at-length.ensures c.forward-behind_head.ensures.rows_value a.nodes.now a.attributes.now a.text.now a.row a.top c.requires.right_number) in record { rooted = t.0; right_number = t.1 }
+matches_by_number-matched-requires c =
+    let a = c.args in
+    record {
+      rooted = c.requires.rooted;
+      right_number = lent-top a.texts.now a.rows.now a.at _ c.forward-behind_head.result c.number_at-length.ensures c.forward-behind_head.ensures.rows_value a.nodes.now a.attributes.now a.text.now a.row a.top c.requires.right_number;
+    }
 
 pub returns-then-matched : goal.returns-then-matched
 returns-then-matched c = let a = c.args in

@@ -7,7 +7,8 @@ pub loop-left-init : goal.loop-left-init
 loop-left-init c = laws.placing-begin _ _ _ _ _ _ _ c.requires.style_rows_room c.requires.contents_room
 
 pub place_style-f-requires : goal.place_style-f-requires
-place_style-f-requires c = let t : goal.place_style-f-requires-raw c = laws.placing-room _ _ _ _ _ _ _ c.requires.style_rows_room c.requires.contents_room _ _ _ _ _ c.loop-left.invariant c.loop-left-test.true in record { style_row_room = t.0; contents_room = t.1 }
+place_style-f-requires c =
+    let t = laws.placing-room _ _ _ _ _ _ _ c.requires.style_rows_room c.requires.contents_room _ _ _ _ _ c.loop-left.invariant c.loop-left-test.true in record { style_row_room = t.0; contents_room = t.1 }
 
 pub loop-left-preserved : goal.loop-left-preserved
 loop-left-preserved c = laws.placing-more _ _ _ _ _ _ _ c.requires.style_rows_room c.requires.contents_room _ _ _ _ _ c.loop-left.invariant c.loop-left-test.true _ _ _ c.place_style-f.ensures.tokens_after c.place_style-f.ensures.texts_after c.place_style-f.ensures.value

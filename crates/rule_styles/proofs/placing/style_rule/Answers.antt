@@ -7,7 +7,8 @@ pub styles_of_rule-count-requires : goal.styles_of_rule-count-requires
 styles_of_rule-count-requires c = laws.rule-room _ _ _ c.requires.rule_kept_room
 
 pub place_styles-behind-requires : goal.place_styles-behind-requires
-place_styles-behind-requires c = let t : goal.place_styles-behind-requires-raw c = laws.styles-room _ _ _ c.requires.rule_kept_room _ _ c.styles_of_rule-count.ensures.tokens_after c.styles_of_rule-count.ensures.result_value _ _ _ _ c.requires.contents_room in record { style_rows_room = t.0; contents_room = t.1 }
+place_styles-behind-requires c =
+    let t = laws.styles-room _ _ _ c.requires.rule_kept_room _ _ c.styles_of_rule-count.ensures.tokens_after c.styles_of_rule-count.ensures.result_value _ _ _ _ c.requires.contents_room in record { style_rows_room = t.0; contents_room = t.1 }
 
 pub keep_rule-next-requires : goal.keep_rule-next-requires
 keep_rule-next-requires c = laws.keep-room _ _ _ c.requires.rule_kept_room _ _ c.styles_of_rule-count.ensures.tokens_after c.styles_of_rule-count.ensures.result_value _ _ _ _ _ _ _ c.place_styles-behind.ensures.tokens_after c.place_styles-behind.ensures.texts_after c.place_styles-behind.ensures.value

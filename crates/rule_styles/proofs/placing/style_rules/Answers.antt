@@ -7,7 +7,8 @@ pub loop-left-init : goal.loop-left-init
 loop-left-init c = laws.styling-begin _ _ _ _ _ _ _ _ _ c.requires.rules_kept_room c.requires.contents_room
 
 pub style_rule-placed-requires : goal.style_rule-placed-requires
-style_rule-placed-requires c = let t : goal.style_rule-placed-requires-raw c = laws.styling-room _ _ _ _ _ _ _ _ _ c.requires.rules_kept_room c.requires.contents_room _ _ _ _ _ _ c.loop-left.invariant c.loop-left-test.true in record { rule_kept_room = t.0; contents_room = t.1 }
+style_rule-placed-requires c =
+    let t = laws.styling-room _ _ _ _ _ _ _ _ _ c.requires.rules_kept_room c.requires.contents_room _ _ _ _ _ _ c.loop-left.invariant c.loop-left-test.true in record { rule_kept_room = t.0; contents_room = t.1 }
 
 pub loop-left-preserved : goal.loop-left-preserved
 loop-left-preserved c = laws.styling-more _ _ _ _ _ _ _ _ _ c.requires.rules_kept_room c.requires.contents_room _ _ _ _ _ _ c.loop-left.invariant c.loop-left-test.true _ _ _ c.style_rule-placed.ensures.tokens_after c.style_rule-placed.ensures.texts_after c.style_rule-placed.ensures.value _ c.skip_rule-rows.ensures

@@ -9,15 +9,20 @@ pub style_rules-agent-requires : goal.style_rules-agent-requires
 style_rules-agent-requires c = record { rules_kept_room = laws.agent-room c.requires; contents_room = laws.agent-contents-room c.requires }
 
 pub style_rules-user-requires : goal.style_rules-user-requires
-style_rules-user-requires c = let t : goal.style_rules-user-requires-raw c = let A = laws.agent-lies c.requires in
+style_rules-user-requires c =
+    let A = laws.agent-lies c.requires in
     let t = styled.sheet-kept A _ _ 0 0 c.style_rules-agent.ensures.tokens_after in
     let x = styled.sheet-contents A _ 0 c.style_rules-agent.ensures.texts_after in
     let p = styled.sheet-place A 0 _ 0 c.style_rules-agent.ensures.place_value in
     let f = styled.sheet-fill A _ 0 c.style_rules-agent.ensures.fill_value in
-    (laws.user-room c.requires t x p f, laws.user-contents-room c.requires t x p f) in record { rules_kept_room = t.0; contents_room = t.1 }
+    record {
+      rules_kept_room = laws.user-room c.requires t x p f;
+      contents_room = laws.user-contents-room c.requires t x p f;
+    }
 
 pub style_rules-author-requires : goal.style_rules-author-requires
-style_rules-author-requires c = let t : goal.style_rules-author-requires-raw c = let A = laws.agent-lies c.requires in
+style_rules-author-requires c =
+    let A = laws.agent-lies c.requires in
     let t = styled.sheet-kept A _ _ 0 0 c.style_rules-agent.ensures.tokens_after in
     let x = styled.sheet-contents A _ 0 c.style_rules-agent.ensures.texts_after in
     let p = styled.sheet-place A 0 _ 0 c.style_rules-agent.ensures.place_value in
@@ -27,7 +32,10 @@ style_rules-author-requires c = let t : goal.style_rules-author-requires-raw c =
     let x2 = styled.sheet-contents U _ _ c.style_rules-user.ensures.texts_after in
     let p2 = styled.sheet-place U _ _ _ c.style_rules-user.ensures.place_value in
     let f2 = styled.sheet-fill U _ _ c.style_rules-user.ensures.fill_value in
-    (laws.author-room c.requires t x p f t2 x2 p2 f2, laws.author-contents-room c.requires t x p f t2 x2 p2 f2) in record { rules_kept_room = t.0; contents_room = t.1 }
+    record {
+      rules_kept_room = laws.author-room c.requires t x p f t2 x2 p2 f2;
+      contents_room = laws.author-contents-room c.requires t x p f t2 x2 p2 f2;
+    }
 
 pub returns : goal.returns
 returns c = let t : goal.returns-raw c = let A = laws.agent-lies c.requires in

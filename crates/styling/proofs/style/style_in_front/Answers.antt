@@ -16,9 +16,14 @@ pub overflow_add-room : goal.overflow_add-room
 overflow_add-room c = omega (arith, c.requires.lent.agent-within, c.requires.lent.user-within, c.requires.lent.author-within, c.path_room.ensures.upper_bound)
 
 pub style_front-requires : goal.style_front-requires
-style_front-requires c = let t : goal.style_front-requires-raw c = let a = c.args in
+style_front-requires c =
+    let a = c.args in
     let l = least c.stores_suffice.ensures c.if-stores_suffice.true in
-    (c.requires.rooted, (c.requires.row_lt_number_bound, laws.front-lent c.requires.lent c.requires.call_lent a.nodes.now a.attributes.now a.text.now a.row _ _ refl c.path_room.ensures.value refl l)) in record { rooted = t.0; row_lt_number_bound = t.1.0; front_lent = t.1.1 }
+    record {
+      rooted = c.requires.rooted;
+      row_lt_number_bound = c.requires.row_lt_number_bound;
+      front_lent = laws.front-lent c.requires.lent c.requires.call_lent a.nodes.now a.attributes.now a.text.now a.row _ _ refl c.path_room.ensures.value refl l;
+    }
 
 pub shape_of-out-then-stores_suffice : goal.shape_of-out-then-stores_suffice
 shape_of-out-then-stores_suffice c = c.style_front.auto.out

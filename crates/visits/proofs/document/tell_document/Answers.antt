@@ -8,7 +8,8 @@ pub loop-left-init : goal.loop-left-init
 loop-left-init c = record { whole = refl; long = refl; lent = c.requires }
 
 pub put_styled-requires : goal.put_styled-requires
-put_styled-requires c = let t : goal.put_styled-requires-raw c = laws.tell-lent _ _ _ _ _ _ _ _ _ c.loop-left.invariant c.loop-left-test.true _ c.skip_selector.ensures _ _ c.in-Selector.is in record { tell_lent = t.0; p_le_compiled_limit = t.1 }
+put_styled-requires c =
+    let t = laws.tell-lent _ _ _ _ _ _ _ _ _ c.loop-left.invariant c.loop-left-test.true _ c.skip_selector.ensures _ _ c.in-Selector.is in record { tell_lent = t.0; p_le_compiled_limit = t.1 }
 
 pub loop-left-preserved : goal.loop-left-preserved
 loop-left-preserved c = laws.tell-more _ _ _ _ _ _ _ _ _ c.loop-left.invariant c.loop-left-test.true _ c.skip_selector.ensures _ _ c.in-Selector.is _ c.put_styled.ensures
