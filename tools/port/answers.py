@@ -142,9 +142,10 @@ class Function:
             text = re.sub(r"\(⟦(\d+)⟧\)", r"⟦\1⟧", text)
             for name, steps in self.place_macros.items():
                 text = re.sub(rf"(?<![\w.'-]){re.escape(name)} ⟦(\d+)⟧(?!\.)", lambda m: f"⟦{self.walk(int(m[1]), steps)}⟧", text)
-            m = re.search(rf"let (\S+) = (⟦\d+⟧(?:\.{WORD})*) in\s*", text)
-            if m and not m[2].endswith(".args"):
-                text = text[: m.start()] + self.put(text[m.end() :], m[1], m[2])
+            for m in re.finditer(rf"let (\S+) = (⟦\d+⟧(?:\.{WORD})*) in\s*", text):
+                if not m[2].endswith(".args"):
+                    text = text[: m.start()] + self.put(text[m.end() :], m[1], m[2])
+                    break
             for name, (params, lines) in self.value_macros.items():
                 text = self.expand(text, name, params, lines)
             if text == before:

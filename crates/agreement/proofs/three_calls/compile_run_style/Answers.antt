@@ -59,17 +59,16 @@ shape_of-style_brackets c = c.style-styling.auto.brackets
 
 pub returns : goal.returns
 returns c = let t : goal.returns-raw c = let a = c.args in
-    let compiled = (c.compile_and_run-answers.ensures.compile_brackets_after, c.compile_and_run-answers.ensures.run_brackets_after) in
-    let styled = c.style-styling.ensures in (
-      compiled.0,
+    (
+      c.compile_and_run-answers.ensures.compile_brackets_after,
       (
-        compiled.1,
+        c.compile_and_run-answers.ensures.run_brackets_after,
         (
-          styled,
+          c.style-styling.ensures,
           laws.calls-agree (record { agent = a.agent.now; user = a.user.now; author = a.author.now }) (record { nodes = a.nodes.now; attributes = a.attributes.now; text = a.text.now }) a.settings
-              (record { compiled = a.compiled.now; texts = a.compile-texts.now; rules = a.compile-rules.now; tokens = a.compile-tokens.now; brackets = a.compile-brackets.now })
+              (record { (c.compile_and_run-answers.ensures.compile_brackets_after, c.compile_and_run-answers.ensures.run_brackets_after) = a.compiled.now; texts = a.compile-texts.now; rules = a.compile-rules.now; tokens = a.compile-tokens.now; brackets = a.compile-brackets.now })
               (record { rows = a.rows.now; texts = a.run-texts.now; state = a.state.now; rules = a.run-rules.now; tokens = a.run-tokens.now; brackets = a.run-brackets.now }) a.row
-              (record { row = a.out.now; texts = a.style-texts.now; rules = a.style-rules.now; tokens = a.style-tokens.now; brackets = a.style-brackets.now }) compiled.0 compiled.1 styled,
+              (record { row = a.out.now; texts = a.style-texts.now; rules = a.style-rules.now; tokens = a.style-tokens.now; brackets = a.style-brackets.now }) c.compile_and_run-answers.ensures.compile_brackets_after c.compile_and_run-answers.ensures.run_brackets_after c.style-styling.ensures,
         ),
       ),
     ) in record { compile_brackets_after = t.0; run_brackets_after = t.1.0; style_brackets_after = t.1.1.0; agreed = t.1.1.1 }

@@ -15,6 +15,5 @@ shape_of-store c = c.emit_styled-behind.auto.store
 
 pub returns : goal.returns
 returns c = let t : goal.returns-raw c = let a = c.args in
-    let s = c.styles_of_rule-styles in
-    laws.rule-written a.rows.now a.at a.origin a.texts.now _ _ _ s.result c.requires.zeros s.ensures.0 s.ensures.1.0 s.ensures.1.1 _ _
+    laws.rule-written a.rows.now a.at a.origin a.texts.now _ _ _ c.styles_of_rule-styles.result c.requires.zeros c.styles_of_rule-styles.ensures.tokens_after c.styles_of_rule-styles.ensures.result_value c.styles_of_rule-styles.ensures.by_index _ _
     c.emit_styled-behind.ensures c.wipe_numbers.ensures in record { tokens_unchanged = t.0; result_after = t.1 }

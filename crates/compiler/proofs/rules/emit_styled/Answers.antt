@@ -9,6 +9,5 @@ returns-then-styles-eq0 c = let a = c.args in
 
 pub returns : goal.returns
 returns c = let a = c.args in
-    let f = c in
-    laws.styled-all a.rows.now a.at a.origin a.tokens.now a.styles a.texts.now c.if-styles-eq0.false _ c.number_at-selectors.ensures f.forward.result
-    f.forward.ensures.1.0 _ _ c.emit_selectors.ensures
+    laws.styled-all a.rows.now a.at a.origin a.tokens.now a.styles a.texts.now c.if-styles-eq0.false _ c.number_at-selectors.ensures c.forward-first.result
+    c.forward-first.ensures.rows_value _ _ c.emit_selectors.ensures

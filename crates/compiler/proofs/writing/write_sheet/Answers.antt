@@ -8,5 +8,4 @@ emit_rules-requires c = c.requires.lent
 
 pub returns : goal.returns
 returns c = let t : goal.returns-raw c = let a = c.args in
-    let e = (c.emit_rules.ensures.tokens_unchanged, c.emit_rules.ensures.result_after) in
-    (e.0, laws.sheet-written a.rows.now a.texts.now a.sheet _ _ _ e.1) in record { tokens_unchanged = t.0; result_after = t.1 }
+    (c.emit_rules.ensures.tokens_unchanged, laws.sheet-written a.rows.now a.texts.now a.sheet _ _ _ c.emit_rules.ensures.result_after) in record { tokens_unchanged = t.0; result_after = t.1 }

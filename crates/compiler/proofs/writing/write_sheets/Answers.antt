@@ -23,10 +23,7 @@ pub shape_of-compiled : goal.shape_of-compiled
 shape_of-compiled c = c.write_sheet.auto.compiled ∙ c.write_sheet-third.auto.compiled ∙ c.write_sheet-second.auto.compiled ∙ c.emit_number-first.auto.store
 
 pub returns : goal.returns
-returns c = let t : goal.returns-raw c = let a = c.args in
-    let e₁ = (c.write_sheet-second.ensures.tokens_unchanged, c.write_sheet-second.ensures.result_after) in
-    let e₂ = (c.write_sheet-third.ensures.tokens_unchanged, c.write_sheet-third.ensures.result_after) in
-    let e₃ = (c.write_sheet.ensures.tokens_unchanged, c.write_sheet.ensures.result_after) in (
-      e₃.0 ∙ e₂.0 ∙ e₁.0,
-      laws.all-written a.rows.now a.texts.now a.sheets _ _ _ _ _ _ c.count_all-count.ensures c.emit_number-first.ensures e₁.1 e₂.1 e₃.1,
-    ) in record { tokens_unchanged = t.0; result_after = t.1 }
+returns c = let t : goal.returns-raw c = let a = c.args in (
+  c.write_sheet.ensures.tokens_unchanged ∙ c.write_sheet-third.ensures.tokens_unchanged ∙ c.write_sheet-second.ensures.tokens_unchanged,
+  laws.all-written a.rows.now a.texts.now a.sheets _ _ _ _ _ _ c.count_all-count.ensures c.emit_number-first.ensures c.write_sheet-second.ensures.result_after c.write_sheet-third.ensures.result_after c.write_sheet.ensures.result_after,
+) in record { tokens_unchanged = t.0; result_after = t.1 }

@@ -23,7 +23,5 @@ shape_of-out c = c.merge_late.auto.out ∙ c.merge_sheet.auto.out ∙ c.merge_ea
 
 pub returns : goal.returns
 returns c = let t : goal.returns-raw c = let a = c.args in
-    let e = c.merge_early in
-    let m = (c.merge_late.ensures.out_after, (c.merge_late.ensures.value, (c.merge_late.ensures.texts_after, (c.merge_late.ensures.rules_unchanged, c.merge_late.ensures.tokens_unchanged)))) in
-    let k = laws.element-kept a.sheets a.fill _ _ _ _ _ _ _ _ _ _ (omega (arith, c.requires.element_room.for-texts, e.auto.1.1.1.1.1.1.1.1.1.1.0)) m.1.0 e.ensures.1.0 e.ensures.1.1 m.1.1.1.0 m.1.1.1.1 m.1.1.0 in
-    (laws.element-row a.cascade _ _ _ _ _ _ _ _ c.begin_element.ensures (e.ensures.0 a.fill) _ (laws.author-still a.sheets a.fill _ _ _ _ _ c.requires.steady e.ensures.1.0 e.ensures.1.1) c.merge_sheet.ensures m.0, (m.1.0, (k.0, k.1))) in record { out_after = t.0; value = t.1.0; texts_after = t.1.1.0; same_kept = t.1.1.1 }
+    let k = laws.element-kept a.sheets a.fill _ _ _ _ _ _ _ _ _ _ (omega (arith, c.requires.element_room.for-texts, c.merge_early.auto.texts)) c.merge_late.ensures.value c.merge_early.ensures.tokens_unchanged c.merge_early.ensures.texts_unchanged c.merge_late.ensures.rules_unchanged c.merge_late.ensures.tokens_unchanged c.merge_late.ensures.texts_after in
+    (laws.element-row a.cascade _ _ _ _ _ _ _ _ c.begin_element.ensures (c.merge_early.ensures.by_index a.fill) _ (laws.author-still a.sheets a.fill _ _ _ _ _ c.requires.steady c.merge_early.ensures.tokens_unchanged c.merge_early.ensures.texts_unchanged) c.merge_sheet.ensures c.merge_late.ensures.out_after, (c.merge_late.ensures.value, (k.0, k.1))) in record { out_after = t.0; value = t.1.0; texts_after = t.1.1.0; same_kept = t.1.1.1 }

@@ -8,14 +8,11 @@ pub style_in_front-requires : goal.style_in_front-requires
 style_in_front-requires c =
     let a = c.args in
     let e = c.refusal_of-refusal.ensures ∙ c.check_page.ensures in
-    let x = c.if-refusal-eq-NO_REFUSAL.true in
-    let y = c.is_element.ensures in
-    let z = c.if-is_element.true in
     record {
-      rooted = laws.rooted a.cascade a.settings (record { agent = a.agent.now; user = a.user.now; author = a.author.now }) (record { nodes = a.nodes.now; attributes = a.attributes.now; text = a.text.now }) a.row a.out.now a.texts.now a.rules.now a.tokens.now a.brackets.now c.requires e x y z;
-      row_lt_number_bound = laws.few-rows a.cascade a.settings (record { agent = a.agent.now; user = a.user.now; author = a.author.now }) (record { nodes = a.nodes.now; attributes = a.attributes.now; text = a.text.now }) a.row a.out.now a.texts.now a.rules.now a.tokens.now a.brackets.now c.requires e x y z;
-      lent = laws.lent a.cascade a.settings (record { agent = a.agent.now; user = a.user.now; author = a.author.now }) (record { nodes = a.nodes.now; attributes = a.attributes.now; text = a.text.now }) a.row a.out.now a.texts.now a.rules.now a.tokens.now a.brackets.now c.requires e x y z;
-      call_lent = laws.call-lent a.cascade a.settings (record { agent = a.agent.now; user = a.user.now; author = a.author.now }) (record { nodes = a.nodes.now; attributes = a.attributes.now; text = a.text.now }) a.row a.out.now a.texts.now a.rules.now a.tokens.now a.brackets.now c.requires e x y z;
+      rooted = laws.rooted a.cascade a.settings (record { agent = a.agent.now; user = a.user.now; author = a.author.now }) (record { nodes = a.nodes.now; attributes = a.attributes.now; text = a.text.now }) a.row a.out.now a.texts.now a.rules.now a.tokens.now a.brackets.now c.requires e c.if-refusal-eq-NO_REFUSAL.true c.is_element.ensures c.if-is_element.true;
+      row_lt_number_bound = laws.few-rows a.cascade a.settings (record { agent = a.agent.now; user = a.user.now; author = a.author.now }) (record { nodes = a.nodes.now; attributes = a.attributes.now; text = a.text.now }) a.row a.out.now a.texts.now a.rules.now a.tokens.now a.brackets.now c.requires e c.if-refusal-eq-NO_REFUSAL.true c.is_element.ensures c.if-is_element.true;
+      lent = laws.lent a.cascade a.settings (record { agent = a.agent.now; user = a.user.now; author = a.author.now }) (record { nodes = a.nodes.now; attributes = a.attributes.now; text = a.text.now }) a.row a.out.now a.texts.now a.rules.now a.tokens.now a.brackets.now c.requires e c.if-refusal-eq-NO_REFUSAL.true c.is_element.ensures c.if-is_element.true;
+      call_lent = laws.call-lent a.cascade a.settings (record { agent = a.agent.now; user = a.user.now; author = a.author.now }) (record { nodes = a.nodes.now; attributes = a.attributes.now; text = a.text.now }) a.row a.out.now a.texts.now a.rules.now a.tokens.now a.brackets.now c.requires e c.if-refusal-eq-NO_REFUSAL.true c.is_element.ensures c.if-is_element.true;
     }
 
 pub shape_of-out-then-is_element : goal.shape_of-out-then-is_element

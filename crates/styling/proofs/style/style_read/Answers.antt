@@ -43,11 +43,5 @@ shape_of-brackets c = c.clear_work.auto.brackets ∙ c.style_path-fill.auto.brac
 
 pub returns : goal.returns
 returns c = let t : goal.returns-raw c = let a = c.args in
-    let m = c.style_sheets-styled in
-    let e = m.ensures in
-    let f = c.find_tops-ready in
-    let r = c.style_path-fill in
-    let k = c.keep_contents in
-    let w = c.clear_work in
-    laws.read_left c.requires.read_room.held _ _ _ e.0 e.1.0 e.1.1 _ _ _ _ c.requires.rooted _ _ f.ensures.0 f.ensures.1 a.cascade a.settings _ _ c.requires.read_room.path a.out.now _ r.ensures.0 _ r.ensures.1.0 _ r.auto.1.1.1.1.1.1.1.1.1.1.1.0 m.auto.1.1.1.0 r.ensures.1.1.0 _ k.ensures _ _ _ _ _ _
-    r.auto.1.1.1.1.1.1.1.1.0 w.ensures.0 (r.auto.1.1.1.1.1.1.1.1.1.0 ∙ f.auto.1.1.1.1.1.1.1.0 ∙ m.auto.1.1.0) w.ensures.1.0 r.auto.1.1.1.1.1.1.1.1.1.1.0 w.ensures.1.1 in record { out_after = t.0; value = t.1.0; texts_after = t.1.1.0; rules_after = t.1.1.1.0; tokens_after = t.1.1.1.1.0; brackets_after = t.1.1.1.1.1 }
+    laws.read_left c.requires.read_room.held _ _ _ c.style_sheets-styled.ensures.value c.style_sheets-styled.ensures.tokens_after c.style_sheets-styled.ensures.texts_after _ _ _ _ c.requires.rooted _ _ c.find_tops-ready.ensures.value c.find_tops-ready.ensures.tokens_after a.cascade a.settings _ _ c.requires.read_room.path a.out.now _ c.style_path-fill.ensures.out_after _ c.style_path-fill.ensures.value _ c.style_path-fill.auto.texts c.style_sheets-styled.auto.texts c.style_path-fill.ensures.texts_after _ c.keep_contents.ensures _ _ _ _ _ _
+    c.style_path-fill.auto.rules c.clear_work.ensures.rules_after (c.style_path-fill.auto.tokens ∙ c.find_tops-ready.auto.tokens ∙ c.style_sheets-styled.auto.tokens) c.clear_work.ensures.tokens_after c.style_path-fill.auto.brackets c.clear_work.ensures.brackets_after in record { out_after = t.0; value = t.1.0; texts_after = t.1.1.0; rules_after = t.1.1.1.0; tokens_after = t.1.1.1.1.0; brackets_after = t.1.1.1.1.1 }
