@@ -58,17 +58,16 @@ pub shape_of-style_brackets : goal.shape_of-style_brackets
 shape_of-style_brackets c = c.style-styling.auto.brackets
 
 pub returns : goal.returns
-returns c = let t : goal.returns-raw c = let a = c.args in
+returns c = let t : goal.returns-raw c = let a = c.args in (
+  c.compile_and_run-answers.ensures.compile_brackets_after,
+  (
+    c.compile_and_run-answers.ensures.run_brackets_after,
     (
-      c.compile_and_run-answers.ensures.compile_brackets_after,
-      (
-        c.compile_and_run-answers.ensures.run_brackets_after,
-        (
-          c.style-styling.ensures,
-          laws.calls-agree (record { agent = a.agent.now; user = a.user.now; author = a.author.now }) (record { nodes = a.nodes.now; attributes = a.attributes.now; text = a.text.now }) a.settings
-              (record { (c.compile_and_run-answers.ensures.compile_brackets_after, c.compile_and_run-answers.ensures.run_brackets_after) = a.compiled.now; texts = a.compile-texts.now; rules = a.compile-rules.now; tokens = a.compile-tokens.now; brackets = a.compile-brackets.now })
-              (record { rows = a.rows.now; texts = a.run-texts.now; state = a.state.now; rules = a.run-rules.now; tokens = a.run-tokens.now; brackets = a.run-brackets.now }) a.row
-              (record { row = a.out.now; texts = a.style-texts.now; rules = a.style-rules.now; tokens = a.style-tokens.now; brackets = a.style-brackets.now }) c.compile_and_run-answers.ensures.compile_brackets_after c.compile_and_run-answers.ensures.run_brackets_after c.style-styling.ensures,
-        ),
-      ),
-    ) in record { compile_brackets_after = t.0; run_brackets_after = t.1.0; style_brackets_after = t.1.1.0; agreed = t.1.1.1 }
+      c.style-styling.ensures,
+      laws.calls-agree (record { agent = a.agent.now; user = a.user.now; author = a.author.now }) (record { nodes = a.nodes.now; attributes = a.attributes.now; text = a.text.now }) a.settings
+          (record { compiled = a.compiled.now; texts = a.compile_texts.now; rules = a.compile_rules.now; tokens = a.compile_tokens.now; brackets = a.compile_brackets.now })
+          (record { rows = a.rows.now; texts = a.run_texts.now; state = a.state.now; rules = a.run_rules.now; tokens = a.run_tokens.now; brackets = a.run_brackets.now }) a.row
+          (record { row = a.out.now; texts = a.style_texts.now; rules = a.style_rules.now; tokens = a.style_tokens.now; brackets = a.style_brackets.now }) c.compile_and_run-answers.ensures.compile_brackets_after c.compile_and_run-answers.ensures.run_brackets_after c.style-styling.ensures,
+    ),
+  ),
+) in record { compile_brackets_after = t.0; run_brackets_after = t.1.0; style_brackets_after = t.1.1.0; agreed = t.1.1.1 }

@@ -9,7 +9,7 @@ pub loop-slot-init : goal.loop-slot-init
 loop-slot-init c = keeping-begin _ _ _ _
 
 pub loop-slot-preserved : goal.loop-slot-preserved
-loop-slot-preserved c = keeping-more _ _ _ _ c.loop-slot.rows c.loop-slot.auto c.loop-slot.slot c.loop-slot.invariant c.sift_styles-sifted.result c.sift_styles-sifted.ensures _ _
+loop-slot-preserved c = keeping-more _ _ _ _ c.loop-slot.rows c.loop-slot.kept c.loop-slot.slot c.loop-slot.invariant c.sift_styles-sifted.result c.sift_styles-sifted.ensures _ _
     c.requires (search rules) (c.write_sifted-kept.ensures.rows_after, (c.write_sifted-kept.ensures.value, c.write_sifted-kept.ensures.upper_bound))
 
 pub shape_of-rows : goal.shape_of-rows
