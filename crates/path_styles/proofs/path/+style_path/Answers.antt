@@ -21,15 +21,7 @@ style_path-fill-requires t c =
     let a = c.args in
     let q = c.requires in
     let e = c.parent_of.ensures.value in
-    let z = c.if-row-eq0.false in (
-      omega (arith, parent-before _ _ q.rooted z _ e, c.decreases),
-      record {
-        one_row = q.one_row;
-        rooted = parent-rooted _ _ q.rooted z _ e;
-        steady = laws.steady-above a.sheets q.steady z _ e;
-        path_room = laws.room-above a.sheets _ _ _ (laws.path-by _ _ _ _ q.rooted z _ e) _ _ _ _ q.path_room;
-      },
-    )
+    let z = c.if-row-eq0.false in (omega (arith, parent-before _ _ q.rooted z _ e, c.decreases), (q.one_row, (parent-rooted _ _ q.rooted z _ e, (laws.steady-above a.sheets q.steady z _ e, laws.room-above a.sheets _ _ _ (laws.path-by _ _ _ _ q.rooted z _ e) _ _ _ _ q.path_room))))
 
 pub style_element-requires : goal.style_element-requires
 style_element-requires t c =
