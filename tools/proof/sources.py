@@ -41,7 +41,7 @@ def crates():
         line = line.split("#")[0].strip()
         if line:
             name, _, below = line.partition(":")
-            found[name.strip()] = below.split()
+            found[name.split()[0]] = below.split()
     return found
 
 
