@@ -191,7 +191,7 @@ class Believing(unittest.TestCase):
 
     def test_an_entry_point_rests_on_its_contract(self):
         found = self.rests_on("hicsolmab_check_page")
-        self.assertLessEqual({"PageResult", "refusalIn", "pageRefusal", "Refusal", "pick"}, found)
+        self.assertLessEqual({"PageResult", "refusal_in", "page_refusal", "Refusal", "pick"}, found)
         self.assertNotIn("matches", found)
 
     def test_nothing_is_listed_before_what_it_uses(self):
