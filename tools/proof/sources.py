@@ -120,24 +120,9 @@ class Declaration:
     def lines(self):
         return self.file.lines[self.first - 1 : self.last]
 
-    def comment_lines(self):
-        return self.file.lines[self.comment - 1 : self.first - 1]
-
     def said(self):
         """Its lines without comments and blank ones."""
         return [l for l in map(without_comment, self.lines()) if l.strip()]
-
-    def member_types(self):
-        """Each field or constructor with its type."""
-        found, name = {}, None
-        for line in self.said():
-            m = SIGNATURE.match(line.strip())
-            if m and plain(m.group("name")) in self.members:
-                name = plain(m.group("name"))
-                found[name] = line.strip()[m.end() :].strip()
-            elif name:
-                found[name] = f"{found[name]} {line.strip()}".strip()
-        return found
 
     def head_last(self):
         """The last line of its signature: the line before the first `unfolding` line or clause of its own column."""
@@ -306,13 +291,8 @@ class Function:
     def __init__(self, file, name, first):
         self.file, self.name, self.first, self.last = file, name, first, first
         self.exported = False
-        self.public = False
-        self.body_last = first
         self.parameters = []
         self.clauses = []
-
-    def of_kind(self, kind):
-        return [c for c in self.clauses if c.kind == kind]
 
     def said(self):
         return [l for l in self.file.lines[self.first - 1 : self.last] if l.strip() and not l.lstrip().startswith("//")]
@@ -394,7 +374,6 @@ class RattleFile:
 
     def _function(self, number, m):
         f = Function(self, m.group(4), number)
-        f.public = bool(m.group(2))
         f.exported = bool(m.group(3)) and "no_mangle" in self.lines[number - 2]
         indent, start, body = m.group(1), number, None
         # the signature up to the closing bracket of its parameters, then clauses, then the body
@@ -427,7 +406,6 @@ class RattleFile:
         f.last = body - 1 if body > start else start
         while self.lines[number - 1] != indent + "}" and not (number == body and self.lines[number - 1].rstrip().endswith("}")):
             number += 1
-        f.body_last = number
         self.functions.append(f)
         return number
 
@@ -475,9 +453,13 @@ def law_files(crate):
     return sorted((ROOT / "crates" / crate / "proofs").glob("*.antt"))
 
 
+# The files of a function's own proof: what its loops keep and its measures, the answers to its goals; or a walk through its code by hand.
+PROOF_NAMES = ("Invariants.antt", "Answers.antt", "Proof.antt")
+
+
 def proof_files(crate):
     """The files of the functions' own proofs."""
-    return sorted(p for p in (ROOT / "crates" / crate / "proofs").rglob("*.antt") if p.name in ("Invariants.antt", "Answers.antt", "Proof.antt"))
+    return sorted(p for p in (ROOT / "crates" / crate / "proofs").rglob("*.antt") if p.name in PROOF_NAMES)
 
 
 def source_files(crate):
