@@ -96,6 +96,15 @@ class Reading(unittest.TestCase):
                         sources.meaning_of(sources.scope_of(file), name, f"{path}:{line}")
 
 
+class Exporting(unittest.TestCase):
+    def test_what_is_exported_has_the_clauses_of_the_library(self):
+        for library in ("engine", "comparison"):
+            said = [{f.name: (f.parameters, [(c.kind, c.name, c.text) for c in f.clauses]) for path in sources.source_files(crate)
+                     for f in sources.rattle_file(path).functions if f.exported} for crate in (library, library + "_c")]
+            self.assertEqual(*said)
+            self.assertTrue(all(clauses for _, clauses in said[0].values()))
+
+
 class Twice(unittest.TestCase):
     def test_variables_are_left_aside_and_other_names_are_not(self):
         twice = tool("twice")
