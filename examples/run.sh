@@ -2,7 +2,7 @@
 # Builds the examples in C and in Rust, runs them, and compares what they print with styles.stdout, and with levels.stdout. In the repository it first checks that
 # the header and the bindings declare what the engine exports.
 #
-#     rt staticlib engine       once: the library. Another one: HICSOLMAB_LIBRARY=PATH
+#     bash tools/staticlib.sh engine       once: the library. Another one: HICSOLMAB_LIBRARY=PATH
 #     bash examples/run.sh
 set -euo pipefail
 here=$(cd "$(dirname "$0")" && pwd)
@@ -22,7 +22,7 @@ else
     library=$root/lib/libengine.a
 fi
 library=$(realpath "${HICSOLMAB_LIBRARY:-$library}")
-[ -f "$library" ] || fail "there is no $library: run rt staticlib engine, or name a library in HICSOLMAB_LIBRARY"
+[ -f "$library" ] || fail "there is no $library: run bash tools/staticlib.sh engine, or name a library in HICSOLMAB_LIBRARY"
 
 if [ -d "$root/tools/check-bindings" ]; then
     python3 "$root/tools/check-bindings/check.py" "$library"

@@ -1,6 +1,6 @@
 /* Hicsolmab, a stylesheet engine: three stylesheets and a page in, the style of each element out. For programs in C, and in C++.
  *
- * Link libengine.a, which `rt staticlib engine` writes to target/staticlib; x86-64, System V calling convention.
+ * Link libengine.a, which `bash tools/staticlib.sh engine` writes to target/staticlib; x86-64, System V calling convention.
  *
  *     1. hicsolmab_compile   makes one compiled sheet of three stylesheets;
  *     2. hicsolmab_run       styles all elements of a page by it: colour, background, display, white space, content.

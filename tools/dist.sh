@@ -4,7 +4,7 @@
 #
 #     bash tools/dist.sh [GATE_LOG]
 #
-# GATE_LOG is what `bash .ci/run` printed for this very commit; without it the gate is run, which takes its time. The library is that of `rt staticlib engine`.
+# GATE_LOG is what `bash .ci/run` printed for this very commit; without it the gate is run, which takes its time. The library is that of `bash tools/staticlib.sh engine`.
 # Another one is taken from HICSOLMAB_LIBRARY=PATH, and the manifest then says so. The archive is written to target/dist.
 set -euo pipefail
 root=$(cd "$(dirname "$0")/.." && pwd)
@@ -35,9 +35,9 @@ gate_line=$(tail -n 1 "$gate")
 library=${HICSOLMAB_LIBRARY:-}
 library_line="a file given by hand"
 if [ -z "$library" ]; then
-    rt staticlib engine > /dev/null
+    bash tools/staticlib.sh engine > /dev/null
     library=target/staticlib/libengine.a
-    library_line="rt staticlib engine"
+    library_line="bash tools/staticlib.sh engine"
 fi
 python3 tools/check-bindings/check.py "$library" --alone
 

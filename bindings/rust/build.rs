@@ -3,7 +3,7 @@
 //! 1. the file that the environment variable `HICSOLMAB_LIBRARY` names;
 //! 2. `../lib/libengine.a`, where a distribution has it;
 //! 3. `target/staticlib/libengine.a` of the repository;
-//! 4. the same file, once `rt staticlib engine` has been run in the repository. That command proves the engine first, which takes minutes.
+//! 4. the same file, once `bash tools/staticlib.sh engine` has been run in the repository. That command proves the engine first, which takes minutes.
 use std::path::{Path, PathBuf};
 use std::process::Command;
 use std::{env, fs};
@@ -37,16 +37,16 @@ fn find() -> PathBuf {
     there(&here.join(DISTRIBUTED))
         .or_else(|| there(&built))
         .or_else(|| build(&repository).then(|| there(&built)).flatten())
-        .unwrap_or_else(|| panic!("the engine's library is not there: name it in {VARIABLE}, or run `rt staticlib engine` in the repository"))
+        .unwrap_or_else(|| panic!("the engine's library is not there: name it in {VARIABLE}, or run `bash tools/staticlib.sh engine` in the repository"))
 }
 
-/// Runs `rt staticlib engine`, if this is the repository and `rt` is there. What it prints stands in the build's output.
+/// Runs `bash tools/staticlib.sh engine`, if this is the repository and `rt` is there. What it prints stands in the build's output.
 fn build(repository: &Path) -> bool {
     if !repository.join(CRATES).is_file() {
         return false;
     }
-    println!("cargo:warning=the engine's library is not there: `rt staticlib engine` proves and builds it, which takes minutes");
-    Command::new("rt").args(["staticlib", "engine"]).current_dir(repository).status().is_ok_and(|status| status.success())
+    println!("cargo:warning=the engine's library is not there: `bash tools/staticlib.sh engine` proves and builds it, which takes minutes");
+    Command::new("bash").args(["tools/staticlib.sh", "engine"]).current_dir(repository).status().is_ok_and(|status| status.success())
 }
 
 /// `engine` for `libengine.a`.

@@ -2,7 +2,7 @@
 # Builds the viewer, prints the pages of pages/ with their colours in words, and compares each with what is stored beside it. With the crate built (tools/crate/build.sh) the styles of all elements
 # are then held against html2text's own.
 #
-#     rt staticlib engine                     once: the library. Another one: HICSOLMAB_LIBRARY=PATH
+#     bash tools/staticlib.sh engine          once: the library. Another one: HICSOLMAB_LIBRARY=PATH
 #     bash examples/viewer/run.sh             all pages
 #     bash examples/viewer/run.sh PAGE.html   one page, in the colours of the terminal
 #

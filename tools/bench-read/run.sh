@@ -2,8 +2,8 @@
 # Measures reading a sheet against html2text 0.17.4 and prints tables for docs/SPEED.md, and the machine's load, for others may work on it.
 #
 #     bash tools/crate/build.sh FOLDER       once: the crate
-#     rt staticlib engine                    once: this engine (another archive: ENGINE=PATH)
-#     rt staticlib comparison                once, since tools/compare, whose stores it uses, links it
+#     bash tools/staticlib.sh engine         once: this engine (another archive: ENGINE=PATH)
+#     bash tools/staticlib.sh comparison     once, since tools/compare, whose stores it uses, links it
 #     bash tools/bench-read/run.sh
 set -euo pipefail
 cd "$(dirname "$0")/../../target/crate"

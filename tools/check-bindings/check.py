@@ -3,8 +3,8 @@
 
     python3 tools/check-bindings/check.py [LIBRARY [--alone]]
 
-The signatures and result structs of crates/engine/src are compared with those of include/hicsolmab.h and bindings/rust/src/calls.rs: names, order, types and
-fields. (tools/compare/src/engine.rs, which declares them once more, may leave functions out.) Each constant of the header and of bindings/rust/src/layout.rs is
+The signatures of crates/engine_c/src and the result structs of crates/engine/src are compared with those of include/hicsolmab.h and bindings/rust/src/calls.rs:
+names, order, types and fields. (tools/compare/src/engine.rs, which declares them once more, may leave functions out.) Each constant of the header and of bindings/rust/src/layout.rs is
 compared with the one in the source that it repeats, and the least lengths of both with the formulas over these. With LIBRARY its exported symbols are compared
 too; with --alone it is also to have no variables and to call nothing outside but what moves bytes, for the header says that calls keep and allocate nothing. A linker
 notices none of these.
@@ -18,6 +18,7 @@ from pathlib import Path
 
 ROOT = Path(__file__).resolve().parents[2]
 ENGINE = "crates/engine/src"
+EXPORTS = "crates/engine_c/src"
 HEADER = "include/hicsolmab.h"
 CALLS = "bindings/rust/src/calls.rs"
 LAYOUT = "bindings/rust/src/layout.rs"
@@ -106,21 +107,22 @@ def without_comments(text):
 # ---- the engine's sources
 
 def exports(files):
-    """What crates/engine/src exports, and which struct belongs to which result."""
+    """What crates/engine_c/src exports, and the structs of crates/engine/src, which are its results."""
     declared = Declared()
     for path, text in files.items():
-        if not path.startswith(ENGINE):
-            continue
         text = without_comments(text)
-        structs, _ = rust_structs(text)
-        declared.structs.update(structs)
-        found = re.findall(r"#\[no_mangle\]\s*pub extern \"C\" fn (\w+)\(([^)]*)\) -> (\w+)", text)
-        if len(found) != text.count('extern "C"') or len(found) != text.count("#[no_mangle]"):
+        if path.startswith(ENGINE):
+            structs, _ = rust_structs(text)
+            declared.structs.update(structs)
+        if not path.startswith(EXPORTS):
+            continue
+        found = re.findall(r"#\[unsafe\(no_mangle\)\]\s*pub extern \"C\" fn (\w+)\(([^)]*)\) -> (\w+)", text)
+        if len(found) != text.count('extern "C"') or len(found) != text.count("#[unsafe(no_mangle)]"):
             raise ValueError(f"{path}: an export that is not understood")
         for name, parameters, result in found:
             declared.functions[name] = (pairs(parameters, ":"), result)
     if not declared.functions:
-        raise ValueError(f"{ENGINE} exports nothing")
+        raise ValueError(f"{EXPORTS} exports nothing")
     return declared
 
 
@@ -304,7 +306,7 @@ def declarations(path, wanted, found, all_of_them=True):
                     out.append(f"{path}: {what} {name} is not declared")
             elif name not in want:
                 if all_of_them or name.startswith(PREFIX):
-                    out.append(f"{path}: {what} {name} is not exported by {ENGINE}")
+                    out.append(f"{path}: {what} {name} is not exported by {EXPORTS}")
             elif want[name] != have[name]:
                 out.append(f"{path}: {what} {name} is {have[name]}, and should be {want[name]}")
     return out
@@ -362,7 +364,7 @@ def formulas(path, sources, constants, macros, wanted):
 def symbols(library, engine):
     listed = subprocess.run(["nm", "--defined-only", "--extern-only", library], capture_output=True, text=True, check=True)
     found = {line.split()[-1] for line in listed.stdout.splitlines() if len(line.split()) == 3}
-    return [f"{library}: {name} is {'not there' if name in engine.functions else 'there and not exported by ' + ENGINE}"
+    return [f"{library}: {name} is {'not there' if name in engine.functions else 'there and not exported by ' + EXPORTS}"
             for name in sorted(engine.functions.keys() ^ {name for name in found if name.startswith(PREFIX)})]
 
 
@@ -380,7 +382,7 @@ def alone(library):
 
 def read_files():
     paths = [HEADER, CALLS, LAYOUT, LENGTHS, COMPARE, *CONSTANTS]
-    paths += [str(path.relative_to(ROOT)) for path in sorted((ROOT / ENGINE).glob("*.rt"))]
+    paths += [str(path.relative_to(ROOT)) for folder in (ENGINE, EXPORTS) for path in sorted((ROOT / folder).glob("*.rt"))]
     return {path: (ROOT / path).read_text(encoding="utf-8") for path in paths}
 
 

@@ -2,7 +2,7 @@
 # Everything that is checked of the callers' side: the declarations, and that the check notices planted differences; the header with C and C++ compilers and
 # against the library; the Rust crate's formatting, lints, documentation and tests; and both examples.
 #
-#     rt staticlib engine       once: the library. Another one: HICSOLMAB_LIBRARY=PATH
+#     bash tools/staticlib.sh engine       once: the library. Another one: HICSOLMAB_LIBRARY=PATH
 #     bash tools/check-bindings/run.sh
 set -euo pipefail
 here=$(cd "$(dirname "$0")" && pwd)
@@ -10,7 +10,7 @@ root=$(cd "$here/../.." && pwd)
 cd "$root"
 library=${HICSOLMAB_LIBRARY:-target/staticlib/libengine.a}
 [ -f "$library" ] || {
-    echo "check-bindings: there is no $library: run rt staticlib engine, or name a library in HICSOLMAB_LIBRARY" >&2
+    echo "check-bindings: there is no $library: run bash tools/staticlib.sh engine, or name a library in HICSOLMAB_LIBRARY" >&2
     exit 1
 }
 library=$(realpath "$library")

@@ -92,8 +92,9 @@ def planted(path, text):
         yield from signs(path, text)
     elif path in check.CONSTANTS:
         yield from ((said, edited) for said, edited in numbers(path, text) if re.search(rf"const ({names(path)}):", said))
-    elif path.startswith(check.ENGINE):
-        for match in re.finditer(r"pub extern \"C\" fn \w+\([^)]*\)|#\[repr\(C\)\]\npub struct \w+ \{[^}]*\}", text):
+    elif path.startswith((check.ENGINE, check.EXPORTS)):
+        pattern = r"#\[repr\(C\)\][^{]*pub struct \w+ \{[^}]*\}" if path.startswith(check.ENGINE) else r"pub extern \"C\" fn \w+\([^)]*\)"
+        for match in re.finditer(pattern, text):
             yield from in_part(text, match.start(), match.end(), lambda part: members(path, part, RUST_MEMBER))
 
 

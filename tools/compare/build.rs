@@ -1,4 +1,4 @@
-// Links the archives that `rt staticlib engine` and `rt staticlib comparison` write (others: ENGINE=PATH, COMPARISON=PATH), and says which of the
+// Links the archives that `bash tools/staticlib.sh engine` and `bash tools/staticlib.sh comparison` write (others: ENGINE=PATH, COMPARISON=PATH), and says which of the
 // engine's functions are there.
 use std::path::{Path, PathBuf};
 use std::process::Command;
@@ -12,7 +12,7 @@ const LATER: [(&str, &str); 4] =
 fn link(name: &str, variable: &str) -> PathBuf {
     let default = PathBuf::from(env::var("CARGO_MANIFEST_DIR").unwrap()).join(format!("../../target/staticlib/lib{name}.a"));
     let named = env::var(variable).map_or(default, PathBuf::from);
-    let archive = fs::canonicalize(&named).unwrap_or_else(|_| panic!("no {}: run rt staticlib {name} first", named.display()));
+    let archive = fs::canonicalize(&named).unwrap_or_else(|_| panic!("no {}: run bash tools/staticlib.sh {name} first", named.display()));
     println!("cargo:rerun-if-env-changed={variable}");
     // Both, so that a link that leads elsewhere now is seen.
     println!("cargo:rerun-if-changed={}", named.display());

@@ -1,5 +1,5 @@
 /* What the comparison with html2text asks beside the engine's entry points (include/hicsolmab.h, whose words on slices, refusals and least lengths hold
- * here too). Link target/staticlib/libcomparison.a, which `rt staticlib comparison` writes. */
+ * here too). Link target/staticlib/libcomparison.a, which `bash tools/staticlib.sh comparison` writes. */
 #ifndef COMPARISON_H
 #define COMPARISON_H
 

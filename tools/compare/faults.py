@@ -2,7 +2,8 @@
 """Plants single faults, one at a time, and counts how many the comparison notices.
 
     bash tools/crate/build.sh FOLDER                 once: the crate
-    rt staticlib engine; rt staticlib comparison     once: this engine, and what only the comparison asks
+    bash tools/staticlib.sh engine                   once: this engine
+    bash tools/staticlib.sh comparison               once: what only the comparison asks
     python3 tools/compare/faults.py [PART ..]        parts of the names of faults; without them all
 
 Faults of the crate are changes of its text. Those of the engine are made by a layer between it and the comparison (faults/shim.c), for the engine's text cannot be built where

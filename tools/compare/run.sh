@@ -3,7 +3,8 @@
 # tables are not the same, both are printed.
 #
 #     bash tools/crate/build.sh FOLDER                    once: the crate
-#     rt staticlib engine; rt staticlib comparison        once: this engine, and what only the comparison asks
+#     bash tools/staticlib.sh engine                      once: this engine
+#     bash tools/staticlib.sh comparison                  once: what only the comparison asks
 #     bash tools/compare/run.sh                           all questions: seed 1, 3,000 inputs for each
 #     bash tools/compare/run.sh SEED COUNT [QUESTION]     COUNT inputs for each question, or for one
 #     bash tools/compare/run.sh short                     all short texts of src/short.rs

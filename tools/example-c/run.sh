@@ -6,7 +6,7 @@ set -euo pipefail
 here=$(cd "$(dirname "$0")" && pwd)
 root=$here/../..
 cd "$root"
-rt staticlib engine > /dev/null
+bash tools/staticlib.sh engine > /dev/null
 cc -std=c11 -O2 -Wall -Wextra -Werror -I include -o target/example-c tools/example-c/main.c target/staticlib/libengine.a
 printf 'p > .k { color: red; zz: 1 } q { color }' | target/example-c
 printf 'a:nth-child(2147483648' | target/example-c || true

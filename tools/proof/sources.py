@@ -8,12 +8,12 @@ from pathlib import Path
 
 ROOT = Path(__file__).resolve().parents[2]
 
-# Libraries that belong to Rattle and antt: what is named of them is not followed.
-LIBRARIES = {"Prim", "mathlib", "lib", "native", "borrow", "denote", "mir", "types", "contract", "prog", "base", "ghost", "check", "io", "libc", "os", "std"}
+# Libraries that belong to Rattle and antt: what is named of them, and of `Rattle.std`, is not followed.
+LIBRARIES = {"Prim", "mathlib", "lib", "native", "borrow", "denote", "mir", "types", "base"}
 # Words of antt that name nothing, and what its prelude and a contract's brackets bring into every file.
 RESERVED = set("""data record deriving module where use mod pub package using open as unfoldable abbrev axiom unfold unfolding ruleset mutual infix infixl infixr elim let in
-    do λ ∀ Type = → : | _ ← Σ rw simp search omega cc grw""".split())
-PRELUDE = {"⊥", "¬", "Unit", "tt", "absurd", "Dec", "yes", "no", "×", "↔", "now", "⌜", "⌝", "∗"}
+    do λ ∀ Type = → : | _ ← ↦ Σ rw simp search omega cc grw""".split())
+PRELUDE = {"⊥", "¬", "Unit", "tt", "absurd", "Dec", "yes", "no", "×", "↔", "≢", "⌜", "⌝", "∗", "grind", "hlevel", "assumption", "first_of"}
 # Constructors of the libraries: on the left of a clause these stand for themselves, where any other name that is no constructor is bound.
 LIBRARY_CONSTRUCTORS = {"zero", "suc", "[]", "∷", "true", "false", "refl", "pos", "negsuc", "tt", "some", "none", "inl", "inr", "yes", "no", "true₂"}
 
@@ -41,7 +41,7 @@ def crates():
         line = line.split("#")[0].strip()
         if line:
             name, _, below = line.partition(":")
-            found[name.strip()] = below.split()
+            found[name.split()[0]] = below.split()
     return found
 
 
@@ -91,7 +91,7 @@ def is_name(token):
 
 def plain(name):
     """`«max»` and `max` are one name where the latter is one."""
-    return name[1:-1] if name.startswith("«") and "_" not in name else name
+    return name[1:-1] if name.startswith("«") else name
 
 
 # ---- files of antt
@@ -120,24 +120,9 @@ class Declaration:
     def lines(self):
         return self.file.lines[self.first - 1 : self.last]
 
-    def comment_lines(self):
-        return self.file.lines[self.comment - 1 : self.first - 1]
-
     def said(self):
         """Its lines without comments and blank ones."""
         return [l for l in map(without_comment, self.lines()) if l.strip()]
-
-    def member_types(self):
-        """Each field or constructor with its type."""
-        found, name = {}, None
-        for line in self.said():
-            m = SIGNATURE.match(line.strip())
-            if m and plain(m.group("name")) in self.members:
-                name = plain(m.group("name"))
-                found[name] = line.strip()[m.end() :].strip()
-            elif name:
-                found[name] = f"{found[name]} {line.strip()}".strip()
-        return found
 
     def head_last(self):
         """The last line of its signature: the line before the first `unfolding` line or clause of its own column."""
@@ -294,8 +279,10 @@ def use_names(text, where):
 
 
 class Clause:
-    def __init__(self, kind, first, last, text):
-        self.kind, self.first, self.last, self.text = kind, first, last, text
+    """A `requires` or an `ensures`: its name, if it has one, its lines, and what stands in its braces."""
+
+    def __init__(self, kind, name, first, last, text):
+        self.kind, self.name, self.first, self.last, self.text = kind, name, first, last, text
 
 
 class Function:
@@ -304,13 +291,8 @@ class Function:
     def __init__(self, file, name, first):
         self.file, self.name, self.first, self.last = file, name, first, first
         self.exported = False
-        self.public = False
-        self.body_last = first
         self.parameters = []
         self.clauses = []
-
-    def of_kind(self, kind):
-        return [c for c in self.clauses if c.kind == kind]
 
     def said(self):
         return [l for l in self.file.lines[self.first - 1 : self.last] if l.strip() and not l.lstrip().startswith("//")]
@@ -353,11 +335,15 @@ class RattleFile:
         number = 1
         while number <= len(self.lines):
             line = self.lines[number - 1]
-            if line.startswith("ghost use "):
-                self.uses += use_names(line.removeprefix("ghost use ").rstrip("; "), f"{shown(self.path)}:{number}")
-            m = re.match(r"use ([\w:]+)::(\w+)(?: as (\w+))?;", line)
-            if m:
-                self.imports[m.group(3) or m.group(2)] = (m.group(1), m.group(2))
+            if re.match(r"(pub )?(ghost )?use ", line):
+                first = number
+                while not self.lines[number - 1].rstrip().endswith(";"):
+                    number += 1
+                said = re.sub(r"^pub ", "", " ".join(l.strip() for l in self.lines[first - 1 : number]).rstrip("; "))
+                if said.startswith("ghost "):
+                    self.uses += use_names(said.removeprefix("ghost use "), f"{shown(self.path)}:{first}")
+                else:
+                    self._import(said.removeprefix("use ").strip(), "")
             m = re.match(r"\s*(?:pub )?(struct|enum) (\w+)", line)
             if m:
                 last = number
@@ -370,13 +356,24 @@ class RattleFile:
                 number = self._function(number, m)
             number += 1
 
+    def _import(self, tree, path):
+        """What a `use` of Rattle brings: names, also in braces within braces."""
+        head, brace, rest = tree.partition("{")
+        if brace:
+            for part in parts_of(rest.strip().removesuffix("}")):
+                self._import(part, path + head.strip())
+            return
+        name, _, local = tree.partition(" as ")
+        module, _, name = (path + name.strip()).rpartition("::")
+        if module:
+            self.imports[(local or name).strip()] = (module, name)
+
     def _open(self, first, last):
         text = re.sub(r"//[^\n]*", "", "\n".join(self.lines[first - 1 : last]))
         return text.count("{") - text.count("}") > 0
 
     def _function(self, number, m):
         f = Function(self, m.group(4), number)
-        f.public = bool(m.group(2))
         f.exported = bool(m.group(3)) and "no_mangle" in self.lines[number - 2]
         indent, start, body = m.group(1), number, None
         # the signature up to the closing bracket of its parameters, then clauses, then the body
@@ -395,13 +392,13 @@ class RattleFile:
         while body is None:
             number += 1
             line = self.lines[number - 1]
-            c = re.match(r"\s*(requires|ensures|ghost) \{", line)
+            c = re.match(r"\s*(requires|ensures)\*?(?: (\w+))? \{", line)
             if c:
                 first = number
                 while self._braces(first, number) > 0:
                     number += 1
                 clause = " ".join(l.strip() for l in self.lines[first - 1 : number])
-                f.clauses.append(Clause(c.group(1), first, number, clause.partition("{")[2].rpartition("}")[0].strip()))
+                f.clauses.append(Clause(c.group(1), c.group(2), first, number, clause.partition("{")[2].rpartition("}")[0].strip()))
             elif line == indent + "{":
                 body = number
             elif line.strip() and not line.lstrip().startswith(("//", "->")):
@@ -409,13 +406,24 @@ class RattleFile:
         f.last = body - 1 if body > start else start
         while self.lines[number - 1] != indent + "}" and not (number == body and self.lines[number - 1].rstrip().endswith("}")):
             number += 1
-        f.body_last = number
         self.functions.append(f)
         return number
 
     def _braces(self, first, last):
         text = "".join(self.lines[first - 1 : last])
         return text.count("{") - text.count("}")
+
+
+def parts_of(text):
+    """What stands between the commas of a text that are in no braces."""
+    parts, depth = [""], 0
+    for c in text:
+        depth += (c == "{") - (c == "}")
+        if c == "," and not depth:
+            parts.append("")
+        else:
+            parts[-1] += c
+    return [p.strip() for p in parts if p.strip()]
 
 
 # ---- the repository
@@ -445,8 +453,13 @@ def law_files(crate):
     return sorted((ROOT / "crates" / crate / "proofs").glob("*.antt"))
 
 
+# The files of a function's own proof: what its loops keep and its measures, the answers to its goals; or a walk through its code by hand.
+PROOF_NAMES = ("Invariants.antt", "Answers.antt", "Proof.antt")
+
+
 def proof_files(crate):
-    return sorted((ROOT / "crates" / crate / "proofs").rglob("Proof.antt"))
+    """The files of the functions' own proofs."""
+    return sorted(p for p in (ROOT / "crates" / crate / "proofs").rglob("*.antt") if p.name in PROOF_NAMES)
 
 
 def source_files(crate):
@@ -463,12 +476,12 @@ class Library:
 def module_of(path, own=None):
     """What a module's path means: a file of antt; ('type', type) or ('variants', type) of a Rattle type; a Library; None where it is none of these."""
     words = path.split(".")
-    if words[0] in LIBRARIES:
+    if words[0] in LIBRARIES or words[:2] == ["Rattle", "std"]:
         return Library(path)
-    m = re.fullmatch(r"Rattle·(\w+)(?:·(?:specs|proofs))?", words[0])
-    if not m or len(words) < 3:
+    if words[0] != "Rattle" or len(words) < 4:
         return None
-    base = ROOT / "crates" / m.group(1)
+    base = ROOT / "crates" / words[1]
+    words = words[1:]
     file = base / words[1] / (words[2] + ".antt")
     if words[1] in ("specs", "proofs") and file.exists():
         found = antt_file(file)
@@ -477,7 +490,7 @@ def module_of(path, own=None):
         inner = found.by_name.get(words[3])  # a data type, whose constructors are named behind it
         return ("variants", inner) if len(words) == 4 and inner and inner.kind == "data" else None
     # types of Rattle: `specs.declared.FILE.Type`, and what is generated for one, `proofs.FILE.Type`
-    variants = words[-1] == "the-variants"
+    variants = words[-1] == "TheVariants"
     names = words[3 if words[2] == "declared" else 2 : -1 if variants else None]
     for file in [base / "src" / (names[-2] + ".rt")] if len(names) > 1 else [base / "src" / "lib.rt", base / "src" / "main.rt"]:
         found = rattle_file(file).types.get(names[-1].strip("«»")) if file.exists() else None
@@ -519,8 +532,8 @@ class Scope:
             self.names.update(file.by_name)
         self.parts = {}
         for name, found in self.names.items():
-            if "_" in name and name != "_" and not name.startswith("«"):
-                for part in name.split("_"):
+            if "◌" in name:
+                for part in name.split("◌"):
                     if part:
                         self.parts[part] = found
 
@@ -859,7 +872,7 @@ def meaning_of(scope, path, where):
         return found
     if word in PRELUDE:
         return None
-    if word.startswith("Rattle·") or word in LIBRARIES:
+    if word == "Rattle" or word in LIBRARIES:
         found = in_module(module_of(".".join(path[:-1])), path[-1])
         if found is not None:
             return found

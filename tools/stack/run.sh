@@ -1,7 +1,7 @@
 #!/usr/bin/env bash
 # Measures what each exported call takes of the stack at most, and what its slices have at the limits, and prints both tables for docs/SPEED.md.
 #
-#     rt staticlib engine       once: the library. Another one: HICSOLMAB_LIBRARY=PATH
+#     bash tools/staticlib.sh engine       once: the library. Another one: HICSOLMAB_LIBRARY=PATH
 #     bash tools/stack/run.sh
 set -euo pipefail
 root=$(cd "$(dirname "$0")/../.." && pwd)

@@ -1,7 +1,7 @@
 #!/usr/bin/env python3
 """Asks the engine's archive for the runs of cases/runs.txt and cases/long_runs.txt, and prints those where it answers or leaves something else.
 
-    rt staticlib engine                                 once
+    bash tools/staticlib.sh engine                      once
     python3 tools/vectors/ask_runs.py [ARCHIVE ..]      others than target/staticlib/libengine.a, the first of which has hicsolmab_run
 
 crates/replay asks for the first list too, but what it lends lies on the program's stack; here the longest state can be lent."""

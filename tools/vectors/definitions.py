@@ -2,9 +2,9 @@
 """Holds the definitions `computed_style` and `page_row` against html2text's computed styles, by computing them. Where declarations start, html2text does not say: model.py does.
 
     python3 tools/vectors/definitions.py FOLDER style|run [FIRST COUNT]
-    cd FOLDER && rt check held
+    cd FOLDER/crates/held && rt check
 
-FOLDER, outside this repository, becomes one: the crates of this one, what target/ holds of them, and a crate `held`, where each vector is a case that `refl`
+FOLDER, outside this repository, becomes one: the crates of this one, with what their checks kept (out/), and a crate `held`, where each vector is a case that `refl`
 has to prove. A case says that the sheets are read, that the page is accepted, and what the style of each element is: computed from the sheets (style), or
 read in the rows of the page by the compiled bytes (run). The vectors are taken in order of size, COUNT of them from the FIRST on."""
 import pathlib
@@ -17,7 +17,7 @@ from vectors import recorded_file
 
 HERE = pathlib.Path(__file__).resolve().parent
 ROOT = HERE.parent.parent
-LIBRARIES = "combinators unicode lexer decimal syntax values declarations selectors sheets origins cascade page matching compiled segments compiler styles runner".split()
+LIBRARIES = "combinators characters lexer decimal syntax values declarations selectors sheets origins cascade page matching compiled segments compiler styles runner".split()
 COMPUTED = 6
 SHEETS = 3
 NODE_WIDTH = 6
@@ -30,31 +30,29 @@ CASES_A_FILE = 50
 
 # How a vector is asked, over the definitions.
 ASKED = """-- How a vector is asked.
-use Prim.Native.Nat.{ℕ, suc}
-use mathlib.Core.Bool.{Bool, true, false}
-use mathlib.Core.List.{List, [], _∷_, _++_, map}
-use Rattle·combinators.specs.Choice.{and}
-use Rattle·combinators.specs.Refusal.{no_refusal}
-use Rattle·combinators.specs.declared.refusals.Refusal.{Refusal}
-use Rattle·syntax.specs.Layout.{value_in}
-use Rattle·syntax.specs.Selector.{RuleSet}
-use Rattle·syntax.specs.Style.{Style, StyleValue}
-use Rattle·syntax.specs.declared.styles.Value.{Value}
-use Rattle·selectors.specs.Outcome.{on_outcome}
-use Rattle·sheets.specs.Sheet.{sheet_of}
-use Rattle·cascade.specs.declared.slots.Cascade.the-variants.{Crate}
-use Rattle·cascade.specs.Record.{Record, ComputedStyle}
-use Rattle·cascade.specs.Row.{style_at}
-use Rattle·cascade.specs.Slot.{Slot, empty, held}
-use Rattle·page.specs.PathOf.{path_of}
-use Rattle·page.specs.Accepted.{page_refusal}
-use Rattle·compiled.specs.Sheet.{encode}
-use Rattle·compiler.specs.Selectors.{selectors_of}
-use Rattle·styles.specs.Computed.{computed_style}
-use Rattle·styles.specs.Said.{Rules}
-use Rattle·styles.specs.declared.settings.Settings.{Settings}
-use Rattle·styles.specs.Lent.{Page}
-use Rattle·runner.specs.PageRows.{page_contents, page_row}
+use Rattle.std.specs.Prelude.{ℕ, suc, Bool, true, false, List, [], ◌∷◌, ◌++◌, map}
+use Rattle.combinators.specs.Choice.{and}
+use Rattle.combinators.specs.Refusal.{no_refusal}
+use Rattle.combinators.specs.declared.refusals.Refusal.{Refusal}
+use Rattle.syntax.specs.Layout.{value_in}
+use Rattle.syntax.specs.Selector.{RuleSet}
+use Rattle.syntax.specs.Style.{Style, StyleValue}
+use Rattle.syntax.specs.declared.styles.Value.{Value}
+use Rattle.selectors.specs.Outcome.{on_outcome}
+use Rattle.sheets.specs.Sheet.{sheet_of}
+use Rattle.cascade.specs.declared.slots.Cascade.TheVariants.{Crate}
+use Rattle.cascade.specs.Record.{Record, ComputedStyle}
+use Rattle.cascade.specs.Row.{style_at}
+use Rattle.cascade.specs.Slot.{Slot, empty, held}
+use Rattle.page.specs.PathOf.{path_of}
+use Rattle.page.specs.Accepted.{page_refusal}
+use Rattle.compiled.specs.Sheet.{encode}
+use Rattle.compiler.specs.Selectors.{selectors_of}
+use Rattle.styles.specs.Computed.{computed_style}
+use Rattle.styles.specs.Said.{Rules}
+use Rattle.styles.specs.declared.settings.Settings.{Settings}
+use Rattle.styles.specs.Lent.{Page}
+use Rattle.runner.specs.PageRows.{page_contents, page_row}
 
 pub record Answer : Type 0 where
   pub read : Bool
@@ -72,40 +70,40 @@ filled o i id class type important start x =
     held (record { weight = record { important = important; origin = o; spec = record { inline = i; id = id; class = class; typ = type } }; value = record { style = x; start = start } })
 
 abbrev pub settings : Bool → Settings
-settings on = record { «document_styles» = on }
+settings on = record { document_styles = on }
 
-unfoldable pub isRead : List ℕ → Bool
-isRead s = on_outcome (sheet_of s) (λ n rs. true) false (λ p. false)
+unfoldable pub is_read : List ℕ → Bool
+is_read s = on_outcome (sheet_of s) (λ n rs. true) false (λ p. false)
 
 unfoldable pub rules_of : List ℕ → List RuleSet
 rules_of s = on_outcome (sheet_of s) (λ n rs. rs) [] (λ p. [])
 
 unfoldable pub answer : List ℕ → List ℕ → List ℕ → Page → List (ComputedStyle StyleValue) → Answer
 answer agent user author g l =
-    record { read = and (isRead agent) (and (isRead user) (isRead author)); page = page_refusal (g .nodes) (g .attributes) (g .text); styles = l }
+    record { read = and (is_read agent) (and (is_read user) (is_read author)); page = page_refusal g.nodes g.attributes g.text; styles = l }
 
 unfoldable pub style : List ℕ → List ℕ → List ℕ → Page → Bool → List ℕ → Answer
 style agent user author g on elements =
     let rules : Rules RuleSet = record { agent = rules_of agent; user = rules_of user; author = rules_of author } in
-    answer agent user author g (map (λ i. computed_style Crate rules (settings on) (path_of (g .nodes) (g .attributes) (g .text) i)) elements)
+    answer agent user author g (map (λ i. computed_style Crate rules (settings on) (path_of g.nodes g.attributes g.text i)) elements)
 
 -- a row's style, read in the text that its contents lie in
-unfoldable pub slotSeen : List ℕ → ℕ → Slot Value → Slot StyleValue
-slotSeen t k empty = empty
-slotSeen t k (held c) = held (record { weight = c .weight; value = value_in t k (c .value) })
+unfoldable pub slot_seen : List ℕ → ℕ → Slot Value → Slot StyleValue
+slot_seen t k empty = empty
+slot_seen t k (held c) = held (record { weight = c.weight; value = value_in t k c.value })
 
-unfoldable pub slotsSeen : List ℕ → ℕ → List (Slot Value) → List (Slot StyleValue)
-slotsSeen t k [] = []
-slotsSeen t k (s ∷ ss) = slotSeen t k s ∷ slotsSeen t (suc k) ss
+unfoldable pub slots_seen : List ℕ → ℕ → List (Slot Value) → List (Slot StyleValue)
+slots_seen t k [] = []
+slots_seen t k (s ∷ ss) = slot_seen t k s ∷ slots_seen t (suc k) ss
 
-unfoldable pub recordSeen : List ℕ → Record Value → Record StyleValue
-recordSeen t p = record { present = p .present; slots = slotsSeen t 0 (p .slots) }
+unfoldable pub record_seen : List ℕ → Record Value → Record StyleValue
+record_seen t p = record { present = p.present; slots = slots_seen t 0 p.slots }
 
-unfoldable pub styleSeen : List ℕ → ComputedStyle Value → ComputedStyle StyleValue
-styleSeen t s = record { main = recordSeen t (s .main); before = recordSeen t (s .before); after = recordSeen t (s .after) }
+unfoldable pub style_seen : List ℕ → ComputedStyle Value → ComputedStyle StyleValue
+style_seen t s = record { main = record_seen t s.main; before = record_seen t s.before; after = record_seen t s.after }
 
 unfoldable pub seen : List ℕ → Page → Bool → List ℕ → List (ComputedStyle StyleValue)
-seen code g on elements = map (λ i. styleSeen (code ++ page_contents (settings on) g) (style_at (page_row code (settings on) g i))) elements
+seen code g on elements = map (λ i. style_seen (code ++ page_contents (settings on) g) (style_at (page_row code (settings on) g i))) elements
 
 unfoldable pub run : List ℕ → List ℕ → List ℕ → Page → Bool → List ℕ → Answer
 run agent user author g on elements =
@@ -225,12 +223,12 @@ def unfoldable(definitions):
 
 def opened():
     """The `use` lines for the definitions of the libraries, and the names of all that can be unfolded."""
-    uses, names = ["use Rattle·held·specs.specs.Asked as asked"], [f"asked.{f}" for f in unfoldable(ASKED)]
+    uses, names = ["use Rattle.held.specs.Asked as asked"], [f"asked.{f}" for f in unfoldable(ASKED)]
     for library in LIBRARIES:
         for file in sorted((ROOT / "crates" / library / "specs").glob("*.antt")):
             name, found = f"{library}-{file.stem.lower()}", unfoldable(file.read_text())
             if found:
-                uses.append(f"use Rattle·{library}.specs.{file.stem} as {name}")
+                uses.append(f"use Rattle.{library}.specs.{file.stem} as {name}")
                 names += [f"{name}.{f}" for f in found]
     return "\n".join(uses), " ".join(names)
 
@@ -248,13 +246,11 @@ def main(folder, question, first=0, count=sys.maxsize):
         sys.exit(f"{folder} is a repository already")
     shutil.rmtree(folder / "crates", ignore_errors=True)
     shutil.copytree(ROOT / "crates", folder / "crates")
-    if (ROOT / "target").exists() and not (folder / "target").exists():
-        shutil.copytree(ROOT / "target", folder / "target")
     (folder / "crates.txt").write_text((ROOT / "crates.txt").read_text() + f"held: {' '.join(LIBRARIES)}\n")
     held = folder / "crates" / "held"
     for part in ["src", "specs", "proofs"]:
         (held / part).mkdir(parents=True)
-    (held / "src" / "lib.rt").write_text("// Definitions held against html2text's answers.\n")
+    (held / "src" / "lib.rt").write_text("// Definitions held against html2text's answers.\n#![tactic(auto)]\n")
     (held / "proofs" / "Lib.antt").write_text("")
     (held / "specs" / "Asked.antt").write_text(ASKED)
 
@@ -264,8 +260,8 @@ def main(folder, question, first=0, count=sys.maxsize):
     for at in range(0, len(vectors), CASES_A_FILE):
         modules.append(f"Held{at}")
         cases = [case(v, question, unfolding) for v in vectors[at:at + CASES_A_FILE]]
-        head = ("use mathlib.Core.Bool.{true, false}\nuse mathlib.Core.List.{[], _∷_}\nuse mathlib.Core.Path.{_≡_, refl}\n"
-                "use Rattle·syntax.specs.Style as style\nuse Rattle·syntax.specs.Declaration as declaration")
+        head = ("use Rattle.std.specs.Prelude.{◌≡◌, true, false, [], ◌∷◌, refl}\n"
+                "use Rattle.syntax.specs.Style as style\nuse Rattle.syntax.specs.Declaration as declaration")
         (held / "specs" / f"Held{at}.antt").write_text(f"-- Vectors.\n{head}\n{uses}\n\n" + "\n".join(cases))
     (held / "specs" / "Lib.antt").write_text("".join(f"pub mod {m}\n" for m in modules))
     print(f"{len(vectors)} vectors, {sum(len(v['elements']) for v in vectors)} elements")

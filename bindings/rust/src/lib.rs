@@ -51,7 +51,7 @@
 //! # Linking
 //!
 //! The build script links the engine's static library, for x86-64. It is the file that `HICSOLMAB_LIBRARY` names, or `../lib/libengine.a` where a distribution
-//! has it, or what `rt staticlib engine` writes in the repository; where that is not there yet, the build script runs the command, which takes minutes.
+//! has it, or what `bash tools/staticlib.sh engine` writes in the repository; where that is not there yet, the build script runs the command, which takes minutes.
 
 pub mod calls;
 mod height;

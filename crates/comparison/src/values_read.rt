@@ -36,7 +36,7 @@ pub extern "C" fn comparison_style_attribute(
     brackets: &mut [u8],
     texts: &mut [u8],
 ) -> StylesResult
-    ensures* { λ r. ⌜ record { result = r; rules = rules.new; tokens = tokens.new; brackets = brackets.new; texts = texts.new } ≡ style_called value.now rules.old tokens.old brackets.old texts.old ⌝ }
+    ensures { record { result = result; rules = rules.new; tokens = tokens.new; brackets = brackets.new; texts = texts.new } ≡ style_called value.now rules.old tokens.old brackets.old texts.old }
 {
     let n = value.len();
     if n > TEXT_LIMIT {
@@ -69,7 +69,7 @@ pub extern "C" fn comparison_color_attribute(
     brackets: &mut [u8],
     texts: &mut [u8],
 ) -> ColourResult
-    ensures* { λ r. ⌜ record { result = r; tokens = tokens.new; brackets = brackets.new; texts = texts.new } ≡ colour_called value.now tokens.old brackets.old texts.old ⌝ }
+    ensures { record { result = result; tokens = tokens.new; brackets = brackets.new; texts = texts.new } ≡ colour_called value.now tokens.old brackets.old texts.old }
 {
     let n = value.len();
     if n > TEXT_LIMIT {

@@ -45,7 +45,7 @@ pub extern "C" fn hicsolmab_run(
     brackets: &mut [u8],
 ) -> RunResult
     ensures { record { answer = answer_in result; rows = rows.new; texts = texts.new; state = state.new; rules = rules.new; tokens = tokens.new; brackets = brackets.new }
-        ≡ run_call rows.old texts.old state.old rules.old tokens.old brackets.old compiled.now (settings_from document_styles) (record { nodes = nodes.entry.now; attributes = attributes.now; text = text.now }) }
+        ≡ run_call rows.old texts.old state.old rules.old tokens.old brackets.old compiled.now (settings_from document_styles) (record { nodes = nodes.now; attributes = attributes.now; text = text.now }) }
 {
     result_of(run(
         settings_from(document_styles),

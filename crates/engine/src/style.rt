@@ -65,7 +65,7 @@ pub extern "C" fn hicsolmab_style(
     brackets: &mut [u8],
 ) -> StyleResult
     ensures { record { answer = answer_in result; row = out.new; texts = texts.new; rules = rules.new; tokens = tokens.new; brackets = brackets.new }
-        ≡ style_of Crate (settings_from document_styles) (record { agent = agent.entry.now; user = user.now; author = author.now }) (record { nodes = nodes.entry.now; attributes = attributes.now; text = text.now }) row out.old texts.old rules.old tokens.old brackets.old }
+        ≡ style_of Crate (settings_from document_styles) (record { agent = agent.now; user = user.now; author = author.now }) (record { nodes = nodes.now; attributes = attributes.now; text = text.now }) row out.old texts.old rules.old tokens.old brackets.old }
 {
     result_of(style(
         settings_from(document_styles),
@@ -102,7 +102,7 @@ pub extern "C" fn hicsolmab_style_book(
     brackets: &mut [u8],
 ) -> StyleResult
     ensures { record { answer = answer_in result; row = out.new; texts = texts.new; rules = rules.new; tokens = tokens.new; brackets = brackets.new }
-        ≡ style_of Book (settings_from document_styles) (record { agent = agent.entry.now; user = user.now; author = author.now }) (record { nodes = nodes.entry.now; attributes = attributes.now; text = text.now }) row out.old texts.old rules.old tokens.old brackets.old }
+        ≡ style_of Book (settings_from document_styles) (record { agent = agent.now; user = user.now; author = author.now }) (record { nodes = nodes.now; attributes = attributes.now; text = text.now }) row out.old texts.old rules.old tokens.old brackets.old }
 {
     result_of(style_book(
         settings_from(document_styles),

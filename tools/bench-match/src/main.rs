@@ -1,4 +1,4 @@
-//! Matching a selector: this engine's `comparison_matches`, as `rt staticlib comparison` builds it, against html2text's `do_matches`, both built for release,
+//! Matching a selector: this engine's `comparison_matches`, as `bash tools/staticlib.sh comparison` builds it, against html2text's `do_matches`, both built for release,
 //! on the same pages, turn by turn in one run. Prints tables for docs/SPEED.md; tools/bench-match/run.sh builds and runs it.
 //!
 //! `comparison_matches` checks the page at each call, and tells the specificity too. So each turn also asks for a selector without components, and what that

@@ -1,4 +1,4 @@
-//! Reading a sheet: this engine's `read_sheet`, as `rt staticlib engine` builds it, against html2text's `parse_stylesheet`, both built for release,
+//! Reading a sheet: this engine's `read_sheet`, as `bash tools/staticlib.sh engine` builds it, against html2text's `parse_stylesheet`, both built for release,
 //! on the same sheets, turn by turn in one run. Prints tables for docs/SPEED.md; tools/bench-read/run.sh builds and runs it.
 use compare::engine::Stores;
 use judge::css::questions::count_rules;

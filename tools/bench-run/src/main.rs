@@ -1,4 +1,4 @@
-//! The styles of all elements of a page: this engine's `hicsolmab_run` over a compiled sheet, as `rt staticlib engine` builds it, against html2text's `computed_style` of all elements
+//! The styles of all elements of a page: this engine's `hicsolmab_run` over a compiled sheet, as `bash tools/staticlib.sh engine` builds it, against html2text's `computed_style` of all elements
 //! in page order, each with its parent's result. Reading is excluded on both sides: the sheet is compiled before, html2text has its rules and nodes. Both built for release, the same
 //! sheets and pages, turn by turn in one run; medians. Prints tables for docs/SPEED.md; tools/bench-run/run.sh builds and runs it.
 //!

@@ -1,4 +1,4 @@
-//! The style of an element: this engine's `hicsolmab_style`, as `rt staticlib engine` builds it, against html2text's reading of three sheets and its
+//! The style of an element: this engine's `hicsolmab_style`, as `bash tools/staticlib.sh engine` builds it, against html2text's reading of three sheets and its
 //! `computed_style` down the path, both built for release, on the same sheets and pages, turn by turn in one run. Then sheets that are hard on this engine,
 //! alone. Prints tables for docs/SPEED.md; tools/bench-style/run.sh builds and runs it.
 //!

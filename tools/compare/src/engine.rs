@@ -1,4 +1,4 @@
-//! The functions that crates/engine and crates/comparison export, and the lent stores that they work in.
+//! The functions that crates/engine_c and crates/comparison_c export, and the lent stores that they work in.
 use judge::answers::Page;
 
 #[repr(C)]

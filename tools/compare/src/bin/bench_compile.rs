@@ -1,4 +1,4 @@
-//! Compiling three sheets: this engine's `hicsolmab_compile`, as `rt staticlib engine` builds it, against html2text's reading of the same sheets into its rules (`do_add_css`, once for each
+//! Compiling three sheets: this engine's `hicsolmab_compile`, as `bash tools/staticlib.sh engine` builds it, against html2text's reading of the same sheets into its rules (`do_add_css`, once for each
 //! origin), both built for release, turn by turn in one run; the times are the least of each side. Prints a table for docs/SPEED.md; tools/compare/bench-compile.sh builds and runs it.
 use compare::engine::Stores;
 use compare::questions::COMPILED_LIMIT;

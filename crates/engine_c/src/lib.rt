@@ -1,0 +1,9 @@
+// The functions that programs in C call (include/hicsolmab.h), exported from a static library: those of crates/engine, with its clauses, and nothing else.
+#![tactic(auto)]
+
+mod sheet; // sheet.rt: a sheet into lent stores
+mod compile; // compile.rt: three sheets into a compiled sheet
+mod pages; // pages.rt: which pages are accepted
+mod style; // style.rt: the style of an element
+mod run; // run.rt: the style rows of a page
+mod length; // length.rt: a height's value as an exact length
