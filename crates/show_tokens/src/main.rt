@@ -9,7 +9,8 @@ use characters::utf8::{emit_scalar, is_valid};
 use combinators::least::{TEXT_MORE, TEXT_WIDTH};
 use combinators::refusals::{NOT_UTF8, TOO_LONG};
 use lexer::tokens::{Lexed, Token, parse_token};
-use libc::{STDIN_FILENO, STDOUT_FILENO};
+use std::io::Stdout;
+use streams::read_full;
 
 // The longest text whose tokens are printed. One byte more is read, to see whether the input goes on.
 const LONGEST: usize = 32768;
@@ -30,12 +31,12 @@ enum Texts {
     Character(u32),
 }
 
-fn print(text: &[u8]) {
-    io::write_all(STDOUT_FILENO, text);
+fn print(out: Stdout, text: &[u8]) {
+    streams::write_all(out, text);
 }
 
-fn print_number(n: usize) {
-    io::print_decimal(STDOUT_FILENO, n as u64);
+fn print_number(out: Stdout, n: usize) {
+    streams::print_decimal(out, n as u64);
 }
 
 // Whether `b` stands for itself between double quotes.
@@ -67,56 +68,56 @@ fn plain_count(s: &[u8]) -> usize
 }
 
 // A byte that does not stand for itself, by its hexadecimal digits.
-fn print_escaped(b: u8) {
-    print(b"\\x");
-    io::print_hex(STDOUT_FILENO, b as u64, 2);
+fn print_escaped(out: Stdout, b: u8) {
+    print(out, b"\\x");
+    streams::print_hex(out, b as u64, 2);
 }
 
 // A blank and the text in double quotes.
-fn print_quoted(text: &[u8]) {
-    print(b" \"");
+fn print_quoted(out: Stdout, text: &[u8]) {
+    print(out, b" \"");
     let mut i = 0;
     while i < text.len() {
         let end = i + plain_count(&text[i..]);
-        print(&text[i..end]);
+        print(out, &text[i..end]);
         i = end;
         if i < text.len() {
-            print_escaped(text[i]);
+            print_escaped(out, text[i]);
             i += 1;
         }
     }
-    print(b"\"");
+    print(out, b"\"");
 }
 
 // A delimiter's character.
-fn print_character(c: u32) {
+fn print_character(out: Stdout, c: u32) {
     let mut bytes = [0u8; 4];
     let n = emit_scalar(c, &mut bytes, 0);
-    print_quoted(&bytes[..n]);
+    print_quoted(out, &bytes[..n]);
 }
 
-fn print_kind(k: Token) {
+fn print_kind(out: Stdout, k: Token) {
     match k {
-        Token::Ident(_) => print(b"ident"),
-        Token::Function(_) => print(b"function"),
-        Token::Hash(_) => print(b"hash"),
-        Token::String(_) => print(b"string"),
-        Token::BadString(_) => print(b"bad-string"),
-        Token::Delim(_) => print(b"delim"),
-        Token::Number(_) => print(b"number"),
-        Token::Dimension(_, _) => print(b"dimension"),
-        Token::Percentage(_) => print(b"percentage"),
-        Token::CDO => print(b"cdo"),
-        Token::CDC => print(b"cdc"),
-        Token::Colon => print(b"colon"),
-        Token::Semicolon => print(b"semicolon"),
-        Token::Comma => print(b"comma"),
-        Token::OpenSquare => print(b"open-square"),
-        Token::CloseSquare => print(b"close-square"),
-        Token::OpenRound => print(b"open-round"),
-        Token::CloseRound => print(b"close-round"),
-        Token::OpenBrace => print(b"open-brace"),
-        Token::CloseBrace => print(b"close-brace"),
+        Token::Ident(_) => print(out, b"ident"),
+        Token::Function(_) => print(out, b"function"),
+        Token::Hash(_) => print(out, b"hash"),
+        Token::String(_) => print(out, b"string"),
+        Token::BadString(_) => print(out, b"bad-string"),
+        Token::Delim(_) => print(out, b"delim"),
+        Token::Number(_) => print(out, b"number"),
+        Token::Dimension(_, _) => print(out, b"dimension"),
+        Token::Percentage(_) => print(out, b"percentage"),
+        Token::CDO => print(out, b"cdo"),
+        Token::CDC => print(out, b"cdc"),
+        Token::Colon => print(out, b"colon"),
+        Token::Semicolon => print(out, b"semicolon"),
+        Token::Comma => print(out, b"comma"),
+        Token::OpenSquare => print(out, b"open-square"),
+        Token::CloseSquare => print(out, b"close-square"),
+        Token::OpenRound => print(out, b"open-round"),
+        Token::CloseRound => print(out, b"close-round"),
+        Token::OpenBrace => print(out, b"open-brace"),
+        Token::CloseBrace => print(out, b"close-brace"),
     }
 }
 
@@ -149,42 +150,42 @@ fn texts_of(k: Token) -> Texts
 }
 
 // The texts, which lie one behind the other from the start of the store on.
-fn print_texts(t: Texts, store: &[u8])
+fn print_texts(out: Stdout, t: Texts, store: &[u8])
     requires { texts_length t ≤ length store.now }
 {
     match t {
         Texts::NoText => {}
-        Texts::One(n) => print_quoted(&store[..n]),
+        Texts::One(n) => print_quoted(out, &store[..n]),
         Texts::Two(n, u) => {
-            print_quoted(&store[..n]);
-            print_quoted(&store[n..n + u]);
+            print_quoted(out, &store[..n]);
+            print_quoted(out, &store[n..n + u]);
         }
-        Texts::Character(c) => print_character(c),
+        Texts::Character(c) => print_character(out, c),
     }
 }
 
 // The line of a token from `start` to `end`.
-fn print_token(start: usize, end: usize, k: Token, store: &[u8])
+fn print_token(out: Stdout, start: usize, end: usize, k: Token, store: &[u8])
     requires { texts_length (texts_of k) ≤ length store.now }
 {
-    print_number(start);
-    print(b" ");
-    print_number(end);
-    print(b" ");
-    print_kind(k);
-    print_texts(texts_of(k), store);
-    print(b"\n");
+    print_number(out, start);
+    print(out, b" ");
+    print_number(out, end);
+    print(out, b" ");
+    print_kind(out, k);
+    print_texts(out, texts_of(k), store);
+    print(out, b"\n");
 }
 
 // Prints the next token of `s` from `at` on, and answers how many bytes were read with it, or 0 where there is none.
-fn print_next(s: &[u8], at: usize, store: &mut [u8]) -> usize
+fn print_next(out: Stdout, s: &[u8], at: usize, store: &mut [u8]) -> usize
     requires at_in_bounds { at ≤ length s.now }
     requires s_in_bounds { length s.now + 2 ≤ length store.old }
     ensures { at + result ≤ length s.now }
 {
     match parse_token(&s[at..], store, 0) {
         Lexed::At(w, n, k) => {
-            print_token(at + w, at + n, k, store);
+            print_token(out, at + w, at + n, k, store);
             n
         }
         Lexed::Nothing => 0,
@@ -192,12 +193,12 @@ fn print_next(s: &[u8], at: usize, store: &mut [u8]) -> usize
 }
 
 // Prints every token of `s`, and answers where reading stopped.
-fn print_tokens(s: &[u8], store: &mut [u8]) -> usize
+fn print_tokens(out: Stdout, s: &[u8], store: &mut [u8]) -> usize
     requires { length s.now + 2 ≤ length store.old }
 {
     let mut at = 0;
     while at < s.len() {
-        let n = print_next(s, at, store);
+        let n = print_next(out, s, at, store);
         if n == 0 {
             return at;
         }
@@ -207,33 +208,34 @@ fn print_tokens(s: &[u8], store: &mut [u8]) -> usize
 }
 
 // That the text is refused as a whole, with nothing else printed.
-fn print_refusal(number: u32) {
-    print(b"refused ");
-    io::print_decimal(STDOUT_FILENO, number as u64);
-    print(b" 0\n");
+fn print_refusal(out: Stdout, number: u32) {
+    print(out, b"refused ");
+    streams::print_decimal(out, number as u64);
+    print(out, b" 0\n");
 }
 
 // The tokens of a text and where reading stopped, or a refusal.
-fn print_text(s: &[u8])
+fn print_text(out: Stdout, s: &[u8])
     requires { length s.now ≤ LONGEST }
 {
     if !is_valid(s) {
-        print_refusal(NOT_UTF8);
+        print_refusal(out, NOT_UTF8);
         return;
     }
     let mut store = [0u8; STORE];
-    let stop = print_tokens(s, &mut store);
-    print(b"stop ");
-    print_number(stop);
-    print(b"\n");
+    let stop = print_tokens(out, s, &mut store);
+    print(out, b"stop ");
+    print_number(out, stop);
+    print(out, b"\n");
 }
 
-fn main() {
+fn main(rt: HostRuntime) {
+    let out = rt.stdout();
     let mut input = [0u8; INPUT];
-    let n = io::read_full(STDIN_FILENO, &mut input);
+    let n = read_full(rt.stdin(), &mut input);
     if n > LONGEST {
-        print_refusal(TOO_LONG);
+        print_refusal(out, TOO_LONG);
         return;
     }
-    print_text(&input[..n]);
+    print_text(out, &input[..n]);
 }
