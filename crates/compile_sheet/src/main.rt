@@ -11,7 +11,8 @@ use compiled::sheets::COMPILED_LIMIT;
 use compiler::answers::numbers_of;
 use compiler::compile::compile;
 use hexadecimal::{PAIR_WIDTH, emit_line};
-use libc::{STDIN_FILENO, STDOUT_FILENO};
+use std::io::Stdout;
+use streams::read_full;
 
 // The bytes that the sheet may have here, and one byte more, to see whether the input goes on.
 const LONGEST: usize = 1024;
@@ -28,32 +29,32 @@ const NUMBERS: usize = NUMBER_WIDTH * LONGEST + NUMBER_MORE;
 // The longest line.
 const LINE: usize = PAIR_WIDTH * COMPILED_LIMIT;
 
-fn print(text: &[u8]) {
-    io::write_all(STDOUT_FILENO, text);
+fn print(out: Stdout, text: &[u8]) {
+    streams::write_all(out, text);
 }
 
-fn print_number(n: usize) {
-    print(b" ");
-    io::print_decimal(STDOUT_FILENO, n as u64);
+fn print_number(out: Stdout, n: usize) {
+    print(out, b" ");
+    streams::print_decimal(out, n as u64);
 }
 
-fn print_refusal(r: Refusal) {
-    print(b"refused");
-    print_number(r.number as usize);
+fn print_refusal(out: Stdout, r: Refusal) {
+    print(out, b"refused");
+    print_number(out, r.number as usize);
     if r.number == PANIC {
-        print_number(r.text);
+        print_number(out, r.text);
     }
-    print_number(r.place);
-    print(b"\n");
+    print_number(out, r.place);
+    print(out, b"\n");
 }
 
-fn print_bytes(bytes: &[u8]) {
+fn print_bytes(out: Stdout, bytes: &[u8]) {
     let mut line = [0u8; LINE];
     let n = emit_line(bytes, &mut line, 0);
-    print(part_of(&line, 0, n));
+    print(out, part_of(&line, 0, n));
 }
 
-fn print_compiled(author: &[u8]) {
+fn print_compiled(out: Stdout, author: &[u8]) {
     let mut compiled = [0u8; COMPILED_LIMIT];
     let mut texts = [0u8; TEXTS];
     let mut rules = [0u32; NUMBERS];
@@ -71,18 +72,19 @@ fn print_compiled(author: &[u8]) {
     ));
     let refusal = numbers.refusal;
     if refusal.number == NO_REFUSAL {
-        print_bytes(part_of(&compiled, 0, numbers.bytes));
+        print_bytes(out, part_of(&compiled, 0, numbers.bytes));
         return;
     }
-    print_refusal(refusal);
+    print_refusal(out, refusal);
 }
 
-fn main() {
+fn main(rt: HostRuntime) {
+    let out = rt.stdout();
     let mut input = [0u8; INPUT];
-    let n = io::read_full(STDIN_FILENO, &mut input);
+    let n = read_full(rt.stdin(), &mut input);
     if n > LONGEST {
-        print_refusal(refused(TOO_LONG));
+        print_refusal(out, refused(TOO_LONG));
         return;
     }
-    print_compiled(&input[..n]);
+    print_compiled(out, &input[..n]);
 }

@@ -26,6 +26,7 @@ use content::{Verdict, both, byte_of, put_bytes, put_numbers, settle_bytes, sett
 use pages::{ask_bytes, ask_matches, ask_page, ask_rows, ask_selector};
 use reading::{ask_colour, ask_compile, ask_length, ask_sheet, ask_style_attribute};
 use run_calls::ask_run;
+use std::io::{Stdin, Stdout};
 use stream::{argument, behind_numbers, number_argument, number_at, text_at};
 use style_calls::ask_style;
 use tally::{Tally, nothing, print_tally, tallied};
@@ -485,12 +486,12 @@ fn replay_vector(s: &[u8], at: usize, call: u32) -> Verdict {
 // ---- all of them
 
 // Replays what lies at `at`: a vector, or the end of a list.
-fn replay(s: &[u8], at: usize, tally: Tally) -> Replayed {
+fn replay(out: Stdout, s: &[u8], at: usize, tally: Tally) -> Replayed {
     let text = text_at(s, at);
     let words = part_of(s, text.start, text.size);
     let call = number_at(s, text.next);
     if call.value == END {
-        print_tally(words, tally);
+        print_tally(out, words, tally);
         return Replayed {
             next: call.next,
             tally: nothing(),
@@ -499,7 +500,7 @@ fn replay(s: &[u8], at: usize, tally: Tally) -> Replayed {
     let verdict = replay_vector(s, call.next, call.value);
     Replayed {
         next: verdict.next,
-        tally: tallied(tally, call.value, words, verdict.same),
+        tally: tallied(out, tally, call.value, words, verdict.same),
     }
 }
 
@@ -533,13 +534,13 @@ fn left_of(left: u32, more: bool) -> u32
 }
 
 // Moves the window on, and replays what it shows first.
-fn replay_next(window: &mut [u8], from: Step) -> Step {
-    let place = move_on(window, from.at, from.held);
+fn replay_next(input: Stdin, out: Stdout, window: &mut [u8], from: Step) -> Step {
+    let place = move_on(input, window, from.at, from.held);
     let held = place.held;
     if place.at >= held {
         return ended();
     }
-    let replayed = replay(part_of(window, 0, held), place.at, from.tally);
+    let replayed = replay(out, part_of(window, 0, held), place.at, from.tally);
     let tally = replayed.tally;
     Step {
         more: true,
@@ -550,16 +551,16 @@ fn replay_next(window: &mut [u8], from: Step) -> Step {
 }
 
 // Replays all of standard input, one vector behind the other.
-fn replay_all(window: &mut [u8]) {
-    let mut now = started(refill(window, 0, 0));
+fn replay_all(input: Stdin, out: Stdout, window: &mut [u8]) {
+    let mut now = started(refill(input, window, 0, 0));
     let mut left = MOST_VECTORS;
     while left > 0 {
-        now = replay_next(window, now);
+        now = replay_next(input, out, window, now);
         left = left_of(left, now.more);
     }
 }
 
-fn main() {
+fn main(rt: HostRuntime) {
     let mut window = [0u8; WINDOW];
-    replay_all(&mut window);
+    replay_all(rt.stdin(), rt.stdout(), &mut window);
 }

@@ -3,7 +3,7 @@ use crate::calls::{
     CHECK_BYTES, CHECK_PAGE, COLOUR, COMPILE, MATCHES, READ_SHEET, ROWS, RUN, SELECTOR, STYLE,
     STYLE_ATTRIBUTE, STYLE_BOOK,
 };
-use libc::STDOUT_FILENO;
+use std::io::Stdout;
 use std::num::wrapping_add_u64;
 
 #[derive(Clone, Copy)]
@@ -12,40 +12,40 @@ pub struct Tally {
     pub differ: u64,
 }
 
-fn print(text: &[u8]) {
-    io::write_all(STDOUT_FILENO, text);
+fn print(out: Stdout, text: &[u8]) {
+    streams::write_all(out, text);
 }
 
-fn print_call(call: u32) {
+fn print_call(out: Stdout, call: u32) {
     match call {
-        READ_SHEET => print(b"sheet"),
-        COMPILE => print(b"compiled sheet"),
-        CHECK_PAGE => print(b"page"),
-        CHECK_BYTES => print(b"compiled bytes"),
-        STYLE => print(b"style"),
-        STYLE_BOOK => print(b"style in the book order"),
-        RUN => print(b"run"),
-        STYLE_ATTRIBUTE => print(b"style attribute"),
-        COLOUR => print(b"colour attribute"),
-        MATCHES => print(b"selector"),
-        ROWS => print(b"selector on all rows"),
-        SELECTOR => print(b"selector of a sheet"),
-        _ => print(b"no known call"),
+        READ_SHEET => print(out, b"sheet"),
+        COMPILE => print(out, b"compiled sheet"),
+        CHECK_PAGE => print(out, b"page"),
+        CHECK_BYTES => print(out, b"compiled bytes"),
+        STYLE => print(out, b"style"),
+        STYLE_BOOK => print(out, b"style in the book order"),
+        RUN => print(out, b"run"),
+        STYLE_ATTRIBUTE => print(out, b"style attribute"),
+        COLOUR => print(out, b"colour attribute"),
+        MATCHES => print(out, b"selector"),
+        ROWS => print(out, b"selector on all rows"),
+        SELECTOR => print(out, b"selector of a sheet"),
+        _ => print(out, b"no known call"),
     }
 }
 
 // A vector that differs: its number in the list, the call and its words.
-fn print_vector(number: u64, call: u32, words: &[u8]) {
-    print(b"vector ");
-    io::print_decimal(STDOUT_FILENO, number);
-    print(b" (");
-    print_call(call);
-    print(b") differs: ");
-    print(words);
+fn print_vector(out: Stdout, number: u64, call: u32, words: &[u8]) {
+    print(out, b"vector ");
+    streams::print_decimal(out, number);
+    print(out, b" (");
+    print_call(out, call);
+    print(out, b") differs: ");
+    print(out, words);
 }
 
 // Counts a vector, and prints it where it differs.
-pub fn tallied(t: Tally, call: u32, words: &[u8], same: bool) -> Tally {
+pub fn tallied(out: Stdout, t: Tally, call: u32, words: &[u8], same: bool) -> Tally {
     let vectors = wrapping_add_u64(t.vectors, 1);
     if same {
         return Tally {
@@ -53,8 +53,8 @@ pub fn tallied(t: Tally, call: u32, words: &[u8], same: bool) -> Tally {
             differ: t.differ,
         };
     }
-    print_vector(t.vectors, call, words);
-    print(b"\n");
+    print_vector(out, t.vectors, call, words);
+    print(out, b"\n");
     Tally {
         vectors,
         differ: wrapping_add_u64(t.differ, 1),
@@ -69,11 +69,11 @@ pub fn nothing() -> Tally {
 }
 
 // A list's words, how many vectors it has and how many differ.
-pub fn print_tally(words: &[u8], t: Tally) {
-    print(words);
-    print(b": ");
-    io::print_decimal(STDOUT_FILENO, t.vectors);
-    print(b" vectors, ");
-    io::print_decimal(STDOUT_FILENO, t.differ);
-    print(b" differ\n");
+pub fn print_tally(out: Stdout, words: &[u8], t: Tally) {
+    print(out, words);
+    print(out, b": ");
+    streams::print_decimal(out, t.vectors);
+    print(out, b" vectors, ");
+    streams::print_decimal(out, t.differ);
+    print(out, b" differ\n");
 }

@@ -1,7 +1,8 @@
 // A window over standard input, so that any number of vectors can be read.
 ghost use Rattle.std.specs.Prelude.{◌≤◌, length};
 
-use libc::STDIN_FILENO;
+use std::io::Stdin;
+use streams::read_full;
 
 // A window's bytes. A vector that starts in its first half ends in it: none has as many bytes as a half.
 pub const WINDOW: usize = 65536;
@@ -41,18 +42,18 @@ fn move_to_front(window: &mut [u8], at: usize, held: usize) -> usize
 }
 
 // Moves what is left from `at` on to the front, and fills the window up; how many bytes it holds then.
-pub fn refill(window: &mut [u8], at: usize, held: usize) -> usize {
+pub fn refill(input: Stdin, window: &mut [u8], at: usize, held: usize) -> usize {
     let left = move_to_front(window, at, held);
-    let more = io::read_full(STDIN_FILENO, &mut window[left..]);
+    let more = read_full(input, &mut window[left..]);
     left + more
 }
 
 // Moves the window on, if it is read to its second half.
-pub fn move_on(window: &mut [u8], at: usize, held: usize) -> Place {
+pub fn move_on(input: Stdin, window: &mut [u8], at: usize, held: usize) -> Place {
     if at < HALF {
         return Place { at, held };
     }
-    let filled = refill(window, at, held);
+    let filled = refill(input, window, at, held);
     Place {
         at: 0,
         held: filled,

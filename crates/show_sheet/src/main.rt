@@ -10,10 +10,11 @@ mod selector;
 mod writing;
 
 use combinators::least::{NUMBER_MORE, NUMBER_WIDTH, TEXT_MORE, TEXT_WIDTH};
-use libc::STDIN_FILENO;
 use place::print_place;
 use rule::print_rules;
 use sheets::sheet::{SHEET_LIMIT, SheetAnswer, read_sheet};
+use std::io::Stdout;
+use streams::read_full;
 use writing::{print, print_number};
 
 // One byte more than a sheet may have is read, to see whether the input goes on.
@@ -27,49 +28,49 @@ const BRACKETS: usize = SHEET_LIMIT;
 const NUMBERS: usize = NUMBER_WIDTH * SHEET_LIMIT + NUMBER_MORE;
 
 // How many bytes were read of the sheet, and where reading stopped before its end.
-fn print_read(s: &[u8], stop: usize) {
-    print(b"read ");
-    print_number(stop);
-    print(b" of ");
-    print_number(s.len());
-    print(b" bytes\n");
+fn print_read(out: Stdout, s: &[u8], stop: usize) {
+    print(out, b"read ");
+    print_number(out, stop);
+    print(out, b" of ");
+    print_number(out, s.len());
+    print(out, b" bytes\n");
     if stop < s.len() {
-        print(b"stopped at ");
-        print_place(s, stop);
+        print(out, b"stopped at ");
+        print_place(out, s, stop);
     }
 }
 
-fn print_too_long() {
-    print(b"refused 1: the sheet has more than ");
-    print_number(SHEET_LIMIT);
-    print(b" bytes\n");
+fn print_too_long(out: Stdout) {
+    print(out, b"refused 1: the sheet has more than ");
+    print_number(out, SHEET_LIMIT);
+    print(out, b" bytes\n");
 }
 
 // Where the Rust crate panics.
-fn print_panic(s: &[u8], place: usize) {
-    print(b"refused 4: the Rust crate panics at ");
-    print_place(s, place);
+fn print_panic(out: Stdout, s: &[u8], place: usize) {
+    print(out, b"refused 4: the Rust crate panics at ");
+    print_place(out, s, place);
 }
 
-fn print_sheet(s: &[u8]) {
+fn print_sheet(out: Stdout, s: &[u8]) {
     let mut rules = [0u32; NUMBERS];
     let mut tokens = [0u32; NUMBERS];
     let mut brackets = [0u8; BRACKETS];
     let mut store = [0u8; STORE];
     match read_sheet(s, &mut rules, &mut tokens, &mut brackets, &mut store) {
         SheetAnswer::Sheet { count, stop, .. } => {
-            print_read(s, stop);
-            print_rules(s, &rules, &store, count);
+            print_read(out, s, stop);
+            print_rules(out, s, &rules, &store, count);
         }
-        SheetAnswer::TooLong => print_too_long(),
-        SheetAnswer::ShortStore => print(b"refused 2: a store is too short\n"),
-        SheetAnswer::NotUtf8 => print(b"refused 3: the sheet is not UTF-8\n"),
-        SheetAnswer::Panic(place) => print_panic(s, place),
+        SheetAnswer::TooLong => print_too_long(out),
+        SheetAnswer::ShortStore => print(out, b"refused 2: a store is too short\n"),
+        SheetAnswer::NotUtf8 => print(out, b"refused 3: the sheet is not UTF-8\n"),
+        SheetAnswer::Panic(place) => print_panic(out, s, place),
     }
 }
 
-fn main() {
+fn main(rt: HostRuntime) {
     let mut input = [0u8; INPUT];
-    let n = io::read_full(STDIN_FILENO, &mut input);
-    print_sheet(&input[..n]);
+    let n = read_full(rt.stdin(), &mut input);
+    print_sheet(rt.stdout(), &input[..n]);
 }

@@ -4,6 +4,7 @@ ghost use Rattle.std.specs.Prelude.{◌≤◌, length};
 
 use crate::writing::{Where, is_visible, print, print_number, print_text};
 use combinators::texts::part_of;
+use std::io::Stdout;
 
 // The bytes that continue a character.
 const CONTINUATION_FIRST: u8 = 0x80;
@@ -100,53 +101,53 @@ fn column_of(s: &[u8], place: usize) -> usize {
 }
 
 // Blanks as wide as a byte is written.
-fn print_blanks(b: u8) {
+fn print_blanks(out: Stdout, b: u8) {
     if starts_character(b) {
         if is_visible(b) {
-            print(b" ");
+            print(out, b" ");
             return;
         }
-        print(b"    ");
+        print(out, b"    ");
     }
 }
 
 // A mark behind blanks as wide as `head` is written.
-fn print_mark(head: &[u8]) {
+fn print_mark(out: Stdout, head: &[u8]) {
     let mut i = 0;
     while i < head.len() {
-        print_blanks(head[i]);
+        print_blanks(out, head[i]);
         i += 1;
     }
-    print(b"^\n");
+    print(out, b"^\n");
 }
 
 // The line that `head` and the start of `rest` make, with a mark between them.
-fn print_line(head: &[u8], rest: &[u8]) {
-    print_text(head, Where::Line);
-    print_text(part_of(rest, 0, first_line(rest)), Where::Line);
-    print(b"\n");
-    print_mark(head);
+fn print_line(out: Stdout, head: &[u8], rest: &[u8]) {
+    print_text(out, head, Where::Line);
+    print_text(out, part_of(rest, 0, first_line(rest)), Where::Line);
+    print(out, b"\n");
+    print_mark(out, head);
 }
 
-fn print_numbers(byte: usize, line: usize, column: usize) {
-    print(b"byte ");
-    print_number(byte);
-    print(b", line ");
-    print_number(line);
-    print(b", column ");
-    print_number(column);
-    print(b":\n");
+fn print_numbers(out: Stdout, byte: usize, line: usize, column: usize) {
+    print(out, b"byte ");
+    print_number(out, byte);
+    print(out, b", line ");
+    print_number(out, line);
+    print(out, b", column ");
+    print_number(out, column);
+    print(out, b":\n");
 }
 
 // The byte at `place`, its line and column, and the line.
-pub fn print_place(s: &[u8], place: usize) {
-    print_numbers(place, line_of(s, place), column_of(s, place));
-    print_line(head_of(s, place), part_of(s, place, s.len()));
+pub fn print_place(out: Stdout, s: &[u8], place: usize) {
+    print_numbers(out, place, line_of(s, place), column_of(s, place));
+    print_line(out, head_of(s, place), part_of(s, place, s.len()));
 }
 
 // The line and column of the byte at `place`, as compilers write them.
-pub fn print_line_and_column(s: &[u8], place: usize) {
-    print_number(line_of(s, place));
-    print(b":");
-    print_number(column_of(s, place));
+pub fn print_line_and_column(out: Stdout, s: &[u8], place: usize) {
+    print_number(out, line_of(s, place));
+    print(out, b":");
+    print_number(out, column_of(s, place));
 }

@@ -1,7 +1,7 @@
 // Bytes, numbers and texts on standard output. A byte that would not stand for itself is written as `\x` and two hexadecimal digits.
 ghost use Rattle.std.specs.Prelude.{◌≤◌, length};
 
-use libc::STDOUT_FILENO;
+use std::io::Stdout;
 
 // Where a text is written, which says what stands for itself there.
 #[derive(Clone, Copy)]
@@ -13,12 +13,12 @@ pub enum Where {
 
 const DELETE: u8 = 0x7f;
 
-pub fn print(text: &[u8]) {
-    io::write_all(STDOUT_FILENO, text);
+pub fn print(out: Stdout, text: &[u8]) {
+    streams::write_all(out, text);
 }
 
-pub fn print_number(n: usize) {
-    io::print_decimal(STDOUT_FILENO, n as u64);
+pub fn print_number(out: Stdout, n: usize) {
+    streams::print_decimal(out, n as u64);
 }
 
 // Whether `b` is not a control character.
@@ -74,38 +74,38 @@ fn plain_count(s: &[u8], place: Where) -> usize
     i
 }
 
-fn print_escaped(b: u8) {
-    print(b"\\x");
-    io::print_hex(STDOUT_FILENO, b as u64, 2);
+fn print_escaped(out: Stdout, b: u8) {
+    print(out, b"\\x");
+    streams::print_hex(out, b as u64, 2);
 }
 
-pub fn print_text(text: &[u8], place: Where) {
+pub fn print_text(out: Stdout, text: &[u8], place: Where) {
     let mut i = 0;
     while i < text.len() {
         let end = i + plain_count(&text[i..], place);
-        print(&text[i..end]);
+        print(out, &text[i..end]);
         i = end;
         if i < text.len() {
-            print_escaped(text[i]);
+            print_escaped(out, text[i]);
             i += 1;
         }
     }
 }
 
 // A text in double quotes.
-pub fn print_quoted(text: &[u8]) {
-    print(b"\"");
-    print_text(text, Where::Quotes);
-    print(b"\"");
+pub fn print_quoted(out: Stdout, text: &[u8]) {
+    print(out, b"\"");
+    print_text(out, text, Where::Quotes);
+    print(out, b"\"");
 }
 
 // A name of a sheet. Its escapes are undone, so bytes of other kinds can stand in it.
-pub fn print_name(text: &[u8]) {
-    print_text(text, Where::Name);
+pub fn print_name(out: Stdout, text: &[u8]) {
+    print_text(out, text, Where::Name);
 }
 
 // A colour by its hexadecimal digits.
-pub fn print_colour(colour: u32) {
-    print(b"#");
-    io::print_hex(STDOUT_FILENO, colour as u64, 6);
+pub fn print_colour(out: Stdout, colour: u32) {
+    print(out, b"#");
+    streams::print_hex(out, colour as u64, 6);
 }

@@ -1,0 +1,13 @@
+-- A part that is lent has as many numbers as were asked for, which `lent` bounds by the length of the buffer.
+use Rattle.std.proofs.Common.{sym, arith, length-take-le, rules}
+use borrow.Author.Rules.{rules}
+use Rattle.replay.proofs.lend_numbers.Goals as goal
+
+pub slice_bounds-lend_bytes-end-2 : goal.slice_bounds-lend_bytes-end-2
+slice_bounds-lend_bytes-end-2 c = sym (length-take-le _ _ (omega arith))
+
+pub slice_bounds-lend_bytes-end-4 : goal.slice_bounds-lend_bytes-end-4
+slice_bounds-lend_bytes-end-4 c = sym (length-take-le _ _ (omega arith))
+
+pub slice_bounds-lend_bytes-end-6 : goal.slice_bounds-lend_bytes-end-6
+slice_bounds-lend_bytes-end-6 c = sym (length-take-le _ _ (omega arith))
