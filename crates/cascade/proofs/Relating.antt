@@ -1,7 +1,7 @@
 -- A cascade only moves values: from styles and declarations that are the same but for the form of their values come styles that are. Assumes nothing.
 use mathlib.Core.Path.{◌≡◌, refl, sym}
 use mathlib.Core.Bool.{Bool, true, false}
-use mathlib.Core.List.{List, [], ◌∷◌, ◌++◌, map, foldl}
+use mathlib.Core.List.{List, [], ◌++◌, map, foldl}
 use Prim.Native.Nat.{ℕ, zero, suc}
 use lib.ListN.{get_or, set, replicate}
 use Rattle.combinators.specs.Choice.{pick, is}

@@ -5,21 +5,18 @@ use mathlib.Core.List.{List, [], ◌∷◌, map}
 use Prim.Native.Nat.{ℕ, zero, suc, ◌+◌, ◌-◌, ◌*◌, ◌≤◌, ◌<◌}
 use native.Mathlib.Nat.{add-zero}
 use native.Mathlib.Omega.{arith}
-use lib.ListN.{length, get_or, set, take, drop, replicate, length-set, length-replicate, length-drop}
-use lib.Seq.{sets, length-sets, length-take-le, get_or-set_same, get_or-set_other, get_or-take, get_or-drop, drop-cons, take-set-le}
+use lib.ListN.{length, get_or, set, take, drop, replicate, length-set, length-replicate}
+use lib.Seq.{sets, get_or-set_same, get_or-set_other, get_or-take, drop-cons, take-set-le}
 use Rattle.combinators.specs.Choice.{pick, is}
 use Rattle.combinators.specs.Store.{wiped}
 use Rattle.combinators.proofs.Wiped.{length-wiped}
 use Rattle.syntax.specs.Layout.{flag_of}
-use Rattle.syntax.specs.declared.styles.Value.{Value}
-use Rattle.cascade.specs.declared.slots.Slot as code
 use Rattle.cascade.specs.declared.slots.Cascade.{Cascade}
 use Rattle.cascade.specs.declared.slots.Cascade.TheVariants.{Crate, Book}
-use Rattle.cascade.specs.Slot.{Slot, slot_by}
-use Rattle.cascade.specs.Record.{slot_count, main_record, before_record, after_record, Record, empty_record, empty_style, inherit, inherit_by}
-use Rattle.cascade.specs.Row.{slot_width, record_width, style_row_width, record_place, slot_numbers, reads, read_slot, slot_at, windows, record_at, style_at, RowRoom, TwoRooms, present_flag, present_row, inherited_row, Inherited, Emptied}
-use Rattle.cascade.proofs.Windows.{reads_same, reads-sets, sets-low, sets-high}
-use Rattle.cascade.proofs.RowLaws.{cons_same, record_same, style-same, flag_one, slot-width, slots-back, same-windows, same-record}
+use Rattle.cascade.specs.Record.{slot_count, empty_record, empty_style, inherit, inherit_by}
+use Rattle.cascade.specs.Row.{record_width, style_row_width, read_slot, windows, record_at, style_at, RowRoom, TwoRooms, present_flag, present_row, inherited_row, Inherited, Emptied}
+use Rattle.cascade.proofs.Windows.{sets-low}
+use Rattle.cascade.proofs.RowLaws.{record_same, style-same, flag_one, same-windows, same-record}
 
 -- what was stored there, number by number
 pub sets-there : (vs xs : List ℕ) (i p : ℕ) → p < length vs → i + length vs ≤ length xs → get_or (sets xs i vs) (i + p) 0 ≡ get_or vs p 0

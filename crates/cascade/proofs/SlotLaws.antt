@@ -1,5 +1,5 @@
 -- What the tests of the code say of a slot after an update. Assumes nothing.
-use mathlib.Core.Path.{◌≡◌, refl, sym, ap, ◌∙◌}
+use mathlib.Core.Path.{◌≡◌, refl, sym}
 use mathlib.Core.Bool.{Bool, true, false}
 use Prim.Native.Nat.{ℕ, ◌≤◌, ◌<◌}
 use Rattle.combinators.proofs.Rules.{pick_true, pick-false, told}

@@ -2,10 +2,9 @@
 -- CSS Cascading Level 3. A value is of any type: an update only moves it. Assumes nothing: these are definitions.
 use Rattle.std.specs.Prelude.{◌≡◌, Bool, true, false, List, [], ◌∷◌, ◌++◌, ℕ, ◌<◌, ltb}
 use Rattle.combinators.specs.All.{All}
-use Rattle.combinators.specs.Choice.{pick, or, and, is}
-use Rattle.syntax.specs.Style.{agent_origin, user_origin, author_origin}
+use Rattle.combinators.specs.Choice.{pick, or, is}
+use Rattle.syntax.specs.Style.{agent_origin, user_origin}
 use Rattle.syntax.specs.declared.styles.Value.{Value}
-use Rattle.cascade.specs.declared.specificity.Specificity.{Specificity}
 use Rattle.cascade.specs.declared.slots.Weight.{Weight}
 use Rattle.cascade.specs.declared.slots.Slot as code
 use Rattle.cascade.specs.declared.slots.Cascade.{Cascade}

@@ -44,7 +44,7 @@ use Rattle.styles.specs.StyleCall as call
 use Rattle.syntax.specs.Layout.{colour_slot, content_slot}
 use Rattle.syntax.specs.Selector.{RuleSet}
 use Rattle.syntax.specs.Style.{author_origin}
-use Rattle.cascade.specs.Cases.{red, blue, by_type, by_id}
+use Rattle.cascade.specs.Cases.{by_type, by_id}
 use Rattle.cascade.specs.Record.{main_record, before_record}
 use Rattle.cascade.specs.Row.{slot_place}
 use Rattle.page.specs.Path.{Element}

@@ -17,8 +17,8 @@ use Rattle.compiled.specs.Number.{number_limit, number_bytes, number_at, ranged_
 use Rattle.compiled.specs.Text.{text_bytes, span_at}
 use Rattle.compiled.specs.Component.{component_body, component_bytes, name, numbers, names, is_mark, name_at, second_number_at, numbers_at, second_name_at, names_at, body_at, written_at, mark_of, named_of, component_in, component_at}
 use Rattle.compiled.proofs.Fits.{TextFits, ComponentFits}
-use Rattle.compiled.proofs.Following.{then-read, mapped-read, ends_at, all_append}
-use Rattle.compiled.proofs.NumberBack.{number-some, number-bytes, number-back, ranged-back, signed-small}
+use Rattle.compiled.proofs.Following.{then-read, mapped-read, ends_at}
+use Rattle.compiled.proofs.NumberBack.{number-some, number-back, ranged-back, signed-small}
 use Rattle.compiled.proofs.TextBack.{span, span-back, span-text}
 
 -- a kind is one of nine

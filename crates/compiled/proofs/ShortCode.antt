@@ -6,13 +6,11 @@ use Prim.Native.Nat.{ℕ, zero, suc, ◌+◌, ◌-◌, ◌≤◌, ◌<◌}
 use native.Mathlib.Omega.{arith}
 use lib.ListN.{length, get_or}
 use Rattle.combinators.specs.Choice.{or, is}
-use Rattle.combinators.proofs.Rules.{either, is_true, is-no}
+use Rattle.combinators.proofs.Rules.{either, is_true}
 use Rattle.syntax.specs.RuleLayout.{star_kind, class_kind, element_kind, hash_kind, child_kind, descendant_kind, nth_kind, attribute_kind, attribute_equal_kind}
 use Rattle.compiled.specs.Number.{group_values}
 use Rattle.compiled.specs.Component.{is_mark, is_name, body_at, written_at, component_at}
 use Rattle.compiled.specs.Answer.{place_answer, component_answer, ShortSize}
-use Rattle.compiled.specs.declared.numbers.NumberAnswer.TheVariants as number
-use Rattle.compiled.specs.declared.texts.TextAnswer.TheVariants as text
 use Rattle.compiled.specs.declared.places.PlaceAnswer.TheVariants as place
 use Rattle.compiled.specs.declared.components.ComponentAnswer.{ComponentAnswer}
 use Rattle.compiled.specs.declared.components.ComponentAnswer.TheVariants as component

@@ -12,9 +12,8 @@ use Rattle.syntax.proofs.Streams.{Held, held-left, held-right, held-part}
 use Rattle.compiled.specs.Decoded.{read, fault}
 use Rattle.compiled.specs.Number.{number_limit, number_bytes, number_at}
 use Rattle.compiled.specs.Text.{text_bytes, Span, span_at, text_in, text_at}
-use Rattle.compiled.proofs.Fits.{Bytes, TextFits}
-use Rattle.compiled.proofs.Following.{held-within, then-read, mapped-read, ends_at, all_append}
-use Rattle.compiled.proofs.NumberBack.{number-some, number-bytes, number-back}
+use Rattle.compiled.proofs.Following.{held-within, then-read, mapped-read, ends_at}
+use Rattle.compiled.proofs.NumberBack.{number-some, number-back}
 
 module _ (x : List ℕ) where
   -- the length's bytes and the text's

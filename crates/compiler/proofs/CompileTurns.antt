@@ -2,7 +2,7 @@
 use mathlib.Core.Path.{◌≡◌, refl, ap, ap₂, sym, ◌∙◌}
 use mathlib.Core.List.{List, [], ◌∷◌, ◌++◌}
 use mathlib.Core.Logic.{⊎_elim}
-use Prim.Native.Nat.{ℕ, zero, suc, ◌+◌, ◌-◌, ◌^◌, ◌≤◌, ◌<◌}
+use Prim.Native.Nat.{ℕ, suc, ◌+◌, ◌^◌, ◌≤◌, ◌<◌}
 use native.Mathlib.Omega.{arith}
 use borrow.Author.Tests.{le-leb, lt-leb}
 use lib.ListN.{length, take, drop, set, replicate, length-append, length-set, length-drop, take-append-drop}
@@ -12,7 +12,7 @@ use Rattle.combinators.proofs.Cleared.{length-cleared}
 use Rattle.combinators.proofs.Rules.{pick_true, pick-false, lt-or-ge}
 use Rattle.sheets.proofs.SheetLaws.{stored}
 use Rattle.origins.specs.Checks.{Lent}
-use Rattle.origins.specs.Reading.{Sheets, rules, panicked, sheets_of, sheets_rows, sheets_texts, sheets_rules, sheets_answer, SheetsRoom}
+use Rattle.origins.specs.Reading.{Sheets, panicked, sheets_of, sheets_rows, sheets_texts, sheets_rules, sheets_answer, SheetsRoom}
 use Rattle.origins.specs.declared.reading.SheetsRules.{SheetsRules}
 use Rattle.origins.specs.declared.reading.SheetsRead.{SheetsRead}
 use Rattle.origins.specs.declared.reading.SheetsRead.TheVariants as all

@@ -22,7 +22,6 @@ use Rattle.syntax.specs.Stream.{texts_many, rows_many}
 use Rattle.syntax.proofs.RowSizes.{length-declaration}
 use Rattle.declarations.specs.Rules.{declaration_of, starts_at, more_rules}
 use Rattle.declarations.specs.Leaving.{kept, Used, unused, used_by, used_then, text_kept, used_more, Leaves, leaves}
-use Rattle.declarations.specs.declared.rules.DeclarationAnswer.TheVariants as answer
 
 -- ---- one declaration, and more behind it, in the stores
 -- the greater of two numbers, times a width

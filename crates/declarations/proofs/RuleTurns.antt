@@ -1,22 +1,21 @@
 -- Turns of `more_rules`: what is left to read, into the stores as they are, leaves what all declarations leave.
 use mathlib.Core.Path.{◌≡◌, refl, sym, ap, ◌∙◌}
 use mathlib.Core.Bool.{Bool, true, false}
-use mathlib.Core.List.{List, [], ◌∷◌, ◌++◌, append-nil, map}
-use Prim.Native.Nat.{ℕ, zero, suc, ◌+◌, ◌-◌, ◌*◌, ◌^◌, ◌≤◌, ◌<◌}
+use mathlib.Core.List.{List, [], ◌∷◌, ◌++◌}
+use Prim.Native.Nat.{ℕ, suc, ◌+◌, ◌-◌, ◌*◌, ◌^◌, ◌≤◌, ◌<◌}
 use native.Mathlib.Nat.{add-zero}
 use native.Mathlib.Omega.{arith}
 use lib.ListN.{length, get_or, take, drop, length-append, length-drop}
-use lib.Seq.{sets, length-sets}
 use Rattle.combinators.specs.Ascii as ascii
 use Rattle.combinators.specs.Choice.{is}
 use Rattle.combinators.specs.Parsed.{Parsed, ok, err, on_parsed}
 use Rattle.combinators.specs.Store.{wiped}
 use Rattle.combinators.proofs.Lists.{rest, byte-there}
-use Rattle.combinators.proofs.Wiped.{wiped-none, length-wiped}
+use Rattle.combinators.proofs.Wiped.{wiped-none}
 use Rattle.lexer.specs.TokenRow.{token_width}
 use Rattle.lexer.specs.Whitespace.{skip_whitespace}
 use Rattle.syntax.specs.Declaration.{Declaration}
-use Rattle.syntax.specs.Layout.{declaration_width, declaration_text, declaration_row, declaration_rows, declaration_texts}
+use Rattle.syntax.specs.Layout.{declaration_width, declaration_text, declaration_rows, declaration_texts}
 use Rattle.syntax.specs.Stream.{texts_many, rows_many}
 use Rattle.values.specs.Layout.{Room}
 use Rattle.values.proofs.Turns.{more-turns}
@@ -26,7 +25,7 @@ use Rattle.declarations.specs.declared.rules.DeclarationAnswer.{DeclarationAnswe
 use Rattle.declarations.specs.declared.rules.DeclarationAnswer.TheVariants as answer
 use Rattle.declarations.specs.declared.rules.RulesRead.{RulesRead}
 use Rattle.declarations.proofs.Declaring.{Takes, takes}
-use Rattle.declarations.proofs.RuleLaws.{leaves-then, kept-moved, more-next, more-none, more-stop}
+use Rattle.declarations.proofs.RuleLaws.{leaves-then, more-next, more-none, more-stop}
 
 -- ---- what is left to read leaves, where c declarations with t bytes of text were read
 unfoldable pub leaves_from : Bool → ℕ → ℕ → ℕ → ℕ → ℕ → Rules → Used → List ℕ → List ℕ → List ℕ → List ℕ → Leaves RulesRead

@@ -21,7 +21,6 @@ use Rattle.lexer.proofs.Comments.{skip-le}
 use Rattle.syntax.specs.Declaration.{Decl, color, background_color, height, max_height, overflow, overflow_y, display, white_space, content, unknown, Declaration}
 use Rattle.syntax.specs.Layout.{declaration_width, declaration_text, declaration_rows, declaration_texts, style_rows, style_texts, styles_at}
 use Rattle.syntax.specs.Stream.{texts_many}
-use Rattle.syntax.specs.Style as style
 use Rattle.syntax.proofs.Streams.{sets-drop}
 use Rattle.syntax.proofs.RowSizes.{length-declarations, length-styles}
 use Rattle.syntax.proofs.Back.{DeclFits, StyleFits, DeclarationsFit, StylesFit, styles-written}

@@ -1,6 +1,6 @@
 -- What reading declarations leaves in the lent stores: the rows and texts of what was read; what was written on the way is zero again, and
 -- nothing else has changed.
-use Rattle.std.specs.Prelude.{ℕ, zero, suc, ◌+◌, ◌-◌, ◌*◌, ◌^◌, ◌≤◌, ◌<◌, Bool, true, false, ◌≡◌, List, [], ◌∷◌, map, length, get_or, drop}
+use Rattle.std.specs.Prelude.{ℕ, zero, suc, ◌+◌, ◌-◌, ◌*◌, ◌^◌, ◌≤◌, ◌<◌, Bool, false, ◌≡◌, List, [], ◌∷◌, map, length, get_or, drop}
 use Rattle.std.proofs.lemmas.List.Edits.{sets}
 use Rattle.combinators.specs.Ascii as ascii
 use Rattle.combinators.specs.Choice.{pick, is}
@@ -23,7 +23,7 @@ use Rattle.values.specs.DeclAnswer.{decl_answer}
 use Rattle.values.specs.declared.properties.Decl as declared
 use Rattle.values.specs.ColourAnswer.{colour_answer}
 use Rattle.values.specs.declared.colours.ColourAnswer.{ColourAnswer}
-use Rattle.declarations.specs.Rules.{property_of, declaration_of, Rules, starts_at, more_rules, declarations_of}
+use Rattle.declarations.specs.Rules.{property_of, declaration_of, Rules, more_rules, declarations_of}
 use Rattle.declarations.specs.DeclRow.{named_decl, kept_text, row_by}
 use Rattle.declarations.specs.Attribute.{style_attribute, colour_attribute}
 use Rattle.declarations.specs.declared.attributes.StylesRead.{StylesRead}

@@ -1,24 +1,20 @@
 -- Texts in which brackets match are passed over whole, whatever tokens the reader makes of them.
 use mathlib.Core.Path.{◌≡◌, refl, ap, sym, subst, ◌∙◌}
-use mathlib.Core.Bool.{Bool, true, false, not}
+use mathlib.Core.Bool.{Bool, true, false}
 use mathlib.Core.List.{List, [], ◌∷◌, ◌++◌, append_assoc}
 use Prim.Native.Nat.{ℕ, zero, suc, ◌+◌, ◌<◌}
 use native.Mathlib.Omega.{arith}
 use lib.ListN.{length, drop, length-drop}
 use lib.Seq.{drop-append-add}
 use Rattle.combinators.specs.Ascii as ascii
-use Rattle.combinators.specs.Choice.{pick, or, and, is}
+use Rattle.combinators.specs.Choice.{pick, and, is}
 use Rattle.combinators.specs.Parsed.{Parsed, ok}
-use Rattle.combinators.proofs.Lists.{first}
 use Rattle.combinators.proofs.Rules.{never}
-use Rattle.characters.specs.Literal.{text}
-use Rattle.lexer.specs.Name.{either}
 use Rattle.lexer.specs.Token.{Token, token_of, start_of, coded}
 use Rattle.lexer.specs.TokenRow.{columns_of}
 use Rattle.lexer.specs.Token as tokens
 use Rattle.lexer.specs.Whitespace.{whitespace_item}
 use Rattle.lexer.proofs.TokenBounds.{token-fits}
-use Rattle.lexer.proofs.SyntaxWhitespace.{none, white}
 use Rattle.values.specs.Value.{bracket_by, bracket_of, step_of, statement_of, is_important}
 use Rattle.values.specs.Value as values
 use Rattle.values.specs.Words.{kind_of, is_kind, is_delim}

@@ -20,7 +20,7 @@ use Rattle.values.specs.Value.{value_of}
 use Rattle.declarations.specs.Rules.{colon_behind, property_of, value_behind, declaration_of}
 use Rattle.grammar.specs.Nth.{Blanks}
 use Rattle.grammar.specs.Tokens.{closer, Ident, folded}
-use Rattle.grammar.specs.Values.{Values, end, then, block, written_values, means_values, Apart, Outermost, Unmarked, Some, DeclarationValue, Importance, important, written_importance, is_marked}
+use Rattle.grammar.specs.Values.{Values, end, then, block, written_values, means_values, Apart, Outermost, Unmarked, Some, DeclarationValue, Importance, written_importance, is_marked}
 use Rattle.grammar.specs.Balanced.{Balanced, written_balanced, AnyValue}
 use Rattle.grammar.specs.Declarations.{Declared, known, other, property, known_values, written_value, means_known, means_declared}
 use Rattle.grammar.specs.Sheets.{Item, written_item, means_item}

@@ -24,7 +24,7 @@ use Rattle.lexer.specs.Whitespace.{is_whitespace, comment_of, whitespace_item, s
 use Rattle.lexer.proofs.SyntaxName.{ident_start, ident_code_point, letter}
 use Rattle.lexer.proofs.SyntaxWhitespace.{Blank, none, white, comment, skips-blank}
 use Rattle.lexer.proofs.TokenBounds.{token-fits}
-use Rattle.values.specs.Value.{Placed, bracket_by, bracket_of, next, before, behind, closing, ending, step_of, Statement, stop, cons, on_step, scan, statement_of, tokens_of, is_mark, is_important, without_mark, value_from, value_of}
+use Rattle.values.specs.Value.{Placed, bracket_by, bracket_of, next, before, closing, ending, step_of, Statement, stop, cons, on_step, scan, statement_of, tokens_of, is_mark, is_important, without_mark, value_from, value_of}
 use Rattle.values.specs.Words.{kind_of, first_of, is_kind, is_word, is_delim}
 use Rattle.grammar.specs.Nth.{Blanks}
 use Rattle.grammar.specs.Tokens.{is_delimiter, Atom, word, string, hash, number, percentage, dimension, comma, colon, semicolon, delimiter, point, hyphen, addition, Opening, function, round, square, brace, written_atom, written_opening, closer, means_atom, means_opening, means_closer, ends_name, begins_name, begins_number, may_follow, MayFollow, EndsBefore, Ident, folded}

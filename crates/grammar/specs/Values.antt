@@ -3,7 +3,7 @@
 -- against the document's text.
 use Rattle.std.specs.Prelude.{◌≡◌, Bool, true, false, List, [], ◌∷◌, ◌++◌, ℕ, get_or}
 use Rattle.combinators.specs.Ascii as ascii
-use Rattle.combinators.specs.Choice.{or, and, is}
+use Rattle.combinators.specs.Choice.{is}
 use Rattle.characters.specs.Literal.{text}
 use Rattle.lexer.specs.Token.{Token}
 use Rattle.grammar.specs.Nth.{Blanks}

@@ -5,7 +5,7 @@ use mathlib.Core.Bool.{Bool, true, false}
 use mathlib.Core.List.{List, [], ◌∷◌}
 use native.Mathlib.Omega.{arith}
 use lib.ListN.{length, get_or}
-use Rattle.combinators.specs.Choice.{pick, or, and, is}
+use Rattle.combinators.specs.Choice.{pick, or, is}
 use Rattle.combinators.proofs.Rules.{never, either, or_left, or-none, and-true, is-no}
 use Rattle.combinators.proofs.Words.{same-is}
 use Rattle.characters.specs.Literal.{text}

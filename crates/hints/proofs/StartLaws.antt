@@ -7,7 +7,6 @@ use mathlib.Core.Logic.{◌⊎◌, inl, inr, ⊎_elim}
 use native.Mathlib.Omega.{arith}
 use lib.ListN.{length, get_or, take, drop}
 use lib.Seq.{get_or-take}
-use Rattle.combinators.specs.Choice.{or, is}
 use Rattle.combinators.specs.Part.{part}
 use Rattle.combinators.specs.Repeat.{many}
 use Rattle.combinators.specs.Word.{same_text}

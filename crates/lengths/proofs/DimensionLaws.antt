@@ -9,9 +9,9 @@ use native.Mathlib.Omega.{arith}
 use borrow.Author.Tests.{lt-ltb, le-ltb}
 use lib.Dec.{ltb}
 use lib.ListN.{length, get_or}
-use Rattle.combinators.specs.Choice.{pick, or, and, is}
+use Rattle.combinators.specs.Choice.{pick, or, and}
 use Rattle.combinators.proofs.Rules.{lt-or-ge, pick_true, pick-false, or_left, or_right, or-none, and_both, and_left, and_right, is-yes, is-no}
-use Rattle.values.specs.Words.{Entry, Found, found, missing, row_at, lookup, on_found, place_of, split}
+use Rattle.values.specs.Words.{Entry, Found, found, row_at, on_found, place_of, split}
 use Rattle.values.proofs.ColourLaws.{product-fits}
 use Rattle.values.proofs.WordLaws.{numbers_of, joined_of, lengths_of, table-place, row-none, words_of}
 use Rattle.lengths.specs.Length.{ten, most_decimals, most_number, digits_number, decimals, is_negative, is_too_fine, is_above, is_below, is_bad, ten_thousandths, with_unit, dimension_length, number_length}

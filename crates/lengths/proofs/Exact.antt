@@ -1,16 +1,14 @@
 -- What a length is worth: exactly what its digits say, in every unit; which of the three answers a value has; and that every amount fits 64 bits.
-use Prim.Native.Nat.{ℕ, zero, suc, ◌+◌, ◌-◌, ◌*◌, ◌^◌, ◌<◌, ◌≤◌}
+use Prim.Native.Nat.{ℕ, zero, suc, ◌-◌, ◌*◌, ◌^◌, ◌<◌, ◌≤◌}
 use mathlib.Core.Path.{◌≡◌, refl, sym, ap, ◌∙◌}
 use mathlib.Core.Bool.{Bool, true, false}
 use mathlib.Core.List.{List, [], ◌∷◌}
 use native.Mathlib.Nat.{mul_assoc, mul_comm, mul-le-mul_left, mul-le-mul_right}
 use native.Mathlib.Omega.{arith}
 use borrow.Author.Tests.{leb-true, ltb-false}
-use lib.Dec.{leb, ltb}
-use lib.ListN.{length, drop}
+use lib.Dec.{ltb}
 use Rattle.combinators.specs.All.{All}
-use Rattle.combinators.specs.Choice.{pick, or, and, is}
-use Rattle.combinators.specs.Parsed.{Parsed, ok, err, on_parsed}
+use Rattle.combinators.specs.Choice.{pick, or}
 use Rattle.combinators.proofs.Rules.{never, pick-holds, and-true, is_true}
 use Rattle.lexer.specs.Token.{Token}
 use Rattle.lexer.proofs.TokenBounds.{on-holds}
@@ -18,12 +16,12 @@ use Rattle.lexer.specs.Whitespace.{skip_whitespace}
 use Rattle.values.specs.Words.{Entry, Found, found, missing, lookup, on_found, number_of, unit_of}
 use Rattle.values.proofs.WordLaws.{lookup-holds}
 use Rattle.lengths.specs.Number.{numeric_token}
-use Rattle.lengths.specs.Length.{ten, most_decimals, most_number, digits_number, decimals, is_too_fine, is_above, is_below, is_bad, ten_thousandths, with_unit, dimension_length, number_length, token_length, only_whitespace, length_of}
+use Rattle.lengths.specs.Length.{ten, most_decimals, most_number, digits_number, decimals, is_too_fine, is_above, is_below, is_bad, ten_thousandths, with_unit, dimension_length, number_length, token_length, length_of}
 use Rattle.lengths.specs.Numeral.{most_digits}
 use Rattle.lengths.specs.Unit.{LengthUnit, units, ten_thousand, every_row, is_exact, is_small, largest_factor, units-exact, units_small}
 use Rattle.lengths.specs.declared.answers.LengthAnswer.{LengthAnswer}
 use Rattle.lengths.specs.declared.answers.LengthAnswer.TheVariants.{NoLength, Length, TooLong, ShortStore, NotUtf8, BadLength}
-use Rattle.lengths.proofs.DimensionLaws.{Scale, scale_at, scales}
+use Rattle.lengths.proofs.DimensionLaws.{scale_at}
 
 -- ---- the table of units
 -- a test that holds of every row holds of what each stands for

@@ -1,5 +1,5 @@
 -- The length that a height's value is (document 02, S-8): no length, so much of a kind, or refusal 12 with its place.
-use Rattle.std.specs.Prelude.{ℕ, ◌+◌, ◌-◌, ◌*◌, ◌^◌, Bool, List, ◌++◌, leb, ltb, length, get_or, drop}
+use Rattle.std.specs.Prelude.{ℕ, ◌-◌, ◌*◌, ◌^◌, Bool, List, ◌++◌, ltb, length, get_or, drop}
 use Rattle.combinators.specs.Ascii.{hyphen_minus}
 use Rattle.combinators.specs.Choice.{pick, or, and, is}
 use Rattle.combinators.specs.Parsed.{on_parsed}

@@ -13,7 +13,7 @@ use lib.Dec.{ltb}
 use lib.ListN.{length, get_or, length-append}
 use Rattle.combinators.specs.Choice.{pick, or, and, is, within}
 use Rattle.combinators.specs.Ascii.{reverse_solidus}
-use Rattle.combinators.proofs.Rules.{within-past, within-yes, pick_true, pick-false, either, or_left, or_right, or-none, is-no, lt-or-ge, within-false}
+use Rattle.combinators.proofs.Rules.{within-past, within-yes, pick_true, pick-false, or_left, or_right, or-none, is-no, lt-or-ge, within-false}
 use Rattle.characters.specs.Utf8.{is_scalar, or_replacement, replacement_character}
 use Rattle.characters.specs.declared.utf8.Scalar.TheVariants.{Value}
 use Rattle.characters.proofs.Scalars.{or-replacement-same}

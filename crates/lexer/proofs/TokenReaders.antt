@@ -17,7 +17,7 @@ use Rattle.combinators.proofs.Emitted.{sets-onto, sets-emitted}
 use Rattle.lexer.specs.Name.{ident_of, identstring_of, name_text}
 use Rattle.lexer.specs.Number as numbers
 use Rattle.lexer.specs.Quoted.{string_end, string_text}
-use Rattle.lexer.specs.Token.{Token, ident, function, hash, delim, number, dimension, percentage, numeric_from, numeric_of, ident_like_of, is_quote, string_from, string_of, cdc, cdc_mark, cdo_mark, hash_of, plus_of, minus_of, less_of, coded, text_of, token_answer, token_text, or_delim}
+use Rattle.lexer.specs.Token.{ident, function, hash, delim, number, dimension, percentage, numeric_from, numeric_of, ident_like_of, is_quote, string_from, string_of, cdc, cdc_mark, cdo_mark, hash_of, plus_of, minus_of, less_of, coded, text_of, token_answer, token_text, or_delim}
 use Rattle.lexer.specs.declared.names.Name.{Name}
 use Rattle.lexer.specs.declared.names.Name.TheVariants.{Text, NoName}
 use Rattle.lexer.specs.declared.tokens.TokenAnswer.{TokenAnswer}

@@ -13,7 +13,7 @@ use Rattle.combinators.proofs.Repeats.{many-from}
 use Rattle.combinators.proofs.Rules.{at_most, or-none, within-false, within-past, within-true}
 use Rattle.characters.specs.Trim.{white_taken, word_taken}
 use Rattle.characters.specs.Utf8.{lead_of, scalar_of}
-use Rattle.characters.specs.WhiteSpace.{is_white_space, member, ranges, in_ranges}
+use Rattle.characters.specs.WhiteSpace.{is_white_space, member, in_ranges}
 use Rattle.characters.specs.declared.utf8.Lead.{Lead}
 use Rattle.characters.specs.declared.utf8.Scalar.TheVariants.{Value}
 use Rattle.characters.proofs.Reading.{at_ascii}

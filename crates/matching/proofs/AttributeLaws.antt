@@ -4,7 +4,7 @@ use mathlib.Core.Bool.{Bool, true, false}
 use mathlib.Core.List.{List, [], ◌∷◌}
 use mathlib.Core.Path.{◌≡◌, refl, sym, ap, ap₂, ◌∙◌}
 use native.Mathlib.Omega.{arith}
-use Rattle.combinators.specs.Choice.{pick, or, and}
+use Rattle.combinators.specs.Choice.{pick}
 use Rattle.combinators.specs.Part.{part}
 use Rattle.combinators.specs.Word.{same_text}
 use Rattle.combinators.proofs.Rules.{pick_true, pick-false, or_left, or-gives, and-gives, and-gives-false}

@@ -7,7 +7,7 @@ use native.Mathlib.Omega.{arith}
 use Rattle.combinators.specs.Choice.{pick, is}
 use Rattle.combinators.proofs.Rules.{pick_true, pick-false, is-yes, is-no}
 use Rattle.syntax.specs.RuleLayout.{star_kind, child_kind, descendant_kind, component_kind_at}
-use Rattle.syntax.specs.Selector.{Component, child, descendant}
+use Rattle.syntax.specs.Selector.{Component}
 use Rattle.page.specs.PathOf.{element_at, path_of}
 use Rattle.page.specs.Rows.{node_at}
 use Rattle.matching.specs.Matches.{matches}

@@ -10,7 +10,7 @@ use lib.ListN.{length}
 use Rattle.combinators.specs.All.{All}
 use Rattle.combinators.specs.Choice.{pick}
 use Rattle.combinators.proofs.Rules.{never, pick_true, pick-false}
-use Rattle.matching.specs.Documents.{Some, longer, pieces, without_empty, words, EndsInWhite, nothing-before, white-before, BeginsWithWhite, nothing-behind, white-behind, Parted}
+use Rattle.matching.specs.Documents.{Some, pieces, without_empty, words, EndsInWhite, nothing-before, white-before, BeginsWithWhite, nothing-behind, white-behind, Parted}
 use Rattle.matching.proofs.Selectors.{Exactly}
 use Rattle.matching.proofs.WordList.{exactly-then, exactly-either, front, behind, joined, others, first_piece}
 

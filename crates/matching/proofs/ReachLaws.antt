@@ -1,6 +1,6 @@
 -- The first of a row and its ancestors from which a descendant combinator is reached.
 use Prim.Native.Nat.{ℕ, ◌<◌}
-use mathlib.Core.Bool.{Bool, true, false}
+use mathlib.Core.Bool.{true, false}
 use mathlib.Core.List.{List}
 use mathlib.Core.Path.{◌≡◌, refl, sym, ap, ◌∙◌}
 use Rattle.combinators.specs.Choice.{pick}

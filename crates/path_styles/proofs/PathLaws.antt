@@ -1,14 +1,13 @@
 -- Returns of the functions that go down a path.
 use mathlib.Core.Path.{◌≡◌, refl, ap, sym, ◌∙◌}
-use mathlib.Core.Bool.{Bool, true, false}
+use mathlib.Core.Bool.{true, false}
 use mathlib.Core.List.{List, [], ◌∷◌, ◌++◌, map, append_assoc, append-nil}
-use Prim.Native.Nat.{ℕ, ◌+◌, ◌-◌, ◌*◌, ◌^◌, ◌≤◌, ◌<◌}
+use Prim.Native.Nat.{ℕ, ◌+◌, ◌-◌, ◌≤◌}
 use native.Mathlib.Omega.{arith}
 use borrow.Rule.Slice.PartMut.{put_mid, Post-is}
 use lib.ListN.{length, take, drop, replicate, drop_of_length-le, length-append, length-replicate}
 use lib.Seq.{sets, sets-eq, take-add, take_at, take-take, take-append-le, take-append-add, length-take-le}
 use Rattle.combinators.specs.Choice.{pick}
-use Rattle.combinators.specs.LeastLengths.{number_least}
 use Rattle.combinators.specs.Store.{wiped}
 use Rattle.combinators.proofs.Lists.{rest}
 use Rattle.syntax.specs.Stream.{texts_many}
@@ -16,7 +15,6 @@ use Rattle.syntax.specs.Style.{agent_origin, user_origin, author_origin}
 use Rattle.syntax.specs.declared.styles.Value.{Value}
 use Rattle.cascade.specs.declared.rows.Handed as code
 use Rattle.cascade.specs.declared.slots.Cascade.{Cascade}
-use Rattle.cascade.specs.declared.slots.Cascade.TheVariants.{Crate, Book}
 use Rattle.cascade.specs.Record.{Declared, AttributeStyle, Sources, from_rule, declared_by, inherit_by, Handed, handed_by, cascade_by}
 use Rattle.cascade.specs.Row.{style_row_width, RowRoom, Inherited, Finished, Emptied, inherited_row, handed_says, handed_at, finished_row, row_of}
 use Rattle.cascade.specs.Slot.{update_by}
@@ -37,7 +35,7 @@ use Rattle.styles.specs.Said.{Rules, StyledRule, rules_say, counted_attributes, 
 use Rattle.styles.specs.StyleCall.{placed_attributes, attributes_contents, inline_contents, path_contents, placed_from}
 use Rattle.styles.proofs.Called.{empty-row, cascaded-formed}
 use Rattle.styles.proofs.Room.{path-short}
-use Rattle.styles.proofs.Merging.{merged-append, merged-none, merged-long, early-none, late-none, declared-parts}
+use Rattle.styles.proofs.Merging.{merged-append, merged-none, early-none, late-none, declared-parts}
 use Rattle.attributes.specs.Merging.{InlineRoom}
 use Rattle.path_styles.specs.Path.{kept_sheet, kept_sheets, SameKept, SheetsTops, Steady, EarlyRoom, ElementRoom, PathRoom, OneRow}
 use Rattle.origins.specs.declared.reading.SheetRules.{SheetRules}

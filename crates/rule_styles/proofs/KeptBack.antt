@@ -1,12 +1,12 @@
 -- What the call keeps of rules is read back: their selectors, and those of their styles that decide, whatever stands behind.
-use mathlib.Core.Path.{◌≡◌, refl, ap, sym, ◌∙◌}
+use mathlib.Core.Path.{◌≡◌, refl, ap}
 use mathlib.Core.List.{List, [], ◌∷◌, ◌++◌, map, append_assoc}
-use Prim.Native.Nat.{ℕ, zero, suc, ◌+◌}
-use lib.ListN.{length, get_or, drop}
-use Rattle.syntax.specs.Layout.{style_width, numbers_at, row_of_numbers}
-use Rattle.syntax.specs.RuleLayout.{read_rule, rule_text, rule_row, rule_rows, rule_texts}
+use Prim.Native.Nat.{ℕ, ◌+◌}
+use lib.ListN.{length}
+use Rattle.syntax.specs.Layout.{row_of_numbers}
+use Rattle.syntax.specs.RuleLayout.{rule_text, rule_row, rule_rows, rule_texts}
 use Rattle.syntax.specs.Selector.{RuleSet}
-use Rattle.syntax.specs.Stream.{Read, read_many, texts_many, rows_many}
+use Rattle.syntax.specs.Stream.{read_many, texts_many, rows_many}
 use Rattle.syntax.specs.declared.styles.StyleNumbers.{StyleNumbers}
 use Rattle.syntax.specs.declared.styles.Value.{Value}
 use Rattle.syntax.proofs.Back.{row-numbers-back, row-numbers-rest}

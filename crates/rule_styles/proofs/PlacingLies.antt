@@ -1,7 +1,7 @@
 -- Rules that were written lie there, so that their styles can be kept; and what is kept of rules, with a number for each selector, takes no more numbers than they do.
 use mathlib.Core.Path.{◌≡◌, refl, ap, ◌∙◌}
 use mathlib.Core.List.{List, [], ◌∷◌, ◌++◌, append_assoc}
-use Prim.Native.Nat.{ℕ, zero, suc, ◌+◌, ◌≤◌}
+use Prim.Native.Nat.{ℕ, suc, ◌+◌, ◌≤◌}
 use native.Mathlib.Omega.{arith}
 use lib.ListN.{length, get_or, length-append}
 use Rattle.syntax.specs.Layout.{declaration_rows, declaration_texts, style_width}

@@ -9,7 +9,6 @@ use Rattle.combinators.proofs.Wiped.{sets-append}
 use Rattle.syntax.specs.Layout.{declaration_width, style_width}
 use Rattle.syntax.specs.RuleLayout.{component_width, selector_components, selector_head, rule_head, rule_selectors, rule_declarations, read_selector, read_rule}
 use Rattle.syntax.specs.Stream.{Read, read_many, texts_many}
-use Rattle.syntax.specs.declared.styles.Value.{Value}
 use Rattle.combinators.proofs.ZeroLaws.{zeros-behind}
 use Rattle.origins.specs.Rules.{selectors_read, rule_styles}
 use Rattle.origins.proofs.WalkLaws.{component-rest, declaration-rest}

@@ -1,29 +1,27 @@
 -- Sheets as `read_sheets` leaves them: each lies where its rules say, and the stores suffice for the styles of all three.
 use mathlib.Core.Path.{◌≡◌, refl, ap, sym, subst, ◌∙◌}
-use mathlib.Core.List.{List, [], ◌∷◌, ◌++◌, append_assoc, append-nil}
-use Prim.Native.Nat.{ℕ, ◌+◌, ◌-◌, ◌*◌, ◌^◌, ◌≤◌, ◌<◌}
+use mathlib.Core.List.{List, [], ◌++◌, append_assoc, append-nil}
+use Prim.Native.Nat.{ℕ, ◌+◌, ◌-◌, ◌*◌, ◌≤◌, ◌<◌}
 use native.Mathlib.Omega.{arith}
-use lib.ListN.{length, take, drop, length-append, length-drop}
+use lib.ListN.{length, take, drop, length-append}
 use lib.Seq.{sets, length-sets, take_at}
 use Rattle.combinators.specs.Store.{cleared, Zeros}
 use Rattle.combinators.proofs.Cleared.{length-cleared}
 use Rattle.combinators.proofs.Wiped.{sets-append}
 use Rattle.syntax.specs.RuleLayout.{rule_rows, rule_texts}
 use Rattle.syntax.specs.Selector.{RuleSet}
-use Rattle.syntax.proofs.Streams.{Held}
 use Rattle.combinators.proofs.ZeroLaws.{zeros-behind}
-use Rattle.origins.specs.Reading.{Sheets, sheets_of, sheets_rows, sheets_texts, sheets_rules, rules_from}
+use Rattle.origins.specs.Reading.{Sheets, sheets_of, sheets_rows, sheets_texts, sheets_rules}
 use Rattle.origins.specs.declared.reading.SheetRules.{SheetRules}
 use Rattle.origins.specs.declared.reading.SheetsRules.{SheetsRules}
-use Rattle.origins.proofs.SheetsKnown.{clear-zeros, Came, came, from_first, from_second, from-third, rows_held, texts_held, rows-length, texts-length, rows_fit, texts-fit, agent-keeps, user-keeps, author-keeps, zr, zt, rows_are, texts-are, place₁, place₂, place₃, agent-back, user-back, author-back}
+use Rattle.origins.proofs.SheetsKnown.{clear-zeros, Came, came, from_first, from_second, from-third, rows_held, texts_held, texts-length, agent-keeps, user-keeps, author-keeps, zr, zt, rows_are, texts-are, place₁, place₂, place₃, agent-back, user-back, author-back}
 use Rattle.styles.specs.Said.{Rules}
 use Rattle.styles.specs.StyleCall.{rules_contents, sheets_contents, placed_rules, placed_sheets}
 use Rattle.rule_styles.specs.Placing.{sheet_text, rules_contents_at, rules_selectors, kept_rules}
 use Rattle.rule_styles.specs.PlacingRoom.{ContentsRoom, RulesKeptRoom}
 use Rattle.rule_styles.specs.Held.{sheets_from, SheetsHeld, sheets_kept, styled_places}
-use Rattle.rule_styles.specs.declared.placing.StyledEnd.{StyledEnd}
 use Rattle.rule_styles.specs.declared.styled.StyledSheets.{StyledSheets}
-use Rattle.rule_styles.proofs.SheetsStyled.{contents-short, SheetLies, sheet-room, sheet-contents-room, sheet-kept, sheet-place, sheet-contents, sheet-fill, sheet-end, sheet-kept-short, sheet-still}
+use Rattle.rule_styles.proofs.SheetsStyled.{contents-short, SheetLies, sheet-room, sheet-contents-room, sheet-kept-short, sheet-still}
 
 -- a sheet that lies where y says lies where an x equal to it says
 lies-by : {rows texts : List ℕ} {end : ℕ} {rs : List RuleSet} (x y : SheetRules) → x ≡ y → SheetLies rows texts end y rs → SheetLies rows texts end x rs

@@ -1,14 +1,13 @@
 -- Three sheets that lie in the stores: what their styles ask for, what is kept of them, and that it stays whatever is written behind it.
 use mathlib.Core.Path.{◌≡◌, refl, ap, sym, ◌∙◌}
 use mathlib.Core.Bool.{Bool, true, false}
-use mathlib.Core.List.{List, [], ◌∷◌, ◌++◌, map, append_assoc, append-nil}
-use Prim.Native.Nat.{ℕ, zero, suc, ◌+◌, ◌-◌, ◌*◌, ◌^◌, ◌≤◌, ◌<◌}
+use mathlib.Core.List.{List, [], ◌∷◌, ◌++◌}
+use Prim.Native.Nat.{ℕ, ◌+◌, ◌-◌, ◌^◌, ◌≤◌, ◌<◌}
 use native.Mathlib.Omega.{arith}
-use lib.ListN.{length, take, drop, replicate, length-append, length-drop, take-append-drop}
-use lib.Seq.{sets, sets-eq, length-sets, drop_at, take_at, length-take-le}
+use lib.ListN.{length, drop, length-append, length-drop}
+use lib.Seq.{sets}
 use Rattle.combinators.specs.Choice.{pick, and}
-use Rattle.combinators.specs.Store.{cleared, Zeros}
-use Rattle.combinators.proofs.Cleared.{length-cleared}
+use Rattle.combinators.specs.Store.{Zeros}
 use Rattle.syntax.specs.Declaration.{Decl, color, background_color, height, max_height, overflow, overflow_y, display, white_space, content, unknown, Declaration}
 use Rattle.syntax.specs.Layout.{decl_text, declaration_text, declaration_texts, style_text_of, style_text, style_texts}
 use Rattle.syntax.specs.RuleLayout.{read_rule, selector_texts, rule_text, rule_rows, rule_texts}
@@ -16,17 +15,15 @@ use Rattle.syntax.specs.Selector.{RuleSet}
 use Rattle.syntax.specs.Stream.{Read, read_many, texts_many}
 use Rattle.syntax.specs.Style as style
 use Rattle.syntax.specs.Style.{StyleDecl}
-use Rattle.syntax.specs.declared.styles.Value.{Value}
 use Rattle.syntax.proofs.RuleRows.{rules-read, RulesFit}
 use Rattle.syntax.proofs.Streams.{Held}
 use Rattle.declarations.specs.Styles.{one, style_of, zero_height, hides_overflow, any_decl, own_styles, first_zero, styles_of}
 use Rattle.origins.specs.declared.reading.SheetRules.{SheetRules}
-use Rattle.origins.specs.declared.reading.SheetsRules.{SheetsRules}
 use Rattle.styles.specs.Said as said
 use Rattle.styles.specs.Said.{Rules, StyledRule}
-use Rattle.styles.specs.StyleCall.{rule_contents, rules_contents, sheets_contents, placed_rules, placed_sheets}
-use Rattle.rule_styles.specs.Placing.{kept_head, sheet_text, rules_contents_at, styled_rules, rules_selectors, kept_rules}
-use Rattle.rule_styles.specs.PlacingRoom.{kept_width, ContentsRoom, RulesKeptRoom}
+use Rattle.styles.specs.StyleCall.{rule_contents, rules_contents, placed_rules}
+use Rattle.rule_styles.specs.Placing.{sheet_text, rules_contents_at, styled_rules, rules_selectors, kept_rules}
+use Rattle.rule_styles.specs.PlacingRoom.{ContentsRoom, RulesKeptRoom}
 use Rattle.rule_styles.proofs.PlacingCopies.{sheet-text-kept}
 use Rattle.rule_styles.proofs.PlacingLies.{written-room, written-rest, written-within}
 use Rattle.rule_styles.proofs.Written.{rules-contents, rules-styled}

@@ -5,13 +5,12 @@ use mathlib.Core.List.{List, [], ◌∷◌, ◌++◌, map, append_assoc, append-
 use Prim.Native.Nat.{ℕ, zero, suc, ◌+◌, ◌*◌, ◌/◌}
 use native.Mathlib.Nat.{add-zero}
 use native.Mathlib.Omega.{arith}
-use lib.ListN.{length, get_or, drop, length-append}
+use lib.ListN.{length, get_or, length-append}
 use Rattle.combinators.specs.Choice.{pick, and, is}
-use Rattle.combinators.specs.Part.{part}
 use Rattle.syntax.specs.Declaration.{Decl, color, background_color, height, max_height, overflow, overflow_y, display, white_space, content, unknown, Declaration}
-use Rattle.syntax.specs.Layout.{flag, declaration_width, decl_text, declaration_text, decl_row, declaration_row, declaration_rows, declaration_texts, content_slot, style_width, style_text_of, style_text, style_slot_of, number_from, value_from, numbers_from, row_of_numbers, numbers_at, style_row, style_texts}
-use Rattle.syntax.specs.RuleLayout.{selector_head, component_width, rule_head, rule_selectors, rule_declarations, read_component, read_selector, selector_rows, selector_texts, read_rule, rule_text, rule_row, rule_rows, rule_texts}
-use Rattle.syntax.specs.Selector.{Selector, RuleSet}
+use Rattle.syntax.specs.Layout.{flag, decl_text, declaration_text, decl_row, declaration_row, declaration_rows, declaration_texts, style_width, style_text_of, style_text, style_slot_of, number_from, value_from, numbers_from, row_of_numbers, style_row, style_texts}
+use Rattle.syntax.specs.RuleLayout.{rule_declarations, read_selector, selector_rows, selector_texts, rule_text, rule_row, rule_rows, rule_texts}
+use Rattle.syntax.specs.Selector.{RuleSet}
 use Rattle.syntax.specs.Stream.{read_many, texts_many, rows_many}
 use Rattle.syntax.specs.Style as style
 use Rattle.syntax.specs.Style.{StyleDecl}

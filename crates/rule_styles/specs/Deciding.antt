@@ -1,7 +1,7 @@
 -- Which styles of a rule decide. All styles of a rule come to a slot with one origin and one specificity, so at most two of them matter there: the last normal one
 -- and the last important one, in an order that depends on whether an important one stands behind a normal one. A rule is then merged in a bounded number of
 -- steps for each of its selectors, however many declarations it has; that nothing else changes is the law `deciding-same`.
-use Rattle.std.specs.Prelude.{ℕ, zero, suc, ◌+◌, Bool, true, false, ◌≡◌, refl}
+use Rattle.std.specs.Prelude.{ℕ, zero, suc, Bool, true, false, ◌≡◌, refl}
 use mathlib.Core.List.{List, [], ◌∷◌, ◌++◌, foldl}
 use Rattle.combinators.specs.Choice.{pick, or, is}
 use Rattle.values.specs.Words.{Found, found, missing, on_found}

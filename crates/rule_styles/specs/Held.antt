@@ -11,7 +11,7 @@ use Rattle.origins.specs.declared.reading.SheetsRules.{SheetsRules}
 use Rattle.origins.specs.declared.reading.SheetsRead.TheVariants as all
 use Rattle.page.specs.Path.{Path}
 use Rattle.styles.specs.Room.{values_along, attributes_along}
-use Rattle.styles.specs.Said.{Rules, StyledRule}
+use Rattle.styles.specs.Said.{Rules}
 use Rattle.styles.specs.StyleCall.{sheets_contents, placed_sheets}
 use Rattle.rule_styles.specs.Placing.{kept_rules}
 use Rattle.rule_styles.specs.declared.styled.StyledSheets.{StyledSheets}

@@ -29,13 +29,10 @@ use Rattle.cascade.specs.Record as style
 use Rattle.cascade.specs.Row as style_row
 use Rattle.matching.specs.Matches as matching
 use Rattle.matching.specs.Nth as nth
-use Rattle.matching.specs.Texts as texts
 use Rattle.matching.specs.Specificity as counts
 use Rattle.styles.specs.Merged as merged
 use Rattle.styles.specs.Said as said
-use Rattle.styles.specs.declared.settings.Settings.{Settings}
 use Rattle.syntax.specs.declared.styles.Value.{Value}
-use Rattle.styles.specs.Computed as computed
 use Rattle.styles.specs.StyleCall as call
 use Rattle.syntax.specs.Signed as signed
 use Rattle.page.specs.Accepted as accepted

@@ -16,7 +16,7 @@ use Rattle.segments.specs.Placed.{Placed, pieces_of, matching_places}
 use Rattle.segments.specs.Visits.{to_next, to_awaited, to_flags, block_bytes, Visited, visit_at}
 use Rattle.segments.specs.Pass.{Passed, matched_here, block_set, pass_from}
 use Rattle.segments.proofs.SegmentLaws.{asks-right}
-use Rattle.segments.proofs.SweepLaws.{Holds, pair_values, pair-back, told}
+use Rattle.segments.proofs.SweepLaws.{Holds, pair_values, pair-back}
 use Rattle.segments.proofs.BeforeLaws.{segment_place, length-segment, place-to}
 use Rattle.segments.proofs.VisitLaws.{Lying, Tells, Right, ToldAt, visit-right}
 use Rattle.segments.proofs.PartLaws.{sets-before, sets-held, held_same, held-pair, length-flags}

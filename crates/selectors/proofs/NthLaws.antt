@@ -12,7 +12,7 @@ use lib.IntN.{ℤ, pos}
 use lib.ListN.{length, get_or, take, drop, length-drop}
 use lib.Seq.{drop-drop}
 use Rattle.combinators.specs.Ascii as ascii
-use Rattle.combinators.specs.Choice.{pick, or, and, is}
+use Rattle.combinators.specs.Choice.{pick, and, is}
 use Rattle.combinators.specs.Word.{starts_with}
 use Rattle.combinators.proofs.Lists.{rest, first, byte-there}
 use Rattle.combinators.proofs.Rules.{pick_true, pick-false, told, and_both, and_left, and_right}
@@ -21,7 +21,6 @@ use Rattle.characters.specs.Utf8.{utf8}
 use Rattle.lexer.specs.Number.{digits}
 use Rattle.lexer.specs.Whitespace.{skip_whitespace}
 use Rattle.syntax.specs.Signed.{signed_number}
-use Rattle.values.specs.Words.{missing}
 use Rattle.values.specs.declared.colours.NumberAnswer.TheVariants.{Number, NoNumber}
 use Rattle.selectors.specs.Outcome.{Outcome, reads, fails, panics, on_outcome, or_else}
 use Rattle.selectors.specs.Selector as selector

@@ -14,7 +14,6 @@ use Rattle.combinators.specs.Repeat.{many, took}
 use Rattle.combinators.proofs.Lists.{rest}
 use Rattle.combinators.proofs.Repeats.{many-ge}
 use Rattle.combinators.proofs.Rules.{pick_true, pick-false, is-yes, is-no, and_both}
-use Rattle.characters.specs.Literal.{text}
 use Rattle.lexer.specs.Name.{hex_digit}
 use Rattle.lexer.specs.Number as number
 use Rattle.lexer.specs.Number.{is_digit, one_digit, digits}

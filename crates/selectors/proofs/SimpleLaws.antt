@@ -18,7 +18,7 @@ use Rattle.selectors.specs.Components.{first_of, next_of}
 use Rattle.selectors.specs.Reading.{written}
 use Rattle.selectors.specs.ComponentAnswer.{component_answer, mark_of, named_of}
 use Rattle.selectors.specs.declared.components.ComponentAnswer.{ComponentAnswer}
-use Rattle.selectors.specs.declared.components.ComponentAnswer.TheVariants.{Component, NoComponent}
+use Rattle.selectors.specs.declared.components.ComponentAnswer.TheVariants.{NoComponent}
 use Rattle.selectors.specs.contracts.components.ComponentAnswer.{the_type}
 use Rattle.selectors.proofs.ComponentLaws.{Left, or-fails, or_assoc}
 use Rattle.selectors.proofs.PseudoLaws.{none-textless, pseudo-textless}

@@ -27,7 +27,7 @@ use Rattle.values.specs.declared.statements.StatementAnswer.TheVariants as answe
 use Rattle.values.proofs.Sizes.{Sized, statement-sized, rows_long}
 use Rattle.values.proofs.Unmarked.{brackets-wiped}
 use Rattle.lexer.proofs.NameAnswers.{NameRead, named-from, unnamed-from}
-use Rattle.selectors.specs.Outcome.{reads, fails, on_outcome}
+use Rattle.selectors.specs.Outcome.{fails, on_outcome}
 use Rattle.sheets.specs.Sheet.{spaced, statement_end, at_rule_of}
 use Rattle.sheets.specs.Rules.{WorkRoom}
 use Rattle.selectors.specs.Reading.{reading}

@@ -4,7 +4,7 @@ use mathlib.Core.Path.{◌≡◌, refl, sym, ap, subst, ◌∙◌}
 use mathlib.Core.Bool.{Bool, true, false}
 use mathlib.Core.List.{List, [], ◌∷◌, ◌++◌, map, reverse}
 use mathlib.Core.Logic.{◌⊎◌, inl, inr, ⊎_elim}
-use Prim.Native.Nat.{ℕ, zero, suc, ◌+◌, ◌-◌, ◌≤◌, ◌<◌}
+use Prim.Native.Nat.{ℕ, zero, suc, ◌+◌, ◌-◌, ◌<◌}
 use native.Mathlib.Omega.{arith}
 use borrow.Author.Tests.{leb-true}
 use lib.Dec.{leb}
@@ -17,7 +17,7 @@ use Rattle.combinators.specs.Parsed.{Parsed, ok, err, on_parsed}
 use Rattle.combinators.specs.Repeat.{took, many, texts}
 use Rattle.combinators.specs.Word.{starts_with}
 use Rattle.combinators.proofs.Lists.{byte-there, first}
-use Rattle.combinators.proofs.Rules.{pick_true, pick-false, pick-holds, never, is_true}
+use Rattle.combinators.proofs.Rules.{pick-false, pick-holds, never, is_true}
 use Rattle.characters.specs.Literal.{text}
 use Rattle.characters.specs.Utf8.{utf8, taken_of}
 use Rattle.lexer.specs.Name as name
@@ -31,7 +31,7 @@ use Rattle.syntax.specs.Selector.{Component, star, child, element, attribute, Se
 use Rattle.selectors.specs.Outcome.{Outcome, reads, fails, panics, on_outcome, behind, parsed, or_else}
 use Rattle.selectors.specs.Selector.{class_of, hash_of, closed, quoted_of, value_of, attr_of, pseudo_class_of, marked, blank_of, component_of, components_of, components_from, some_of, with_element_of, without_element_of, body_of, without_blank, pseudo_of, pseudo_taken, selector_of}
 use Rattle.selectors.specs.SelectorList.{more_selectors, more_from, selectors_of}
-use Rattle.sheets.specs.Sheet.{spaced, before_end, block_of, ruleset_of, statement_end, at_rule_of, statements_of, moved_by, sheet_from, sheet_of}
+use Rattle.sheets.specs.Sheet.{spaced, block_of, ruleset_of, statement_end, at_rule_of, statements_of, moved_by, sheet_from, sheet_of}
 use Rattle.sheets.proofs.DigitPlaces.{AtDigit, digit-behind, digit-closed, digit_value, digit-component}
 
 -- ---- the reading as it was: the definitions of crates/selectors/specs and specs/Sheet.antt, but that the crate panics where the text ends behind `=`

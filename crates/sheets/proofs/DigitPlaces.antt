@@ -6,11 +6,11 @@ use Prim.Native.Nat.{ℕ, ◌+◌}
 use native.Mathlib.Omega.{arith}
 use borrow.Author.Tests.{le-leb}
 use lib.Dec.{leb}
-use lib.IntN.{ℤ, pos}
+use lib.IntN.{ℤ}
 use lib.ListN.{get_or, drop}
 use lib.Seq.{get_or-drop}
 use Rattle.combinators.specs.Choice.{pick, is}
-use Rattle.combinators.specs.Parsed.{Parsed, ok, err, on_parsed}
+use Rattle.combinators.specs.Parsed.{Parsed, ok, err}
 use Rattle.combinators.specs.Repeat.{took, many}
 use Rattle.combinators.proofs.Lists.{first}
 use Rattle.combinators.proofs.Rules.{pick-holds, never}

@@ -1,8 +1,8 @@
 -- Where the declarations of a sheet start: within its text. So a start of a text of fewer than 2^32 bytes is a number of 32 bits.
-use mathlib.Core.Path.{◌≡◌, refl, ap}
+use mathlib.Core.Path.{◌≡◌, ap}
 use mathlib.Core.Bool.{false}
-use mathlib.Core.List.{List, [], ◌∷◌, ◌++◌, map}
-use Prim.Native.Nat.{ℕ, zero, suc, ◌+◌, ◌≤◌, ◌<◌}
+use mathlib.Core.List.{List, [], map}
+use Prim.Native.Nat.{ℕ, zero, suc, ◌+◌, ◌≤◌}
 use native.Mathlib.Omega.{arith}
 use lib.ListN.{length, get_or, drop, length-drop}
 use Rattle.combinators.specs.Ascii as ascii
@@ -26,7 +26,7 @@ use Rattle.selectors.specs.Outcome.{Outcome, reads, fails, panics}
 use Rattle.selectors.specs.SelectorList.{selectors_of}
 use Rattle.selectors.proofs.AllLaws.{Where, where-read, where-behind, where-then, where-else}
 use Rattle.selectors.proofs.SelectorBounds.{SelectorsKeep, selectors-keep}
-use Rattle.sheets.specs.Sheet.{spaced, before_end, block_of, ruleset_of, statement_end, at_rule_of, statements_of, moved_by, sheet_from, sheet_of}
+use Rattle.sheets.specs.Sheet.{spaced, block_of, ruleset_of, statement_end, at_rule_of, statements_of, moved_by, sheet_from, sheet_of}
 use Rattle.sheets.proofs.SheetBounds.{RulesKeep, statements-keep}
 
 -- ---- declarations that start no further than a byte

@@ -1,13 +1,12 @@
 -- Where the texts lie in t as a style call or a run has put them, what is said by numbers says, with t, what is said by the styles themselves.
-use mathlib.Core.Path.{◌≡◌, refl, sym, ap, ◌∙◌}
+use mathlib.Core.Path.{◌≡◌, refl}
 use mathlib.Core.Bool.{Bool}
 use mathlib.Core.List.{List, [], ◌∷◌, ◌++◌, map}
 use Prim.Native.Nat.{ℕ, ◌+◌}
 use native.Mathlib.Nat.{zero-add}
 use lib.ListN.{length}
-use Rattle.combinators.specs.Choice.{pick}
 use Rattle.characters.specs.Literal.{text}
-use Rattle.syntax.specs.Layout.{style_slot_of, style_text, style_text_of, style_texts, number_from, value_from, numbers_from}
+use Rattle.syntax.specs.Layout.{style_text, style_text_of, style_texts, number_from, value_from, numbers_from}
 use Rattle.syntax.specs.RuleLayout.{pseudo_number}
 use Rattle.syntax.specs.Selector.{Selector, RuleSet}
 use Rattle.syntax.specs.Stream.{texts_many}
@@ -16,7 +15,7 @@ use Rattle.syntax.specs.Style.{Style, StyleValue, StyleDecl}
 use Rattle.syntax.specs.declared.styles.Value.{Value}
 use Rattle.syntax.proofs.Streams.{held-part}
 use Rattle.cascade.specs.declared.specificity.Specificity.{Specificity}
-use Rattle.cascade.specs.Record.{Styled, RuleStyle, AttributeStyle, Sources}
+use Rattle.cascade.specs.Record.{Styled, AttributeStyle}
 use Rattle.cascade.specs.Related.{Each, none, next}
 use Rattle.cascade.proofs.Relating.{pick_same, each_append, each_map, SameStyled, SameRule, SameAttribute, SameSources}
 use Rattle.page.specs.Path.{Attribute, Path}
@@ -24,7 +23,7 @@ use Rattle.matching.specs.Matches.{is_named, matches}
 use Rattle.matching.specs.Specificity.{specificity}
 use Rattle.styles.specs.Said.{Rules, StyledRule, rule_styles, rule_style, selector_says, selectors_say, rules_say, attribute_styles, attribute_style, attribute_says, sources_from, meant, meant_rule, meant_rules, attributes_say}
 use Rattle.styles.specs.StyleCall.{rule_contents, rules_contents, sheets_contents, attribute_contents, attributes_contents, in_numbers, placed_styles, placed_rules, placed_sheets, placed_attributes}
-use Rattle.styles.specs.Says.{Names, SaysStyle, Says}
+use Rattle.styles.specs.Says.{SaysStyle, Says}
 use Rattle.styles.proofs.Lying.{Lies, lies-left, lies-right, lies_at}
 
 -- ---- what rules say, from rules whose styles are the same

@@ -10,7 +10,7 @@ use Rattle.combinators.specs.Part.{part}
 use Rattle.combinators.specs.Word.{same_text}
 use Rattle.combinators.proofs.Rules.{never, pick-holds, and_right, is-no}
 use Rattle.syntax.specs.RuleLayout.{star_kind, class_kind, element_kind, hash_kind, child_kind}
-use Rattle.syntax.specs.Selector.{Component, star, class, element, child, descendant, nth, attribute, attribute_equal}
+use Rattle.syntax.specs.Selector.{Component, star, child, descendant, nth, attribute_equal}
 use Rattle.syntax.specs.Signed.{signed_of}
 use Rattle.page.specs.Path.{Element, Path}
 use Rattle.page.specs.PathOf.{attributes_from}

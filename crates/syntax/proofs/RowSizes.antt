@@ -12,8 +12,7 @@ use Rattle.syntax.specs.RuleLayout.{component_width, component_row, component_te
 use Rattle.syntax.specs.RuleSize.{sizes, selector_size, rule_size}
 use Rattle.syntax.specs.Selector.{Component, Selector, RuleSet}
 use Rattle.syntax.specs.Stream.{rows_many}
-use Rattle.syntax.specs.Style as style
-use Rattle.syntax.specs.Style.{Style, StyleDecl}
+use Rattle.syntax.specs.Style.{StyleDecl}
 
 module _ {A : Type 0} (w : ℕ → A → List ℕ) (x : A → List ℕ) where
   -- rows that each have a size

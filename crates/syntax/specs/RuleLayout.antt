@@ -1,10 +1,10 @@
 -- How rules lie in lent numbers and the text store: a rule is its first byte and two counts, its selectors and its declarations; a selector is a
 -- count and its pseudo element, and its components. Components and texts lie in reading order; a selector lists them rightmost first.
-use Rattle.std.specs.Prelude.{ℕ, zero, suc, ◌+◌, ◌*◌, ◌≡◌, refl, Bool, true, false, List, [], ◌∷◌, ◌++◌, reverse, ℤ, pos, negsuc, length, get_or, drop, take}
+use Rattle.std.specs.Prelude.{ℕ, ◌+◌, ◌≡◌, refl, true, List, [], ◌∷◌, ◌++◌, reverse, length, get_or, drop}
 use Rattle.combinators.specs.Choice.{pick, is}
 use Rattle.combinators.specs.Part.{part}
-use Rattle.syntax.specs.Declaration.{Declaration, unknown}
-use Rattle.syntax.specs.Layout.{flag, flag_of, decl_text, declaration_text, decl_row, declaration_row, decl_of, declaration_rows, declaration_texts, read_declaration, unknown_kind}
+use Rattle.syntax.specs.Declaration.{unknown}
+use Rattle.syntax.specs.Layout.{flag, decl_text, declaration_text, decl_row, declaration_row, declaration_rows, declaration_texts, read_declaration, unknown_kind}
 use Rattle.syntax.specs.Selector.{Component, star, class, element, hash, child, descendant, nth, attribute, attribute_equal, PseudoElement, none, before, after, Selector, RuleSet}
 use Rattle.syntax.specs.Signed.{signed_number, signed_of}
 use Rattle.syntax.specs.Stream.{Read, read_many, texts_many, rows_many}

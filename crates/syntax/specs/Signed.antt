@@ -1,5 +1,5 @@
 -- Numbers with a sign as numbers without one, as in the compiled sheet: v as 2v, negative as -2v-1.
-use Rattle.std.specs.Prelude.{ℕ, suc, ◌+◌, ◌*◌, ◌/◌, ◌%◌, ◌≡◌, refl, ℤ, pos, negsuc}
+use Rattle.std.specs.Prelude.{ℕ, ◌+◌, ◌*◌, ◌/◌, ◌%◌, ℤ, pos, negsuc}
 use Rattle.combinators.specs.Choice.{pick, is}
 
 unfoldable pub signed_number : ℤ → ℕ

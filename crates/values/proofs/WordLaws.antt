@@ -9,7 +9,7 @@ use native.Mathlib.Omega.{arith}
 use lib.Dec.{leb}
 use lib.ListN.{length, get_or, take, drop, length-drop, drop_of_length-le}
 use lib.Seq.{drop-cons, drop-drop, take_all, take_at, drop_at}
-use Rattle.combinators.specs.Choice.{pick, is}
+use Rattle.combinators.specs.Choice.{pick}
 use Rattle.combinators.specs.Word.{same_text}
 use Rattle.combinators.specs.All.{All}
 use Rattle.combinators.proofs.Rules.{pick_true, pick-false, by_order, told}

@@ -5,7 +5,7 @@ use mathlib.Core.List.{List, ◌++◌}
 use Rattle.syntax.specs.Style.{agent_origin}
 use Rattle.compiled.specs.Answer.{head_answer}
 use Rattle.compiled.specs.Decoded.{on_decoded}
-use Rattle.compiled.specs.Sheet.{Head, head_at}
+use Rattle.compiled.specs.Sheet.{head_at}
 use Rattle.compiled.specs.declared.sheets.HeadAnswer.{HeadAnswer}
 use Rattle.compiled.specs.declared.sheets.HeadAnswer.TheVariants as head
 use Rattle.compiled.proofs.Answers.{head_read, head-fault}

@@ -1,6 +1,4 @@
 -- The digits so far are those of the table, so the first that differ decide, and they are the last that are looked at.
-use Prim.Native.Nat.{◌-◌}
-use lib.ListN.{length}
 use Rattle.decimal.proofs.Steps as laws
 use borrow.Author.Rules.{rules}
 use Rattle.decimal.proofs.test_digits.Goals as goal

@@ -1,6 +1,5 @@
 -- A colour that was read is merged; where there is none, nothing is said.
 use Rattle.attributes.proofs.ColourLaws as laws
-use borrow.Author.Rules.{rules}
 use Rattle.attributes.proofs.colours.merge_colour.Goals as goal
 
 pub returns-in-Colour : goal.returns-in-Colour

@@ -1,7 +1,6 @@
 -- The name decides which slot the colour is for, if any.
 use Rattle.attributes.proofs.ColourLaws as laws
 use mathlib.Core.Path.{refl}
-use borrow.Author.Rules.{rules}
 use Rattle.attributes.proofs.colours.merge_colour_attribute.Goals as goal
 
 pub returns-then-same_text : goal.returns-then-same_text

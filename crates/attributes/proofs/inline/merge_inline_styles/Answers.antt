@@ -1,7 +1,6 @@
 -- Each turn merges the first row that is left; when none is left, all are merged.
 use Rattle.cascade.specs.Specificity.{inline_specificity}
-use Rattle.attributes.proofs.InlineLaws.{Merging, merging-begin, row-shiftable, merging-next, merging-end}
-use borrow.Author.Rules.{rules}
+use Rattle.attributes.proofs.InlineLaws.{merging-begin, row-shiftable, merging-next, merging-end}
 use Rattle.attributes.proofs.inline.merge_inline_styles.Goals as goal
 
 pub loop-left-init : goal.loop-left-init

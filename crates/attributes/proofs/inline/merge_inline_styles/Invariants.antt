@@ -1,6 +1,5 @@
 -- Each turn merges the first row that is left; when none is left, all are merged.
-use Rattle.cascade.specs.Specificity.{inline_specificity}
-use Rattle.attributes.proofs.InlineLaws.{Merging, merging-begin, row-shiftable, merging-next, merging-end}
+use Rattle.attributes.proofs.InlineLaws.{Merging}
 use Rattle.attributes.proofs.inline.merge_inline_styles.Given as goal
 
 abbrev pub invariant-loop-left : goal.invariant-loop-left

@@ -1,7 +1,6 @@
 -- The rows that reading the value leaves declare what the attribute says, and its contents lie from the fill on.
 use Rattle.attributes.proofs.InlineLaws as laws
 use native.Mathlib.Omega.{arith}
-use borrow.Author.Rules.{rules}
 use Rattle.attributes.proofs.inline.merge_style_attribute.Goals as goal
 
 pub merge_inline_styles-requires : goal.merge_inline_styles-requires

@@ -1,7 +1,6 @@
 -- A content's start is counted from `base` on, any other value stays.
 use Rattle.attributes.proofs.InlineLaws.{shifted-content, shifted-other}
 use native.Mathlib.Omega.{arith}
-use borrow.Author.Rules.{rules}
 use Rattle.attributes.proofs.inline.shifted.Goals as goal
 
 pub overflow_add-result : goal.overflow_add-result

@@ -1,7 +1,5 @@
 -- Each turn merges the first attribute that is left; when none is left, all are merged and their contents lie one behind the other.
 use Rattle.attributes.proofs.TurnLaws as laws
-use Prim.Native.Nat.{◌-◌}
-use borrow.Author.Rules.{rules}
 use Rattle.attributes.proofs.merging.merge_attributes.Goals as goal
 
 pub loop-i-init : goal.loop-i-init

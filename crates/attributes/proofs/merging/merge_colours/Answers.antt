@@ -1,8 +1,6 @@
 -- Each turn merges the colour of the first attribute that is left; when none is left, all are merged.
 use Rattle.attributes.proofs.TurnLaws as laws
 use Rattle.cascade.specs.Specificity.{specificity_of, no_specificity}
-use Prim.Native.Nat.{◌-◌}
-use borrow.Author.Rules.{rules}
 use Rattle.attributes.proofs.merging.merge_colours.Goals as goal
 
 pub loop-i-init : goal.loop-i-init

@@ -1,6 +1,5 @@
 -- Each turn merges the colour of the first attribute that is left; when none is left, all are merged.
 use Rattle.attributes.proofs.TurnLaws as laws
-use Rattle.cascade.specs.Specificity.{specificity_of, no_specificity}
 use Prim.Native.Nat.{◌-◌}
 use Rattle.attributes.proofs.merging.merge_colours.Given as goal
 

@@ -1,7 +1,6 @@
 -- In the crate's cascade nothing is said before the author's rules, in the book order the colours, wherever contents lie.
 use Rattle.attributes.proofs.TurnLaws as laws
 use mathlib.Core.Path.{refl}
-use borrow.Author.Rules.{rules}
 use Rattle.attributes.proofs.merging.merge_early_attributes.Goals as goal
 
 pub returns-in-Crate : goal.returns-in-Crate

@@ -1,7 +1,6 @@
 -- The name decides what the attribute says behind the author's rules: its styles, in the crate's cascade also its colour, or nothing.
 use Rattle.attributes.proofs.AttributeLaws as laws
 use Rattle.cascade.specs.Specificity.{inline_specificity}
-use borrow.Author.Rules.{rules}
 use Rattle.attributes.proofs.merging.merge_late.Goals as goal
 
 pub merge_style_attribute-requires : goal.merge_style_attribute-requires

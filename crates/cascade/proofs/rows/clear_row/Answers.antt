@@ -1,6 +1,5 @@
 -- As many numbers as a row has are zero.
 use Rattle.cascade.proofs.Rewriting.{emptied}
-use borrow.Author.Rules.{rules}
 use Rattle.cascade.proofs.rows.clear_row.Goals as goal
 
 pub returns : goal.returns

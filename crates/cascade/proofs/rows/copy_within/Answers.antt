@@ -1,11 +1,7 @@
 -- The numbers copied so far are the parent's, and what is left to copy is as it was.
-use mathlib.Core.Path.{◌≡◌, refl, sym, ◌∙◌}
-use Prim.Native.Nat.{◌+◌, ◌-◌}
-use lib.ListN.{length, take, drop, length-set}
-use lib.Seq.{sets}
-use Rattle.cascade.specs.Row.{style_row_width}
+use mathlib.Core.Path.{refl, sym, ◌∙◌}
+use lib.ListN.{length-set}
 use Rattle.cascade.proofs.Rewriting.{within-begin, within_more, within-kept, within-done}
-use borrow.Author.Rules.{rules}
 use Rattle.cascade.proofs.rows.copy_within.Goals as goal
 
 pub loop-i-init : goal.loop-i-init

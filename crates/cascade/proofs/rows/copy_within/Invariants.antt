@@ -1,10 +1,9 @@
 -- The numbers copied so far are the parent's, and what is left to copy is as it was.
-use mathlib.Core.Path.{◌≡◌, refl, sym, ◌∙◌}
+use mathlib.Core.Path.{◌≡◌}
 use Prim.Native.Nat.{◌+◌, ◌-◌}
-use lib.ListN.{length, take, drop, length-set}
+use lib.ListN.{length, take, drop}
 use lib.Seq.{sets}
 use Rattle.cascade.specs.Row.{style_row_width}
-use Rattle.cascade.proofs.Rewriting.{within-begin, within_more, within-kept, within-done}
 use Rattle.cascade.proofs.rows.copy_within.Given as goal
 
 abbrev pub invariant-loop-i : goal.invariant-loop-i

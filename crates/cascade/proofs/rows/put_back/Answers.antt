@@ -1,5 +1,4 @@
 -- The slot's numbers and the mark of its record are written at two places that do not meet.
-use borrow.Author.Rules.{rules}
 use Rattle.cascade.proofs.rows.put_back.Goals as goal
 
 pub returns : goal.returns

@@ -4,7 +4,6 @@ use Rattle.combinators.specs.Choice.{pick, is}
 use Rattle.syntax.specs.Layout.{flag_of}
 use Rattle.cascade.specs.Slot.{slot_by}
 use Rattle.cascade.specs.Row.{slot_at, read_slot, read_candidate}
-use borrow.Author.Rules.{rules}
 use Rattle.cascade.proofs.rows.read_slot.Goals as goal
 
 pub returns : goal.returns

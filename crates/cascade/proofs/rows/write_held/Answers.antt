@@ -5,7 +5,6 @@ use Rattle.syntax.specs.Layout.{value_numbers}
 use Rattle.cascade.specs.Slot.{held}
 use Rattle.cascade.specs.Row.{slot_numbers}
 use Rattle.cascade.proofs.Windows.{stores-are}
-use borrow.Author.Rules.{rules}
 use Rattle.cascade.proofs.rows.write_held.Goals as goal
 
 pub bounds-row-at-2 : goal.bounds-row-at-2

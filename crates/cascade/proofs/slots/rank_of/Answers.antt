@@ -1,7 +1,6 @@
 -- Six places, each by its own tests.
 use Rattle.cascade.specs.Slot.{rank}
 use Rattle.combinators.proofs.Rules.{cases}
-use borrow.Author.Rules.{rules}
 use Rattle.cascade.proofs.slots.rank_of.Goals as goal
 
 pub returns-then-origin-eq-AGENT_ORIGIN : goal.returns-then-origin-eq-AGENT_ORIGIN

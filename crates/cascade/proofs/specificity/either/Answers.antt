@@ -1,6 +1,5 @@
 -- The first, or else the second.
 use Rattle.combinators.proofs.Rules.{cases}
-use borrow.Author.Rules.{rules}
 use Rattle.cascade.proofs.specificity.either.Goals as goal
 
 pub returns-then-a : goal.returns-then-a

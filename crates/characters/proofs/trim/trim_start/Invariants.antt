@@ -1,11 +1,8 @@
 -- The characters so far are White_Space; what is counted is what the definition repeats.
-use Rattle.characters.proofs.Trimming.{white-le}
-use Rattle.combinators.proofs.Repeating.{Repeating, repeat-begin, repeat-more, repeat-stop, repeat-end, lent, lent-le}
+use Rattle.combinators.proofs.Repeating.{Repeating}
 use Rattle.characters.specs.Trim.{white_taken}
 use lib.ListN.{length}
-use native.Mathlib.Omega.{arith}
-use Prim.Native.Nat.{◌+◌, ◌-◌, ◌≤◌}
-use mathlib.Core.Path.{◌∙◌}
+use Prim.Native.Nat.{◌-◌}
 use Rattle.characters.proofs.trim.trim_start.Given as goal
 
 abbrev pub invariant-loop-i : goal.invariant-loop-i

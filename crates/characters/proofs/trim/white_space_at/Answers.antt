@@ -1,7 +1,6 @@
 -- The character that the text begins with counts if it is White_Space; where none begins nothing does.
 use Rattle.characters.proofs.Trimming as laws
 use Rattle.combinators.specs.Choice.{pick}
-use borrow.Author.Rules.{rules}
 use Rattle.characters.proofs.trim.white_space_at.Goals as goal
 
 pub returns-then-is_white_space : goal.returns-then-is_white_space

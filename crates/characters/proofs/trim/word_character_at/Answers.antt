@@ -1,7 +1,6 @@
 -- The character that the text begins with counts if it is no White_Space; a byte that begins none counts as one.
 use Rattle.characters.proofs.Trimming as laws
 use Rattle.combinators.specs.Choice.{pick}
-use borrow.Author.Rules.{rules}
 use Rattle.characters.proofs.trim.word_character_at.Goals as goal
 
 pub returns-then-s-eq0 : goal.returns-then-s-eq0

@@ -1,10 +1,8 @@
 -- The characters so far are no White_Space; what is counted is what the definition repeats.
 use Rattle.characters.proofs.Trimming.{word-le}
-use Rattle.combinators.proofs.Repeating.{Repeating, repeat-begin, repeat-more, repeat-stop, repeat-end, lent, lent-le}
+use Rattle.combinators.proofs.Repeating.{repeat-begin, repeat-more, repeat-stop, repeat-end, lent, lent-le}
 use Rattle.characters.specs.Trim.{word_taken}
-use lib.ListN.{length}
 use native.Mathlib.Omega.{arith}
-use Prim.Native.Nat.{◌+◌, ◌-◌, ◌≤◌}
 use mathlib.Core.Path.{◌∙◌}
 use borrow.Author.Rules.{rules}
 use Rattle.characters.proofs.trim.word_end.Goals as goal

@@ -1,6 +1,5 @@
 -- One to four bytes, by the bounds of the definition, emitted one behind the other.
 use Rattle.characters.proofs.Writing as laws
-use borrow.Author.Rules.{rules}
 use Rattle.characters.proofs.utf8.emit_scalar.Goals as goal
 
 pub returns-then-v-le127 : goal.returns-then-v-le127

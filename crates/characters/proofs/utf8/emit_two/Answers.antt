@@ -1,6 +1,5 @@
 -- Two bytes are emitted one behind the other.
 use Rattle.combinators.proofs.Emitted.{then}
-use borrow.Author.Rules.{rules}
 use Rattle.characters.proofs.utf8.emit_two.Goals as goal
 
 pub returns : goal.returns

@@ -1,9 +1,6 @@
 -- The scalar values so far are passed; the text is well formed exactly if the rest is.
 use native.Mathlib.Omega.{arith}
-use Prim.Native.Nat.{◌-◌}
-use lib.ListN.{length}
-use Rattle.combinators.proofs.Repeating.{Repeating, repeat-begin}
-use Rattle.characters.specs.Utf8.{scalar_taken}
+use Rattle.combinators.proofs.Repeating.{repeat-begin}
 use Rattle.characters.proofs.Reading as laws
 use borrow.Author.Rules.{rules}
 use Rattle.characters.proofs.utf8.is_valid.Goals as goal

@@ -1,10 +1,8 @@
 -- The scalar values so far are passed; the text is well formed exactly if the rest is.
-use native.Mathlib.Omega.{arith}
 use Prim.Native.Nat.{◌-◌}
 use lib.ListN.{length}
-use Rattle.combinators.proofs.Repeating.{Repeating, repeat-begin}
+use Rattle.combinators.proofs.Repeating.{Repeating}
 use Rattle.characters.specs.Utf8.{scalar_taken}
-use Rattle.characters.proofs.Reading as laws
 use Rattle.characters.proofs.utf8.is_valid.Given as goal
 
 abbrev pub invariant-loop-i : goal.invariant-loop-i

@@ -1,7 +1,6 @@
 -- Each bound of the table by its own test.
 use Rattle.combinators.proofs.Rules.{orders}
 use Rattle.characters.specs.Utf8.{lead_of}
-use borrow.Author.Rules.{rules}
 use Rattle.characters.proofs.utf8.lead_of.Goals as goal
 
 pub returns-then-b-le127 : goal.returns-then-b-le127

@@ -2,7 +2,6 @@
 use mathlib.Core.Path.{ap, sym}
 use lib.ListN.{length}
 use Rattle.characters.proofs.Scalars as laws
-use borrow.Author.Rules.{rules}
 use Rattle.characters.proofs.utf8.length_of.Goals as goal
 
 pub returns-then-v-le127 : goal.returns-then-v-le127

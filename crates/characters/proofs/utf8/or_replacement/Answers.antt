@@ -3,7 +3,6 @@ use borrow.Author.Tests.{le-leb, lt-leb}
 use Rattle.combinators.proofs.Rules.{cases}
 use Rattle.combinators.specs.Choice.{within}
 use Rattle.characters.specs.Utf8.{or_replacement, is_scalar}
-use borrow.Author.Rules.{rules}
 use Rattle.characters.proofs.utf8.or_replacement.Goals as goal
 
 pub returns-then-v-le55295 : goal.returns-then-v-le55295

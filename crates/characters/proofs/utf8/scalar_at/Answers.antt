@@ -1,7 +1,6 @@
 -- The first byte selects a row of the table, and the second has to lie within its bounds.
 use Rattle.combinators.proofs.Rules.{told}
 use Rattle.characters.proofs.Reading as laws
-use borrow.Author.Rules.{rules}
 use Rattle.characters.proofs.utf8.scalar_at.Goals as goal
 
 pub returns-then-s-eq0 : goal.returns-then-s-eq0

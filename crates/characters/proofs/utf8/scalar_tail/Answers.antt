@@ -1,7 +1,6 @@
 -- The bytes behind the second have to be continuation bytes, as many as the row has.
 use Rattle.combinators.proofs.Rules.{told}
 use Rattle.characters.proofs.Reading as laws
-use borrow.Author.Rules.{rules}
 use Rattle.characters.proofs.utf8.scalar_tail.Goals as goal
 
 pub returns-then-long-eq2 : goal.returns-then-long-eq2

@@ -1,8 +1,5 @@
 -- The entries so far are below the number; the table ascends, so the first that is not decides.
-use Prim.Native.Nat.{◌-◌}
-use lib.ListN.{length}
 use Rattle.combinators.specs.Choice.{is}
-use Rattle.characters.specs.WhiteSpace.{white_space}
 use Rattle.characters.proofs.WhiteSpaces as laws
 use borrow.Author.Rules.{rules}
 use Rattle.characters.proofs.white_space.is_white_space.Goals as goal

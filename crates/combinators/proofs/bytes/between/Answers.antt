@@ -1,6 +1,5 @@
 -- The two bounds, one test behind the other.
 use Rattle.combinators.proofs.Rules.{within-false, within-rest}
-use borrow.Author.Rules.{rules}
 use Rattle.combinators.proofs.bytes.between.Goals as goal
 
 pub returns-then-lo-b : goal.returns-then-lo-b

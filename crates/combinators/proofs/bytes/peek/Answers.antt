@@ -1,7 +1,6 @@
 -- The byte is there, or the place is past the end.
 use mathlib.Core.Path.{sym}
 use lib.ListN.{get_or-eq_default}
-use borrow.Author.Rules.{rules}
 use Rattle.combinators.proofs.bytes.peek.Goals as goal
 
 pub returns-else-i-s : goal.returns-else-i-s

@@ -1,10 +1,6 @@
 -- The bytes so far are the word's, so what is left of both has the answer of the whole.
-use mathlib.Core.Path.{◌≡◌, refl, sym, ◌∙◌}
-use Prim.Native.Nat.{◌-◌}
-use lib.ListN.{length, drop}
-use Rattle.combinators.specs.Word.{starts_with}
+use mathlib.Core.Path.{refl, sym, ◌∙◌}
 use Rattle.combinators.proofs.Words as laws
-use borrow.Author.Rules.{rules}
 use Rattle.combinators.proofs.bytes.starts_with.Goals as goal
 
 pub loop-i-init : goal.loop-i-init

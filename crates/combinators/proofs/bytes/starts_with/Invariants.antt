@@ -1,9 +1,8 @@
 -- The bytes so far are the word's, so what is left of both has the answer of the whole.
-use mathlib.Core.Path.{◌≡◌, refl, sym, ◌∙◌}
+use mathlib.Core.Path.{◌≡◌}
 use Prim.Native.Nat.{◌-◌}
 use lib.ListN.{length, drop}
 use Rattle.combinators.specs.Word.{starts_with}
-use Rattle.combinators.proofs.Words as laws
 use Rattle.combinators.proofs.bytes.starts_with.Given as goal
 
 abbrev pub invariant-loop-i : goal.invariant-loop-i

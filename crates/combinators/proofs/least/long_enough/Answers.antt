@@ -1,6 +1,5 @@
 -- A quotient is at least the count exactly if the length less what is added is at least so many widths.
 use Rattle.combinators.proofs.LeastLaws as laws
-use borrow.Author.Rules.{rules}
 use Rattle.combinators.proofs.least.long_enough.Goals as goal
 
 pub returns-then-length-more : goal.returns-then-length-more

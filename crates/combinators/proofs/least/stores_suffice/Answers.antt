@@ -1,6 +1,5 @@
 -- Each store by its own test, in the order of the definition.
 use Rattle.combinators.proofs.LeastLaws as laws
-use borrow.Author.Rules.{rules}
 use Rattle.combinators.proofs.least.stores_suffice.Goals as goal
 
 pub returns-then-brackets-n : goal.returns-then-brackets-n

@@ -1,9 +1,8 @@
 -- Clearing what is left of the store as it is gives what clearing the whole gives.
-use mathlib.Core.Path.{◌≡◌, refl, sym, ◌∙◌}
+use mathlib.Core.Path.{◌≡◌}
 use Prim.Native.Nat.{◌-◌}
-use lib.ListN.{length, length-set}
+use lib.ListN.{length}
 use Rattle.combinators.specs.Store.{cleared}
-use Rattle.combinators.proofs.Cleared.{cleared-step, cleared-done}
 use Rattle.combinators.proofs.stores.clear_bytes.Given as goal
 
 abbrev pub invariant-loop-i : goal.invariant-loop-i

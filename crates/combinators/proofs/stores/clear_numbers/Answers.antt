@@ -1,8 +1,6 @@
 -- Clearing what is left of the store as it is gives what clearing the whole gives.
-use mathlib.Core.Path.{◌≡◌, refl, sym, ◌∙◌}
-use Prim.Native.Nat.{◌-◌}
-use lib.ListN.{length, length-set}
-use Rattle.combinators.specs.Store.{cleared}
+use mathlib.Core.Path.{refl, sym, ◌∙◌}
+use lib.ListN.{length-set}
 use Rattle.combinators.proofs.Cleared.{cleared-step, cleared-done}
 use borrow.Author.Rules.{rules}
 use Rattle.combinators.proofs.stores.clear_numbers.Goals as goal

@@ -2,7 +2,6 @@
 use borrow.Author.Tests.{lt-ltb, le-ltb}
 use Rattle.combinators.specs.Choice.{pick}
 use Rattle.combinators.specs.Store.{step, emits}
-use borrow.Author.Rules.{rules}
 use Rattle.combinators.proofs.stores.emit_number.Goals as goal
 
 pub returns-then-fill-store : goal.returns-then-fill-store

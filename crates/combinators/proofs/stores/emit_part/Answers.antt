@@ -1,5 +1,4 @@
 -- Emitting what is left of the part into the store as it is gives what emitting the whole gives.
-use Prim.Native.Nat.{◌-◌}
 use Rattle.combinators.proofs.Emitted as laws
 use borrow.Author.Rules.{rules}
 use Rattle.combinators.proofs.stores.emit_part.Goals as goal

@@ -2,7 +2,6 @@
 use mathlib.Core.Path.{sym}
 use native.Mathlib.Omega.{arith}
 use lib.ListN.{get_or-eq_default}
-use borrow.Author.Rules.{rules}
 use Rattle.combinators.proofs.stores.number_at.Goals as goal
 
 pub returns-then-at-rows : goal.returns-then-at-rows

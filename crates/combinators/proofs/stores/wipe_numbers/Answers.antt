@@ -1,9 +1,7 @@
 -- Wiping what is left of the store as it is gives what wiping the whole gives.
-use mathlib.Core.Path.{◌≡◌, refl, sym, ◌∙◌}
-use lib.ListN.{length, length-set}
-use Rattle.combinators.specs.Store.{wiped}
+use mathlib.Core.Path.{refl, sym, ◌∙◌}
+use lib.ListN.{length-set}
 use Rattle.combinators.proofs.Wiped.{wiped-step, wiped-out, wiped-done}
-use borrow.Author.Rules.{rules}
 use Rattle.combinators.proofs.stores.wipe_numbers.Goals as goal
 
 pub loop-left-init : goal.loop-left-init

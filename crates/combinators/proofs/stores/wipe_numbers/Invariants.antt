@@ -1,8 +1,7 @@
 -- Wiping what is left of the store as it is gives what wiping the whole gives.
-use mathlib.Core.Path.{◌≡◌, refl, sym, ◌∙◌}
-use lib.ListN.{length, length-set}
+use mathlib.Core.Path.{◌≡◌}
+use lib.ListN.{length}
 use Rattle.combinators.specs.Store.{wiped}
-use Rattle.combinators.proofs.Wiped.{wiped-step, wiped-out, wiped-done}
 use Rattle.combinators.proofs.stores.wipe_numbers.Given as goal
 
 abbrev pub invariant-loop-left : goal.invariant-loop-left

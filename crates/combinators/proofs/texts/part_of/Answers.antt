@@ -1,6 +1,5 @@
 -- The part lies within the store, runs out at its end, or begins behind it.
 use Rattle.combinators.proofs.Parts as laws
-use borrow.Author.Rules.{rules}
 use Rattle.combinators.proofs.texts.part_of.Goals as goal
 
 pub returns-then-store-start : goal.returns-then-store-start

@@ -1,7 +1,6 @@
 -- Texts of different lengths differ; of one length the one is the other exactly if it begins with it.
 use mathlib.Core.Path.{◌∙◌}
 use Rattle.combinators.proofs.Words as laws
-use borrow.Author.Rules.{rules}
 use Rattle.combinators.proofs.texts.same_text.Goals as goal
 
 pub returns-then-s-t : goal.returns-then-s-t

@@ -1,6 +1,5 @@
 -- The kind and the two texts are emitted one behind the other.
 use Rattle.compiled.proofs.Written as laws
-use borrow.Author.Rules.{rules}
 use Rattle.compiled.proofs.components.emit_attribute_equal.Goals as goal
 
 pub returns : goal.returns

@@ -1,7 +1,6 @@
 -- Each kind is written by its own writer, as the definition splits kinds.
 use Rattle.combinators.proofs.Rules.{told}
 use Rattle.compiled.proofs.Written as laws
-use borrow.Author.Rules.{rules}
 use Rattle.compiled.proofs.components.emit_component.Goals as goal
 
 pub returns-then-is_mark : goal.returns-then-is_mark

@@ -1,6 +1,5 @@
 -- The kind and the text are emitted one behind the other.
 use Rattle.combinators.proofs.Emitted.{then}
-use borrow.Author.Rules.{rules}
 use Rattle.compiled.proofs.components.emit_name.Goals as goal
 
 pub returns : goal.returns

@@ -1,6 +1,5 @@
 -- The kind and the two numbers are emitted one behind the other.
 use Rattle.compiled.proofs.Written as laws
-use borrow.Author.Rules.{rules}
 use Rattle.compiled.proofs.components.emit_nth.Goals as goal
 
 pub returns : goal.returns

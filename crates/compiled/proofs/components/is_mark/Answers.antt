@@ -2,7 +2,6 @@
 use Rattle.combinators.specs.Choice.{or, is}
 use Rattle.combinators.proofs.Rules.{cases}
 use Rattle.compiled.specs.Component.{is_mark}
-use borrow.Author.Rules.{rules}
 use Rattle.compiled.proofs.components.is_mark.Goals as goal
 
 pub returns-then-kind-eq-STAR : goal.returns-then-kind-eq-STAR

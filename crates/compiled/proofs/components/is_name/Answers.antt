@@ -2,7 +2,6 @@
 use Rattle.combinators.specs.Choice.{or, is}
 use Rattle.combinators.proofs.Rules.{cases}
 use Rattle.compiled.specs.Component.{is_name}
-use borrow.Author.Rules.{rules}
 use Rattle.compiled.proofs.components.is_name.Goals as goal
 
 pub returns-then-kind-eq-CLASS : goal.returns-then-kind-eq-CLASS

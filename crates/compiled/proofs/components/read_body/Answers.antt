@@ -1,7 +1,6 @@
 -- Each kind is read by its own reader, as the definition splits kinds.
 use Rattle.combinators.proofs.Rules.{told}
 use Rattle.compiled.proofs.ComponentCode as laws
-use borrow.Author.Rules.{rules}
 use Rattle.compiled.proofs.components.read_body.Goals as goal
 
 pub returns-then-is_mark : goal.returns-then-is_mark

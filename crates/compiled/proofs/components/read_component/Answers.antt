@@ -1,6 +1,5 @@
 -- A kind in its range is read on from behind it; any other is a fault where it starts. What is read ends within the bytes.
 use Rattle.compiled.proofs.ComponentCode as laws
-use borrow.Author.Rules.{rules}
 use Rattle.compiled.proofs.components.read_component.Goals as goal
 
 pub returns-in-Number : goal.returns-in-Number

@@ -1,6 +1,5 @@
 -- The text is the component's, or its fault is.
 use Rattle.compiled.proofs.ComponentCode as laws
-use borrow.Author.Rules.{rules}
 use Rattle.compiled.proofs.components.read_name.Goals as goal
 
 pub returns-in-Text : goal.returns-in-Text

@@ -1,6 +1,5 @@
 -- The first text is read on with the second, or its fault is the component's.
 use Rattle.compiled.proofs.ComponentCode as laws
-use borrow.Author.Rules.{rules}
 use Rattle.compiled.proofs.components.read_names.Goals as goal
 
 pub returns-in-Text : goal.returns-in-Text

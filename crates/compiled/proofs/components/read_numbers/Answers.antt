@@ -1,6 +1,5 @@
 -- The first number is read on with the second, or its fault is the component's.
 use Rattle.compiled.proofs.ComponentCode as laws
-use borrow.Author.Rules.{rules}
 use Rattle.compiled.proofs.components.read_numbers.Goals as goal
 
 pub returns-in-Number : goal.returns-in-Number

@@ -1,6 +1,5 @@
 -- Both texts are there, or the fault of the second is the component's.
 use Rattle.compiled.proofs.ComponentCode as laws
-use borrow.Author.Rules.{rules}
 use Rattle.compiled.proofs.components.read_second_name.Goals as goal
 
 pub returns-in-Text : goal.returns-in-Text

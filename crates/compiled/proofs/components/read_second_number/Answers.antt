@@ -1,6 +1,5 @@
 -- Both numbers are there, or the fault of the second is the component's.
 use Rattle.compiled.proofs.ComponentCode as laws
-use borrow.Author.Rules.{rules}
 use Rattle.compiled.proofs.components.read_second_number.Goals as goal
 
 pub returns-in-Number : goal.returns-in-Number

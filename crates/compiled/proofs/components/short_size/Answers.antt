@@ -1,7 +1,6 @@
 -- A kind alone and a kind with a text are told by their bytes; of anything else nothing is told.
 use Rattle.combinators.proofs.Rules.{told}
 use Rattle.compiled.proofs.ShortCode as laws
-use borrow.Author.Rules.{rules}
 use Rattle.compiled.proofs.components.short_size.Goals as goal
 
 pub returns-then-is_mark : goal.returns-then-is_mark

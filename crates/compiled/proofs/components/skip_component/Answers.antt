@@ -1,7 +1,6 @@
 -- A short component ends behind its size, and whatever else was read where the answer says; a fault stays one.
 use Rattle.compiled.proofs.ComponentCode as laws
 use Rattle.compiled.proofs.ShortCode as short
-use borrow.Author.Rules.{rules}
 use Rattle.compiled.proofs.components.skip_component.Goals as goal
 
 pub returns-then-size-gt0 : goal.returns-then-size-gt0

@@ -2,7 +2,6 @@
 use mathlib.Core.Path.{refl}
 use Rattle.compiled.specs.Component.{component_at}
 use Rattle.compiled.proofs.Passing as laws
-use borrow.Author.Rules.{rules}
 use Rattle.compiled.proofs.components.skip_components.Goals as goal
 
 pub loop-left-init : goal.loop-left-init

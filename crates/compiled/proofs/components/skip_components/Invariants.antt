@@ -1,5 +1,4 @@
 -- What is left to pass from the place on is the rest of the whole; the first fault ends it.
-use mathlib.Core.Path.{refl}
 use Rattle.compiled.specs.Component.{component_at}
 use Rattle.compiled.proofs.Passing as laws
 use Rattle.compiled.proofs.components.skip_components.Given as goal

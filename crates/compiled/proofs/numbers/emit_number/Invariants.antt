@@ -1,6 +1,5 @@
 -- What is left to write is a number of fewer groups, until one group is left.
 use Rattle.compiled.proofs.NumberWriting as laws
-use mathlib.Core.Path.{◌∙◌}
 use Rattle.compiled.proofs.numbers.emit_number.Given as goal
 
 abbrev pub invariant-loop-left : goal.invariant-loop-left

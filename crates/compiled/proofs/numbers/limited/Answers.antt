@@ -1,6 +1,5 @@
 -- A value below 2^32 is the number, any other a fault where it starts.
 use Rattle.compiled.proofs.NumberReading as laws
-use borrow.Author.Rules.{rules}
 use Rattle.compiled.proofs.numbers.limited.Goals as goal
 
 pub returns-then-value-lt-NUMBER_LIMIT : goal.returns-then-value-lt-NUMBER_LIMIT

@@ -2,7 +2,6 @@
 use mathlib.Core.Path.{refl}
 use native.Mathlib.Omega.{arith}
 use Rattle.compiled.proofs.NumberReading as laws
-use borrow.Author.Rules.{rules}
 use Rattle.compiled.proofs.numbers.read_groups.Goals as goal
 
 pub loop-left-init : goal.loop-left-init

@@ -1,6 +1,4 @@
 -- Value and scale so far, with what is left to read from the place on, give the whole; there are at most five groups.
-use mathlib.Core.Path.{refl}
-use native.Mathlib.Omega.{arith}
 use Rattle.compiled.proofs.NumberReading as laws
 use Rattle.compiled.proofs.numbers.read_groups.Given as goal
 

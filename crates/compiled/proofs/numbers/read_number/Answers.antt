@@ -1,7 +1,6 @@
 -- A byte without its top bit is the number; otherwise it is read group by group.
 use mathlib.Core.Path.{refl}
 use Rattle.compiled.proofs.NumberReading as laws
-use borrow.Author.Rules.{rules}
 use Rattle.compiled.proofs.numbers.read_number.Goals as goal
 
 pub returns-then-b-lt-GROUP_VALUES : goal.returns-then-b-lt-GROUP_VALUES

@@ -1,6 +1,5 @@
 -- A number below or above its range is a fault where it starts.
 use Rattle.compiled.proofs.NumberReading as laws
-use borrow.Author.Rules.{rules}
 use Rattle.compiled.proofs.numbers.read_ranged.Goals as goal
 
 pub returns-then-value-lo : goal.returns-then-value-lo

@@ -1,6 +1,5 @@
 -- The selectors end at the last byte, or before it, which is a fault there, or one of them is at fault.
 use Rattle.compiled.proofs.SheetCode as laws
-use borrow.Author.Rules.{rules}
 use Rattle.compiled.proofs.sheets.check_selectors.Goals as goal
 
 pub returns-then-end-s : goal.returns-then-end-s

@@ -1,6 +1,5 @@
 -- The count is read, and the selectors behind it are the rest of the bytes.
 use Rattle.compiled.proofs.SheetCode as laws
-use borrow.Author.Rules.{rules}
 use Rattle.compiled.proofs.sheets.check_sheet.Goals as goal
 
 pub returns-in-Number : goal.returns-in-Number

@@ -1,6 +1,5 @@
 -- The three numbers are emitted one behind the other.
 use Rattle.compiled.proofs.Written as laws
-use borrow.Author.Rules.{rules}
 use Rattle.compiled.proofs.sheets.emit_head.Goals as goal
 
 pub returns : goal.returns

@@ -2,7 +2,6 @@
 use Rattle.combinators.proofs.Rules.{never}
 use Rattle.syntax.specs.RuleLayout.{pseudo_number}
 use Rattle.compiled.proofs.SheetCode as laws
-use borrow.Author.Rules.{rules}
 use Rattle.compiled.proofs.sheets.head_is_short.Goals as goal
 
 pub returns-then-count-lt-GROUP_VALUES : goal.returns-then-count-lt-GROUP_VALUES

@@ -1,6 +1,5 @@
 -- The count makes the head whole, or its fault is the head's.
 use Rattle.compiled.proofs.SheetCode as laws
-use borrow.Author.Rules.{rules}
 use Rattle.compiled.proofs.sheets.read_count.Goals as goal
 
 pub returns-in-Number : goal.returns-in-Number

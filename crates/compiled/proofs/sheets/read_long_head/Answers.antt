@@ -1,6 +1,5 @@
 -- An origin that does not fall is read on from behind it; any other is a fault where it starts. What is read ends within the bytes.
 use Rattle.compiled.proofs.SheetCode as laws
-use borrow.Author.Rules.{rules}
 use Rattle.compiled.proofs.sheets.read_long_head.Goals as goal
 
 pub returns-in-Number : goal.returns-in-Number

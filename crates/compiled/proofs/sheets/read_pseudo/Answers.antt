@@ -1,7 +1,6 @@
 -- The pseudo element is read on with the count, or its fault is the head's.
 use Rattle.syntax.specs.RuleLayout.{pseudo_number}
 use Rattle.compiled.proofs.SheetCode as laws
-use borrow.Author.Rules.{rules}
 use Rattle.compiled.proofs.sheets.read_pseudo.Goals as goal
 
 pub returns-in-Number : goal.returns-in-Number

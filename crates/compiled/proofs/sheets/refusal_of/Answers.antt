@@ -1,7 +1,6 @@
 -- A sheet is not refused, a fault with 9 at its place.
 use Rattle.compiled.specs.Answer.{refusal_of}
 use mathlib.Core.Path.{sym, ap, ◌∙◌}
-use borrow.Author.Rules.{rules}
 use Rattle.compiled.proofs.sheets.refusal_of.Goals as goal
 
 pub returns-in-Sheet : goal.returns-in-Sheet

@@ -1,6 +1,5 @@
 -- The components are passed and then the styles, or the first fault ends it.
 use Rattle.compiled.proofs.SheetCode as laws
-use borrow.Author.Rules.{rules}
 use Rattle.compiled.proofs.sheets.skip_parts.Goals as goal
 
 pub returns-in-At : goal.returns-in-At

@@ -1,6 +1,5 @@
 -- The head is read and the rest is passed; a fault in either is the selector's.
 use Rattle.compiled.proofs.SheetCode as laws
-use borrow.Author.Rules.{rules}
 use Rattle.compiled.proofs.sheets.skip_selector.Goals as goal
 
 pub returns-in-At : goal.returns-in-At

@@ -1,7 +1,6 @@
 -- What is left to pass from the place on, with the origin so far, is the rest of the whole; the first fault ends it.
 use mathlib.Core.Path.{refl}
 use Rattle.compiled.proofs.SheetCode as laws
-use borrow.Author.Rules.{rules}
 use Rattle.compiled.proofs.sheets.skip_selectors.Goals as goal
 
 pub loop-left-init : goal.loop-left-init

@@ -1,6 +1,5 @@
 -- The slot and the text are emitted one behind the other.
 use Rattle.combinators.proofs.Emitted.{then}
-use borrow.Author.Rules.{rules}
 use Rattle.compiled.proofs.styles.emit_content.Goals as goal
 
 pub returns : goal.returns

@@ -1,6 +1,5 @@
 -- Each slot is written by its own writer, as the definition splits slots.
 use Rattle.compiled.proofs.Written as laws
-use borrow.Author.Rules.{rules}
 use Rattle.compiled.proofs.styles.emit_slot.Goals as goal
 
 pub returns-then-slot-eq-COLOUR_SLOT : goal.returns-then-slot-eq-COLOUR_SLOT

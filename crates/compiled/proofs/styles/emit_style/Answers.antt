@@ -1,6 +1,5 @@
 -- The mark of importance, the start and the slot with its value are emitted one behind the other.
 use Rattle.compiled.proofs.Written as laws
-use borrow.Author.Rules.{rules}
 use Rattle.compiled.proofs.styles.emit_style.Goals as goal
 
 pub returns : goal.returns

@@ -1,7 +1,6 @@
 -- The text's start and length are the value, which fit 32 bits since the bytes are so few; or its fault is.
 use native.Mathlib.Omega.{arith}
 use Rattle.compiled.proofs.StyleCode as laws
-use borrow.Author.Rules.{rules}
 use Rattle.compiled.proofs.styles.read_content.Goals as goal
 
 pub overflow_cast-result : goal.overflow_cast-result

@@ -1,6 +1,5 @@
 -- A number in its range is the value, any other a fault where it starts.
 use Rattle.compiled.proofs.StyleCode as laws
-use borrow.Author.Rules.{rules}
 use Rattle.compiled.proofs.styles.read_number_up_to.Goals as goal
 
 pub returns-in-Number : goal.returns-in-Number

@@ -1,6 +1,5 @@
 -- A slot that there is is read on with its value; any other number is a fault where it starts.
 use Rattle.compiled.proofs.StyleCode as laws
-use borrow.Author.Rules.{rules}
 use Rattle.compiled.proofs.styles.read_slot.Goals as goal
 
 pub returns-in-Number : goal.returns-in-Number

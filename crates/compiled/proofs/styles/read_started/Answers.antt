@@ -1,6 +1,5 @@
 -- The start is read on with its slot; where none is, its fault is the style's.
 use Rattle.compiled.proofs.StyleCode as laws
-use borrow.Author.Rules.{rules}
 use Rattle.compiled.proofs.styles.read_started.Goals as goal
 
 pub returns-in-Number : goal.returns-in-Number

@@ -1,6 +1,5 @@
 -- The mark of importance is 0 or 1, and the start is read on behind it. What is read ends within the bytes.
 use Rattle.compiled.proofs.StyleCode as laws
-use borrow.Author.Rules.{rules}
 use Rattle.compiled.proofs.styles.read_style.Goals as goal
 
 pub returns-in-Number : goal.returns-in-Number

@@ -1,6 +1,5 @@
 -- Each slot has a value of its own kind, as the definition splits slots.
 use Rattle.compiled.proofs.StyleCode as laws
-use borrow.Author.Rules.{rules}
 use Rattle.compiled.proofs.styles.read_value.Goals as goal
 
 pub returns-then-slot-eq-DISPLAY_SLOT : goal.returns-then-slot-eq-DISPLAY_SLOT

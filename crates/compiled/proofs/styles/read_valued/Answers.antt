@@ -1,6 +1,5 @@
 -- Slot, importance and value are the style, or the fault of the value is the style's.
 use Rattle.compiled.proofs.StyleCode as laws
-use borrow.Author.Rules.{rules}
 use Rattle.compiled.proofs.styles.read_valued.Goals as goal
 
 pub returns-in-Value : goal.returns-in-Value

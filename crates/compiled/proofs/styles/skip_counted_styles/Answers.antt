@@ -2,7 +2,6 @@
 use mathlib.Core.Path.{refl}
 use Rattle.compiled.specs.Style.{style_at}
 use Rattle.compiled.proofs.Passing as laws
-use borrow.Author.Rules.{rules}
 use Rattle.compiled.proofs.styles.skip_counted_styles.Goals as goal
 
 pub loop-left-init : goal.loop-left-init

@@ -1,6 +1,5 @@
 -- Whatever was read ends where the answer says; a fault stays one.
 use Rattle.compiled.proofs.StyleCode as laws
-use borrow.Author.Rules.{rules}
 use Rattle.compiled.proofs.styles.skip_style.Goals as goal
 
 pub returns-in-Style : goal.returns-in-Style

@@ -1,6 +1,5 @@
 -- The count is read and so many styles are passed, or its fault ends it.
 use Rattle.compiled.proofs.StyleCode as laws
-use borrow.Author.Rules.{rules}
 use Rattle.compiled.proofs.styles.skip_styles.Goals as goal
 
 pub returns-in-Number : goal.returns-in-Number

@@ -1,6 +1,5 @@
 -- The three numbers that a word has; any other counts as the last.
 use Rattle.compiled.proofs.Written as laws
-use borrow.Author.Rules.{rules}
 use Rattle.compiled.proofs.styles.white_space_number.Goals as goal
 
 pub returns-then-value-eq-WHITE_SPACE_NORMAL : goal.returns-then-value-eq-WHITE_SPACE_NORMAL

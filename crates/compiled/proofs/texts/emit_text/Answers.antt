@@ -1,6 +1,5 @@
 -- The length and the bytes are emitted one behind the other.
 use Rattle.compiled.proofs.TextCode as laws
-use borrow.Author.Rules.{rules}
 use Rattle.compiled.proofs.texts.emit_text.Goals as goal
 
 pub returns : goal.returns

@@ -2,7 +2,6 @@
 use native.Mathlib.Omega.{arith}
 use Rattle.compiled.proofs.Answers.{number-end}
 use Rattle.compiled.proofs.TextCode as laws
-use borrow.Author.Rules.{rules}
 use Rattle.compiled.proofs.texts.read_text.Goals as goal
 
 pub overflow_sub-s : goal.overflow_sub-s

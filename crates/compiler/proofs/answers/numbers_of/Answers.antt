@@ -2,7 +2,6 @@
 use Rattle.compiler.specs.CompileAnswer.{refused_compile, numbers_of}
 use Rattle.combinators.specs.declared.refusals.Refusal.{Refusal}
 use mathlib.Core.Path.{sym, ap, ◌∙◌}
-use borrow.Author.Rules.{rules}
 use Rattle.compiler.proofs.answers.numbers_of.Goals as goal
 
 pub returns-in-Compiled : goal.returns-in-Compiled

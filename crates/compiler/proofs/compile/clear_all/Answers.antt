@@ -1,5 +1,4 @@
 -- Each buffer is cleared once, by one of the two calls.
-use borrow.Author.Rules.{rules}
 use Rattle.compiler.proofs.compile.clear_all.Goals as goal
 
 pub returns : goal.returns

@@ -1,6 +1,5 @@
 -- The refusals 1, 2 and 3 in their order, each by its own test; what is left is compiled.
 use Rattle.compiler.proofs.CompileLaws as laws
-use borrow.Author.Rules.{rules}
 use Rattle.compiler.proofs.compile.compile.Goals as goal
 
 pub returns-then-any_too_long : goal.returns-then-any_too_long

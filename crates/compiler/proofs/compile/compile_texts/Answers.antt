@@ -2,7 +2,6 @@
 -- do not.
 use mathlib.Core.Path.{◌∙◌}
 use Rattle.compiler.proofs.CompileTurns as laws
-use borrow.Author.Rules.{rules}
 use Rattle.compiler.proofs.compile.compile_texts.Goals as goal
 
 pub read_sheets-requires : goal.read_sheets-requires

@@ -1,6 +1,5 @@
 -- A fill within the length, one far above it, and the one just above it, which alone says that something did not fit.
 use Rattle.compiler.proofs.EmittingLaws as laws
-use borrow.Author.Rules.{rules}
 use Rattle.compiler.proofs.past.is_past.Goals as goal
 
 pub returns-then-fill-length : goal.returns-then-fill-length

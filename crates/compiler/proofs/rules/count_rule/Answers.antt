@@ -1,6 +1,5 @@
 -- A rule without styles counts for nothing, any other with all its selectors.
 use Rattle.compiler.proofs.RuleWriting as laws
-use borrow.Author.Rules.{rules}
 use Rattle.compiler.proofs.rules.count_rule.Goals as goal
 
 pub returns-then-styles-eq0 : goal.returns-then-styles-eq0

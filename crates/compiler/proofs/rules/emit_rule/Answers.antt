@@ -1,7 +1,6 @@
 -- The styles are made in the store of tokens, the selectors are written with them, and the rows are wiped again.
 use Rattle.compiler.proofs.RuleWriting as laws
 use mathlib.Core.Path.{◌∙◌}
-use borrow.Author.Rules.{rules}
 use Rattle.compiler.proofs.rules.emit_rule.Goals as goal
 
 pub styles_of_rule-styles-requires : goal.styles_of_rule-styles-requires

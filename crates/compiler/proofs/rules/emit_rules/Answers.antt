@@ -3,7 +3,6 @@ use Rattle.compiler.proofs.RuleWriting as laws
 use Rattle.compiler.proofs.EmittingLaws.{past-known}
 use mathlib.Core.Path.{ap}
 use lib.ListN.{length}
-use borrow.Author.Rules.{rules}
 use Rattle.compiler.proofs.rules.emit_rules.Goals as goal
 
 pub loop-left-init : goal.loop-left-init

@@ -1,8 +1,5 @@
 -- What is left to write from the place on is the rest of the whole; once the fill is past the store nothing more changes.
 use Rattle.compiler.proofs.RuleWriting as laws
-use Rattle.compiler.proofs.EmittingLaws.{past-known}
-use mathlib.Core.Path.{ap}
-use lib.ListN.{length}
 use Rattle.compiler.proofs.rules.emit_rules.Given as goal
 
 abbrev pub invariant-loop-left : goal.invariant-loop-left

@@ -1,9 +1,5 @@
 -- What is left to write from the place on is the rest of the whole; once the fill is past the store nothing more changes.
 use Rattle.compiler.proofs.EmittingLaws as laws
-use Rattle.compiler.specs.Writing.{styled_bytes}
-use Rattle.syntax.specs.RuleLayout.{read_selector}
-use Rattle.syntax.specs.Layout.{styles_at}
-use borrow.Author.Rules.{rules}
 use Rattle.compiler.proofs.rules.emit_selectors.Goals as goal
 
 pub loop-left-init : goal.loop-left-init

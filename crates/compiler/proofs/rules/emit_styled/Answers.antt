@@ -1,6 +1,5 @@
 -- Without styles nothing is written; with some, all selectors of the rule.
 use Rattle.compiler.proofs.RuleWriting as laws
-use borrow.Author.Rules.{rules}
 use Rattle.compiler.proofs.rules.emit_styled.Goals as goal
 
 pub returns-then-styles-eq0 : goal.returns-then-styles-eq0

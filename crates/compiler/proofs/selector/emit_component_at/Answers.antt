@@ -1,6 +1,5 @@
 -- The four numbers of the row are those of the component that it reads as.
 use Rattle.compiler.proofs.SelectorWriting as laws
-use borrow.Author.Rules.{rules}
 use Rattle.compiler.proofs.selector.emit_component_at.Goals as goal
 
 pub returns : goal.returns

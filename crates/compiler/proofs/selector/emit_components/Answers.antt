@@ -1,6 +1,5 @@
 -- The components that are left are written from the last on, which is the order of the bytes.
 use Rattle.compiler.proofs.SelectorWriting as laws
-use borrow.Author.Rules.{rules}
 use Rattle.compiler.proofs.selector.emit_components.Goals as goal
 
 pub loop-left-init : goal.loop-left-init

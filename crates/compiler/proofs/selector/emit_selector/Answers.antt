@@ -1,6 +1,5 @@
 -- Head, components and styles are emitted one behind the other.
 use Rattle.compiler.proofs.SelectorWriting as laws
-use borrow.Author.Rules.{rules}
 use Rattle.compiler.proofs.selector.emit_selector.Goals as goal
 
 pub returns : goal.returns

@@ -1,6 +1,5 @@
 -- The numbers of the row are those of the head.
 use Rattle.compiler.proofs.SelectorWriting as laws
-use borrow.Author.Rules.{rules}
 use Rattle.compiler.proofs.selector.emit_selector_head.Goals as goal
 
 pub returns : goal.returns

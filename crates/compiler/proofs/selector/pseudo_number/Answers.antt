@@ -1,6 +1,5 @@
 -- The three numbers that a pseudo element has; any other counts as the last.
 use Rattle.compiler.proofs.SelectorWriting as laws
-use borrow.Author.Rules.{rules}
 use Rattle.compiler.proofs.selector.pseudo_number.Goals as goal
 
 pub returns-then-pseudo-eq-PSEUDO_NONE : goal.returns-then-pseudo-eq-PSEUDO_NONE

@@ -1,6 +1,5 @@
 -- The declaration has a style of its own, which takes one row, or none.
 use Rattle.compiler.proofs.StyleWriting as laws
-use borrow.Author.Rules.{rules}
 use Rattle.compiler.proofs.styles.count_own_style.Goals as goal
 
 pub returns-in-Style : goal.returns-in-Style

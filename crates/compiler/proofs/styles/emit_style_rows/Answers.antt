@@ -1,9 +1,7 @@
 -- What is left to write from the place on is the rest of the whole; once the fill is past the store nothing more changes.
 use Rattle.compiler.proofs.StyleWriting.{behind-style}
 use Rattle.compiler.proofs.EmittingLaws as laws
-use Rattle.compiled.specs.Style.{style_bytes}
-use Rattle.syntax.specs.Layout.{read_style, styles_at}
-use borrow.Author.Rules.{rules}
+use Rattle.syntax.specs.Layout.{styles_at}
 use Rattle.compiler.proofs.styles.emit_style_rows.Goals as goal
 
 pub loop-left-init : goal.loop-left-init

@@ -1,6 +1,5 @@
 -- The count, and the rows behind it.
 use Rattle.compiler.proofs.StyleWriting as laws
-use borrow.Author.Rules.{rules}
 use Rattle.compiler.proofs.styles.emit_styles.Goals as goal
 
 pub returns : goal.returns

@@ -1,6 +1,5 @@
 -- The selectors of the three sheets are counted one sheet after the other; there are few enough to be added.
 use Rattle.compiler.proofs.WritingLaws as laws
-use borrow.Author.Rules.{rules}
 use Rattle.compiler.proofs.writing.count_all.Goals as goal
 
 pub count_selectors-agents-requires : goal.count_selectors-agents-requires

@@ -1,6 +1,5 @@
 -- The smaller of the buffer's length and the limit.
 use Rattle.compiler.proofs.WritingLaws as laws
-use borrow.Author.Rules.{rules}
 use Rattle.compiler.proofs.writing.room_of.Goals as goal
 
 pub returns-then-n-gt-COMPILED_LIMIT : goal.returns-then-n-gt-COMPILED_LIMIT

@@ -1,6 +1,5 @@
 -- The rules of the sheet lie in the rows, and their texts from its place of the text store on.
 use Rattle.compiler.proofs.WritingLaws as laws
-use borrow.Author.Rules.{rules}
 use Rattle.compiler.proofs.writing.write_sheet.Goals as goal
 
 pub emit_rules-requires : goal.emit_rules-requires

@@ -1,7 +1,6 @@
 -- The count and the three sheets, one behind the other, are the whole sheet.
 use Rattle.compiler.proofs.WritingLaws as laws
 use mathlib.Core.Path.{◌∙◌}
-use borrow.Author.Rules.{rules}
 use Rattle.compiler.proofs.writing.write_sheets.Goals as goal
 
 pub count_all-count-requires : goal.count_all-count-requires

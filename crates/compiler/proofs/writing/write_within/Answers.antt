@@ -1,6 +1,5 @@
 -- Only the room is lent, so what is written lies within it, and the rest of the buffer stays as it was.
 use Rattle.compiler.proofs.WritingLaws as laws
-use borrow.Author.Rules.{rules}
 use Rattle.compiler.proofs.writing.write_within.Goals as goal
 
 pub slice_bounds-write_sheets-end : goal.slice_bounds-write_sheets-end

@@ -1,6 +1,5 @@
 -- The colour that was read, or that of the text that lacks its `#`.
 use Rattle.declarations.proofs.AttributeLaws as laws
-use borrow.Author.Rules.{rules}
 use Rattle.declarations.proofs.attributes.or_faulty.Goals as goal
 
 pub returns-in-Colour : goal.returns-in-Colour

@@ -1,7 +1,6 @@
 -- Each pair is a number up to 255 or there is no colour; three of them are one.
 use native.Mathlib.Omega.{arith}
 use Rattle.declarations.proofs.PairLaws as laws
-use borrow.Author.Rules.{rules}
 use Rattle.declarations.proofs.attributes.pair_colour.Goals as goal
 
 pub returns-in_default : goal.returns-in_default

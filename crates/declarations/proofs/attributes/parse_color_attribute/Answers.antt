@@ -1,6 +1,5 @@
 -- The value's tokens give the colour, or else the text itself; what was used of the stores is wiped.
 use Rattle.declarations.proofs.AttributeLaws as laws
-use borrow.Author.Rules.{rules}
 use Rattle.declarations.proofs.attributes.parse_color_attribute.Goals as goal
 
 pub wipe_work-requires : goal.wipe_work-requires

@@ -1,6 +1,5 @@
 -- White_Space at the start is passed; at the end it may stay, since where it is among the pairs they are none.
 use Rattle.declarations.proofs.TrimEnd as laws
-use borrow.Author.Rules.{rules}
 use Rattle.declarations.proofs.attributes.parse_faulty_color.Goals as goal
 
 pub returns-then-t-lt-PAIRS_END : goal.returns-then-t-lt-PAIRS_END

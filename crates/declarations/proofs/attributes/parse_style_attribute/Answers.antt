@@ -1,7 +1,6 @@
 -- The declarations are read, their styles are put over the token rows, and the declaration rows are wiped.
 use native.Mathlib.Omega.{arith}
 use Rattle.declarations.proofs.StyleAttribute as laws
-use borrow.Author.Rules.{rules}
 use Rattle.declarations.proofs.attributes.parse_style_attribute.Goals as goal
 
 pub styles_from_properties-count-requires : goal.styles_from_properties-count-requires

@@ -1,6 +1,5 @@
 -- The text of the declaration is moved down over its name, and what lay behind it is wiped.
 use Rattle.declarations.proofs.RowLaws as laws
-use borrow.Author.Rules.{rules}
 use Rattle.declarations.proofs.rows.keep_text.Goals as goal
 
 pub move_down-requires : goal.move_down-requires

@@ -1,6 +1,5 @@
 -- An unknown declaration loses its name where names are not kept.
 use Rattle.declarations.proofs.RowLaws as laws
-use borrow.Author.Rules.{rules}
 use Rattle.declarations.proofs.rows.named.Goals as goal
 
 pub returns-then-names : goal.returns-then-names

@@ -1,7 +1,6 @@
 -- The five numbers are emitted one behind the other.
 use mathlib.Core.Path.{◌∙◌}
 use Rattle.declarations.proofs.RowLaws as laws
-use borrow.Author.Rules.{rules}
 use Rattle.declarations.proofs.rows.put_declaration.Goals as goal
 
 pub shape_of-rules : goal.shape_of-rules

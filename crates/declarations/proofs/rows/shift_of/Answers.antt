@@ -1,7 +1,6 @@
 -- A content lies behind the name, any other text at its start.
 use Rattle.combinators.proofs.Rules.{cases}
 use Rattle.declarations.specs.DeclRow.{shift}
-use borrow.Author.Rules.{rules}
 use Rattle.declarations.proofs.rows.shift_of.Goals as goal
 
 pub returns-then-decl-eq-CONTENT : goal.returns-then-decl-eq-CONTENT

@@ -2,7 +2,6 @@
 use Rattle.combinators.proofs.Rules.{pick_true, pick-false, or_left, or_right, or-none, is-yes, is-no}
 use Rattle.declarations.specs.DeclRow.{row_value}
 use mathlib.Core.Path.{refl}
-use borrow.Author.Rules.{rules}
 use Rattle.declarations.proofs.rows.value_of.Goals as goal
 
 pub returns-then-decl-eq-CONTENT : goal.returns-then-decl-eq-CONTENT

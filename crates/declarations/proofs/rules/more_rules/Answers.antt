@@ -1,10 +1,7 @@
 -- What is left to read from the byte on, into the stores as they are, leaves what the whole leaves; each turn takes a declaration behind a semicolon or ends.
-use mathlib.Core.Path.{◌≡◌, ◌∙◌}
-use Prim.Native.Nat.{◌-◌}
+use mathlib.Core.Path.{◌∙◌}
 use native.Mathlib.Omega.{arith}
-use lib.ListN.{length}
 use Rattle.declarations.proofs.RuleTurns as laws
-use borrow.Author.Rules.{rules}
 use Rattle.declarations.proofs.rules.more_rules.Goals as goal
 
 pub loop-w-init : goal.loop-w-init

@@ -1,7 +1,5 @@
 -- What is left to read from the byte on, into the stores as they are, leaves what the whole leaves; each turn takes a declaration behind a semicolon or ends.
-use mathlib.Core.Path.{◌≡◌, ◌∙◌}
 use Prim.Native.Nat.{◌-◌}
-use native.Mathlib.Omega.{arith}
 use lib.ListN.{length}
 use Rattle.declarations.proofs.RuleTurns as laws
 use Rattle.declarations.proofs.rules.more_rules.Given as goal

@@ -1,7 +1,6 @@
 -- A property is read on with its value; without one its name is wiped.
 use mathlib.Core.Path.{◌∙◌}
 use Rattle.declarations.proofs.Declaring as laws
-use borrow.Author.Rules.{rules}
 use Rattle.declarations.proofs.rules.parse_declaration.Goals as goal
 
 pub parse_declared-requires : goal.parse_declared-requires

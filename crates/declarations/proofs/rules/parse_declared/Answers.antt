@@ -1,7 +1,6 @@
 -- Without a value all that was written is wiped; with one the declaration is put down and what was used is wiped.
 use native.Mathlib.Omega.{arith}
 use Rattle.declarations.proofs.Declaring as laws
-use borrow.Author.Rules.{rules}
 use Rattle.declarations.proofs.rules.parse_declared.Goals as goal
 
 pub slice_bounds-parse_value-count : goal.slice_bounds-parse_value-count

@@ -1,7 +1,6 @@
 -- A name, white space or none and a colon, or nothing is read.
 use native.Mathlib.Omega.{arith}
 use Rattle.declarations.proofs.PropertyLaws as laws
-use borrow.Author.Rules.{rules}
 use Rattle.declarations.proofs.rules.parse_property.Goals as goal
 
 pub skip_from-colon-requires : goal.skip_from-colon-requires

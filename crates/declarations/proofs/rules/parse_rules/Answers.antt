@@ -2,7 +2,6 @@
 use mathlib.Core.Path.{◌∙◌}
 use native.Mathlib.Omega.{arith}
 use Rattle.declarations.proofs.RuleTurns as laws
-use borrow.Author.Rules.{rules}
 use Rattle.declarations.proofs.rules.parse_rules.Goals as goal
 
 pub returns-in-NoDeclaration : goal.returns-in-NoDeclaration

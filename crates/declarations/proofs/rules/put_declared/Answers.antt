@@ -1,6 +1,5 @@
 -- The declaration is made of the tokens, its text is kept, and its row is put down.
 use Rattle.declarations.proofs.Putting as laws
-use borrow.Author.Rules.{rules}
 use Rattle.declarations.proofs.rules.put_declared.Goals as goal
 
 pub keep_text-requires : goal.keep_text-requires

@@ -1,6 +1,5 @@
 -- A mark takes two tokens away, no more than there are.
 use Rattle.declarations.proofs.Putting as laws
-use borrow.Author.Rules.{rules}
 use Rattle.declarations.proofs.rules.unmarked.Goals as goal
 
 pub returns-then-count-lt2 : goal.returns-then-count-lt2

@@ -3,7 +3,6 @@ use mathlib.Core.Path.{refl, ◌∙◌}
 use lib.Seq.{get_or-drop}
 use Rattle.combinators.proofs.Rules.{pick_true, pick-false}
 use Rattle.syntax.specs.Layout.{declaration_start}
-use borrow.Author.Rules.{rules}
 use Rattle.declarations.proofs.styles.first_zero.Goals as goal
 
 pub returns-then-found : goal.returns-then-found

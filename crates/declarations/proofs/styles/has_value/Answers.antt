@@ -1,6 +1,5 @@
 -- The kind is one of two, and the value is the one asked for.
 use Rattle.declarations.proofs.Styling as laws
-use borrow.Author.Rules.{rules}
 use Rattle.declarations.proofs.styles.has_value.Goals as goal
 
 pub returns-then-found-kind : goal.returns-then-found-kind

@@ -1,7 +1,6 @@
 -- The two kinds and the value of the definition.
 use Rattle.syntax.specs.Layout.{overflow_number}
 use Rattle.declarations.specs.StyleNumbers.{hidden_row}
-use borrow.Author.Rules.{rules}
 use Rattle.declarations.proofs.styles.hides_overflow.Goals as goal
 
 pub returns : goal.returns

@@ -2,7 +2,6 @@
 use Rattle.combinators.proofs.Rules.{cases}
 use Rattle.syntax.specs.Layout.{flag_of}
 use Rattle.declarations.specs.StyleNumbers.{own_numbers}
-use borrow.Author.Rules.{rules}
 use Rattle.declarations.proofs.styles.own_style.Goals as goal
 
 pub returns-then-kind-eq-COLOR : goal.returns-then-kind-eq-COLOR

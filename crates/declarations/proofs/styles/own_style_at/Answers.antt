@@ -1,6 +1,5 @@
 -- The numbers of the row are those of the declaration.
 use Rattle.declarations.proofs.Styling as laws
-use borrow.Author.Rules.{rules}
 use Rattle.declarations.proofs.styles.own_style_at.Goals as goal
 
 pub returns : goal.returns

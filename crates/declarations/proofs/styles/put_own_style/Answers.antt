@@ -1,6 +1,5 @@
 -- A declaration puts the row of its style, or nothing.
 use Rattle.declarations.proofs.Styling as laws
-use borrow.Author.Rules.{rules}
 use Rattle.declarations.proofs.styles.put_own_style.Goals as goal
 
 pub returns-in-Style : goal.returns-in-Style

@@ -1,7 +1,6 @@
 -- The five numbers are emitted one behind the other.
 use mathlib.Core.Path.{◌∙◌}
 use Rattle.declarations.proofs.Styling as laws
-use borrow.Author.Rules.{rules}
 use Rattle.declarations.proofs.styles.put_style.Goals as goal
 
 pub shape_of-styles : goal.shape_of-styles

@@ -1,8 +1,6 @@
 -- What is left to put from the declaration on is the rest of the whole; at the end a zero height with a hidden overflow adds one.
-use mathlib.Core.Path.{refl, ◌∙◌}
-use Prim.Native.Nat.{◌-◌}
+use mathlib.Core.Path.{◌∙◌}
 use Rattle.declarations.proofs.Styling as laws
-use borrow.Author.Rules.{rules}
 use Rattle.declarations.proofs.styles.styles_from_properties.Goals as goal
 
 pub loop-i-init : goal.loop-i-init

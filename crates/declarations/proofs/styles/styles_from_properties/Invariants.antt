@@ -1,5 +1,4 @@
 -- What is left to put from the declaration on is the rest of the whole; at the end a zero height with a hidden overflow adds one.
-use mathlib.Core.Path.{refl, ◌∙◌}
 use Prim.Native.Nat.{◌-◌}
 use Rattle.declarations.proofs.Styling as laws
 use Rattle.declarations.proofs.styles.styles_from_properties.Given as goal

@@ -1,7 +1,5 @@
 -- The bytes moved so far stand where they should, and those still to move are as they were, since they are moved down.
-use Prim.Native.Nat.{◌-◌}
 use Rattle.declarations.proofs.Moves as laws
-use borrow.Author.Rules.{rules}
 use Rattle.declarations.proofs.texts.move_down.Goals as goal
 
 pub loop-i-init : goal.loop-i-init

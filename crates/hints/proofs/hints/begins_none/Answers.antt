@@ -1,7 +1,6 @@
 -- Only where no test held is it told.
 use Rattle.combinators.proofs.Rules.{never}
 use Rattle.hints.proofs.HintLaws as laws
-use borrow.Author.Rules.{rules}
 use Rattle.hints.proofs.hints.begins_none.Goals as goal
 
 pub returns-then-starts-eq-ANY_BYTE : goal.returns-then-starts-eq-ANY_BYTE

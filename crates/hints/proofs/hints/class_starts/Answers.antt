@@ -1,8 +1,5 @@
 -- Each attribute adds what its classes begin with, and those that are left are still to be asked.
-use Prim.Native.Nat.{◌-◌}
-use Rattle.matching.specs.Matches.{is_class}
 use Rattle.hints.proofs.StartLaws as laws
-use borrow.Author.Rules.{rules}
 use Rattle.hints.proofs.hints.class_starts.Goals as goal
 
 pub loop-i-init : goal.loop-i-init

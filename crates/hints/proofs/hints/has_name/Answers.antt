@@ -3,7 +3,6 @@ use mathlib.Core.Path.{ap, ◌∙◌}
 use Rattle.combinators.proofs.Rules.{never}
 use Rattle.compiled.specs.Component.{is_name}
 use Rattle.hints.proofs.HintLaws as laws
-use borrow.Author.Rules.{rules}
 use Rattle.hints.proofs.hints.has_name.Goals as goal
 
 pub returns-then-kind : goal.returns-then-kind

@@ -1,7 +1,6 @@
 -- Length and first byte are those of the name, and what attributes begin with is told by the calls.
 use mathlib.Core.Path.{◌∙◌}
 use Rattle.hints.proofs.HintLaws as laws
-use borrow.Author.Rules.{rules}
 use Rattle.hints.proofs.hints.hint_of.Goals as goal
 
 pub returns-then-selectors-lt-SELECTORS : goal.returns-then-selectors-lt-SELECTORS

@@ -1,7 +1,6 @@
 -- By its kind: a name has another length or another first byte, or none of what the hint tells begins so.
 use Rattle.combinators.proofs.Rules.{never}
 use Rattle.hints.proofs.HintLaws as laws
-use borrow.Author.Rules.{rules}
 use Rattle.hints.proofs.hints.name_fails.Goals as goal
 
 pub returns-then-size-hint : goal.returns-then-size-hint

@@ -1,6 +1,5 @@
 -- Each attribute adds what its name begins with, and those that are left are still to be asked.
 use Prim.Native.Nat.{◌-◌}
-use mathlib.Core.Path.{◌∙◌}
 use Rattle.matching.specs.Matches.{is_named}
 use Rattle.hints.proofs.StartLaws as laws
 use Rattle.hints.proofs.hints.name_starts.Given as goal

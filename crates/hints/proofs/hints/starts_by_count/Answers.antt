@@ -2,7 +2,6 @@
 use mathlib.Core.Path.{refl}
 use Rattle.hints.proofs.HintLaws as laws
 use Rattle.hints.proofs.StartLaws.{may-any}
-use borrow.Author.Rules.{rules}
 use Rattle.hints.proofs.hints.starts_by_count.Goals as goal
 
 pub returns-then-attributes-lt-ATTRIBUTE_WIDTH : goal.returns-then-attributes-lt-ATTRIBUTE_WIDTH

@@ -1,6 +1,5 @@
 -- An attribute of another name has no classes; of this one the words of its value are added.
 use Rattle.hints.proofs.StartLaws as laws
-use borrow.Author.Rules.{rules}
 use Rattle.hints.proofs.hints.with_classes.Goals as goal
 
 pub returns-then-part_is : goal.returns-then-part_is

@@ -1,6 +1,5 @@
 -- The byte is put where none was, or is there already; a third makes it any.
 use Rattle.hints.proofs.StartLaws as laws
-use borrow.Author.Rules.{rules}
 use Rattle.hints.proofs.hints.with_start.Goals as goal
 
 pub returns-then-starts-eq-NO_BYTE : goal.returns-then-starts-eq-NO_BYTE

@@ -1,7 +1,5 @@
 -- Each word is the one that is sought, and then its first byte was added, or is passed.
-use Prim.Native.Nat.{◌-◌}
 use mathlib.Core.Path.{◌∙◌}
-use lib.ListN.{length}
 use Rattle.hints.proofs.StartLaws as laws
 use borrow.Author.Rules.{rules}
 use Rattle.hints.proofs.hints.with_words.Goals as goal

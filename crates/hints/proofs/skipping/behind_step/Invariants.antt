@@ -1,6 +1,4 @@
 -- A compound that may not end here is not changed by tests, up to the step that ends it.
-use native.Mathlib.Omega.{arith}
-use mathlib.Core.Path.{refl}
 use Rattle.hints.proofs.CodeStepLaws as laws
 use Rattle.hints.proofs.skipping.behind_step.Given as goal
 

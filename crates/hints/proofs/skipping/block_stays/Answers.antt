@@ -1,7 +1,6 @@
 -- Each test says one field of the record, and the last call that the test fails.
 use Rattle.combinators.proofs.Rules.{never}
 use Rattle.hints.proofs.CodeStayLaws as laws
-use borrow.Author.Rules.{rules}
 use Rattle.hints.proofs.skipping.block_stays.Goals as goal
 
 pub returns-then-state-at-eq-WITH_TESTS : goal.returns-then-state-at-eq-WITH_TESTS

@@ -1,6 +1,5 @@
 -- The numbers that are read are those that are stored.
 use Rattle.hints.proofs.CodeStayLaws as laws
-use borrow.Author.Rules.{rules}
 use Rattle.hints.proofs.skipping.copy_block.Goals as goal
 
 pub returns : goal.returns

@@ -1,6 +1,5 @@
 -- The four stores stand one behind the other.
 use Rattle.hints.proofs.CodeStepLaws as laws
-use borrow.Author.Rules.{rules}
 use Rattle.hints.proofs.skipping.put_step.Goals as goal
 
 pub returns : goal.returns

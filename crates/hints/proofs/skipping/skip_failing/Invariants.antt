@@ -1,6 +1,5 @@
 -- Each turn copies one block that stays; what is left has the result of the whole.
 use Rattle.hints.proofs.CodeSkipLaws as laws
-use native.Mathlib.Omega.{arith}
 use Rattle.hints.proofs.skipping.skip_failing.Given as goal
 
 abbrev pub invariant-loop-left : goal.invariant-loop-left

@@ -1,7 +1,6 @@
 -- The place behind the step is that of the left compound, whose first test is told to fail.
 use Rattle.combinators.proofs.Rules.{never}
 use Rattle.hints.proofs.CodeStepLaws as laws
-use borrow.Author.Rules.{rules}
 use Rattle.hints.proofs.skipping.step_fails.Goals as goal
 
 pub returns-then-tests-gt0 : goal.returns-then-tests-gt0

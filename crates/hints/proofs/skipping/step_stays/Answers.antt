@@ -1,7 +1,6 @@
 -- Each test says one field of the record, and the last call that the left compound fails.
 use Rattle.combinators.proofs.Rules.{never}
 use Rattle.hints.proofs.CodeStepLaws as laws
-use borrow.Author.Rules.{rules}
 use Rattle.hints.proofs.skipping.step_stays.Goals as goal
 
 pub returns-then-state-at-eq-WITH_TESTS : goal.returns-then-state-at-eq-WITH_TESTS

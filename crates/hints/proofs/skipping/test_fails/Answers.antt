@@ -1,7 +1,6 @@
 -- Three bytes say the kind, the length and the first byte of the text, by which the hint excludes it; otherwise nothing is told.
 use Rattle.combinators.proofs.Rules.{never}
 use Rattle.hints.proofs.CodeFailLaws as laws
-use borrow.Author.Rules.{rules}
 use Rattle.hints.proofs.skipping.test_fails.Goals as goal
 
 pub returns-then-size-lt-ONE_GROUP : goal.returns-then-size-lt-ONE_GROUP

@@ -2,7 +2,6 @@
 use native.Mathlib.Omega.{arith}
 use Rattle.combinators.proofs.Rules.{never}
 use Rattle.hints.proofs.CodeStepLaws as laws
-use borrow.Author.Rules.{rules}
 use Rattle.hints.proofs.skipping.tests_fail.Goals as goal
 
 pub returns-then-test_fails : goal.returns-then-test_fails

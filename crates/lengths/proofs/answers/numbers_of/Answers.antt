@@ -2,7 +2,6 @@
 use Rattle.lengths.specs.HeightLength.{without_length, numbers_of}
 use Rattle.combinators.specs.declared.refusals.Refusal.{Refusal}
 use mathlib.Core.Path.{sym, ap, ◌∙◌}
-use borrow.Author.Rules.{rules}
 use Rattle.lengths.proofs.answers.numbers_of.Goals as goal
 
 pub returns-in-NoLength : goal.returns-in-NoLength

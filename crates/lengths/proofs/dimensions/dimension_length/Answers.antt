@@ -4,7 +4,6 @@ use Rattle.characters.specs.Literal.{text}
 use Rattle.characters.specs.Utf8.{utf8, continuation}
 use Rattle.values.proofs.WordLaws.{numbers_of, joined_of, lengths_of, words_of}
 use Rattle.lengths.proofs.DimensionLaws as laws
-use borrow.Author.Rules.{rules}
 use Rattle.lengths.proofs.dimensions.dimension_length.Goals as goal
 
 pub returns-then-i-lt8 : goal.returns-then-i-lt8

@@ -1,6 +1,5 @@
 -- The digits, up to the most, are zero exactly where the number is.
 use Rattle.lengths.proofs.DimensionLaws as laws
-use borrow.Author.Rules.{rules}
 use Rattle.lengths.proofs.dimensions.number_length.Goals as goal
 
 pub returns-then-numeral-eq0 : goal.returns-then-numeral-eq0

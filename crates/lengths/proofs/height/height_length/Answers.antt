@@ -1,6 +1,5 @@
 -- The refusals in their order; where there is none, what reading leaves.
 use Rattle.lengths.proofs.HeightLengthLaws as laws
-use borrow.Author.Rules.{rules}
 use Rattle.lengths.proofs.height.height_length.Goals as goal
 
 pub returns-then-s-gt-SHEET_LIMIT : goal.returns-then-s-gt-SHEET_LIMIT

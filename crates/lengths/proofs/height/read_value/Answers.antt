@@ -1,6 +1,5 @@
 -- The answer is that of the token; then every store is cleared, the text store with the unit's name.
 use Rattle.lengths.proofs.HeightLengthLaws as laws
-use borrow.Author.Rules.{rules}
 use Rattle.lengths.proofs.height.read_value.Goals as goal
 
 pub returns : goal.returns

@@ -3,7 +3,6 @@ use Rattle.combinators.proofs.Repeating.{bounded}
 use Rattle.lengths.specs.Number.{signed, number}
 use Rattle.lexer.proofs.Digits.{followed-none, followed-some}
 use Rattle.lengths.proofs.NumberLaws.{number-le}
-use borrow.Author.Rules.{rules}
 use Rattle.lengths.proofs.numbers.parse_number.Goals as goal
 
 pub returns-then-n-eq0 : goal.returns-then-n-eq0

@@ -1,11 +1,5 @@
 -- The digits left, behind what was counted, make what all make; beyond the most they only make it more.
-use mathlib.Core.Path.{◌≡◌, refl}
-use Prim.Native.Nat.{◌-◌}
-use lib.ListN.{length, drop}
-use Rattle.lexer.specs.Name.{hex_digit}
-use Rattle.values.specs.Colour.{numeral}
-use Rattle.lengths.specs.Length.{ten}
-use Rattle.lengths.specs.Numeral.{capped}
+use mathlib.Core.Path.{refl}
 use Rattle.lengths.proofs.NumeralLaws as laws
 use borrow.Author.Rules.{rules}
 use Rattle.lengths.proofs.numerals.digits_from.Goals as goal

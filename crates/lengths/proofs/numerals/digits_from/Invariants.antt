@@ -1,12 +1,11 @@
 -- The digits left, behind what was counted, make what all make; beyond the most they only make it more.
-use mathlib.Core.Path.{◌≡◌, refl}
+use mathlib.Core.Path.{◌≡◌}
 use Prim.Native.Nat.{◌-◌}
 use lib.ListN.{length, drop}
 use Rattle.lexer.specs.Name.{hex_digit}
 use Rattle.values.specs.Colour.{numeral}
 use Rattle.lengths.specs.Length.{ten}
 use Rattle.lengths.specs.Numeral.{capped}
-use Rattle.lengths.proofs.NumeralLaws as laws
 use Rattle.lengths.proofs.numerals.digits_from.Given as goal
 
 abbrev pub invariant-loop-i : goal.invariant-loop-i

@@ -1,5 +1,4 @@
 -- White space and the sign are passed as the definition does.
-use mathlib.Core.Path.{refl}
 use Rattle.lengths.proofs.NumeralLaws as laws
 use borrow.Author.Rules.{rules}
 use Rattle.lengths.proofs.numerals.numeral_of.Goals as goal

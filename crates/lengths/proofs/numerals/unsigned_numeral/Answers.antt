@@ -1,5 +1,5 @@
 -- The digits before the point, and those behind it, are those of the definition.
-use mathlib.Core.Path.{refl, sym}
+use mathlib.Core.Path.{sym}
 use lib.Seq.{length-take-le}
 use Rattle.lengths.proofs.NumeralLaws as laws
 use borrow.Author.Rules.{rules}

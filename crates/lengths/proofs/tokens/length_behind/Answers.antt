@@ -1,9 +1,8 @@
 -- By the name behind the number: it is read back from the store, and what stands behind it decides.
-use mathlib.Core.Path.{refl, sym}
+use mathlib.Core.Path.{sym}
 use native.Mathlib.Omega.{arith}
 use lib.Seq.{length-take-le}
 use Rattle.lengths.proofs.TokenLaws as laws
-use borrow.Author.Rules.{rules}
 use Rattle.lengths.proofs.tokens.length_behind.Goals as goal
 
 pub overflow_add-n : goal.overflow_add-n

@@ -1,7 +1,6 @@
 -- The token's parts are those of the definition: white space, a '+', the number, and what stands behind it.
 use mathlib.Core.Path.{refl}
 use Rattle.lengths.proofs.TokenLaws as laws
-use borrow.Author.Rules.{rules}
 use Rattle.lengths.proofs.tokens.length_of.Goals as goal
 
 pub returns-then-n-eq0 : goal.returns-then-n-eq0

@@ -3,7 +3,6 @@ use mathlib.Core.Path.{ap}
 use lib.ListN.{length}
 use Rattle.combinators.specs.Choice.{is}
 use Rattle.lengths.specs.Length.{only_whitespace}
-use borrow.Author.Rules.{rules}
 use Rattle.lengths.proofs.tokens.only_whitespace.Goals as goal
 
 pub returns : goal.returns

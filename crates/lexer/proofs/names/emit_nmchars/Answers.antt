@@ -1,10 +1,7 @@
 -- At each turn what is left to read and to write has the result of the whole (`Chars`); the text is at most two bytes longer than `s`, so its length fits.
-use Prim.Native.Nat.{◌+◌, ◌-◌}
 use native.Mathlib.Omega.{arith}
-use lib.ListN.{length}
 use Rattle.lexer.proofs.Writing.{writing-begin}
 use Rattle.lexer.proofs.CharacterRuns as laws
-use borrow.Author.Rules.{rules}
 use Rattle.lexer.proofs.names.emit_nmchars.Goals as goal
 
 pub loop-i-init : goal.loop-i-init

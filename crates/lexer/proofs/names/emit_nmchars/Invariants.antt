@@ -1,8 +1,6 @@
 -- At each turn what is left to read and to write has the result of the whole (`Chars`); the text is at most two bytes longer than `s`, so its length fits.
-use Prim.Native.Nat.{◌+◌, ◌-◌}
-use native.Mathlib.Omega.{arith}
+use Prim.Native.Nat.{◌-◌}
 use lib.ListN.{length}
-use Rattle.lexer.proofs.Writing.{writing-begin}
 use Rattle.lexer.proofs.CharacterRuns as laws
 use Rattle.lexer.proofs.names.emit_nmchars.Given as goal
 

@@ -4,7 +4,6 @@ use native.Mathlib.Omega.{arith}
 use Rattle.characters.proofs.Scalars.{scalar-some}
 use Rattle.lexer.proofs.Escapes as laws
 use Rattle.lexer.proofs.Characters.{count-six}
-use borrow.Author.Rules.{rules}
 use Rattle.lexer.proofs.names.escaped.Goals as goal
 
 pub returns-then-t-eq0 : goal.returns-then-t-eq0

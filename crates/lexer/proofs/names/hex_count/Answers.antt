@@ -1,6 +1,5 @@
 -- The run that `hex_run` counts, or 1 where it ends with the text: the one test of `hex_count`.
 use Rattle.lexer.proofs.Escapes as laws
-use borrow.Author.Rules.{rules}
 use Rattle.lexer.proofs.names.hex_count.Goals as goal
 
 pub returns-then-n-t : goal.returns-then-n-t

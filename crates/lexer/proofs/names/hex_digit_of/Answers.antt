@@ -4,7 +4,6 @@ use native.Mathlib.Omega.{arith}
 use Rattle.combinators.proofs.Rules.{cases, within-true}
 use Rattle.lexer.specs.Name.{hex_digit}
 use Rattle.lexer.proofs.Escapes as laws
-use borrow.Author.Rules.{rules}
 use Rattle.lexer.proofs.names.hex_digit_of.Goals as goal
 
 pub overflow_sub-b : goal.overflow_sub-b

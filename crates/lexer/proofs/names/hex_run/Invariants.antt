@@ -1,7 +1,6 @@
 -- At each turn the digits counted and those left to count make up the run (`Counting`); it ends before a byte that is no hex digit, or at six.
-use mathlib.Core.Path.{sym, ap, ◌∙◌}
 use Prim.Native.Nat.{◌-◌}
-use Rattle.lexer.specs.Name.{is_hex_digit, maximum_digits}
+use Rattle.lexer.specs.Name.{maximum_digits}
 use Rattle.lexer.proofs.Escapes as laws
 use Rattle.lexer.proofs.names.hex_run.Given as goal
 

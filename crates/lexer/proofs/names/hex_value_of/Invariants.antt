@@ -1,6 +1,5 @@
 -- At each turn the digits left, behind the number so far, write the whole number (`Reading`); six digits stay below 16^6, so no product overflows.
 use Prim.Native.Nat.{◌-◌}
-use native.Mathlib.Omega.{arith}
 use Rattle.lexer.proofs.Escapes as laws
 use Rattle.lexer.proofs.names.hex_value_of.Given as goal
 

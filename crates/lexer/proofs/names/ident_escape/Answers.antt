@@ -1,7 +1,6 @@
 -- Behind a backslash `escaped` reads the rest of the text, as the definition does; without a backslash there is no escape.
 use native.Mathlib.Omega.{arith}
 use Rattle.lexer.proofs.Escapes as laws
-use borrow.Author.Rules.{rules}
 use Rattle.lexer.proofs.names.ident_escape.Goals as goal
 
 pub slice_bounds-escaped-count : goal.slice_bounds-escaped-count

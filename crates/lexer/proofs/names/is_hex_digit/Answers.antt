@@ -1,7 +1,6 @@
 -- The three ranges of `is_hex_digit`, in its order.
 use Rattle.combinators.proofs.Rules.{cases}
 use Rattle.lexer.specs.Name.{is_hex_digit}
-use borrow.Author.Rules.{rules}
 use Rattle.lexer.proofs.names.is_hex_digit.Goals as goal
 
 pub returns-then-between : goal.returns-then-between

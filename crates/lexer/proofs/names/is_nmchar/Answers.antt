@@ -1,7 +1,6 @@
 -- The three alternatives of `is_nmchar` in their order: what can start a name, a digit, '-'.
 use Rattle.combinators.proofs.Rules.{cases}
 use Rattle.lexer.specs.Name.{is_nmchar}
-use borrow.Author.Rules.{rules}
 use Rattle.lexer.proofs.names.is_nmchar.Goals as goal
 
 pub returns-then-is_nmstart : goal.returns-then-is_nmstart

@@ -1,7 +1,6 @@
 -- The three alternatives of `is_nmstart` in their order: '_', a small letter, a capital letter.
 use Rattle.combinators.proofs.Rules.{cases}
 use Rattle.lexer.specs.Name.{is_nmstart}
-use borrow.Author.Rules.{rules}
 use Rattle.lexer.proofs.names.is_nmstart.Goals as goal
 
 pub returns-then-same : goal.returns-then-same

@@ -1,6 +1,5 @@
 -- The two cases of `lower`: a capital letter is as far below its small one as the constant says, any other byte is kept.
 use Rattle.lexer.proofs.Escapes as laws
-use borrow.Author.Rules.{rules}
 use Rattle.lexer.proofs.names.lower_of.Goals as goal
 
 pub returns-then-between : goal.returns-then-between

@@ -1,7 +1,6 @@
 -- The two alternatives of `nmchar_of` in their order: a plain character, and an escape where there is none.
 use Rattle.lexer.specs.Name.{nmchar_of}
 use Rattle.lexer.proofs.Escapes as laws
-use borrow.Author.Rules.{rules}
 use Rattle.lexer.proofs.names.nmchar.Goals as goal
 
 pub returns-in-Value : goal.returns-in-Value

@@ -1,7 +1,6 @@
 -- The first byte, folded, where `is_nmchar` holds of it; else there is no character.
 use Rattle.lexer.specs.Name.{is_nmchar, nmchar_char_of}
 use Rattle.lexer.proofs.Escapes as laws
-use borrow.Author.Rules.{rules}
 use Rattle.lexer.proofs.names.nmchar_char.Goals as goal
 
 pub returns-then-is_nmchar : goal.returns-then-is_nmchar

@@ -1,7 +1,6 @@
 -- The first byte, folded, where `is_nmstart` holds of it; else there is no character.
 use Rattle.lexer.specs.Name.{is_nmstart, nmstart_char_of}
 use Rattle.lexer.proofs.Escapes as laws
-use borrow.Author.Rules.{rules}
 use Rattle.lexer.proofs.names.nmstart_char.Goals as goal
 
 pub returns-then-is_nmstart : goal.returns-then-is_nmstart

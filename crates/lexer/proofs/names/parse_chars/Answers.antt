@@ -1,6 +1,5 @@
 -- The run of characters is what is read; where it takes no byte its text is empty, so nothing was written.
 use Rattle.lexer.proofs.Idents as laws
-use borrow.Author.Rules.{rules}
 use Rattle.lexer.proofs.names.parse_chars.Goals as goal
 
 pub returns-then-n-eq0 : goal.returns-then-n-eq0

@@ -3,7 +3,6 @@ use native.Mathlib.Omega.{arith}
 use Rattle.lexer.specs.Name.{name_of, ident_of}
 use Rattle.lexer.proofs.Idents as laws
 use Rattle.lexer.proofs.IdentBounds.{name-keeps, answer_le}
-use borrow.Author.Rules.{rules}
 use Rattle.lexer.proofs.names.parse_ident.Goals as goal
 
 pub overflow_add-result : goal.overflow_add-result

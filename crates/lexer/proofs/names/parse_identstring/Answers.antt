@@ -3,7 +3,6 @@ use native.Mathlib.Omega.{arith}
 use Rattle.lexer.specs.Name.{chars_of, identstring_of}
 use Rattle.lexer.proofs.Idents as laws
 use Rattle.lexer.proofs.IdentBounds.{chars-keeps, answer_le}
-use borrow.Author.Rules.{rules}
 use Rattle.lexer.proofs.names.parse_identstring.Goals as goal
 
 pub overflow_add-result : goal.overflow_add-result

@@ -1,6 +1,5 @@
 -- A '-' and what starts a name are characters of names too, so where `nmstart` reads, one run from the start of `t` is the name (`name-some`).
 use Rattle.lexer.proofs.Idents as laws
-use borrow.Author.Rules.{rules}
 use Rattle.lexer.proofs.names.parse_name.Goals as goal
 
 pub returns-in-Value : goal.returns-in-Value

@@ -1,14 +1,12 @@
 -- The tests of `decimal`: a full stop behind the digits, and digits behind it; the full stop is in the text, so the rest begins within it.
 use mathlib.Core.Path.{sym, ap, ◌∙◌}
-use Prim.Native.Nat.{◌+◌, ◌<◌}
+use Prim.Native.Nat.{◌+◌}
 use native.Mathlib.Omega.{arith}
-use lib.ListN.{length}
 use Rattle.combinators.specs.Ascii.{full_stop}
 use Rattle.combinators.proofs.Lists.{byte-there}
 use Rattle.combinators.proofs.Repeating.{bounded}
 use Rattle.lexer.specs.Number.{decimal, digits}
 use Rattle.lexer.proofs.Digits.{decimal-none, decimal-some, decimal-le, followed-none, followed-some}
-use borrow.Author.Rules.{rules}
 use Rattle.lexer.proofs.numbers.parse_decimal.Goals as goal
 
 pub slice_bounds-parse_integer-count : goal.slice_bounds-parse_integer-count

@@ -1,11 +1,9 @@
 -- At each turn the digits left to count have the result of the whole (`Repeating`); a byte that is no digit, or the end of the text, ends the run.
 use mathlib.Core.Path.{sym, ◌∙◌}
-use Prim.Native.Nat.{◌-◌}
 use native.Mathlib.Omega.{arith}
-use lib.ListN.{length}
 use Rattle.combinators.specs.Choice.{pick}
-use Rattle.combinators.proofs.Repeating.{Repeating, repeat-begin, repeat-more, repeat-stop, repeat-end}
-use Rattle.lexer.specs.Number.{digits, one_digit}
+use Rattle.combinators.proofs.Repeating.{repeat-begin, repeat-more, repeat-stop, repeat-end}
+use Rattle.lexer.specs.Number.{digits}
 use Rattle.lexer.proofs.Digits.{digit_at}
 use borrow.Author.Rules.{rules}
 use Rattle.lexer.proofs.numbers.parse_integer.Goals as goal

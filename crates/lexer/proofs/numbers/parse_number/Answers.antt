@@ -2,7 +2,6 @@
 use Rattle.combinators.proofs.Repeating.{bounded}
 use Rattle.lexer.specs.Number.{signed, number}
 use Rattle.lexer.proofs.Digits.{number-le, followed-none, followed-some}
-use borrow.Author.Rules.{rules}
 use Rattle.lexer.proofs.numbers.parse_number.Goals as goal
 
 pub returns-then-n-eq0 : goal.returns-then-n-eq0

@@ -3,7 +3,6 @@ use Rattle.combinators.proofs.Rules.{cases}
 use Rattle.combinators.proofs.Repeating.{bounded}
 use Rattle.lexer.specs.Number.{sign}
 use Rattle.lexer.proofs.Digits.{sign_le}
-use borrow.Author.Rules.{rules}
 use Rattle.lexer.proofs.numbers.parse_sign.Goals as goal
 
 pub returns-then-b-eq45 : goal.returns-then-b-eq45

@@ -1,7 +1,6 @@
 -- Each kind of token by its own equation of `columns_of`; a delimiter's scalar value is the same number when it is widened.
 use Rattle.lexer.specs.TokenRow.{columns_of}
 use Rattle.lexer.proofs.TokenRows as laws
-use borrow.Author.Rules.{rules}
 use Rattle.lexer.proofs.rows.columns_of.Goals as goal
 
 pub returns-in-Ident : goal.returns-in-Ident

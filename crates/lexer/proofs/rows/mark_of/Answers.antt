@@ -1,7 +1,6 @@
 -- One test for each kind of mark, in the order of `mark_from`; what is none of them is a closing brace.
 use Rattle.lexer.specs.TokenRow.{mark_from}
 use Rattle.combinators.proofs.Rules.{cases}
-use borrow.Author.Rules.{rules}
 use Rattle.lexer.proofs.rows.mark_of.Goals as goal
 
 pub returns-then-kind-eq-CDO : goal.returns-then-kind-eq-CDO

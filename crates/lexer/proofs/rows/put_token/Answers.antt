@@ -1,7 +1,6 @@
 -- The five numbers emitted one behind the other are the row of the token, whether or not there is room for all of them.
 use mathlib.Core.Path.{◌∙◌}
 use Rattle.lexer.proofs.TokenRows as laws
-use borrow.Author.Rules.{rules}
 use Rattle.lexer.proofs.rows.put_token.Goals as goal
 
 pub shape_of-rows : goal.shape_of-rows

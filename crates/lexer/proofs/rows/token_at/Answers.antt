@@ -1,6 +1,5 @@
 -- The kind and the two numbers are read at their columns of the row, and `token_of` gives the token that the definition gives for them.
 use Rattle.lexer.proofs.TokenRows as laws
-use borrow.Author.Rules.{rules}
 use Rattle.lexer.proofs.rows.token_at.Goals as goal
 
 pub returns : goal.returns

@@ -2,7 +2,6 @@
 use Rattle.lexer.proofs.TokenRows as laws
 use Rattle.lexer.specs.TokenRow.{token_from}
 use Rattle.combinators.proofs.Rules.{cases}
-use borrow.Author.Rules.{rules}
 use Rattle.lexer.proofs.rows.token_of.Goals as goal
 
 pub returns-then-kind-eq-IDENT : goal.returns-then-kind-eq-IDENT

@@ -1,6 +1,5 @@
 -- One turn by the three cases of `quoted_of`: a byte is emitted; skipped bytes and the end of the string leave the store as it was.
 use Rattle.lexer.proofs.Quotes as laws
-use borrow.Author.Rules.{rules}
 use Rattle.lexer.proofs.strings.emit_quoted.Goals as goal
 
 pub returns-in-Byte : goal.returns-in-Byte

@@ -1,12 +1,8 @@
 -- What is left to read and to write has the result of the whole at each turn (`Writing`); a turn that takes nothing, or the end of the text, ends it.
 use mathlib.Core.Path.{◌∙◌}
-use Prim.Native.Nat.{◌+◌, ◌-◌}
 use native.Mathlib.Omega.{arith}
-use lib.ListN.{length}
-use Rattle.lexer.specs.Quoted.{quoted_taken, quoted_text}
 use Rattle.lexer.proofs.Writing as writing
 use Rattle.lexer.proofs.Quotes as laws
-use borrow.Author.Rules.{rules}
 use Rattle.lexer.proofs.strings.emit_string.Goals as goal
 
 pub loop-i-init : goal.loop-i-init

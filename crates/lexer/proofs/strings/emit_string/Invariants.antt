@@ -1,11 +1,8 @@
 -- What is left to read and to write has the result of the whole at each turn (`Writing`); a turn that takes nothing, or the end of the text, ends it.
-use mathlib.Core.Path.{◌∙◌}
-use Prim.Native.Nat.{◌+◌, ◌-◌}
-use native.Mathlib.Omega.{arith}
+use Prim.Native.Nat.{◌-◌}
 use lib.ListN.{length}
 use Rattle.lexer.specs.Quoted.{quoted_taken, quoted_text}
 use Rattle.lexer.proofs.Writing as writing
-use Rattle.lexer.proofs.Quotes as laws
 use Rattle.lexer.proofs.strings.emit_string.Given as goal
 
 abbrev pub invariant-loop-i : goal.invariant-loop-i

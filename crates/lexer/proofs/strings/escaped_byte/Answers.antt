@@ -1,7 +1,6 @@
 -- The tests of `escaped_byte` in its order: a backslash that ends the text, one before a line feed, one before any other byte.
 use Rattle.combinators.proofs.Rules.{cases}
 use Rattle.lexer.specs.Quoted.{escaped_byte}
-use borrow.Author.Rules.{rules}
 use Rattle.lexer.proofs.strings.escaped_byte.Goals as goal
 
 pub returns-then-s-eq1 : goal.returns-then-s-eq1

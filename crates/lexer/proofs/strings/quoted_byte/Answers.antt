@@ -1,7 +1,6 @@
 -- The tests of `quoted_of` in its order: the end of the text, the quote, a line feed, a backslash, any other byte.
 use Rattle.combinators.proofs.Rules.{cases}
 use Rattle.lexer.specs.Quoted.{quoted_of}
-use borrow.Author.Rules.{rules}
 use Rattle.lexer.proofs.strings.quoted_byte.Goals as goal
 
 pub returns-then-s-eq0 : goal.returns-then-s-eq0

@@ -1,6 +1,5 @@
 -- The two comparisons of `within`; where the first fails the answer is false without the second.
 use Rattle.combinators.proofs.Rules.{within-false, within-rest}
-use borrow.Author.Rules.{rules}
 use Rattle.lexer.proofs.tokens.between_scalars.Goals as goal
 
 pub returns-then-lo-c : goal.returns-then-lo-c

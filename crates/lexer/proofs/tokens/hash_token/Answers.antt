@@ -2,7 +2,6 @@
 use native.Mathlib.Omega.{arith}
 use Rattle.lexer.proofs.IdentBounds.{identstring-keeps, answer_le}
 use Rattle.lexer.proofs.TokenReaders as laws
-use borrow.Author.Rules.{rules}
 use Rattle.lexer.proofs.tokens.hash_token.Goals as goal
 
 pub overflow_add-result : goal.overflow_add-result

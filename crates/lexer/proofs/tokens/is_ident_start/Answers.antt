@@ -1,7 +1,6 @@
 -- The four alternatives of `is_ident_start` in their order: a small letter, a capital letter, '_', and all from U+0081 on.
 use Rattle.combinators.proofs.Rules.{cases}
 use Rattle.lexer.specs.Token.{is_ident_start}
-use borrow.Author.Rules.{rules}
 use Rattle.lexer.proofs.tokens.is_ident_start.Goals as goal
 
 pub returns-then-between_scalars : goal.returns-then-between_scalars

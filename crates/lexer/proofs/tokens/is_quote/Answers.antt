@@ -1,7 +1,6 @@
 -- The two alternatives of `is_quote` in their order: a quotation mark, an apostrophe.
 use Rattle.combinators.proofs.Rules.{cases}
 use Rattle.lexer.specs.Token.{is_quote}
-use borrow.Author.Rules.{rules}
 use Rattle.lexer.proofs.tokens.is_quote.Goals as goal
 
 pub returns-then-same : goal.returns-then-same

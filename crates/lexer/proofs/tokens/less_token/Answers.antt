@@ -1,6 +1,5 @@
 -- The text starts with "<!--" or it does not: the two cases of `less_of`.
 use Rattle.lexer.proofs.TokenReaders as laws
-use borrow.Author.Rules.{rules}
 use Rattle.lexer.proofs.tokens.less_token.Goals as goal
 
 pub returns-then-starts_with : goal.returns-then-starts_with

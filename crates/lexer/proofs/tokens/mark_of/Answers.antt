@@ -3,7 +3,6 @@ use Rattle.combinators.proofs.Rules.{cases}
 use Rattle.lexer.specs.Token.{mark_of, coded}
 use Rattle.lexer.specs.Token as token
 use Rattle.lexer.proofs.Lexing as laws
-use borrow.Author.Rules.{rules}
 use Rattle.lexer.proofs.tokens.mark_of.Goals as goal
 
 pub returns-then-c-eq-SEMICOLON : goal.returns-then-c-eq-SEMICOLON

@@ -1,7 +1,6 @@
 -- The alternatives of `minus_of` in their order: a number, "-->", a name, the delimiter; each that does not read leaves the store as it was.
 use mathlib.Core.Path.{◌∙◌}
 use Rattle.lexer.proofs.TokenReaders as laws
-use borrow.Author.Rules.{rules}
 use Rattle.lexer.proofs.tokens.minus_token.Goals as goal
 
 pub returns-in-Took : goal.returns-in-Took

@@ -1,6 +1,5 @@
 -- What was read is kept; where nothing was, the delimiter takes its one byte: the two cases of `or_delim`.
 use Rattle.lexer.proofs.TokenAnswers as laws
-use borrow.Author.Rules.{rules}
 use Rattle.lexer.proofs.tokens.or_delim.Goals as goal
 
 pub returns-in-Took : goal.returns-in-Took

@@ -2,7 +2,6 @@
 use native.Mathlib.Omega.{arith}
 use Rattle.lexer.proofs.IdentBounds.{ident-keeps, answer_le}
 use Rattle.lexer.proofs.TokenReaders as laws
-use borrow.Author.Rules.{rules}
 use Rattle.lexer.proofs.tokens.parse_ident_like.Goals as goal
 
 pub overflow_add-result : goal.overflow_add-result

@@ -3,7 +3,6 @@ use mathlib.Core.Path.{◌∙◌}
 use native.Mathlib.Omega.{arith}
 use Rattle.lexer.proofs.IdentBounds.{ident-keeps, answer_le}
 use Rattle.lexer.proofs.TokenReaders as laws
-use borrow.Author.Rules.{rules}
 use Rattle.lexer.proofs.tokens.parse_numeric_token.Goals as goal
 
 pub returns-then-n-eq0 : goal.returns-then-n-eq0

@@ -2,7 +2,6 @@
 use mathlib.Core.Path.{refl}
 use native.Mathlib.Omega.{arith}
 use Rattle.lexer.proofs.TokenReaders as laws
-use borrow.Author.Rules.{rules}
 use Rattle.lexer.proofs.tokens.parse_string_token.Goals as goal
 
 pub slice_bounds-r-count : goal.slice_bounds-r-count

@@ -3,7 +3,6 @@ use mathlib.Core.Path.{refl}
 use native.Mathlib.Omega.{arith}
 use Rattle.lexer.proofs.Lexing as laws
 use Rattle.lexer.proofs.TokenBounds.{token-le, at-bounded}
-use borrow.Author.Rules.{rules}
 use Rattle.lexer.proofs.tokens.parse_token.Goals as goal
 
 pub overflow_add-result : goal.overflow_add-result

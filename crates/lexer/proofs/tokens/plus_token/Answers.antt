@@ -2,7 +2,6 @@
 use native.Mathlib.Omega.{arith}
 use Rattle.lexer.proofs.TokenReaders as laws
 use Rattle.lexer.proofs.TokenBounds.{token-le, numeric-bounded}
-use borrow.Author.Rules.{rules}
 use Rattle.lexer.proofs.tokens.plus_token.Goals as goal
 
 pub overflow_add-result : goal.overflow_add-result

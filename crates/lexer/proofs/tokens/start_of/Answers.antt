@@ -4,7 +4,6 @@ use Rattle.combinators.proofs.Rules.{cases}
 use Rattle.lexer.specs.Number.{is_digit}
 use Rattle.lexer.specs.Token.{start_of, is_quote}
 use Rattle.lexer.proofs.Lexing as laws
-use borrow.Author.Rules.{rules}
 use Rattle.lexer.proofs.tokens.start_of.Goals as goal
 
 pub returns-then-c-eq-QUOTATION_MARK : goal.returns-then-c-eq-QUOTATION_MARK

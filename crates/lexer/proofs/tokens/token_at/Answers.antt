@@ -3,7 +3,6 @@ use mathlib.Core.Path.{sym, ◌∙◌}
 use native.Mathlib.Omega.{arith}
 use Rattle.characters.proofs.Scalars.{scalar-some}
 use Rattle.lexer.proofs.Lexing as laws
-use borrow.Author.Rules.{rules}
 use Rattle.lexer.proofs.tokens.token_at.Goals as goal
 
 pub token_by-requires : goal.token_by-requires

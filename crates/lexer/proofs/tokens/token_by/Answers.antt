@@ -3,7 +3,6 @@ use Rattle.lexer.specs.Token.{token_by, numeric_of, ident_like_of}
 use Rattle.lexer.proofs.TokenAnswers.{read-or-delim}
 use Rattle.lexer.proofs.TokenReaders.{less-lexes}
 use Rattle.lexer.proofs.Lexing as laws
-use borrow.Author.Rules.{rules}
 use Rattle.lexer.proofs.tokens.token_by.Goals as goal
 
 pub returns-in-Quote : goal.returns-in-Quote

@@ -1,9 +1,6 @@
 -- At each turn the search from `i` on has the result of the whole (`Seeking`): a "*/" at `i` is the end, any other byte is passed.
 use mathlib.Core.Path.{sym, ◌∙◌}
-use Prim.Native.Nat.{◌-◌}
-use lib.ListN.{length}
 use Rattle.lexer.proofs.Comments as laws
-use borrow.Author.Rules.{rules}
 use Rattle.lexer.proofs.whitespace.comment_end.Goals as goal
 use Rattle.lexer.proofs.whitespace.comment_end.Goals.{then-s-i-eq42+else-byte_is, else-s-i-eq42}
 

@@ -1,6 +1,4 @@
 -- At each turn the search from `i` on has the result of the whole (`Seeking`): a "*/" at `i` is the end, any other byte is passed.
-use mathlib.Core.Path.{sym, ◌∙◌}
-use mathlib.Core.Logic.{⊎_elim}
 use Prim.Native.Nat.{◌-◌}
 use lib.ListN.{length}
 use Rattle.lexer.proofs.Comments as laws

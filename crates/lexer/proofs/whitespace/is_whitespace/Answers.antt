@@ -3,7 +3,6 @@ use mathlib.Core.Path.{sym}
 use Rattle.combinators.proofs.Rules.{cases}
 use Rattle.lexer.specs.Whitespace.{is_whitespace}
 use Rattle.lexer.proofs.Comments.{above-space}
-use borrow.Author.Rules.{rules}
 use Rattle.lexer.proofs.whitespace.is_whitespace.Goals as goal
 
 pub returns-then-b-gt32 : goal.returns-then-b-gt32

@@ -1,13 +1,11 @@
 -- The tests of `comment_of`: behind "/*" the end that `comment_end` finds in the rest of the text, and 0 where one of the two bytes is missing.
 use mathlib.Core.Path.{◌≡◌, sym, ap, ◌∙◌}
-use Prim.Native.Nat.{◌<◌}
 use native.Mathlib.Omega.{arith}
-use lib.ListN.{length, drop}
+use lib.ListN.{drop}
 use Rattle.combinators.specs.Ascii.{asterisk}
 use Rattle.combinators.proofs.Rules.{cases}
 use Rattle.combinators.proofs.Lists.{rest, byte-there}
 use Rattle.lexer.specs.Whitespace.{comment_of, comment_end}
-use borrow.Author.Rules.{rules}
 use Rattle.lexer.proofs.whitespace.match_comment.Goals as goal
 
 pub slice_bounds-comment_end-count : goal.slice_bounds-comment_end-count

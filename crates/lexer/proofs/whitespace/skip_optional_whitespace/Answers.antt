@@ -1,9 +1,7 @@
 -- At each turn what is left to skip has the result of the whole (`Repeating`); an item that takes nothing, or the end of the text, ends the run.
 use mathlib.Core.Path.{◌∙◌}
-use Prim.Native.Nat.{◌+◌, ◌-◌, ◌≤◌}
 use native.Mathlib.Omega.{arith}
-use lib.ListN.{length}
-use Rattle.combinators.proofs.Repeating.{Repeating, repeat-begin, repeat-more, repeat-stop, repeat-end, lent, lent-le}
+use Rattle.combinators.proofs.Repeating.{repeat-begin, repeat-more, repeat-stop, repeat-end, lent, lent-le}
 use Rattle.lexer.specs.Whitespace.{skip_whitespace, whitespace_item}
 use Rattle.lexer.proofs.Comments.{item-le}
 use borrow.Author.Rules.{rules}

@@ -1,7 +1,6 @@
 -- Each kind by its own test, as the definition splits components.
 use Rattle.matching.proofs.ComponentLaws.{adds-star, adds-element, adds-hash, adds-child, adds-descendant, adds-class}
 use mathlib.Core.Path.{◌∙◌}
-use borrow.Author.Rules.{rules}
 use Rattle.matching.proofs.components.added_by.Goals as goal
 
 pub returns-then-kind-eq-STAR : goal.returns-then-kind-eq-STAR

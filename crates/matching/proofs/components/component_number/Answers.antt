@@ -1,7 +1,6 @@
 -- The number stands at the row times its width and the column, in a row that is there whole or in part; past the end it is 0.
 use Rattle.matching.proofs.ComponentLaws as laws
 use mathlib.Core.Path.{refl}
-use borrow.Author.Rules.{rules}
 use Rattle.matching.proofs.components.component_number.Goals as goal
 
 pub returns-then-i-components : goal.returns-then-i-components

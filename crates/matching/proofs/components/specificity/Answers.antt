@@ -1,6 +1,5 @@
 -- What was added, of the components so far, is their specificity; each adds at most one to a count, so the sums fit.
-use Prim.Native.Nat.{◌-◌}
-use Rattle.matching.proofs.ComponentLaws.{Adding, add_begin, add-fits, add-more, add-end}
+use Rattle.matching.proofs.ComponentLaws.{add_begin, add-fits, add-more, add-end}
 use borrow.Author.Rules.{rules}
 use Rattle.matching.proofs.components.specificity.Goals as goal
 

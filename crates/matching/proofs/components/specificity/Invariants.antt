@@ -1,6 +1,6 @@
 -- What was added, of the components so far, is their specificity; each adds at most one to a count, so the sums fit.
 use Prim.Native.Nat.{◌-◌}
-use Rattle.matching.proofs.ComponentLaws.{Adding, add_begin, add-fits, add-more, add-end}
+use Rattle.matching.proofs.ComponentLaws.{Adding}
 use Rattle.matching.proofs.components.specificity.Given as goal
 
 abbrev pub invariant-loop-i : goal.invariant-loop-i

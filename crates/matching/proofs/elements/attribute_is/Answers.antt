@@ -1,7 +1,5 @@
 -- The attributes that are left have the answer of all; the first of the name decides.
-use Prim.Native.Nat.{◌-◌}
-use Rattle.matching.specs.Matches.{first_is}
-use Rattle.matching.proofs.AttributeLaws.{Looking, look-begin, first_found, first_more, first-end}
+use Rattle.matching.proofs.AttributeLaws.{look-begin, first_found, first_more, first-end}
 use borrow.Author.Rules.{rules}
 use Rattle.matching.proofs.elements.attribute_is.Goals as goal
 

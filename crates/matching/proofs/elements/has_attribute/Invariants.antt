@@ -1,7 +1,7 @@
 -- The attributes that are left have the answer of all; the first of the name decides.
 use Prim.Native.Nat.{◌-◌}
 use Rattle.matching.specs.Matches.{any_attribute, is_named}
-use Rattle.matching.proofs.AttributeLaws.{Looking, look-begin, any_found, any-more, any-end}
+use Rattle.matching.proofs.AttributeLaws.{Looking}
 use Rattle.matching.proofs.elements.has_attribute.Given as goal
 
 abbrev pub invariant-loop-i : goal.invariant-loop-i

@@ -1,7 +1,5 @@
 -- The attributes that are left have the answer of all; the first that passes decides.
-use Prim.Native.Nat.{◌-◌}
-use Rattle.matching.specs.Matches.{any_attribute, is_id}
-use Rattle.matching.proofs.AttributeLaws.{Looking, look-begin, any_found, any-more, any-end}
+use Rattle.matching.proofs.AttributeLaws.{look-begin, any_found, any-more, any-end}
 use borrow.Author.Rules.{rules}
 use Rattle.matching.proofs.elements.has_id.Goals as goal
 

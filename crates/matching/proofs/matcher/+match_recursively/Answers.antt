@@ -1,6 +1,5 @@
 -- The tests and child combinators lead to the result, or to a descendant combinator; then the ancestors that are tried have the result of all on the row.
 use Rattle.matching.proofs.ClimbLaws as laws
-use borrow.Author.Rules.{rules}
 use mathlib.Core.List.{[]}
 use Rattle.matching.proofs.matcher.+match_recursively.Goals as goal
 

@@ -1,6 +1,5 @@
 -- The result says whether the components match.
 use Rattle.matching.proofs.RecursionLaws.{selector-matches, fails-locally, fails-here}
-use borrow.Author.Rules.{rules}
 use Rattle.matching.proofs.matcher.do_matches.Goals as goal
 
 pub returns-in-Matches : goal.returns-in-Matches

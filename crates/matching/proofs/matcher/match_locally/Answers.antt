@@ -1,7 +1,6 @@
 -- With n components left, their result on the row that is reached is that of all on the row.
 use Rattle.matching.proofs.ClimbLaws as laws
 use native.Mathlib.Omega.{arith}
-use borrow.Author.Rules.{rules}
 use Rattle.matching.proofs.matcher.match_locally.Goals as goal
 
 pub loop-n-init : goal.loop-n-init

@@ -1,6 +1,5 @@
 -- With n components left, their result on the row that is reached is that of all on the row.
 use Rattle.matching.proofs.ClimbLaws as laws
-use native.Mathlib.Omega.{arith}
 use Rattle.matching.proofs.matcher.match_locally.Given as goal
 
 abbrev pub invariant-loop-n : goal.invariant-loop-n

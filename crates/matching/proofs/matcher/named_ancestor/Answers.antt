@@ -2,7 +2,6 @@
 use Rattle.matching.proofs.ClimbLaws as laws
 use Rattle.matching.proofs.PathLaws.{parent-before}
 use native.Mathlib.Omega.{arith}
-use borrow.Author.Rules.{rules}
 use Rattle.matching.proofs.matcher.named_ancestor.Goals as goal
 
 pub overflow_sub-n : goal.overflow_sub-n

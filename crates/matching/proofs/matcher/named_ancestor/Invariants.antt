@@ -1,7 +1,5 @@
 -- Rows of another name fail locally, so the first ancestor of the name is tried next, or the document, which has none.
 use Rattle.matching.proofs.ClimbLaws as laws
-use Rattle.matching.proofs.PathLaws.{parent-before}
-use native.Mathlib.Omega.{arith}
 use Rattle.matching.proofs.matcher.named_ancestor.Given as goal
 
 abbrev pub invariant-loop-above : goal.invariant-loop-above

@@ -1,7 +1,6 @@
 -- Where a name is asked for the nearest ancestor of the name is tried next, and the parent otherwise.
 use Rattle.matching.proofs.ClimbLaws as laws
 use mathlib.Core.Path.{sym, ◌∙◌}
-use borrow.Author.Rules.{rules}
 use Rattle.matching.proofs.matcher.next_ancestor.Goals as goal
 
 pub named_ancestor-requires : goal.named_ancestor-requires

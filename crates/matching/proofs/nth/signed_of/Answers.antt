@@ -1,6 +1,5 @@
 -- An even number stands for its half, an odd one for the negative number below it.
 use Rattle.matching.proofs.Signed.{signed-even, even-size, odd-computed, signed_odd, odd-size}
-use borrow.Author.Rules.{rules}
 use Rattle.matching.proofs.nth.signed_of.Goals as goal
 
 pub returns-then-v-eq0 : goal.returns-then-v-eq0

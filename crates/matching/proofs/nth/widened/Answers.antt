@@ -1,7 +1,6 @@
 -- A number that fits 63 bits keeps its value with a sign.
 use native.Mathlib.Omega.{arith}
 use Rattle.matching.proofs.Signed.{read_back}
-use borrow.Author.Rules.{rules}
 use Rattle.matching.proofs.nth.widened.Goals as goal
 
 pub returns : goal.returns

@@ -1,7 +1,5 @@
 -- What is left behind the words passed has the answer of the whole; each turn takes a word or ends.
-use Prim.Native.Nat.{◌-◌}
-use lib.ListN.{length}
-use Rattle.matching.proofs.Words.{Splitting, split-begin, split-end, split-none, split-found, split-more}
+use Rattle.matching.proofs.Words.{split-begin, split-end, split-none, split-found, split-more}
 use borrow.Author.Rules.{rules}
 use Rattle.matching.proofs.texts.has_word.Goals as goal
 

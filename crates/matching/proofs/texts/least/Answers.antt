@@ -1,6 +1,5 @@
 -- The first a of b are a where b has more, and all of b otherwise.
 use Rattle.matching.proofs.PartLaws as laws
-use borrow.Author.Rules.{rules}
 use Rattle.matching.proofs.texts.least.Goals as goal
 
 pub returns-then-a-b : goal.returns-then-a-b

@@ -1,6 +1,5 @@
 -- A part past the end is empty; any other is the text where both are of one length and what is left begins with the text.
 use Rattle.matching.proofs.PartLaws as laws
-use borrow.Author.Rules.{rules}
 use Rattle.matching.proofs.texts.part_is.Goals as goal
 
 pub returns-then-text-start : goal.returns-then-text-start

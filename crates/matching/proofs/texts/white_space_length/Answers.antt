@@ -1,8 +1,5 @@
 -- Spaces are counted byte by byte, and what follows the first other byte is decoded; both count what the definition repeats.
-use Prim.Native.Nat.{◌-◌}
-use lib.ListN.{length}
-use Rattle.combinators.proofs.Repeating.{Repeating, repeat-begin, repeat-end}
-use Rattle.characters.specs.Trim.{white_taken}
+use Rattle.combinators.proofs.Repeating.{repeat-begin, repeat-end}
 use Rattle.matching.proofs.AsciiLaws.{graphic-stops, space-goes-on, counted-on}
 use borrow.Author.Rules.{rules}
 use Rattle.matching.proofs.texts.white_space_length.Goals as goal

@@ -1,8 +1,5 @@
 -- Visible ASCII characters are counted byte by byte, and what follows the first other byte is decoded; both count what the definition repeats.
-use Prim.Native.Nat.{◌-◌}
-use lib.ListN.{length}
-use Rattle.combinators.proofs.Repeating.{Repeating, repeat-begin, repeat-end}
-use Rattle.characters.specs.Trim.{word_taken}
+use Rattle.combinators.proofs.Repeating.{repeat-begin, repeat-end}
 use Rattle.matching.proofs.AsciiLaws.{space-stops, graphic-goes-on, counted-on}
 use borrow.Author.Rules.{rules}
 use Rattle.matching.proofs.texts.word_length.Goals as goal

@@ -1,9 +1,8 @@
 -- Visible ASCII characters are counted byte by byte, and what follows the first other byte is decoded; both count what the definition repeats.
 use Prim.Native.Nat.{◌-◌}
 use lib.ListN.{length}
-use Rattle.combinators.proofs.Repeating.{Repeating, repeat-begin, repeat-end}
+use Rattle.combinators.proofs.Repeating.{Repeating}
 use Rattle.characters.specs.Trim.{word_taken}
-use Rattle.matching.proofs.AsciiLaws.{space-stops, graphic-goes-on, counted-on}
 use Rattle.matching.proofs.texts.word_length.Given as goal
 
 abbrev pub invariant-loop-i : goal.invariant-loop-i

@@ -1,8 +1,6 @@
 -- The first row from which a descendant combinator is reached is the first from the row that is asked on.
 use Rattle.matching.proofs.NumberLaws as laws
-use Rattle.matching.specs.Rows.{components_at}
 use mathlib.Core.List.{[]}
-use borrow.Author.Rules.{rules}
 use Rattle.matching.proofs.topmost.first_reaching.Goals as goal
 
 pub loop-at-init : goal.loop-at-init

@@ -1,7 +1,6 @@
 -- The first row from which a descendant combinator is reached is the first from the row that is asked on.
 use Rattle.matching.proofs.NumberLaws as laws
 use Rattle.matching.specs.Rows.{components_at}
-use mathlib.Core.List.{[]}
 use Rattle.matching.proofs.topmost.first_reaching.Given as goal
 
 abbrev pub invariant-loop-at : goal.invariant-loop-at

@@ -1,7 +1,6 @@
 -- A descendant combinator is among all components exactly where it is among those that are left.
 use Rattle.matching.proofs.NumberLaws as laws
 use native.Mathlib.Omega.{arith}
-use borrow.Author.Rules.{rules}
 use Rattle.matching.proofs.topmost.has_descendant.Goals as goal
 
 pub loop-n-init : goal.loop-n-init

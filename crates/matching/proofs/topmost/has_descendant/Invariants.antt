@@ -1,6 +1,5 @@
 -- A descendant combinator is among all components exactly where it is among those that are left.
 use Rattle.matching.proofs.NumberLaws as laws
-use native.Mathlib.Omega.{arith}
 use Rattle.matching.proofs.topmost.has_descendant.Given as goal
 
 abbrev pub invariant-loop-n : goal.invariant-loop-n

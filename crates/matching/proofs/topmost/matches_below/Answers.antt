@@ -1,7 +1,6 @@
 -- The tests and child combinators decide, or the number does, which is right for the row.
 use Rattle.matching.proofs.BelowLaws.{below_top_lem, below-ended}
 use Rattle.matching.specs.Topmost.{below_top}
-use borrow.Author.Rules.{rules}
 use Rattle.matching.proofs.topmost.matches_below.Goals as goal
 
 pub returns-in-Matches : goal.returns-in-Matches

@@ -1,6 +1,5 @@
 -- Before its number a selector matches nothing, and behind it the number decides.
 use Rattle.matching.proofs.NumberLaws as laws
-use borrow.Author.Rules.{rules}
 use Rattle.matching.proofs.topmost.matches_by_number.Goals as goal
 
 pub returns-then-row-top : goal.returns-then-row-top

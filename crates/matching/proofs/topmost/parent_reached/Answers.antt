@@ -1,6 +1,5 @@
 -- The climb tells the row that is reached.
 use Rattle.matching.proofs.NumberLaws as laws
-use borrow.Author.Rules.{rules}
 use Rattle.matching.proofs.topmost.parent_reached.Goals as goal
 
 pub returns-in-Descendant : goal.returns-in-Descendant

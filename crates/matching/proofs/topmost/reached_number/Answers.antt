@@ -1,6 +1,5 @@
 -- From no row of the path, from one or from more is a descendant combinator reached: the three cases of the number.
 use Rattle.matching.proofs.NumberLaws as laws
-use borrow.Author.Rules.{rules}
 use Rattle.matching.proofs.topmost.reached_number.Goals as goal
 
 pub returns-then-first-eq0 : goal.returns-then-first-eq0

@@ -1,6 +1,5 @@
 -- With a descendant combinator the number is the one that is found, and 0 without.
 use Rattle.matching.proofs.NumberLaws as laws
-use borrow.Author.Rules.{rules}
 use Rattle.matching.proofs.topmost.selector_number.Goals as goal
 
 pub returns-then-has_descendant : goal.returns-then-has_descendant

@@ -1,8 +1,6 @@
 -- The number is that of the components so far; a descendant combinator changes it, and the one before decides what stands before that.
 use Rattle.matching.proofs.BelowLaws as laws
 use native.Mathlib.Omega.{arith}
-use Prim.Native.Nat.{◌-◌}
-use borrow.Author.Rules.{rules}
 use Rattle.matching.proofs.topmost.selector_top.Goals as goal
 
 pub loop-i-init : goal.loop-i-init

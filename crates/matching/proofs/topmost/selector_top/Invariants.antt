@@ -1,6 +1,5 @@
 -- The number is that of the components so far; a descendant combinator changes it, and the one before decides what stands before that.
 use Rattle.matching.proofs.BelowLaws as laws
-use native.Mathlib.Omega.{arith}
 use Prim.Native.Nat.{◌-◌}
 use Rattle.matching.proofs.topmost.selector_top.Given as goal
 

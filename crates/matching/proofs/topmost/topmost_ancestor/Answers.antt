@@ -1,7 +1,6 @@
 -- What is found from a row of the path on is what is found from the first row on, and the number that decides is right for each.
 use Rattle.matching.proofs.BelowLaws as laws
 use Rattle.matching.proofs.PathLaws.{parent-before}
-use borrow.Author.Rules.{rules}
 use Rattle.matching.proofs.topmost.topmost_ancestor.Goals as goal
 
 pub loop-at-init : goal.loop-at-init

@@ -1,6 +1,5 @@
 -- What is found from a row of the path on is what is found from the first row on, and the number that decides is right for each.
 use Rattle.matching.proofs.BelowLaws as laws
-use Rattle.matching.proofs.PathLaws.{parent-before}
 use Rattle.matching.proofs.topmost.topmost_ancestor.Given as goal
 
 abbrev pub invariant-loop-at : goal.invariant-loop-at

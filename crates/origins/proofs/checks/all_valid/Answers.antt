@@ -1,6 +1,5 @@
 -- Each text is asked in turn, and the first that is not UTF-8 decides.
 use Rattle.origins.proofs.ChecksLaws as laws
-use borrow.Author.Rules.{rules}
 use Rattle.origins.proofs.checks.all_valid.Goals as goal
 
 pub returns-then-is_valid-2 : goal.returns-then-is_valid-2

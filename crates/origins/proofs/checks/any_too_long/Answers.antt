@@ -1,6 +1,5 @@
 -- Each length is tested in turn, and the first that is above the limit decides.
 use Rattle.origins.proofs.ChecksLaws as laws
-use borrow.Author.Rules.{rules}
 use Rattle.origins.proofs.checks.any_too_long.Goals as goal
 
 pub returns-then-agent-gt-SHEET_LIMIT : goal.returns-then-agent-gt-SHEET_LIMIT

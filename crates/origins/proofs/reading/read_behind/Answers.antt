@@ -1,6 +1,5 @@
 -- The reader is lent what lies from the place and from the fill on; what it leaves there is put behind what stood before.
 use Rattle.origins.proofs.ReadingLaws as laws
-use borrow.Author.Rules.{rules}
 use Rattle.origins.proofs.reading.read_behind.Goals as goal
 
 pub parse_stylesheet-requires : goal.parse_stylesheet-requires

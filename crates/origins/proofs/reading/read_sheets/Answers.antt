@@ -1,7 +1,6 @@
 -- Each sheet is read behind those before it, and the three answers are joined; where one panics, what the sheets before it left is wiped.
 use mathlib.Core.Path.{◌∙◌}
 use Rattle.origins.proofs.SheetsLaws as laws
-use borrow.Author.Rules.{rules}
 use Rattle.origins.proofs.reading.read_sheets.Goals as goal
 
 pub read_behind-requires : goal.read_behind-requires

@@ -1,6 +1,5 @@
 -- The declarations lie behind the head and all selectors.
 use Rattle.origins.proofs.WalkLaws as laws
-use borrow.Author.Rules.{rules}
 use Rattle.origins.proofs.walk.rule_declarations.Goals as goal
 
 pub returns : goal.returns

@@ -1,6 +1,5 @@
 -- Behind the declarations the rule ends.
 use Rattle.origins.proofs.WalkLaws as laws
-use borrow.Author.Rules.{rules}
 use Rattle.origins.proofs.walk.skip_rule.Goals as goal
 
 pub returns : goal.returns

@@ -1,6 +1,5 @@
 -- Behind the head and its components the selector ends.
 use Rattle.origins.proofs.WalkLaws as laws
-use borrow.Author.Rules.{rules}
 use Rattle.origins.proofs.walk.skip_selector.Goals as goal
 
 pub returns : goal.returns

@@ -2,7 +2,6 @@
 use mathlib.Core.Path.{refl}
 use Rattle.syntax.specs.RuleLayout.{read_selector}
 use Rattle.origins.proofs.WalkLaws as laws
-use borrow.Author.Rules.{rules}
 use Rattle.origins.proofs.walk.skip_selectors.Goals as goal
 
 pub loop-left-init : goal.loop-left-init

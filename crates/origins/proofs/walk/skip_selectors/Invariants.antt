@@ -1,5 +1,4 @@
 -- What is left from the place on is what lies behind the selectors that were passed.
-use mathlib.Core.Path.{refl}
 use Rattle.syntax.specs.RuleLayout.{read_selector}
 use Rattle.origins.proofs.WalkLaws as laws
 use Rattle.origins.proofs.walk.skip_selectors.Given as goal

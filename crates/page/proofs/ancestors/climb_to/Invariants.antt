@@ -1,5 +1,4 @@
 -- The climb from here arrives where it would from the start, and the depth that is left is that of the row.
-use mathlib.Core.Path.{refl}
 use Rattle.page.proofs.Ancestry as laws
 use Rattle.page.proofs.ancestors.climb_to.Given as goal
 

@@ -1,8 +1,5 @@
 -- The steps so far and the depth of the row above are the depth of the row.
 use native.Mathlib.Omega.{arith}
-use mathlib.Core.Path.{◌≡◌}
-use Prim.Native.Nat.{◌+◌}
-use Rattle.page.specs.Ancestors.{depth_of}
 use Rattle.page.proofs.Ancestry as laws
 use borrow.Author.Rules.{rules}
 use Rattle.page.proofs.ancestors.depth_of.Goals as goal

@@ -1,7 +1,5 @@
 -- What is counted so far is the count of the first rows, and no more than they are.
-use Prim.Native.Nat.{◌-◌}
 use Rattle.page.proofs.Children as laws
-use borrow.Author.Rules.{rules}
 use Rattle.page.proofs.ancestors.element_children.Goals as goal
 
 pub loop-i-init : goal.loop-i-init

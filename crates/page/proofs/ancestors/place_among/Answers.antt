@@ -1,6 +1,5 @@
 -- The rows up to this one are counted; of a row past the end nothing more is there to count.
 use Rattle.page.proofs.Children as laws
-use borrow.Author.Rules.{rules}
 use Rattle.page.proofs.ancestors.place_among.Goals as goal
 
 pub returns-then-row-nodes : goal.returns-then-row-nodes

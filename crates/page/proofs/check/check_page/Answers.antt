@@ -1,6 +1,5 @@
 -- The refusals in the order of their numbers, each found by its own search; a page that passes all is accepted.
 use Rattle.page.proofs.PageLaws as laws
-use borrow.Author.Rules.{rules}
 use Rattle.page.proofs.check.check_page.Goals as goal
 
 pub returns-then-rows-eq0 : goal.returns-then-rows-eq0

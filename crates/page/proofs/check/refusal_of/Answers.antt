@@ -1,7 +1,6 @@
 -- In each arm the answer is known, and the definition gives the same refusal.
 use Rattle.page.specs.Accepted.{refusal_of}
 use mathlib.Core.Path.{sym, ap, ◌∙◌}
-use borrow.Author.Rules.{rules}
 use Rattle.page.proofs.check.refusal_of.Goals as goal
 
 pub returns-in-Page : goal.returns-in-Page

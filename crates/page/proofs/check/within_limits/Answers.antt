@@ -1,6 +1,5 @@
 -- Each limit by its own test; all hold exactly if none fails.
 use Rattle.page.proofs.PageLaws as laws
-use borrow.Author.Rules.{rules}
 use Rattle.page.proofs.check.within_limits.Goals as goal
 
 pub returns-then-node_count-gt-NODE_LIMIT : goal.returns-then-node_count-gt-NODE_LIMIT

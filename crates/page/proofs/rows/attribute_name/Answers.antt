@@ -1,6 +1,5 @@
 -- The start and the length of the row give the part.
 use Rattle.page.proofs.Numbers as laws
-use borrow.Author.Rules.{rules}
 use Rattle.page.proofs.rows.attribute_name.Goals as goal
 
 pub returns : goal.returns

@@ -1,6 +1,5 @@
 -- Each rule by its own test; where the texts follow on, the totals behind the element are those of the definition.
 use Rattle.page.proofs.RowLaws as laws
-use borrow.Author.Rules.{rules}
 use Rattle.page.proofs.rules.check_element.Goals as goal
 
 pub returns-then-name_start-start : goal.returns-then-name_start-start

@@ -1,6 +1,5 @@
 -- Each kind is asked what the rules ask of it; a number that is no kind is against them.
 use Rattle.page.proofs.RowLaws as laws
-use borrow.Author.Rules.{rules}
 use Rattle.page.proofs.rules.check_kind.Goals as goal
 
 pub returns-then-ends_in_zeros : goal.returns-then-ends_in_zeros

@@ -1,6 +1,5 @@
 -- The parent has to be one, to lie on the line above the row before, and to leave room for a level more.
 use Rattle.page.proofs.RowLaws as laws
-use borrow.Author.Rules.{rules}
 use Rattle.page.proofs.rules.check_parent.Goals as goal
 
 pub returns-then-above-lt-DEPTH_LIMIT : goal.returns-then-above-lt-DEPTH_LIMIT

@@ -1,7 +1,6 @@
 -- Row 0 has to be the document; any other row has a right parent and follows on in its texts, or does not.
 use native.Mathlib.Omega.{arith}
 use Rattle.page.proofs.RowLaws as laws
-use borrow.Author.Rules.{rules}
 use Rattle.page.proofs.rules.check_row.Goals as goal
 
 pub returns-then-is_document : goal.returns-then-is_document

@@ -2,7 +2,6 @@
 use Rattle.page.proofs.RowLaws.{test-is}
 use Rattle.page.specs.Accepted.{ends_in_zeros}
 use Rattle.combinators.proofs.Rules.{cases}
-use borrow.Author.Rules.{rules}
 use Rattle.page.proofs.rules.ends_in_zeros.Goals as goal
 
 pub returns-then-name_start-ne0 : goal.returns-then-name_start-ne0

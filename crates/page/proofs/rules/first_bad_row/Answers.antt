@@ -1,7 +1,5 @@
 -- The rows so far keep the rules, and depth and totals are those of the row before; the first that does not is the answer.
-use Prim.Native.Nat.{◌-◌}
 use Rattle.page.proofs.RowLaws as laws
-use borrow.Author.Rules.{rules}
 use Rattle.page.proofs.rules.first_bad_row.Goals as goal
 
 pub loop-row-init : goal.loop-row-init

@@ -1,7 +1,6 @@
 -- What is left from the attribute on follows exactly if the whole does, and ends where the whole does.
 use mathlib.Core.Path.{refl}
 use Rattle.page.proofs.RowLaws as laws
-use borrow.Author.Rules.{rules}
 use Rattle.page.proofs.rules.follow_attributes.Goals as goal
 
 pub loop-left-init : goal.loop-left-init

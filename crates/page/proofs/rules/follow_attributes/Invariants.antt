@@ -1,5 +1,4 @@
 -- What is left from the attribute on follows exactly if the whole does, and ends where the whole does.
-use mathlib.Core.Path.{refl}
 use Rattle.page.proofs.RowLaws as laws
 use Rattle.page.proofs.rules.follow_attributes.Given as goal
 

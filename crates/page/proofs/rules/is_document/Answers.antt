@@ -1,7 +1,6 @@
 -- Each number by its own test.
 use Rattle.page.specs.Accepted.{is_document}
 use Rattle.combinators.proofs.Rules.{cases}
-use borrow.Author.Rules.{rules}
 use Rattle.page.proofs.rules.is_document.Goals as goal
 
 pub returns-then-kind_of-ne-DOCUMENT : goal.returns-then-kind_of-ne-DOCUMENT

@@ -2,7 +2,6 @@
 use Rattle.page.proofs.RowLaws.{test-is}
 use Rattle.page.specs.Accepted.{is_parent}
 use Rattle.combinators.proofs.Rules.{cases}
-use borrow.Author.Rules.{rules}
 use Rattle.page.proofs.rules.is_parent.Goals as goal
 
 pub returns-then-row-eq0 : goal.returns-then-row-eq0

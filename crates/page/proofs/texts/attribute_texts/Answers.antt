@@ -1,7 +1,6 @@
 -- The attributes that are left have the answer of all; the first that fails decides.
 use mathlib.Core.Path.{refl}
 use Rattle.page.proofs.TextLaws as laws
-use borrow.Author.Rules.{rules}
 use Rattle.page.proofs.texts.attribute_texts.Goals as goal
 
 pub loop-left-init : goal.loop-left-init

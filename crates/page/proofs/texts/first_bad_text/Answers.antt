@@ -1,10 +1,7 @@
 -- The rows so far pass; the first that does not is the answer.
-use Prim.Native.Nat.{◌-◌}
 use Rattle.combinators.proofs.Rules.{told}
-use Rattle.page.specs.Accepted.{texts_right}
-use Rattle.page.proofs.FirstFault.{Seeking, seek-begin, seek-on}
+use Rattle.page.proofs.FirstFault.{seek-begin, seek-on}
 use Rattle.page.proofs.TextLaws as laws
-use borrow.Author.Rules.{rules}
 use Rattle.page.proofs.texts.first_bad_text.Goals as goal
 
 pub loop-row-init : goal.loop-row-init

@@ -1,9 +1,7 @@
 -- The rows so far pass; the first that does not is the answer.
 use Prim.Native.Nat.{◌-◌}
-use Rattle.combinators.proofs.Rules.{told}
 use Rattle.page.specs.Accepted.{texts_right}
-use Rattle.page.proofs.FirstFault.{Seeking, seek-begin, seek-on}
-use Rattle.page.proofs.TextLaws as laws
+use Rattle.page.proofs.FirstFault.{Seeking}
 use Rattle.page.proofs.texts.first_bad_text.Given as goal
 
 abbrev pub invariant-loop-row : goal.invariant-loop-row

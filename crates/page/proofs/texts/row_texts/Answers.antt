@@ -1,6 +1,5 @@
 -- The name and then the attributes, each by its own test.
 use Rattle.page.proofs.TextLaws as laws
-use borrow.Author.Rules.{rules}
 use Rattle.page.proofs.texts.row_texts.Goals as goal
 
 pub returns-then-is_text : goal.returns-then-is_text

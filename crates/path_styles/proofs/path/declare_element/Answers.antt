@@ -3,7 +3,6 @@ use mathlib.Core.Path.{◌∙◌}
 use native.Mathlib.Omega.{arith}
 use Rattle.path_styles.proofs.RulesMerging.{room-kept}
 use Rattle.path_styles.proofs.PathLaws as laws
-use borrow.Author.Rules.{rules}
 use Rattle.path_styles.proofs.path.declare_element.Goals as goal
 
 pub begin_element-requires : goal.begin_element-requires

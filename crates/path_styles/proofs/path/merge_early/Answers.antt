@@ -2,7 +2,6 @@
 use mathlib.Core.Path.{refl}
 use native.Mathlib.Omega.{arith}
 use Rattle.path_styles.proofs.PathLaws as laws
-use borrow.Author.Rules.{rules}
 use Rattle.path_styles.proofs.path.merge_early.Goals as goal
 
 pub merge_early_attributes-requires : goal.merge_early_attributes-requires

@@ -1,8 +1,7 @@
 -- The attributes of the row are the element's; the stores are lent from behind what is kept.
-use mathlib.Core.Path.{refl, ap, ◌∙◌}
+use mathlib.Core.Path.{refl}
 use native.Mathlib.Omega.{arith}
 use Rattle.path_styles.proofs.PathLaws as laws
-use borrow.Author.Rules.{rules}
 use Rattle.path_styles.proofs.path.merge_late.Goals as goal
 
 pub offset_bounds-tokens-behind : goal.offset_bounds-tokens-behind

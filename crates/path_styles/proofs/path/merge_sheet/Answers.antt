@@ -2,7 +2,6 @@
 use Rattle.rule_styles.specs.Placing.{sheet_text}
 use Rattle.path_styles.specs.Path.{kept_sheet}
 use Rattle.path_styles.specs.Tops.{sheet_selectors}
-use borrow.Author.Rules.{rules}
 use Rattle.path_styles.proofs.path.merge_sheet.Goals as goal
 
 pub merge_rules-requires : goal.merge_rules-requires

@@ -1,7 +1,6 @@
 -- What the parent hands on is read before the row is written over; all that is declared, then what is inherited where nothing is.
 use Rattle.path_styles.proofs.RulesMerging.{room-kept}
 use Rattle.path_styles.proofs.PathLaws as laws
-use borrow.Author.Rules.{rules}
 use Rattle.path_styles.proofs.path.style_element.Goals as goal
 
 pub finish-requires : goal.finish-requires

@@ -1,7 +1,6 @@
 -- The rule says what its selectors say with the styles that are kept for it, and without a style they say nothing; its declarations lie behind them.
 use Rattle.path_styles.proofs.RulesMerging as laws
 use Rattle.page.specs.PathOf.{path_of}
-use borrow.Author.Rules.{rules}
 use Rattle.path_styles.proofs.rules.merge_rule.Goals as goal
 
 pub returns-then-count-eq0 : goal.returns-then-count-eq0

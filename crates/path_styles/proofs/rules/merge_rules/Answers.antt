@@ -1,8 +1,6 @@
 -- Each turn merges what the first of the rules that are left says and goes behind it and its styles, so all are merged in their order.
 use Rattle.path_styles.proofs.RulesMerging as laws
 use Rattle.path_styles.proofs.TopsLaws as numbers
-use Rattle.page.specs.PathOf.{path_of}
-use borrow.Author.Rules.{rules}
 use Rattle.path_styles.proofs.rules.merge_rules.Goals as goal
 
 pub loop-left-init : goal.loop-left-init

@@ -2,7 +2,6 @@
 use Rattle.path_styles.proofs.RulesMerging as laws
 use Rattle.path_styles.proofs.TopsLaws.{lent-top}
 use Rattle.page.specs.PathOf.{path_of}
-use borrow.Author.Rules.{rules}
 use Rattle.path_styles.proofs.rules.merge_selector.Goals as goal
 
 pub matches_by_number-matched-requires : goal.matches_by_number-matched-requires

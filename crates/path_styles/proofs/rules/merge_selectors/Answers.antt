@@ -1,11 +1,6 @@
 -- Each turn merges what the first of the selectors that are left says and goes behind it, so all are merged and passed.
 use Rattle.path_styles.proofs.RulesMerging as laws
-use Rattle.rule_styles.specs.Placing.{read_styled}
 use Rattle.path_styles.proofs.TopsLaws as numbers
-use Rattle.syntax.specs.Stream.{read_many}
-use lib.ListN.{drop}
-use Rattle.page.specs.PathOf.{path_of}
-use borrow.Author.Rules.{rules}
 use Rattle.path_styles.proofs.rules.merge_selectors.Goals as goal
 
 pub loop-left-init : goal.loop-left-init

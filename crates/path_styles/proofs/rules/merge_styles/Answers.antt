@@ -1,6 +1,5 @@
 -- Each turn merges the first of the styles that are left, so all are merged in their order.
 use Rattle.path_styles.proofs.RulesMerging as laws
-use borrow.Author.Rules.{rules}
 use Rattle.path_styles.proofs.rules.merge_styles.Goals as goal
 
 pub loop-left-init : goal.loop-left-init

@@ -1,6 +1,5 @@
 -- The three records have the numbers of the pseudo elements.
 use Rattle.path_styles.proofs.RulesMerging as laws
-use borrow.Author.Rules.{rules}
 use Rattle.path_styles.proofs.rules.pseudo_of.Goals as goal
 
 pub returns-then-number-eq-PSEUDO_NONE : goal.returns-then-number-eq-PSEUDO_NONE

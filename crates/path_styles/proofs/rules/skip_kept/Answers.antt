@@ -1,6 +1,5 @@
 -- The styles that are kept for a rule are rows of one width behind their count.
 use Rattle.path_styles.proofs.RulesMerging as laws
-use borrow.Author.Rules.{rules}
 use Rattle.path_styles.proofs.rules.skip_kept.Goals as goal
 
 pub returns : goal.returns

@@ -1,6 +1,5 @@
 -- What is left to store is what was to be stored.
 use Rattle.path_styles.proofs.TopsLaws as laws
-use borrow.Author.Rules.{rules}
 use Rattle.path_styles.proofs.tops.find_selectors_tops.Goals as goal
 
 pub loop-left-init : goal.loop-left-init

@@ -1,7 +1,6 @@
 -- The text that is lent is the sheet's, so its rules are those of the sheet.
 use Rattle.rule_styles.specs.Placing.{sheet_text}
 use Rattle.path_styles.specs.Tops.{sheet_selectors}
-use borrow.Author.Rules.{rules}
 use Rattle.path_styles.proofs.tops.find_sheet_tops.Goals as goal
 
 pub find_rules_tops-requires : goal.find_rules_tops-requires

@@ -2,7 +2,6 @@
 use mathlib.Core.Path.{◌∙◌, ap}
 use Rattle.matching.specs.Topmost.{selector_number}
 use Rattle.path_styles.proofs.TopsLaws.{lent-components}
-use borrow.Author.Rules.{rules}
 use Rattle.path_styles.proofs.tops.find_top.Goals as goal
 
 pub returns : goal.returns

@@ -1,6 +1,5 @@
 -- The numbers of the agent's selectors, of the user's behind them, and of the author's behind those.
 use Rattle.path_styles.proofs.TopsLaws as laws
-use borrow.Author.Rules.{rules}
 use Rattle.path_styles.proofs.tops.find_tops.Goals as goal
 
 pub find_sheet_tops-user-requires : goal.find_sheet_tops-user-requires

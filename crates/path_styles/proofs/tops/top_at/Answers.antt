@@ -1,7 +1,6 @@
 -- The number at the place is the first from there on.
 use mathlib.Core.Path.{◌∙◌, sym}
 use lib.Seq.{get_or-drop}
-use borrow.Author.Rules.{rules}
 use Rattle.path_styles.proofs.tops.top_at.Goals as goal
 
 pub returns : goal.returns

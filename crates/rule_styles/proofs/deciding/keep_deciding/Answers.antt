@@ -1,7 +1,5 @@
 -- What is still to be written leaves what all slots leave, and the styles that are read lie behind what is written.
-use Prim.Native.Nat.{◌-◌}
-use Rattle.cascade.specs.Record.{slot_count}
-use Rattle.rule_styles.proofs.DecidingRows.{Keeping, keeping-begin, keeping-more, keeping-done}
+use Rattle.rule_styles.proofs.DecidingRows.{keeping-begin, keeping-more, keeping-done}
 use borrow.Author.Rules.{rules}
 use Rattle.rule_styles.proofs.deciding.keep_deciding.Goals as goal
 

@@ -1,9 +1,7 @@
 -- What is left to sift always comes to what all styles come to.
-use mathlib.Core.Path.{◌≡◌, ap, sym, ◌∙◌}
-use Rattle.rule_styles.specs.Deciding.{Sifted, nothing_sifted}
-use Rattle.rule_styles.specs.Sifting.{sifted_in}
+use mathlib.Core.Path.{ap, sym, ◌∙◌}
+use Rattle.rule_styles.specs.Deciding.{Sifted}
 use Rattle.rule_styles.proofs.DecidingRows.{sifted_from, sifted-nothing, sift-none, sift-more}
-use borrow.Author.Rules.{rules}
 use Rattle.rule_styles.proofs.deciding.sift_styles.Goals as goal
 
 pub loop-left-init : goal.loop-left-init

@@ -1,8 +1,8 @@
 -- What is left to sift always comes to what all styles come to.
-use mathlib.Core.Path.{◌≡◌, ap, sym, ◌∙◌}
-use Rattle.rule_styles.specs.Deciding.{Sifted, nothing_sifted}
+use mathlib.Core.Path.{◌≡◌}
+use Rattle.rule_styles.specs.Deciding.{nothing_sifted}
 use Rattle.rule_styles.specs.Sifting.{sifted_in}
-use Rattle.rule_styles.proofs.DecidingRows.{sifted_from, sifted-nothing, sift-none, sift-more}
+use Rattle.rule_styles.proofs.DecidingRows.{sifted_from}
 use Rattle.rule_styles.proofs.deciding.sift_styles.Given as goal
 
 abbrev pub invariant-loop-left : goal.invariant-loop-left

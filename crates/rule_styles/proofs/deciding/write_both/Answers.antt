@@ -1,6 +1,5 @@
 -- The rows of the second style begin behind those of the first.
 use Rattle.rule_styles.proofs.DecidingRows.{both-written}
-use borrow.Author.Rules.{rules}
 use Rattle.rule_styles.proofs.deciding.write_both.Goals as goal
 
 pub returns : goal.returns

@@ -1,7 +1,5 @@
 -- Each byte that is read lies below all that were written, so the bytes are copied as they were.
-use Prim.Native.Nat.{◌-◌}
 use Rattle.rule_styles.proofs.PlacingCopies as laws
-use borrow.Author.Rules.{rules}
 use Rattle.rule_styles.proofs.placing.copy_up.Goals as goal
 
 pub loop-i-init : goal.loop-i-init

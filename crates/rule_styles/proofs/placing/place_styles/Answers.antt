@@ -1,6 +1,5 @@
 -- What is left to place leaves what the whole leaves; the text of the sheet ends before the contents that are copied.
 use Rattle.rule_styles.proofs.PlacingStyles as laws
-use borrow.Author.Rules.{rules}
 use Rattle.rule_styles.proofs.placing.place_styles.Goals as goal
 
 pub loop-left-init : goal.loop-left-init

@@ -1,6 +1,5 @@
 -- The styles are made and placed behind room for what is kept of them, read back from there, and wiped where the store was zero.
 use Rattle.rule_styles.proofs.PlacingRule as laws
-use borrow.Author.Rules.{rules}
 use Rattle.rule_styles.proofs.placing.style_rule.Goals as goal
 
 pub styles_of_rule-count-requires : goal.styles_of_rule-count-requires

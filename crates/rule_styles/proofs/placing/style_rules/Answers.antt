@@ -1,6 +1,5 @@
 -- What is left to keep leaves what the whole leaves; what is kept of a rule takes no more numbers than the rule, so the room of the whole is that of each step.
 use Rattle.rule_styles.proofs.PlacingRules as laws
-use borrow.Author.Rules.{rules}
 use Rattle.rule_styles.proofs.placing.style_rules.Goals as goal
 
 pub loop-left-init : goal.loop-left-init

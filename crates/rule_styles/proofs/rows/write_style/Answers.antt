@@ -3,7 +3,6 @@ use lib.ListN.{length-set}
 use native.Mathlib.Omega.{arith}
 use Rattle.syntax.specs.Layout.{value_numbers, row_of_numbers}
 use Rattle.cascade.proofs.Windows.{stores-are}
-use borrow.Author.Rules.{rules}
 use Rattle.rule_styles.proofs.rows.write_style.Goals as goal
 
 pub bounds-rows-at-2 : goal.bounds-rows-at-2

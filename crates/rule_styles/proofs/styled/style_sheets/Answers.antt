@@ -2,7 +2,6 @@
 use mathlib.Core.Path.{refl}
 use Rattle.rule_styles.proofs.SheetsStyled as styled
 use Rattle.rule_styles.proofs.SheetsHeldLaws as laws
-use borrow.Author.Rules.{rules}
 use Rattle.rule_styles.proofs.styled.style_sheets.Goals as goal
 
 pub style_rules-agent-requires : goal.style_rules-agent-requires

@@ -1,6 +1,5 @@
 -- The parent does not come before, or its row is copied.
 use Rattle.running.proofs.RowSteps as laws
-use borrow.Author.Rules.{rules}
 use Rattle.running.proofs.rows.place_parent.Goals as goal
 
 pub returns-then-parent-row : goal.returns-then-parent-row

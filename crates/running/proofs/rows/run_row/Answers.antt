@@ -1,6 +1,5 @@
 -- The parent's row is copied to the place of the row, which the step then overwrites.
 use Rattle.running.proofs.RowSteps as laws
-use borrow.Author.Rules.{rules}
 use Rattle.running.proofs.rows.run_row.Goals as goal
 
 pub place_parent-requires : goal.place_parent-requires

@@ -1,8 +1,6 @@
 -- The work left from a row on is the whole work.
 use Rattle.running.proofs.RowSteps as laws
 use native.Mathlib.Omega.{arith}
-use Prim.Native.Nat.{◌-◌}
-use borrow.Author.Rules.{rules}
 use Rattle.running.proofs.rows.run_rows.Goals as goal
 
 pub loop-row-init : goal.loop-row-init

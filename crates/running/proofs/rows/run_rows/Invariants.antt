@@ -1,6 +1,5 @@
 -- The work left from a row on is the whole work.
 use Rattle.running.proofs.RowSteps as laws
-use native.Mathlib.Omega.{arith}
 use Prim.Native.Nat.{◌-◌}
 use Rattle.running.proofs.rows.run_rows.Given as goal
 

@@ -1,5 +1,4 @@
 -- Each store is cleared once.
-use borrow.Author.Rules.{rules}
 use Rattle.running.proofs.run.clear_work.Goals as goal
 
 pub returns : goal.returns

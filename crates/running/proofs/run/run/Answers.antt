@@ -1,6 +1,5 @@
 -- The refusals in their order; where 1 and 2 do not apply, the page and the bytes are looked at.
 use Rattle.running.proofs.RunCalls as laws
-use borrow.Author.Rules.{rules}
 use Rattle.running.proofs.run.run.Goals as goal
 
 pub returns-then-compiled-gt-COMPILED_LIMIT : goal.returns-then-compiled-gt-COMPILED_LIMIT

@@ -2,7 +2,6 @@
 use Rattle.running.proofs.RunCalls as laws
 use native.Mathlib.Omega.{arith}
 use mathlib.Core.Path.{◌∙◌}
-use borrow.Author.Rules.{rules}
 use Rattle.running.proofs.run.run_checked.Goals as goal
 
 pub check_sheet-requires : goal.check_sheet-requires

@@ -1,6 +1,5 @@
 -- All rows are styled, then all that lies behind them and the work stores are cleared.
 use Rattle.running.proofs.RunCalls as laws
-use borrow.Author.Rules.{rules}
 use Rattle.running.proofs.run.run_page.Goals as goal
 
 pub overflow_mul-node_count : goal.overflow_mul-node_count

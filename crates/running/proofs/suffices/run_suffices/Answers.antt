@@ -2,7 +2,6 @@
 use Rattle.running.proofs.Enough as laws
 use Rattle.page.specs.Rows.{attribute_width}
 use Prim.Native.Nat.{◌+◌, ◌*◌, ◌/◌}
-use borrow.Author.Rules.{rules}
 use Rattle.running.proofs.suffices.run_suffices.Goals as goal
 
 pub returns-then-state-compiled : goal.returns-then-state-compiled

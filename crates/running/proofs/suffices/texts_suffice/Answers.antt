@@ -3,7 +3,6 @@ use Rattle.running.proofs.Enough as laws
 use Rattle.page.specs.Rows.{attribute_width}
 use native.Mathlib.Omega.{arith}
 use Prim.Native.Nat.{◌+◌, ◌*◌, ◌/◌}
-use borrow.Author.Rules.{rules}
 use Rattle.running.proofs.suffices.texts_suffice.Goals as goal
 
 pub returns-then-brackets-text : goal.returns-then-brackets-text

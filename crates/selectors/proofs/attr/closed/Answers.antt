@@ -1,6 +1,5 @@
 -- The closing bracket is there, or the text is wiped.
 use Rattle.selectors.proofs.AttrLaws as laws
-use borrow.Author.Rules.{rules}
 use Rattle.selectors.proofs.attr.closed.Goals as goal
 
 pub returns-then-byte_is : goal.returns-then-byte_is

@@ -1,7 +1,6 @@
 -- A quoted string, or else a name, each with its bracket.
 use Rattle.selectors.proofs.ComponentLaws.{clean-same}
 use Rattle.selectors.proofs.AttrLaws as laws
-use borrow.Author.Rules.{rules}
 use Rattle.selectors.proofs.attr.parse_attr_value.Goals as goal
 
 pub returns-in-Text : goal.returns-in-Text

@@ -1,6 +1,5 @@
 -- A string token is the text; any other token's text is wiped, and where none begins the store is as it was.
 use Rattle.selectors.proofs.AttrLaws as laws
-use borrow.Author.Rules.{rules}
 use borrow.Enum.Refused.{opened}
 use Rattle.selectors.proofs.attr.parse_quoted_string.Goals as goal
 

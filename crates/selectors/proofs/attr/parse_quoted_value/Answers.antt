@@ -1,7 +1,6 @@
 -- A quoted string with its bracket, or nothing.
 use Rattle.lexer.proofs.IdentBounds.{answer_le}
 use Rattle.selectors.proofs.AttrLaws as laws
-use borrow.Author.Rules.{rules}
 use Rattle.selectors.proofs.attr.parse_quoted_value.Goals as goal
 
 pub closed-requires : goal.closed-requires

@@ -1,6 +1,5 @@
 -- The mark with the white space on both sides, or nothing.
 use Rattle.selectors.proofs.ComponentLaws as laws
-use borrow.Author.Rules.{rules}
 use Rattle.selectors.proofs.components.mark_taken.Goals as goal
 
 pub skip_from-requires : goal.skip_from-requires

@@ -1,6 +1,5 @@
 -- The name is read to the store, compared and wiped, so that the store is as it was.
 use Rattle.selectors.proofs.PseudoLaws as laws
-use borrow.Author.Rules.{rules}
 use Rattle.selectors.proofs.components.nth_child_name.Goals as goal
 
 pub returns-then-known : goal.returns-then-known

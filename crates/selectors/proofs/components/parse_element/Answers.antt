@@ -1,6 +1,5 @@
 -- A name, or nothing.
 use Rattle.selectors.proofs.ComponentLaws as laws
-use borrow.Author.Rules.{rules}
 use Rattle.selectors.proofs.components.parse_element.Goals as goal
 
 pub returns-in-Text : goal.returns-in-Text

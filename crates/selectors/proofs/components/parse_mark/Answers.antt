@@ -1,6 +1,5 @@
 -- The three alternatives in the crate's order; each takes bytes exactly if it reads.
 use Rattle.selectors.proofs.ComponentLaws as laws
-use borrow.Author.Rules.{rules}
 use Rattle.selectors.proofs.components.parse_mark.Goals as goal
 
 pub returns-then-child-gt0 : goal.returns-then-child-gt0

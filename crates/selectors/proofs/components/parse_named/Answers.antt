@@ -1,7 +1,6 @@
 -- The five alternatives in the crate's order; each that fails leaves the store as it was.
 use Rattle.selectors.proofs.ComponentLaws.{clean-same}
 use Rattle.selectors.proofs.SimpleLaws as laws
-use borrow.Author.Rules.{rules}
 use borrow.Enum.Refused.{opened}
 use Rattle.selectors.proofs.components.parse_named.Goals as goal
 

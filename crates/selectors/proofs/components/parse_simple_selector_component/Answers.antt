@@ -1,6 +1,5 @@
 -- A mark is read without the store; else one of the named components. The bounds are those of any component.
 use Rattle.selectors.proofs.SimpleLaws as laws
-use borrow.Author.Rules.{rules}
 use borrow.Enum.Refused.{opened}
 use Rattle.selectors.proofs.components.parse_simple_selector_component.Goals as goal
 

@@ -1,6 +1,5 @@
 -- No digits stand for 1; digits that fit are the number with its sign.
 use Rattle.selectors.proofs.NthNumbers as laws
-use borrow.Author.Rules.{rules}
 use Rattle.selectors.proofs.nth.converted.Goals as goal
 
 pub returns-then-digits-eq0 : goal.returns-then-digits-eq0

@@ -1,6 +1,5 @@
 -- The letter is there, and the number before it fits or the crate panics.
 use Rattle.selectors.proofs.NthLaws as laws
-use borrow.Author.Rules.{rules}
 use Rattle.selectors.proofs.nth.just_a.Goals as goal
 
 pub returns-in_default : goal.returns-in_default

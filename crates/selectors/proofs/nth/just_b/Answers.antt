@@ -1,6 +1,5 @@
 -- Digits are there, and their number fits or the crate panics.
 use Rattle.selectors.proofs.NthLaws as laws
-use borrow.Author.Rules.{rules}
 use Rattle.selectors.proofs.nth.just_b.Goals as goal
 
 pub returns-then-second : goal.returns-then-second

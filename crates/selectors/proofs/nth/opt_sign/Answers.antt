@@ -1,7 +1,6 @@
 -- The sign that the lexer takes is that of the definition, and lies within the text.
 use mathlib.Core.Path.{◌∙◌}
 use Rattle.selectors.proofs.NthNumbers as laws
-use borrow.Author.Rules.{rules}
 use Rattle.selectors.proofs.nth.opt_sign.Goals as goal
 
 pub returns : goal.returns

@@ -1,6 +1,5 @@
 -- The five alternatives in the crate's order.
 use Rattle.selectors.proofs.NthLaws as laws
-use borrow.Author.Rules.{rules}
 use borrow.Enum.Refused.{opened}
 use Rattle.selectors.proofs.nth.parse_nth.Goals as goal
 

@@ -1,6 +1,5 @@
 -- The sign, the digits behind it and their number are those of the definition.
 use Rattle.selectors.proofs.NthNumbers as laws
-use borrow.Author.Rules.{rules}
 use Rattle.selectors.proofs.nth.signed_integer.Goals as goal
 
 pub returns : goal.returns

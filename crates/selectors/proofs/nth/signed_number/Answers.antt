@@ -1,6 +1,5 @@
 -- 0, an odd number for one below 0, an even one for one above.
 use Rattle.selectors.proofs.NthNumbers as laws
-use borrow.Author.Rules.{rules}
 use Rattle.selectors.proofs.nth.signed_number.Goals as goal
 
 pub returns-then-v-eq0 : goal.returns-then-v-eq0

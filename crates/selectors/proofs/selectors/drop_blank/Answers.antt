@@ -1,6 +1,5 @@
 -- The last row is looked at, and wiped where it is a blank's.
 use Rattle.selectors.proofs.SelectorLaws as laws
-use borrow.Author.Rules.{rules}
 use Rattle.selectors.proofs.selectors.drop_blank.Goals as goal
 
 pub returns-then-count-eq0 : goal.returns-then-count-eq0

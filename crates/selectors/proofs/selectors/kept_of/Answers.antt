@@ -1,6 +1,5 @@
 -- By the two tests, one law for each return.
 use Rattle.selectors.proofs.SelectorLaws as laws
-use borrow.Author.Rules.{rules}
 use Rattle.selectors.proofs.selectors.kept_of.Goals as goal
 
 pub returns-then-kind-eq-DESCENDANT : goal.returns-then-kind-eq-DESCENDANT

@@ -1,10 +1,7 @@
 -- What was read and what is still to be read make up the whole at each turn (`Reading-on`); each return is the law of its case.
 use mathlib.Core.Path.{◌∙◌}
 use native.Mathlib.Omega.{arith}
-use Prim.Native.Nat.{◌-◌}
-use lib.ListN.{length}
 use Rattle.selectors.proofs.ComponentTurns as laws
-use borrow.Author.Rules.{rules}
 use Rattle.selectors.proofs.selectors.parse_body.Goals as goal
 
 pub loop-n-init : goal.loop-n-init

@@ -1,6 +1,4 @@
 -- What was read and what is still to be read make up the whole at each turn (`Reading-on`); each return is the law of its case.
-use mathlib.Core.Path.{◌∙◌}
-use native.Mathlib.Omega.{arith}
 use Prim.Native.Nat.{◌-◌}
 use lib.ListN.{length}
 use Rattle.selectors.proofs.ComponentTurns as laws

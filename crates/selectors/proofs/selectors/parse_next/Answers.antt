@@ -1,7 +1,6 @@
 -- At the start a type selector or else any component, elsewhere any: what the readers leave is the definition by cases.
 use Rattle.selectors.proofs.ComponentLaws.{clean-same}
 use Rattle.selectors.proofs.SimpleLaws as laws
-use borrow.Author.Rules.{rules}
 use borrow.Enum.Refused.{opened}
 use Rattle.selectors.proofs.selectors.parse_next.Goals as goal
 

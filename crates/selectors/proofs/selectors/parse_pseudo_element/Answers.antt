@@ -1,6 +1,5 @@
 -- Two words and neither, in the order of the definition.
 use Rattle.selectors.proofs.SelectorLaws as laws
-use borrow.Author.Rules.{rules}
 use Rattle.selectors.proofs.selectors.parse_pseudo_element.Goals as goal
 
 pub returns-then-starts_with : goal.returns-then-starts_with

@@ -2,7 +2,6 @@
 use mathlib.Core.Path.{◌∙◌}
 use native.Mathlib.Omega.{arith}
 use Rattle.selectors.proofs.Selecting as laws
-use borrow.Author.Rules.{rules}
 use Rattle.selectors.proofs.selectors.parse_selector.Goals as goal
 
 pub overflow_add-place : goal.overflow_add-place

@@ -1,6 +1,5 @@
 -- A component that is not kept leaves the rows as they were.
 use Rattle.selectors.proofs.SelectorLaws as laws
-use borrow.Author.Rules.{rules}
 use Rattle.selectors.proofs.selectors.put_kept.Goals as goal
 
 pub returns-then-kept-eq0 : goal.returns-then-kept-eq0

@@ -1,8 +1,6 @@
 -- nth has no text, any other component the sum of its two lengths.
-use mathlib.Core.Path.{◌≡◌, ap, sym}
 use native.Mathlib.Omega.{arith}
 use Rattle.selectors.proofs.SelectorLaws as laws
-use borrow.Author.Rules.{rules}
 use Rattle.selectors.proofs.selectors.text_length.Goals as goal
 
 pub returns-then-kind-eq-NTH : goal.returns-then-kind-eq-NTH

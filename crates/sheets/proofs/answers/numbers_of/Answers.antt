@@ -2,7 +2,6 @@
 use Rattle.sheets.specs.SheetAnswer.{refused_sheet, numbers_of}
 use Rattle.combinators.specs.declared.refusals.Refusal.{Refusal}
 use mathlib.Core.Path.{sym, ap, ◌∙◌}
-use borrow.Author.Rules.{rules}
 use Rattle.sheets.proofs.answers.numbers_of.Goals as goal
 
 pub returns-in-Sheet : goal.returns-in-Sheet

@@ -1,7 +1,6 @@
 -- Without `@` and a name nothing is read; with them the statement is read to its end and the name is wiped.
 use native.Mathlib.Omega.{arith}
 use Rattle.sheets.proofs.AtRuleLaws as laws
-use borrow.Author.Rules.{rules}
 use Rattle.sheets.proofs.at_rules.parse_at_rule.Goals as goal
 
 pub skip_from-i-requires : goal.skip_from-i-requires

@@ -1,7 +1,6 @@
 -- The statement's tokens and texts are wiped, so that the stores are as they were, whether its brackets close or not.
 use native.Mathlib.Omega.{arith}
 use Rattle.sheets.proofs.AtRuleLaws as laws
-use borrow.Author.Rules.{rules}
 use Rattle.sheets.proofs.at_rules.parse_statement_end.Goals as goal
 
 pub parse_to_end_of_statement-requires : goal.parse_to_end_of_statement-requires

@@ -1,6 +1,5 @@
 -- White space, a semicolon or none, and white space are passed.
 use Rattle.sheets.proofs.BlockLaws as laws
-use borrow.Author.Rules.{rules}
 use Rattle.sheets.proofs.rulesets.before_end.Goals as goal
 
 pub returns : goal.returns

@@ -1,7 +1,6 @@
 -- Each return by the tests on the way: no brace, no end, or the block as `parse_rules` left it.
 use native.Mathlib.Omega.{arith}
 use Rattle.sheets.proofs.BlockLaws as laws
-use borrow.Author.Rules.{rules}
 use Rattle.sheets.proofs.rulesets.parse_block.Goals as goal
 
 pub skip_from-d-requires : goal.skip_from-d-requires

@@ -1,7 +1,6 @@
 -- The selectors, then the block: each return is the law of what the two readers answered.
 use native.Mathlib.Omega.{arith}
 use Rattle.sheets.proofs.RuleSetLaws as laws
-use borrow.Author.Rules.{rules}
 use Rattle.sheets.proofs.rulesets.parse_ruleset.Goals as goal
 
 pub parse_selectors-requires : goal.parse_selectors-requires

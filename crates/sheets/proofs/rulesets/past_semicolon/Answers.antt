@@ -1,6 +1,5 @@
 -- One byte further where a semicolon stands.
 use Rattle.sheets.proofs.BlockLaws as laws
-use borrow.Author.Rules.{rules}
 use Rattle.sheets.proofs.rulesets.past_semicolon.Goals as goal
 
 pub returns-then-byte_is : goal.returns-then-byte_is

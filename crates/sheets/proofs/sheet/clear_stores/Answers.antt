@@ -1,5 +1,4 @@
 -- Each store is cleared once.
-use borrow.Author.Rules.{rules}
 use Rattle.sheets.proofs.sheet.clear_stores.Goals as goal
 
 pub returns : goal.returns

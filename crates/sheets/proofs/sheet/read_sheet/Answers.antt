@@ -1,6 +1,5 @@
 -- The refusals 1, 2 and 3 in their order, each by its own test; what is left is read.
 use Rattle.sheets.proofs.SheetLaws as laws
-use borrow.Author.Rules.{rules}
 use Rattle.sheets.proofs.sheet.read_sheet.Goals as goal
 
 pub returns-then-s-gt-SHEET_LIMIT : goal.returns-then-s-gt-SHEET_LIMIT

@@ -1,6 +1,5 @@
 -- The stores are cleared, so that the sheet has room and what is left of it is the definition.
 use Rattle.sheets.proofs.SheetLaws as laws
-use borrow.Author.Rules.{rules}
 use Rattle.sheets.proofs.sheet.read_text.Goals as goal
 
 pub parse_stylesheet-requires : goal.parse_stylesheet-requires

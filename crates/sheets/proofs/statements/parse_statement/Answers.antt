@@ -1,6 +1,5 @@
 -- A rule, or else an at-rule, which keeps nothing.
 use Rattle.sheets.proofs.StatementLaws as laws
-use borrow.Author.Rules.{rules}
 use Rattle.sheets.proofs.statements.parse_statement.Goals as goal
 
 pub returns-in-Reads : goal.returns-in-Reads

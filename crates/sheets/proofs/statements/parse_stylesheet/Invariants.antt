@@ -1,7 +1,5 @@
 -- What was read and what is still to be read make up the whole at each turn (`Reading-on`); each return is the law of its case.
-use mathlib.Core.Path.{◌≡◌, ap, ◌∙◌}
 use Prim.Native.Nat.{◌-◌}
-use native.Mathlib.Omega.{arith}
 use lib.ListN.{length}
 use Rattle.sheets.proofs.StatementTurns as laws
 use Rattle.sheets.proofs.statements.parse_stylesheet.Given as goal

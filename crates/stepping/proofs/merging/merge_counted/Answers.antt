@@ -1,6 +1,5 @@
 -- Each turn reads the first of the styles that are left and merges it, so all are merged in their order.
 use Rattle.stepping.proofs.StyleLaws as laws
-use borrow.Author.Rules.{rules}
 use Rattle.stepping.proofs.merging.merge_counted.Goals as goal
 
 pub loop-left-init : goal.loop-left-init

@@ -1,6 +1,5 @@
 -- Head and components are read before anything is merged, and the styles declare nothing where they do not read, so that a selector which does not read leaves the row as it was.
 use Rattle.stepping.proofs.FoundLaws as laws
-use borrow.Author.Rules.{rules}
 use Rattle.stepping.proofs.merging.merge_found.Goals as goal
 
 pub returns-in-Added : goal.returns-in-Added

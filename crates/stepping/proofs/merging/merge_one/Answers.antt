@@ -1,6 +1,5 @@
 -- One style that reads is all that is declared; where it does not, nothing is.
 use Rattle.stepping.proofs.StyleLaws as laws
-use borrow.Author.Rules.{rules}
 use Rattle.stepping.proofs.merging.merge_one.Goals as goal
 
 pub returns-in-Style : goal.returns-in-Style

@@ -1,6 +1,5 @@
 -- One style is merged as it is read; of several the first is merged only when all of them read.
 use Rattle.stepping.proofs.StyleLaws as laws
-use borrow.Author.Rules.{rules}
 use Rattle.stepping.proofs.merging.merge_styles.Goals as goal
 
 pub returns-then-count-eq1 : goal.returns-then-count-eq1

@@ -1,6 +1,5 @@
 -- What is told stands in the next part and leaves the own one, which the pass then writes.
 use Rattle.stepping.proofs.PassingLaws as laws
-use borrow.Author.Rules.{rules}
 use Rattle.stepping.proofs.passing.pass_document.Goals as goal
 
 pub tell_document-requires : goal.tell_document-requires

@@ -1,6 +1,5 @@
 -- Behind the count of a sheet its selectors are read, so the first that has a style is where `pass_at` begins.
 use Rattle.stepping.proofs.PassingLaws as laws
-use borrow.Author.Rules.{rules}
 use Rattle.stepping.proofs.passing.pass_element.Goals as goal
 
 pub first_styled-first-requires : goal.first_styled-first-requires

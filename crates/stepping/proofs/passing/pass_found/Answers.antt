@@ -1,7 +1,5 @@
 -- Each turn passes over those that surely fail, of which none matches, then stores the block of one selector and merges what it declares.
 use Rattle.stepping.proofs.PassingLaws as laws
-use mathlib.Core.List.{[], ◌∷◌}
-use Rattle.sweeps.specs.Met.{handed_element}
 use borrow.Author.Rules.{rules}
 use Rattle.stepping.proofs.passing.pass_found.Goals as goal
 

@@ -1,6 +1,5 @@
 -- Its styles are merged exactly where the visit says that it matches; the visit says the next place too.
 use Rattle.stepping.proofs.PassingLaws as laws
-use borrow.Author.Rules.{rules}
 use Rattle.stepping.proofs.passing.visit_found.Goals as goal
 
 pub returns-then-answer : goal.returns-then-answer

@@ -1,6 +1,5 @@
 -- The kinds of one text, each by its own test: what they add does not depend on the text.
 use Rattle.stepping.proofs.WeightLaws as laws
-use borrow.Author.Rules.{rules}
 use Rattle.stepping.proofs.specificity.name_weight.Goals as goal
 
 pub returns-then-kind-eq-ELEMENT : goal.returns-then-kind-eq-ELEMENT

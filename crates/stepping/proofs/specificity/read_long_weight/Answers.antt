@@ -1,6 +1,5 @@
 -- Each kind of component adds what its kind says.
 use Rattle.stepping.proofs.WeightLaws as laws
-use borrow.Author.Rules.{rules}
 use Rattle.stepping.proofs.specificity.read_long_weight.Goals as goal
 
 pub returns-in-Mark : goal.returns-in-Mark

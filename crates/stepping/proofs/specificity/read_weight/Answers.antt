@@ -1,6 +1,5 @@
 -- A short component adds what its size and its kind say; any other what is read of it.
 use Rattle.stepping.proofs.WeightLaws as laws
-use borrow.Author.Rules.{rules}
 use Rattle.stepping.proofs.specificity.read_weight.Goals as goal
 
 pub returns-then-size-eq-MARK_SIZE : goal.returns-then-size-eq-MARK_SIZE

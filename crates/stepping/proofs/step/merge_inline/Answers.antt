@@ -1,7 +1,6 @@
 -- Where document styles are off no attribute counts.
 use native.Mathlib.Omega.{arith}
 use Rattle.stepping.proofs.StepLaws as laws
-use borrow.Author.Rules.{rules}
 use Rattle.stepping.proofs.step.merge_inline.Goals as goal
 
 pub merge_attributes-requires : goal.merge_attributes-requires

@@ -1,6 +1,5 @@
 -- The blocks of the part are stored, then the count before them; no style was merged.
 use Rattle.stepping.proofs.StepLaws as laws
-use borrow.Author.Rules.{rules}
 use Rattle.stepping.proofs.step.open_document.Goals as goal
 
 pub pass_document-requires : goal.pass_document-requires

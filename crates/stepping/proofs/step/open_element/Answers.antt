@@ -1,7 +1,6 @@
 -- The parts of the parent and of the element do not meet, so what is passed at the element is read from its parent's part with the count raised.
 use native.Mathlib.Omega.{arith}
 use Rattle.stepping.proofs.StepLaws as laws
-use borrow.Author.Rules.{rules}
 use Rattle.stepping.proofs.step.open_element.Goals as goal
 
 pub overflow_mul-parent : goal.overflow_mul-parent

@@ -1,6 +1,5 @@
 -- Other content, the document, or an element.
 use Rattle.stepping.proofs.StepLaws as laws
-use borrow.Author.Rules.{rules}
 use Rattle.stepping.proofs.step.step.Goals as goal
 
 pub returns-then-kind_of-eq-OTHER : goal.returns-then-kind_of-eq-OTHER

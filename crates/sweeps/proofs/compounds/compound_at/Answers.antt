@@ -1,8 +1,6 @@
 -- The components that are left decide as all of them do (`Ending`): a step ends the compound, and a fault or the limit ends it with no.
 use mathlib.Core.Path.{refl}
-use Rattle.sweeps.specs.Met.{row_alone, handed_element}
 use Rattle.sweeps.proofs.CodeCompoundLaws as laws
-use borrow.Author.Rules.{rules}
 use Rattle.sweeps.proofs.compounds.compound_at.Goals as goal
 
 pub loop-left-init : goal.loop-left-init

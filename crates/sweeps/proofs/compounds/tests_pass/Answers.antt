@@ -1,8 +1,6 @@
 -- The tests that are left decide as all of them do (`Testing`): one that fails, a step or a fault ends the walk with no, and when none is left all have passed.
 use mathlib.Core.Path.{refl}
-use Rattle.sweeps.specs.Met.{row_alone, handed_element}
 use Rattle.sweeps.proofs.CodeCompoundLaws as laws
-use borrow.Author.Rules.{rules}
 use Rattle.sweeps.proofs.compounds.tests_pass.Goals as goal
 
 pub loop-left-init : goal.loop-left-init

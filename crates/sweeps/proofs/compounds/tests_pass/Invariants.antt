@@ -1,5 +1,4 @@
 -- The tests that are left decide as all of them do (`Testing`): one that fails, a step or a fault ends the walk with no, and when none is left all have passed.
-use mathlib.Core.Path.{refl}
 use Rattle.sweeps.specs.Met.{row_alone, handed_element}
 use Rattle.sweeps.proofs.CodeCompoundLaws as laws
 use Rattle.sweeps.proofs.compounds.tests_pass.Given as goal

@@ -1,6 +1,5 @@
 -- Zeros for the steps and the mark behind them are the fresh flags, stored one behind the other.
 use Rattle.sweeps.proofs.CodePartLaws as laws
-use borrow.Author.Rules.{rules}
 use Rattle.sweeps.proofs.parts.put_fresh.Goals as goal
 
 pub returns : goal.returns

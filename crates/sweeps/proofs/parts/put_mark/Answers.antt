@@ -1,6 +1,5 @@
 -- A compound without tests has a mark of one byte; for any other the mark and the two bytes of the count are stored one behind the other.
 use Rattle.sweeps.proofs.CodePartLaws as laws
-use borrow.Author.Rules.{rules}
 use Rattle.sweeps.proofs.parts.put_mark.Goals as goal
 
 pub returns-then-tests-eq0 : goal.returns-then-tests-eq0

@@ -3,7 +3,6 @@ use Rattle.sweeps.proofs.CodePartLaws as laws
 use native.Mathlib.Omega.{arith}
 use lib.Seq.{lt-length-set}
 use Rattle.segments.specs.Sweep.{with_tests}
-use borrow.Author.Rules.{rules}
 use Rattle.sweeps.proofs.parts.put_mark_there.Goals as goal
 
 pub bounds-state-at-2 : goal.bounds-state-at-2

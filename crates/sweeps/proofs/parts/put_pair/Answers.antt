@@ -1,6 +1,5 @@
 -- Bytes that all lie in the part are stored in the state as they are; otherwise each is stored by itself.
 use Rattle.sweeps.proofs.CodePartLaws as laws
-use borrow.Author.Rules.{rules}
 use Rattle.sweeps.proofs.parts.put_pair.Goals as goal
 
 pub returns-then-at-width : goal.returns-then-at-width

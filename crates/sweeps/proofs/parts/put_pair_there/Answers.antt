@@ -1,6 +1,5 @@
 -- Two stores in a row are the bytes of the number.
 use Rattle.sweeps.proofs.CodePartLaws as laws
-use borrow.Author.Rules.{rules}
 use Rattle.sweeps.proofs.parts.put_pair_there.Goals as goal
 
 pub returns : goal.returns

@@ -1,5 +1,4 @@
 -- The zeros stored and those left to store are all of them at each turn (`Zeroing`); when none is left the store is done.
-use mathlib.Core.Path.{refl}
 use Rattle.sweeps.proofs.CodePartLaws as laws
 use Rattle.sweeps.proofs.parts.put_zeros.Given as goal
 

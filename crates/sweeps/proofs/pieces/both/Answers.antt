@@ -1,6 +1,5 @@
 -- Where the first holds the second decides, and where it does not both do not hold: the cases of `and`.
 use Rattle.combinators.proofs.Rules.{cases}
-use borrow.Author.Rules.{rules}
 use Rattle.sweeps.proofs.pieces.both.Goals as goal
 
 pub returns-then-a : goal.returns-then-a

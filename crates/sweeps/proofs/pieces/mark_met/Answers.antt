@@ -1,7 +1,6 @@
 -- The three marks in the order of `mark_met`: star, the child step, and else the descendant step.
 use Rattle.combinators.proofs.Rules.{cases}
 use Rattle.sweeps.specs.Met.{mark_met}
-use borrow.Author.Rules.{rules}
 use Rattle.sweeps.proofs.pieces.mark_met.Goals as goal
 
 pub returns-then-kind-eq-STAR : goal.returns-then-kind-eq-STAR

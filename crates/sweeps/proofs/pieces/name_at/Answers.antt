@@ -1,6 +1,5 @@
 -- A short component with a text is told by its size, and any other by its answer; the other answers are no name.
 use Rattle.sweeps.proofs.CodePieceLaws as laws
-use borrow.Author.Rules.{rules}
 use Rattle.sweeps.proofs.pieces.name_at.Goals as goal
 
 pub returns-then-short-gt-MARK_SIZE : goal.returns-then-short-gt-MARK_SIZE

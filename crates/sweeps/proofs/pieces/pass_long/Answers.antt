@@ -1,6 +1,5 @@
 -- A component is a step by its kind, or a test, which the document does not pass unless it is star.
 use Rattle.sweeps.proofs.CodePieceLaws as laws
-use borrow.Author.Rules.{rules}
 use Rattle.sweeps.proofs.pieces.pass_long.Goals as goal
 
 pub returns-in-Mark : goal.returns-in-Mark

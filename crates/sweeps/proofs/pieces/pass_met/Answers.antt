@@ -1,6 +1,5 @@
 -- A short component by its size and its kind; any other as it is read.
 use Rattle.sweeps.proofs.CodePieceLaws as laws
-use borrow.Author.Rules.{rules}
 use Rattle.sweeps.proofs.pieces.pass_met.Goals as goal
 
 pub returns-then-size-gt-MARK_SIZE : goal.returns-then-size-gt-MARK_SIZE

@@ -1,6 +1,5 @@
 -- An element that has passed so far is tested; the document passes star alone, and where the tests so far have failed one more changes nothing.
 use Rattle.sweeps.proofs.CodePieceLaws as laws
-use borrow.Author.Rules.{rules}
 use Rattle.sweeps.proofs.pieces.read_met.Goals as goal
 
 pub returns-then-both : goal.returns-then-both

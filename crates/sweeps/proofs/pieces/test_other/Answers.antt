@@ -1,7 +1,6 @@
 -- A component is a step by its kind, or a test, which the element passes by what is asked of it; it has not one text.
 use Rattle.sweeps.specs.Met.{handed_element}
 use Rattle.sweeps.proofs.CodePieceLaws as laws
-use borrow.Author.Rules.{rules}
 use Rattle.sweeps.proofs.pieces.test_other.Goals as goal
 
 pub returns-in-Mark : goal.returns-in-Mark

@@ -1,6 +1,5 @@
 -- The byte at `j` decides: below a mark it is a flag, and the compound is walked; a mark says how many tests the leftmost compound has.
 use Rattle.sweeps.proofs.CodeSweepLaws as laws
-use borrow.Author.Rules.{rules}
 use Rattle.sweeps.proofs.sweeping.sweep_one.Goals as goal
 
 pub returns-then-byte-lt-WITHOUT_TESTS : goal.returns-then-byte-lt-WITHOUT_TESTS

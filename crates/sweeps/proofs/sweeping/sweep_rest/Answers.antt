@@ -1,7 +1,5 @@
 -- What was stored and what is left to sweep make up the sweep of all compounds (`Sweeping`); the parent's part lies apart, so no store changes its flags.
-use Rattle.sweeps.specs.Met.{row_alone, handed_element}
 use Rattle.sweeps.proofs.CodeSweepLaws as laws
-use borrow.Author.Rules.{rules}
 use Rattle.sweeps.proofs.sweeping.sweep_rest.Goals as goal
 
 pub loop-left-init : goal.loop-left-init

@@ -2,7 +2,6 @@
 use Rattle.combinators.specs.Choice.{is}
 use Rattle.syntax.specs.Layout.{flag_of}
 use Rattle.syntax.proofs.StyleRead.{row_read}
-use borrow.Author.Rules.{rules}
 use Rattle.syntax.proofs.styles.style_at.Goals as goal
 
 pub returns : goal.returns

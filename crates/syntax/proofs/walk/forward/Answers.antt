@@ -1,6 +1,5 @@
 -- The place lies within the rows, or it is their end; the sum is tested before it is made.
 use Rattle.syntax.proofs.Walks as laws
-use borrow.Author.Rules.{rules}
 use Rattle.syntax.proofs.walk.forward.Goals as goal
 
 pub returns-then-k-rows : goal.returns-then-k-rows

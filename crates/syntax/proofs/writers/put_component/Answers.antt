@@ -1,6 +1,5 @@
 -- The four numbers are emitted one behind the other.
 use Rattle.syntax.proofs.Writes as laws
-use borrow.Author.Rules.{rules}
 use Rattle.syntax.proofs.writers.put_component.Goals as goal
 
 pub returns : goal.returns

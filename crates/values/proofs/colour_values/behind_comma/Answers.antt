@@ -1,6 +1,5 @@
 -- No token behind the place is a comma; the search goes towards the start and ends at the last comma or at 0.
 use Rattle.values.proofs.ColourValues as laws
-use borrow.Author.Rules.{rules}
 use Rattle.values.proofs.colour_values.behind_comma.Goals as goal
 
 pub loop-i-init : goal.loop-i-init

@@ -1,6 +1,5 @@
 -- The two kinds, one test behind the other.
 use Rattle.values.proofs.ColourValues as laws
-use borrow.Author.Rules.{rules}
 use Rattle.values.proofs.colour_values.is_number_before.Goals as goal
 
 pub returns-then-is_kind : goal.returns-then-is_kind

@@ -1,6 +1,5 @@
 -- A function, and its name.
 use Rattle.values.proofs.ColourValues as laws
-use borrow.Author.Rules.{rules}
 use Rattle.values.proofs.colour_values.is_rgb.Goals as goal
 
 pub returns-then-is_kind : goal.returns-then-is_kind

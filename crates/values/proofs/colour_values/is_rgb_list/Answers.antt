@@ -1,6 +1,5 @@
 -- The six tokens behind the function, pair by pair.
 use Rattle.values.proofs.ColourValues as laws
-use borrow.Author.Rules.{rules}
 use Rattle.values.proofs.colour_values.is_rgb_list.Goals as goal
 
 pub returns-then-is_number_before-2 : goal.returns-then-is_number_before-2

@@ -1,6 +1,5 @@
 -- A name, a hash or neither, as the definition splits tokens.
 use Rattle.values.proofs.ColourValues as laws
-use borrow.Author.Rules.{rules}
 use Rattle.values.proofs.colour_values.one_token.Goals as goal
 
 pub returns-then-is_kind : goal.returns-then-is_kind

@@ -1,6 +1,5 @@
 -- The tokens behind the last comma are those whose rows are lent.
 use Rattle.values.proofs.ColourValues as laws
-use borrow.Author.Rules.{rules}
 use Rattle.values.proofs.colour_values.parse_background_color.Goals as goal
 
 pub returns : goal.returns

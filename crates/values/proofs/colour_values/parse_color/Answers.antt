@@ -1,6 +1,5 @@
 -- One token, the seven of `rgb`, or no colour.
 use Rattle.values.proofs.ColourValues as laws
-use borrow.Author.Rules.{rules}
 use Rattle.values.proofs.colour_values.parse_color.Goals as goal
 
 pub returns-then-count-eq1 : goal.returns-then-count-eq1

@@ -1,6 +1,5 @@
 -- The kinds and the name of the seven tokens are those of the definition, or there is no colour.
 use Rattle.values.proofs.ColourValues as laws
-use borrow.Author.Rules.{rules}
 use Rattle.values.proofs.colour_values.rgb_tokens.Goals as goal
 
 pub returns-then-is_rgb_list : goal.returns-then-is_rgb_list

@@ -1,6 +1,5 @@
 -- The texts of the three rows are those of the three numbers.
 use Rattle.values.proofs.ColourValues as laws
-use borrow.Author.Rules.{rules}
 use Rattle.values.proofs.colour_values.rgb_value.Goals as goal
 
 pub returns : goal.returns

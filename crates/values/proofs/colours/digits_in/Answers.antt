@@ -1,10 +1,6 @@
 -- The sum of the digits so far is their number, within the bound; a byte that is no digit, or a sum above the bound, makes the whole none.
 use Rattle.combinators.proofs.Rules.{told}
-use lib.ListN.{length}
 use native.Mathlib.Omega.{arith}
-use Prim.Native.Nat.{◌-◌}
-use Rattle.lexer.specs.Name.{hex_digit}
-use Rattle.values.specs.ColourAnswer.{is_digit_in}
 use Rattle.values.proofs.ColourLaws as laws
 use borrow.Author.Rules.{rules}
 use Rattle.values.proofs.colours.digits_in.Goals as goal

@@ -1,7 +1,5 @@
 -- The sum of the digits so far is their number, within the bound; a byte that is no digit, or a sum above the bound, makes the whole none.
-use Rattle.combinators.proofs.Rules.{told}
 use lib.ListN.{length}
-use native.Mathlib.Omega.{arith}
 use Prim.Native.Nat.{◌-◌}
 use Rattle.lexer.specs.Name.{hex_digit}
 use Rattle.values.specs.ColourAnswer.{is_digit_in}

@@ -1,6 +1,5 @@
 -- A number of three or of six digits, or no colour.
 use Rattle.values.proofs.ColourLaws as laws
-use borrow.Author.Rules.{rules}
 use Rattle.values.proofs.colours.hash_colour.Goals as goal
 
 pub returns-in_default : goal.returns-in_default

@@ -1,6 +1,5 @@
 -- A hexadecimal digit whose worth is below the base.
 use Rattle.values.proofs.ColourLaws as laws
-use borrow.Author.Rules.{rules}
 use Rattle.values.proofs.colours.is_digit_in.Goals as goal
 
 pub returns-then-is_hex_digit : goal.returns-then-is_hex_digit

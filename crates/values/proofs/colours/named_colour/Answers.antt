@@ -8,7 +8,6 @@ use Rattle.characters.specs.Utf8.{utf8, continuation}
 use Rattle.characters.specs.Literal.{text}
 use Rattle.combinators.specs.Choice.{pick}
 use Rattle.values.proofs.WordLaws as laws
-use borrow.Author.Rules.{rules}
 use Rattle.values.proofs.colours.named_colour.Goals as goal
 
 pub returns-then-i-lt17 : goal.returns-then-i-lt17

@@ -3,7 +3,6 @@ use mathlib.Core.Path.{ap, ◌∙◌}
 use Rattle.values.specs.ColourAnswer.{number_answer}
 use Rattle.values.specs.Colour.{parse_hex}
 use Rattle.values.proofs.ColourLaws as laws
-use borrow.Author.Rules.{rules}
 use Rattle.values.proofs.colours.parse_hex.Goals as goal
 
 pub returns : goal.returns

@@ -1,7 +1,6 @@
 -- Behind a `+`, or from the start, the digits are read.
 use native.Mathlib.Omega.{arith}
 use Rattle.values.proofs.ColourLaws as laws
-use borrow.Author.Rules.{rules}
 use Rattle.values.proofs.colours.parse_in.Goals as goal
 
 pub slice_bounds-digits_in-count : goal.slice_bounds-digits_in-count

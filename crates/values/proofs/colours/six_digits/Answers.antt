@@ -1,6 +1,5 @@
 -- Each byte of the number is a part of the colour.
 use Rattle.values.specs.Colour.{six_digits}
-use borrow.Author.Rules.{rules}
 use Rattle.values.proofs.colours.six_digits.Goals as goal
 
 pub returns : goal.returns

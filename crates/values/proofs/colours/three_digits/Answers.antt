@@ -1,6 +1,5 @@
 -- Each digit of the number, seventeen times, is a part of the colour.
 use Rattle.values.specs.Colour.{three_digits}
-use borrow.Author.Rules.{rules}
 use Rattle.values.proofs.colours.three_digits.Goals as goal
 
 pub returns : goal.returns

@@ -2,7 +2,6 @@
 -- fits.
 use native.Mathlib.Omega.{arith}
 use Rattle.values.proofs.ContentLaws as laws
-use borrow.Author.Rules.{rules}
 use Rattle.values.proofs.contents.parse_content.Goals as goal
 
 pub loop-left-init : goal.loop-left-init

@@ -1,6 +1,5 @@
 -- The lengths of the strings so far, with what is left from the token on, give the whole; a token that is no string ends it. The texts are disjoint, so the sum
 -- fits.
-use native.Mathlib.Omega.{arith}
 use Rattle.values.proofs.ContentLaws as laws
 use Rattle.values.proofs.contents.parse_content.Given as goal
 

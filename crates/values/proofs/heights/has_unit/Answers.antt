@@ -6,7 +6,6 @@ use Rattle.characters.specs.Literal.{text}
 use Rattle.combinators.specs.Choice.{pick}
 use Rattle.values.proofs.TokenViews as views
 use Rattle.values.proofs.HeightLaws as laws
-use borrow.Author.Rules.{rules}
 use Rattle.values.proofs.heights.has_unit.Goals as goal
 
 pub returns : goal.returns

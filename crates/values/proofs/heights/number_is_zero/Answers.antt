@@ -1,7 +1,6 @@
 -- White space and the sign are passed, and the rest is asked.
 use Rattle.values.proofs.HeightLaws as laws
 use mathlib.Core.Path.{refl}
-use borrow.Author.Rules.{rules}
 use Rattle.values.proofs.heights.number_is_zero.Goals as goal
 
 pub returns : goal.returns

@@ -1,6 +1,5 @@
 -- One token: a dimension of a length's unit, or a number that is zero, or no height.
 use Rattle.values.proofs.HeightLaws as laws
-use borrow.Author.Rules.{rules}
 use Rattle.values.proofs.heights.parse_height.Goals as goal
 
 pub returns-then-count-ne1 : goal.returns-then-count-ne1

@@ -1,7 +1,6 @@
 -- The text of the row is the number.
 use mathlib.Core.Path.{ap, ◌∙◌}
 use Rattle.values.specs.Property.{number_zero}
-use borrow.Author.Rules.{rules}
 use Rattle.values.proofs.heights.token_is_zero.Goals as goal
 
 pub returns : goal.returns

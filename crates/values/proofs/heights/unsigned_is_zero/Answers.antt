@@ -2,7 +2,6 @@
 use mathlib.Core.Path.{sym}
 use lib.Seq.{length-take-le}
 use Rattle.values.proofs.HeightLaws as laws
-use borrow.Author.Rules.{rules}
 use Rattle.values.proofs.heights.unsigned_is_zero.Goals as goal
 
 pub slice_bounds-integer-end : goal.slice_bounds-integer-end

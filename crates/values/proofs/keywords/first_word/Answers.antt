@@ -1,7 +1,5 @@
 -- The tokens so far are no words of the table; the first that is decides.
-use Rattle.values.specs.Words.{split}
 use Rattle.values.proofs.KeywordLaws as laws
-use borrow.Author.Rules.{rules}
 use Rattle.values.proofs.keywords.first_word.Goals as goal
 
 pub loop-left-init : goal.loop-left-init

@@ -1,7 +1,6 @@
 -- A name has its place in the table, any other token none.
 use mathlib.Core.Path.{sym, ◌∙◌}
 use Rattle.values.proofs.KeywordLaws as laws
-use borrow.Author.Rules.{rules}
 use Rattle.values.proofs.keywords.name_place.Goals as goal
 
 pub returns-then-is_kind : goal.returns-then-is_kind

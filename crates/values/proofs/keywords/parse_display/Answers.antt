@@ -4,7 +4,6 @@ use Rattle.characters.specs.Utf8.{utf8, continuation}
 use Rattle.characters.specs.Literal.{text}
 use Rattle.combinators.specs.Choice.{pick}
 use Rattle.values.proofs.KeywordLaws as laws
-use borrow.Author.Rules.{rules}
 use Rattle.values.proofs.keywords.parse_display.Goals as goal
 
 pub returns : goal.returns

@@ -4,7 +4,6 @@ use Rattle.characters.specs.Utf8.{utf8, continuation}
 use Rattle.characters.specs.Literal.{text}
 use Rattle.combinators.specs.Choice.{pick}
 use Rattle.values.proofs.KeywordLaws as laws
-use borrow.Author.Rules.{rules}
 use Rattle.values.proofs.keywords.parse_overflow.Goals as goal
 
 pub returns-then-place-lt4 : goal.returns-then-place-lt4

@@ -5,7 +5,6 @@ use Rattle.characters.specs.Literal.{text}
 use Rattle.combinators.specs.Choice.{pick}
 use Rattle.values.proofs.KeywordLaws as laws
 use Rattle.syntax.specs.Layout.{white_space_number}
-use borrow.Author.Rules.{rules}
 use Rattle.values.proofs.keywords.parse_white_space.Goals as goal
 
 pub returns-then-place-lt3 : goal.returns-then-place-lt3

@@ -1,6 +1,5 @@
 -- The three properties of a colour, each by its place in the table.
 use Rattle.values.proofs.DeclLaws as laws
-use borrow.Author.Rules.{rules}
 use Rattle.values.proofs.properties.colour_at.Goals as goal
 
 pub returns-then-place-eq-BACKGROUND_COLOR_PLACE : goal.returns-then-place-eq-BACKGROUND_COLOR_PLACE

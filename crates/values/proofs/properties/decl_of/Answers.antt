@@ -4,7 +4,6 @@ use Rattle.characters.specs.Utf8.{utf8, continuation}
 use Rattle.characters.specs.Literal.{text}
 use Rattle.combinators.specs.Choice.{pick}
 use Rattle.values.proofs.DeclLaws as laws
-use borrow.Author.Rules.{rules}
 use Rattle.values.proofs.properties.decl_of.Goals as goal
 
 pub returns-then-place-le-COLOR_PLACE : goal.returns-then-place-le-COLOR_PLACE

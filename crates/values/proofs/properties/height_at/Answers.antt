@@ -1,6 +1,5 @@
 -- The two properties of a height, each by its place in the table.
 use Rattle.values.proofs.DeclLaws as laws
-use borrow.Author.Rules.{rules}
 use Rattle.values.proofs.properties.height_at.Goals as goal
 
 pub returns-then-place-eq-HEIGHT_PLACE : goal.returns-then-place-eq-HEIGHT_PLACE

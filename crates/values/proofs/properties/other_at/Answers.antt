@@ -1,6 +1,5 @@
 -- The last three properties, each by its place in the table; any other name is unknown.
 use Rattle.values.proofs.DeclLaws as laws
-use borrow.Author.Rules.{rules}
 use Rattle.values.proofs.properties.other_at.Goals as goal
 
 pub returns-then-place-eq-DISPLAY_PLACE : goal.returns-then-place-eq-DISPLAY_PLACE

@@ -1,6 +1,5 @@
 -- The two properties of an overflow, each by its place in the table.
 use Rattle.values.proofs.DeclLaws as laws
-use borrow.Author.Rules.{rules}
 use Rattle.values.proofs.properties.overflow_at.Goals as goal
 
 pub returns-then-place-eq-OVERFLOW_PLACE : goal.returns-then-place-eq-OVERFLOW_PLACE

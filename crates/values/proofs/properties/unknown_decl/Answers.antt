@@ -1,7 +1,6 @@
 -- The fields are those of the definition.
 use mathlib.Core.Path.{refl}
 use Rattle.values.specs.DeclAnswer.{decl_of_numbers, unknown_decl}
-use borrow.Author.Rules.{rules}
 use Rattle.values.proofs.properties.unknown_decl.Goals as goal
 
 pub returns : goal.returns

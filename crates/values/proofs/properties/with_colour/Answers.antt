@@ -1,6 +1,5 @@
 -- A colour that was found, or else the unknown declaration.
 use Rattle.values.proofs.DeclLaws as laws
-use borrow.Author.Rules.{rules}
 use Rattle.values.proofs.properties.with_colour.Goals as goal
 
 pub returns-in-Colour : goal.returns-in-Colour

@@ -1,6 +1,5 @@
 -- A content that was found, or else the unknown declaration.
 use Rattle.values.proofs.DeclLaws as laws
-use borrow.Author.Rules.{rules}
 use Rattle.values.proofs.properties.with_content.Goals as goal
 
 pub returns-in-Content : goal.returns-in-Content

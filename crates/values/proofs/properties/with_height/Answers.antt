@@ -1,6 +1,5 @@
 -- A height that was found, or else the unknown declaration.
 use Rattle.values.proofs.DeclLaws as laws
-use borrow.Author.Rules.{rules}
 use Rattle.values.proofs.properties.with_height.Goals as goal
 
 pub returns-in-Height : goal.returns-in-Height

@@ -1,6 +1,5 @@
 -- A keyword that was found, or else the unknown declaration.
 use Rattle.values.proofs.DeclLaws as laws
-use borrow.Author.Rules.{rules}
 use Rattle.values.proofs.properties.with_word.Goals as goal
 
 pub returns-in-Word : goal.returns-in-Word

@@ -3,7 +3,6 @@ use Rattle.values.proofs.Nesting as laws
 use mathlib.Core.Path.{sym, ap}
 use Rattle.values.specs.Value.{bracket_by}
 use Rattle.values.specs.Layout.{meant}
-use borrow.Author.Rules.{rules}
 use Rattle.values.proofs.statements.bracket_of.Goals as goal
 
 pub returns-in-Function : goal.returns-in-Function

@@ -1,6 +1,5 @@
 -- The bracket that is awaited last decides, as the definition looks at those awaited.
 use Rattle.values.proofs.Nesting as laws
-use borrow.Author.Rules.{rules}
 use Rattle.values.proofs.statements.closing_step.Goals as goal
 
 pub returns-then-c-eq125 : goal.returns-then-c-eq125

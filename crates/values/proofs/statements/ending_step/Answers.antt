@@ -1,7 +1,6 @@
 -- Outside all brackets a semicolon ends the statement, inside it is a token like others.
 use Rattle.combinators.proofs.Rules.{cases}
 use Rattle.values.specs.Layout.{ending_by}
-use borrow.Author.Rules.{rules}
 use Rattle.values.proofs.statements.ending_step.Goals as goal
 
 pub returns-then-include_semicolon : goal.returns-then-include_semicolon

@@ -3,7 +3,6 @@ use Rattle.characters.specs.Literal.{text}
 use Rattle.characters.specs.Utf8.{utf8, continuation}
 use Rattle.combinators.specs.Choice.{pick}
 use Rattle.values.proofs.Marks as laws
-use borrow.Author.Rules.{rules}
 use Rattle.values.proofs.statements.is_important.Goals as goal
 
 pub returns-then-count-lt2 : goal.returns-then-count-lt2

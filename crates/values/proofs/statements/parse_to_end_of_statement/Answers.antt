@@ -1,17 +1,13 @@
 -- What is left to read from the byte on, with the brackets awaited and into the stores as they are, leaves what the whole leaves; each turn takes a token,
 -- which takes a byte.
-use mathlib.Core.Path.{◌≡◌, sym, ap, ◌∙◌}
-use mathlib.Core.List.{List}
-use Prim.Native.Nat.{ℕ, ◌-◌, ◌+◌}
+use mathlib.Core.Path.{sym, ap, ◌∙◌}
+use Prim.Native.Nat.{◌+◌}
 use native.Mathlib.Omega.{arith}
-use lib.ListN.{length, drop}
 use lib.Seq.{sets}
 use Rattle.combinators.proofs.Lists.{rest}
 use Rattle.lexer.specs.Token.{token_of, token_text, lexed_answer}
 use Rattle.lexer.specs.Whitespace.{skip_whitespace}
-use Rattle.lexer.specs.declared.tokens.Lexed.TheVariants.{At}
 use Rattle.values.proofs.Turns as laws
-use borrow.Author.Rules.{rules}
 use Rattle.values.proofs.statements.parse_to_end_of_statement.Goals as goal
 
 pub loop-start-init : goal.loop-start-init

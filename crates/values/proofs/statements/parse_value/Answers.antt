@@ -1,6 +1,5 @@
 -- The statement's tokens, and whether their last two are the mark; or the brackets did not close.
 use Rattle.values.proofs.ValueLaws as laws
-use borrow.Author.Rules.{rules}
 use Rattle.values.proofs.statements.parse_value.Goals as goal
 
 pub is_important-important-requires : goal.is_important-important-requires

@@ -1,6 +1,5 @@
 -- The store of brackets is a stack of those awaited; each kind of token does to it what the definition does.
 use Rattle.values.proofs.Nesting as laws
-use borrow.Author.Rules.{rules}
 use Rattle.values.proofs.statements.step_at.Goals as goal
 
 pub returns-in-Opens : goal.returns-in-Opens

@@ -3,7 +3,6 @@ use mathlib.Core.Path.{sym, ap}
 use native.Mathlib.Omega.{arith}
 use Rattle.values.specs.Layout.{length_by}
 use Rattle.values.proofs.Nesting as laws
-use borrow.Author.Rules.{rules}
 use borrow.Enum.Refused.{opened}
 use Rattle.values.proofs.statements.text_length.Goals as goal
 

@@ -3,7 +3,6 @@ use mathlib.Core.Path.{ap}
 use Prim.Native.Nat.{ℕ}
 use lib.Dec.{eqb}
 use Rattle.combinators.specs.Choice.{is}
-use borrow.Author.Rules.{rules}
 use Rattle.values.proofs.tokens.is_kind.Goals as goal
 
 pub returns : goal.returns

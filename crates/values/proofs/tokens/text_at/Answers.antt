@@ -1,6 +1,5 @@
 -- The row's start and length give the part.
 use Rattle.values.proofs.TokenViews as views
-use borrow.Author.Rules.{rules}
 use Rattle.values.proofs.tokens.text_at.Goals as goal
 
 pub returns : goal.returns

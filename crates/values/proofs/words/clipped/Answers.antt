@@ -1,7 +1,6 @@
 -- The smaller of the two.
 use Rattle.combinators.proofs.Rules.{at_most, above}
 use mathlib.Core.Path.{refl}
-use borrow.Author.Rules.{rules}
 use Rattle.values.proofs.words.clipped.Goals as goal
 
 pub returns-then-length-most : goal.returns-then-length-most

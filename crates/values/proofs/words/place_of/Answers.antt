@@ -1,9 +1,6 @@
 -- The words so far are others; the words that are left lie in the bytes that are left.
-use lib.ListN.{length}
 use native.Mathlib.Omega.{arith}
-use Prim.Native.Nat.{◌-◌}
 use Rattle.values.proofs.WordLaws as laws
-use borrow.Author.Rules.{rules}
 use Rattle.values.proofs.words.place_of.Goals as goal
 
 pub loop-i-init : goal.loop-i-init

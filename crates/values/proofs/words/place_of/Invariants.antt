@@ -1,6 +1,5 @@
 -- The words so far are others; the words that are left lie in the bytes that are left.
 use lib.ListN.{length}
-use native.Mathlib.Omega.{arith}
 use Prim.Native.Nat.{◌-◌}
 use Rattle.values.proofs.WordLaws as laws
 use Rattle.values.proofs.words.place_of.Given as goal

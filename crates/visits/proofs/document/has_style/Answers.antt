@@ -1,6 +1,5 @@
 -- A selector that has styles says how many, and a fault says none.
 use Rattle.visits.proofs.CodeTellLaws as laws
-use borrow.Author.Rules.{rules}
 use Rattle.visits.proofs.document.has_style.Goals as goal
 
 pub returns-in-Number : goal.returns-in-Number

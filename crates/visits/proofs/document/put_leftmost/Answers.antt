@@ -1,6 +1,5 @@
 -- Of a head that is read the leftmost segment is awaited, which is the one before no place; of a fault a segment of no steps and no tests, at no place.
 use Rattle.visits.proofs.CodeDocumentLaws as laws
-use borrow.Author.Rules.{rules}
 use Rattle.visits.proofs.document.put_leftmost.Goals as goal
 
 pub returns-in-Head : goal.returns-in-Head

@@ -1,6 +1,5 @@
 -- Where the selector has a style its block is stored, with the place of the next one that has; where it has none, nothing is.
 use Rattle.visits.proofs.CodeTellLaws as laws
-use borrow.Author.Rules.{rules}
 use Rattle.visits.proofs.document.put_styled.Goals as goal
 
 pub returns-then-has_style : goal.returns-then-has_style

@@ -1,6 +1,5 @@
 -- Behind the numbers before its components and the components stands the count, and the first fault is the fault.
 use Rattle.visits.proofs.CodeStyledLaws as laws
-use borrow.Author.Rules.{rules}
 use Rattle.visits.proofs.document.style_count.Goals as goal
 
 pub returns-in-At : goal.returns-in-At

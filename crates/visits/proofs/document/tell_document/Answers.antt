@@ -1,7 +1,6 @@
 -- What is left to store into the state comes to what was to be stored in all: a selector stores its block if it has a style, and the others stand behind it.
 use Rattle.visits.proofs.CodeTellLaws as laws
 use mathlib.Core.Path.{refl}
-use borrow.Author.Rules.{rules}
 use Rattle.visits.proofs.document.tell_document.Goals as goal
 
 pub loop-left-init : goal.loop-left-init

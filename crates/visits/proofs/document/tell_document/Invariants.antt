@@ -1,6 +1,5 @@
 -- What is left to store into the state comes to what was to be stored in all: a selector stores its block if it has a style, and the others stand behind it.
 use Rattle.visits.proofs.CodeTellLaws as laws
-use mathlib.Core.Path.{refl}
 use Rattle.visits.proofs.document.tell_document.Given as goal
 
 abbrev pub invariant-loop-left : goal.invariant-loop-left

@@ -1,8 +1,6 @@
 -- Each turn stores the block of one selector, and the visit says where the next one is.
 use mathlib.Core.Path.{refl}
-use Rattle.sweeps.specs.Met.{row_alone, handed_element}
 use Rattle.visits.proofs.CodePassLaws as laws
-use borrow.Author.Rules.{rules}
 use Rattle.visits.proofs.passing.pass_blocks.Goals as goal
 
 pub loop-left-init : goal.loop-left-init

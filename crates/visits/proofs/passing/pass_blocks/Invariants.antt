@@ -1,5 +1,4 @@
 -- Each turn stores the block of one selector, and the visit says where the next one is.
-use mathlib.Core.Path.{refl}
 use Rattle.sweeps.specs.Met.{row_alone, handed_element}
 use Rattle.visits.proofs.CodePassLaws as laws
 use Rattle.visits.proofs.passing.pass_blocks.Given as goal

@@ -1,6 +1,5 @@
 -- A segment that does not end here stays; of one that does, the head of its selector says whether it is the last, which matches, or where the one before it is looked for.
 use Rattle.visits.proofs.CodeVisitLaws as laws
-use borrow.Author.Rules.{rules}
 use Rattle.visits.proofs.visiting.next_awaited.Goals as goal
 
 pub returns-then-awaited-first : goal.returns-then-awaited-first

@@ -1,6 +1,5 @@
 -- The segment that `segment_before` finds is the one of the definition, so its place and its fresh flags are the block that is to be stored.
 use Rattle.visits.proofs.CodeVisitLaws as laws
-use borrow.Author.Rules.{rules}
 use Rattle.visits.proofs.visiting.put_awaits.Goals as goal
 
 pub returns : goal.returns

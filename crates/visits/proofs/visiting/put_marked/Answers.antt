@@ -1,6 +1,5 @@
 -- The three stores stand one behind the other.
 use Rattle.visits.proofs.CodeVisitLaws as laws
-use borrow.Author.Rules.{rules}
 use Rattle.visits.proofs.visiting.put_marked.Goals as goal
 
 pub returns : goal.returns

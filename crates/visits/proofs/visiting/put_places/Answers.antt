@@ -1,6 +1,5 @@
 -- Two stores, the second two bytes behind the first, are the bytes of both numbers one behind the other.
 use Rattle.visits.proofs.CodeVisitLaws as laws
-use borrow.Author.Rules.{rules}
 use Rattle.visits.proofs.visiting.put_places.Goals as goal
 
 pub returns : goal.returns

@@ -1,6 +1,5 @@
 -- A block with a mark that the parent's part holds whole has room in the own one too; its first compound is the one that the mark says. Any other goes the longer way.
 use Rattle.visits.proofs.CodeVisitLaws as laws
-use borrow.Author.Rules.{rules}
 use Rattle.visits.proofs.visiting.visit.Goals as goal
 
 pub visit_marked-matched-requires : goal.visit_marked-matched-requires

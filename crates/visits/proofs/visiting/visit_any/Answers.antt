@@ -1,6 +1,5 @@
 -- The places are those of the parent's part, and the first compound begins the sweep: what is told by it is what the visit tells. Of no bytes there is no compound.
 use Rattle.visits.proofs.CodeVisitLaws as laws
-use borrow.Author.Rules.{rules}
 use Rattle.visits.proofs.visiting.visit_any.Goals as goal
 
 pub returns-then-compiled-gt0 : goal.returns-then-compiled-gt0

@@ -1,6 +1,5 @@
 -- Tests that do not pass are some, so the block that stays has their count; those that pass are swept as any other.
 use Rattle.visits.proofs.CodeVisitLaws as laws
-use borrow.Author.Rules.{rules}
 use Rattle.visits.proofs.visiting.visit_marked.Goals as goal
 
 pub returns-then-ends : goal.returns-then-ends

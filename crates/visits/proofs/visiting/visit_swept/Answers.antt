@@ -1,6 +1,5 @@
 -- What is awaited next decides what is told: the same segment with the flags behind its first compound, or the one before it, of which nothing has begun.
 use Rattle.visits.proofs.CodeVisitLaws as laws
-use borrow.Author.Rules.{rules}
 use Rattle.visits.proofs.visiting.visit_swept.Goals as goal
 
 pub returns-in-Same : goal.returns-in-Same

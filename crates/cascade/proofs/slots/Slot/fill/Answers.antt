@@ -1,6 +1,5 @@
 -- A filled slot stays, an empty one takes the value.
 use Rattle.cascade.proofs.SlotLaws.{fill-keeps, fill-takes}
-use borrow.Author.Rules.{rules}
 use Rattle.cascade.proofs.slots.Slot.fill.Goals as goal
 
 pub returns-then-self : goal.returns-then-self

@@ -1,6 +1,5 @@
 -- An empty slot takes the value; a filled one keeps its own exactly where that is held against the new.
 use Rattle.cascade.proofs.SlotLaws.{crate-keeps, crate-takes, crate-fills}
-use borrow.Author.Rules.{rules}
 use Rattle.cascade.proofs.slots.Slot.maybe_update.Goals as goal
 
 pub returns-then-held_against : goal.returns-then-held_against

@@ -2,7 +2,6 @@
 use mathlib.Core.Path.{refl}
 use Rattle.combinators.specs.Choice.{pick}
 use Rattle.cascade.specs.Slot.{slot_by}
-use borrow.Author.Rules.{rules}
 use Rattle.cascade.proofs.slots.Slot.new.Goals as goal
 
 pub returns : goal.returns

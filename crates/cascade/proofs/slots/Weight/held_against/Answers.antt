@@ -1,7 +1,6 @@
 -- Importance, origin and specificity in this order, as the definition asks them.
 use Rattle.cascade.specs.Slot.{held_against}
 use Rattle.combinators.proofs.Rules.{cases}
-use borrow.Author.Rules.{rules}
 use Rattle.cascade.proofs.slots.Weight.held_against.Goals as goal
 
 pub returns-then-held_by_importance : goal.returns-then-held_by_importance

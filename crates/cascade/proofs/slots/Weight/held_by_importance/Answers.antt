@@ -1,7 +1,6 @@
 -- Both marks as the definition asks them.
 use Rattle.cascade.specs.Slot.{held_by_importance}
 use Rattle.combinators.proofs.Rules.{cases}
-use borrow.Author.Rules.{rules}
 use Rattle.cascade.proofs.slots.Weight.held_by_importance.Goals as goal
 
 pub returns-then-new : goal.returns-then-new

@@ -1,7 +1,6 @@
 -- The order of origins, turned round where the new value is important.
 use Rattle.cascade.specs.Slot.{held_by_origin}
 use Rattle.combinators.proofs.Rules.{cases}
-use borrow.Author.Rules.{rules}
 use Rattle.cascade.proofs.slots.Weight.held_by_origin.Goals as goal
 
 pub returns-then-new : goal.returns-then-new

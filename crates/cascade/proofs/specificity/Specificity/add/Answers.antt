@@ -1,6 +1,5 @@
 -- Field by field the sums of the definition, which fit by what is asked.
 use Rattle.cascade.specs.Specificity.{sum}
-use borrow.Author.Rules.{rules}
 use Rattle.cascade.proofs.specificity.Specificity.add.Goals as goal
 
 pub returns : goal.returns

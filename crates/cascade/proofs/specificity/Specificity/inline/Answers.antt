@@ -1,7 +1,6 @@
 -- The constant is the definition's.
 use mathlib.Core.Path.{refl}
 use Rattle.cascade.specs.Specificity.{inline_specificity}
-use borrow.Author.Rules.{rules}
 use Rattle.cascade.proofs.specificity.Specificity.inline.Goals as goal
 
 pub returns : goal.returns

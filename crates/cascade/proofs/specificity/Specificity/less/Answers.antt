@@ -2,7 +2,6 @@
 use mathlib.Core.Path.{◌∙◌, sym}
 use Rattle.cascade.specs.Specificity.{less}
 use Rattle.cascade.proofs.Orders.{flags-same, flag-below, flag-above}
-use borrow.Author.Rules.{rules}
 use Rattle.cascade.proofs.specificity.Specificity.less.Goals as goal
 
 pub returns-then-other : goal.returns-then-other

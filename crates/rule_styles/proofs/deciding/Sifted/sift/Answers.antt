@@ -1,6 +1,5 @@
 -- A style for another slot changes nothing; one for the slot is the last of its kind.
 use Rattle.rule_styles.proofs.DecidingRows.{sifted-away, sifted-important, sifted-normal}
-use borrow.Author.Rules.{rules}
 use Rattle.rule_styles.proofs.deciding.Sifted.sift.Goals as goal
 
 pub returns-then-style-slot : goal.returns-then-style-slot
