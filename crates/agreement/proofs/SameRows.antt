@@ -65,6 +65,10 @@ pub data Alike (t u : List ℕ) (k : ℕ) : Slot Value → Slot Value → Type 0
 
 -- two that say one slot
 slots-alike : (t u : List ℕ) (k : ℕ) (a : Slot Value) (c : Slot StyleValue) → SameSlot (Says t) a c → (b : Slot Value) → SameSlot (Says u) b c → Own k c → Alike t u k a b
+slots-alike t u k empty empty both-empty (held b) x15 o = elim x15 [ ]
+slots-alike t u k empty (held c) x7 b _ o = elim x7 [ ]
+slots-alike t u k (held a) empty x6 b _ o = elim x6 [ ]
+slots-alike t u k (held a) (held c) (both-held p) empty x14 o = elim x14 [ ]
 slots-alike t u k empty empty both-empty empty both-empty o = neither
 slots-alike t u k (held a) (held c) (both-held p) (held b) (both-held q) o =
     both (p.weights ∙ sym q.weights) (values_agree t u k c.value a.value b.value o p.values q.values)
@@ -86,6 +90,8 @@ held_start c = refl
 
 -- a number that is not where a content's text lies is the same in both
 slot-numbers-same : (t u : List ℕ) (k n : ℕ) (a b : Slot Value) → Alike t u k a b → (n < slot_number) ⊎ ((n ≡ slot_start) ⊎ ¬ (k ≡ content_slot)) → get_or (slot_numbers a) n 0 ≡ get_or (slot_numbers b) n 0
+slot-numbers-same t u k n empty (held b) x4 h = elim x4 [ ]
+slot-numbers-same t u k n (held a) empty x4 h = elim x4 [ ]
 slot-numbers-same t u k n empty empty neither h = refl
 slot-numbers-same t u k n (held a) (held b) (both w v) (inl h) = held-front a n h ∙ ap (λ (x : Weight). get_or (weight_numbers x) n 0) w ∙ sym (held-front b n h)
 slot-numbers-same t u k n (held a) (held b) (both w v) (inr (inl h)) = rw h (held_start a ∙ v.starts ∙ sym (held_start b))
@@ -101,6 +107,8 @@ flag_small (held c) = omega arith
 -- of two such slots, where the flag of one is 0, all numbers of both are 0
 zeros-same : (t u : List ℕ) (k n : ℕ) (a b : Slot Value) → Alike t u k a b → get_or (slot_numbers a) 0 0 ≡ 0 → n < slot_width → (get_or (slot_numbers a) n 0 ≡ 0) × (get_or (slot_numbers b) n 0 ≡ 0)
 unfolding slot_numbers
+zeros-same t u k n empty (held b) x6 e h = elim x6 [ ]
+zeros-same t u k n (held a) empty x5 e h = elim x5 [ ]
 zeros-same t u k n empty empty neither e h = (get_or-replicate slot_width n 0 0 h, get_or-replicate slot_width n 0 0 h)
 zeros-same t u k n (held a) (held b) (both w v) e h = absurd (let z : ◌≡◌ {A = ℕ} 1 0 = e in omega (arith, z))
 
@@ -113,6 +121,8 @@ record SpanSame (t u : List ℕ) (a b : Slot Value) : Type 0 where
 -- where they are filled
 spans-same : (t u : List ℕ) (a b : Slot Value) → Alike t u content_slot a b → get_or (slot_numbers a) 0 0 ≡ filled_flag → SpanSame t u a b
 unfolding slot_numbers value_numbers
+spans-same t u empty (held b) x4 e = elim x4 [ ]
+spans-same t u (held a) empty x4 e = elim x4 [ ]
 spans-same t u empty empty neither e = absurd (let z : ◌≡◌ {A = ℕ} 0 1 = e in omega (arith, z))
 spans-same t u (held a) (held b) (both w v) e = let s = v.texts refl in record { within-x = s.within-t; within-y = s.within-u; same = s.same }
 

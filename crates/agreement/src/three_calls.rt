@@ -35,8 +35,8 @@ fn compile_sheets(
     tokens: &mut [u32],
     brackets: &mut [u8],
 ) -> CompileNumbers
-    ensures brackets_after { record { answer = result; compiled = compiled.exit.now; texts = texts.new; rules = rules.new; tokens = tokens.new; brackets = brackets.new }
-        ≡ compile_with (record { agent = agent.entry.now; user = user.now; author = author.now }) (record { compiled = compiled.entry.now; texts = texts.old; rules = rules.old; tokens = tokens.old; brackets = brackets.old }) }
+    ensures brackets_after { record { answer = result; compiled = compiled.new; texts = texts.new; rules = rules.new; tokens = tokens.new; brackets = brackets.new }
+        ≡ compile_with (record { agent = agent.now; user = user.now; author = author.now }) (record { compiled = compiled.old; texts = texts.old; rules = rules.old; tokens = tokens.old; brackets = brackets.old }) }
     ensures bytes_in_bounds { result.bytes ≤ length compiled.new }
 {
     numbers_of(compile(
@@ -60,8 +60,8 @@ fn run_bytes(
     brackets: &mut [u8],
 ) -> RunAnswer
     requires { bytes ≤ length compiled.now }
-    ensures { record { answer = result; rows = rows.exit.now; texts = texts.new; state = state.new; rules = rules.new; tokens = tokens.new; brackets = brackets.new }
-        ≡ run_with (take bytes compiled.now) settings (record { nodes = nodes.entry.now; attributes = attributes.now; text = text.now }) (record { rows = rows.entry.now; texts = texts.old; state = state.old; rules = rules.old; tokens = tokens.old; brackets = brackets.old }) }
+    ensures { record { answer = result; rows = rows.new; texts = texts.new; state = state.new; rules = rules.new; tokens = tokens.new; brackets = brackets.new }
+        ≡ run_with (take bytes compiled.now) settings (record { nodes = nodes.now; attributes = attributes.now; text = text.now }) (record { rows = rows.old; texts = texts.old; state = state.old; rules = rules.old; tokens = tokens.old; brackets = brackets.old }) }
 {
     run(
         settings,
@@ -99,10 +99,10 @@ fn compile_and_run(
     run_tokens: &mut [u32],
     run_brackets: &mut [u8],
 ) -> RunAnswers
-    ensures compile_brackets_after { record { answer = result.compiling; compiled = compiled.exit.now; texts = compile_texts.new; rules = compile_rules.new; tokens = compile_tokens.new; brackets = compile_brackets.new }
-        ≡ compile_with (record { agent = agent.entry.now; user = user.now; author = author.now }) (record { compiled = compiled.entry.now; texts = compile_texts.old; rules = compile_rules.old; tokens = compile_tokens.old; brackets = compile_brackets.old }) }
-    ensures run_brackets_after { record { answer = result.running; rows = rows.exit.now; texts = run_texts.new; state = state.new; rules = run_rules.new; tokens = run_tokens.new; brackets = run_brackets.new }
-        ≡ run_with (take result.compiling.bytes compiled.new) settings (record { nodes = nodes.entry.now; attributes = attributes.now; text = text.now }) (record { rows = rows.entry.now; texts = run_texts.old; state = state.old; rules = run_rules.old; tokens = run_tokens.old; brackets = run_brackets.old }) }
+    ensures compile_brackets_after { record { answer = result.compiling; compiled = compiled.new; texts = compile_texts.new; rules = compile_rules.new; tokens = compile_tokens.new; brackets = compile_brackets.new }
+        ≡ compile_with (record { agent = agent.now; user = user.now; author = author.now }) (record { compiled = compiled.old; texts = compile_texts.old; rules = compile_rules.old; tokens = compile_tokens.old; brackets = compile_brackets.old }) }
+    ensures run_brackets_after { record { answer = result.running; rows = rows.new; texts = run_texts.new; state = state.new; rules = run_rules.new; tokens = run_tokens.new; brackets = run_brackets.new }
+        ≡ run_with (take result.compiling.bytes compiled.new) settings (record { nodes = nodes.now; attributes = attributes.now; text = text.now }) (record { rows = rows.old; texts = run_texts.old; state = state.old; rules = run_rules.old; tokens = run_tokens.old; brackets = run_brackets.old }) }
 {
     let compiling = compile_sheets(
         agent,
@@ -159,12 +159,12 @@ pub fn compile_run_style(
     style_tokens: &mut [u32],
     style_brackets: &mut [u8],
 ) -> CallAnswers
-    ensures compile_brackets_after { record { answer = result.compiling; compiled = compiled.exit.now; texts = compile_texts.new; rules = compile_rules.new; tokens = compile_tokens.new; brackets = compile_brackets.new }
-        ≡ compile_with (record { agent = agent.entry.now; user = user.now; author = author.now }) (record { compiled = compiled.entry.now; texts = compile_texts.old; rules = compile_rules.old; tokens = compile_tokens.old; brackets = compile_brackets.old }) }
-    ensures run_brackets_after { record { answer = result.running; rows = rows.exit.now; texts = run_texts.new; state = state.new; rules = run_rules.new; tokens = run_tokens.new; brackets = run_brackets.new }
-        ≡ run_with (take result.compiling.bytes compiled.new) settings (record { nodes = nodes.entry.now; attributes = attributes.now; text = text.now }) (record { rows = rows.entry.now; texts = run_texts.old; state = state.old; rules = run_rules.old; tokens = run_tokens.old; brackets = run_brackets.old }) }
+    ensures compile_brackets_after { record { answer = result.compiling; compiled = compiled.new; texts = compile_texts.new; rules = compile_rules.new; tokens = compile_tokens.new; brackets = compile_brackets.new }
+        ≡ compile_with (record { agent = agent.now; user = user.now; author = author.now }) (record { compiled = compiled.old; texts = compile_texts.old; rules = compile_rules.old; tokens = compile_tokens.old; brackets = compile_brackets.old }) }
+    ensures run_brackets_after { record { answer = result.running; rows = rows.new; texts = run_texts.new; state = state.new; rules = run_rules.new; tokens = run_tokens.new; brackets = run_brackets.new }
+        ≡ run_with (take result.compiling.bytes compiled.new) settings (record { nodes = nodes.now; attributes = attributes.now; text = text.now }) (record { rows = rows.old; texts = run_texts.old; state = state.old; rules = run_rules.old; tokens = run_tokens.old; brackets = run_brackets.old }) }
     ensures style_brackets_after { record { answer = result.styling; row = out.new; texts = style_texts.new; rules = style_rules.new; tokens = style_tokens.new; brackets = style_brackets.new }
-        ≡ style_with settings (record { agent = agent.entry.now; user = user.now; author = author.now }) (record { nodes = nodes.entry.now; attributes = attributes.now; text = text.now }) row (record { row = out.old; texts = style_texts.old; rules = style_rules.old; tokens = style_tokens.old; brackets = style_brackets.old }) }
+        ≡ style_with settings (record { agent = agent.now; user = user.now; author = author.now }) (record { nodes = nodes.now; attributes = attributes.now; text = text.now }) row (record { row = out.old; texts = style_texts.old; rules = style_rules.old; tokens = style_tokens.old; brackets = style_brackets.old }) }
     ensures agreed { Agreed (record { answer = result.compiling; compiled = compiled.new; texts = compile_texts.new; rules = compile_rules.new; tokens = compile_tokens.new; brackets = compile_brackets.new }) (record { answer = result.running; rows = rows.new; texts = run_texts.new; state = state.new; rules = run_rules.new; tokens = run_tokens.new; brackets = run_brackets.new }) (record { answer = result.styling; row = out.new; texts = style_texts.new; rules = style_rules.new; tokens = style_tokens.new; brackets = style_brackets.new }) row }
 {
     let answers = compile_and_run(

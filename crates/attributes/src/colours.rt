@@ -71,7 +71,7 @@ pub fn merge_colour_attribute(
 )
     requires row_room { RowRoom out.old }
     requires room { Room (length value.now) fill tokens.old brackets.old texts.old }
-    ensures out_after { out.new ≡ merged_row cascade out.old (map (from_attribute false spec) (attribute_colours (record { name = name.entry.now; value = value.now }))) }
+    ensures out_after { out.new ≡ merged_row cascade out.old (map (from_attribute false spec) (attribute_colours (record { name = name.now; value = value.now }))) }
     ensures texts_unchanged { take fill texts.new ≡ take fill texts.old }
 {
     if same_text(name, &COLOR_NAME) {

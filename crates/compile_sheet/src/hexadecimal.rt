@@ -34,7 +34,7 @@ fn emit_pair(b: u8, store: &mut [u8], fill: usize) -> usize
 
 // The line of `bytes`; the fill behind it.
 pub fn emit_line(bytes: &[u8], store: &mut [u8], fill: usize) -> usize
-    ensures { record { bytes = store.new; fill = result } ≡ emits (record { bytes = store.old; fill = fill }) (hex_line bytes.entry.now) }
+    ensures { record { bytes = store.new; fill = result } ≡ emits (record { bytes = store.old; fill = fill }) (hex_line bytes.now) }
 {
     let mut f = fill;
     let mut i = 0;

@@ -24,7 +24,7 @@ use Rattle.syntax.specs.Declaration as syntax
 use Rattle.syntax.specs.Selector as pseudo
 use Rattle.values.specs.Colour.{rgb, numeral, all_of}
 use Rattle.values.specs.Property.{unsigned_zero, number_zero, any_of, height_of, first_word, overflow_of, display_of, white_space_of, decl_of}
-use Rattle.values.specs.Words.{kind_of, first_of, number_of, unit_of, is_kind, lookup, found_or, on_found}
+use Rattle.values.specs.Words.{kind_of, token_first, number_of, unit_of, is_kind, lookup, found_or, on_found}
 use Rattle.selectors.specs.Selector.{pseudo_of}
 use Rattle.grammar.specs.Nth.{unsigned, plus, minus, written_sign, negative, worth}
 use Rattle.grammar.specs.Selectors.{Quoted, byte, escaped, unprocessed, typed, universal, one, written_simples, written_compound, written, means_compound, in_order, Agrees, written_pseudo, Tight, Group, several, written_chosen, written_group, means_chosen, means_group}
@@ -158,7 +158,7 @@ test-keywords = (refl, refl, refl, refl, refl)
 -- a full stop, 45 zeros and `7px` is a height of zero, one zero less is not
 test-finest : (decl_of (text "height") (tokens.dimension (ascii.full_stop ∷ (replicate 45 ascii.digit_zero ++ text "7")) (text "px") ∷ []) ≡ syntax.height true)
     × (decl_of (text "height") (tokens.dimension (ascii.full_stop ∷ (replicate 44 ascii.digit_zero ++ text "7")) (text "px") ∷ []) ≡ syntax.height false)
-unfolding decl_of height_of any_of number_zero unsigned_zero skip_whitespace whitespace_item is_whitespace comment_of digits sign one_digit is_digit many took decimal.rounds_to_zero decimal.numerator decimal.denominator decimal.number decimal.digits decimal.digit unit_of number_of first_of lookup found_or on_found is_kind kind_of columns_of coded text_of same_text text utf8 continuation pick or and is within
+unfolding decl_of height_of any_of number_zero unsigned_zero skip_whitespace whitespace_item is_whitespace comment_of digits sign one_digit is_digit many took decimal.rounds_to_zero decimal.numerator decimal.denominator decimal.number decimal.digits decimal.digit unit_of number_of token_first lookup found_or on_found is_kind kind_of columns_of coded text_of same_text text utf8 continuation pick or and is within
 test-finest = (refl, refl)
 
 -- `::BEFORE` and `::first-line` are no pseudo elements

@@ -21,7 +21,7 @@ use Rattle.lexer.specs.TokenRow.{columns_of}
 use Rattle.lexer.proofs.SyntaxName.{letter, ident_start, ident_code_point}
 use Rattle.syntax.specs.Declaration as syntax
 use Rattle.syntax.specs.Declaration.{Colour, Overflow, WhiteSpace}
-use Rattle.values.specs.Words.{Entry, Found, found, missing, found_or, lookup, on_found, kind_of, first_of, number_of, unit_of, is_kind}
+use Rattle.values.specs.Words.{Entry, Found, found, missing, found_or, lookup, on_found, kind_of, token_first, number_of, unit_of, is_kind}
 use Rattle.values.specs.Colour.{rgb, colours, all_of, one_token, colour_of, hash_colour, behind_comma, background_of}
 use Rattle.values.specs.Property.{number_zero, units, any_of, height_of, first_word, overflow_of, display_of, white_space_of, content_of, properties, decl_of}
 use Rattle.values.proofs.CssColour.{six-digits, replicated, functional}
@@ -200,7 +200,7 @@ units-agree = (refl, (refl, (refl, (refl, (refl, (refl, (refl, (refl, tt))))))))
 
 -- a dimension with one of them
 dimension-height : (t u : List ℕ) (z : Bool) → any_of u units ≡ true → number_zero t ≡ z → height_of (tokens.dimension t u ∷ []) ≡ found z
-unfolding height_of is_kind kind_of first_of number_of unit_of columns_of coded text_of pick is
+unfolding height_of is_kind kind_of token_first number_of unit_of columns_of coded text_of pick is
 dimension-height t u z h e = rw (drop-append_seam t u, take-append_seam t u, h, e)
 
 -- a number that is zero

@@ -37,7 +37,7 @@ use Rattle.lexer.proofs.Idents.{char-plain, start_plain, name-some, name-none}
 use Rattle.lexer.proofs.SyntaxWhitespace.{White, Comment, none, white, comment, skips-blank}
 use Rattle.values.specs.Value.{bracket_by, bracket_of}
 use Rattle.values.specs.Value as values
-use Rattle.values.specs.Words.{kind_of, first_of, is_kind, is_delim}
+use Rattle.values.specs.Words.{kind_of, token_first, is_kind, is_delim}
 use Rattle.grammar.specs.Nth.{Blanks}
 use Rattle.grammar.specs.Balanced.{tilde, is_plain, Bracket, round, square, curly, Balanced, end, space, remark, plain, quoted, semicolon, bang, block, opens, closes, written_balanced, is_mark, Clear, Outside, Tight, Calm}
 use Rattle.grammar.proofs.NthRead.{starts-not}
@@ -704,7 +704,7 @@ harmless-dimension b u = (refl, refl)
 
 -- and a delimiter that is no '!'
 harmless-delim : (x : ℕ) → is x ascii.exclamation_mark ≡ false → Harmless (tokens.delim x)
-unfolding bracket_of bracket_by coded is_delim is_kind kind_of first_of columns_of and is
+unfolding bracket_of bracket_by coded is_delim is_kind kind_of token_first columns_of and is
 harmless-delim x e = (refl, e)
 
 -- a colon and a comma

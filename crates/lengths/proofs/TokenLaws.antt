@@ -22,7 +22,7 @@ use Rattle.lexer.proofs.Bounds.{Fits, bound-two}
 use Rattle.lexer.proofs.IdentBounds.{ident-fits}
 use Rattle.lexer.proofs.TokenAnswers.{name-ok, name-err}
 use Rattle.syntax.proofs.Streams.{held-part, sets-held}
-use Rattle.values.specs.Words.{is_kind, kind_of, first_of, number_of, unit_of}
+use Rattle.values.specs.Words.{is_kind, kind_of, token_first, number_of, unit_of}
 use Rattle.lengths.specs.Number as numbers
 use Rattle.lengths.specs.Number.{numeric_of, plus, text_start, numeric_token}
 use Rattle.lengths.specs.Length.{dimension_length, number_length, token_length, only_whitespace, length_of}
@@ -111,7 +111,7 @@ module _ (place : ℕ) (t : List ℕ) (n : ℕ) where
 module _ (place : ℕ) (n u : List ℕ) where
   -- the length of a dimension is that of its number with its unit
   of-dimension : token_length place (dimension n u) ≡ dimension_length place n u
-  unfolding token_length is_kind kind_of first_of number_of unit_of coded columns_of text_of pick is
+  unfolding token_length is_kind kind_of token_first number_of unit_of coded columns_of text_of pick is
   of-dimension = rw (take_at n u (length n) refl, drop_at n u (length n) refl)
 
   -- the length of a number is that of a number without a unit

@@ -40,10 +40,10 @@ fn run_row(
     fill: usize,
 ) -> usize
     requires { RowReady compiled.now (record { nodes = nodes.now; attributes = attributes.now; text = text.now }) rows.old state.old rules.old tokens.old brackets.old texts.old row fill }
-    ensures texts_after { record { rows = rows.exit.now; state = state.new; texts = take result texts.new }
-        ≡ run_step compiled.now settings (record { nodes = nodes.entry.now; attributes = attributes.now; text = text.now }) row (record { rows = rows.entry.now; state = state.old; texts = take fill texts.old }) }
+    ensures texts_after { record { rows = rows.new; state = state.new; texts = take result texts.new }
+        ≡ run_step compiled.now settings (record { nodes = nodes.now; attributes = attributes.now; text = text.now }) row (record { rows = rows.old; state = state.old; texts = take fill texts.old }) }
     ensures upper_bound { result ≤ length texts.new }
-    ensures upper_bound_2 { result ≤ texts_most (record { nodes = nodes.entry.now; attributes = attributes.now; text = text.now }) (row + 1) }
+    ensures upper_bound_2 { result ≤ texts_most (record { nodes = nodes.now; attributes = attributes.now; text = text.now }) (row + 1) }
 {
     place_parent(nodes, row, rows);
     let node = row * NODE_WIDTH;
@@ -83,8 +83,8 @@ pub fn run_rows(
     texts: &mut [u8],
 ) -> usize
     requires { RunReady compiled.now (record { nodes = nodes.now; attributes = attributes.now; text = text.now }) rows.old state.old rules.old tokens.old brackets.old texts.old }
-    ensures texts_after { record { rows = rows.exit.now; state = state.new; texts = take result texts.new }
-        ≡ run_of compiled.now settings (record { nodes = nodes.entry.now; attributes = attributes.now; text = text.now }) rows.entry.now state.old }
+    ensures texts_after { record { rows = rows.new; state = state.new; texts = take result texts.new }
+        ≡ run_of compiled.now settings (record { nodes = nodes.now; attributes = attributes.now; text = text.now }) rows.old state.old }
     ensures upper_bound { result ≤ length texts.new }
 {
     let count = node_count(nodes);

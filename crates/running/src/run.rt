@@ -76,7 +76,7 @@ fn run_page(
 ) -> RunAnswer
     requires { RunReady compiled.now (record { nodes = nodes.now; attributes = attributes.now; text = text.now }) rows.old state.old rules.old tokens.old brackets.old texts.old }
     ensures { record { answer = result; rows = rows.new; texts = texts.new; state = state.new; rules = rules.new; tokens = tokens.new; brackets = brackets.new }
-        ≡ ran rows.old texts.old state.old rules.old tokens.old brackets.old compiled.now settings (record { nodes = nodes.entry.now; attributes = attributes.now; text = text.now }) }
+        ≡ ran rows.old texts.old state.old rules.old tokens.old brackets.old compiled.now settings (record { nodes = nodes.now; attributes = attributes.now; text = text.now }) }
 {
     let fill = run_rows(
         settings, compiled, nodes, attributes, text, rows, state, rules, tokens, brackets, texts,
@@ -102,7 +102,7 @@ fn run_checked(
 ) -> RunAnswer
     requires { Lengths compiled.now (record { nodes = nodes.now; attributes = attributes.now; text = text.now }) rows.old state.old rules.old tokens.old brackets.old texts.old }
     ensures { record { answer = result; rows = rows.new; texts = texts.new; state = state.new; rules = rules.new; tokens = tokens.new; brackets = brackets.new }
-        ≡ run_by rows.old texts.old state.old rules.old tokens.old brackets.old compiled.now settings (record { nodes = nodes.entry.now; attributes = attributes.now; text = text.now }) (page_refusal nodes.entry.now attributes.now text.now) (bytes_refusal compiled.now) }
+        ≡ run_by rows.old texts.old state.old rules.old tokens.old brackets.old compiled.now settings (record { nodes = nodes.now; attributes = attributes.now; text = text.now }) (page_refusal nodes.now attributes.now text.now) (bytes_refusal compiled.now) }
 {
     let page = page::check::refusal_of(check_page(nodes, attributes, text));
     if page.number == NO_REFUSAL {
@@ -133,7 +133,7 @@ pub fn run(
     brackets: &mut [u8],
 ) -> RunAnswer
     ensures { record { answer = result; rows = rows.new; texts = texts.new; state = state.new; rules = rules.new; tokens = tokens.new; brackets = brackets.new }
-        ≡ run_call rows.old texts.old state.old rules.old tokens.old brackets.old compiled.now settings (record { nodes = nodes.entry.now; attributes = attributes.now; text = text.now }) }
+        ≡ run_call rows.old texts.old state.old rules.old tokens.old brackets.old compiled.now settings (record { nodes = nodes.now; attributes = attributes.now; text = text.now }) }
 {
     if compiled.len() > COMPILED_LIMIT {
         return refused_run(refused(TOO_LONG));

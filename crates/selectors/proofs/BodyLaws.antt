@@ -12,7 +12,7 @@ use Rattle.lexer.specs.Name.{ident_of}
 use Rattle.syntax.specs.Selector.{Component, element}
 use Rattle.selectors.specs.Outcome.{Outcome, reads, fails, panics, on_outcome, behind, parsed, or_else}
 use Rattle.selectors.specs.Selector.{component_of, components_of, components_from, some_of, with_element_of, without_element_of, body_of, is_descendant, without_blank, without_first}
-use Rattle.selectors.specs.Components.{first_of, started_of, kept_of}
+use Rattle.selectors.specs.Components.{first_component, started_of, kept_of}
 use Rattle.selectors.proofs.AllLaws.{reads-no, panics-no, behind-never, then_never}
 use Rattle.selectors.proofs.ComponentEnds.{component-some, none_left, enough_turns}
 
@@ -183,15 +183,15 @@ unfolding components_from
 never-behind n t c e = behind-never n (components_of (length t) t) (λ cs. c ∷ cs) (never-fail (length t) t) e
 
 -- a type selector is the first component
-first-name : (t : List ℕ) (n : ℕ) (name : List ℕ) → ident_of t ≡ ok n name → first_of t ≡ reads n (element name)
-unfolding first_of parsed or_else
+first-name : (t : List ℕ) (n : ℕ) (name : List ℕ) → ident_of t ≡ ok n name → first_component t ≡ reads n (element name)
+unfolding first_component parsed or_else
 first-name t n name e =
     let z : 0 + n ≡ n = omega arith in
     rw (e, z)
 
 -- or else any component is
-first-other : (t : List ℕ) → ident_of t ≡ err → first_of t ≡ component_of t
-unfolding first_of parsed or_else
+first-other : (t : List ℕ) → ident_of t ≡ err → first_component t ≡ component_of t
+unfolding first_component parsed or_else
 first-other t e = rw e
 
 -- a selector that begins with a type selector is it and the components behind it
@@ -205,7 +205,7 @@ unfolding with_element_of on_parsed
 with_none t e = rw e
 
 -- by whether there is a type selector
-by_name : (t : List ℕ) (p : Parsed (List ℕ)) → ident_of t ≡ p → started_of t ≡ first_behind (first_of t) (λ n. components_from (drop n t))
+by_name : (t : List ℕ) (p : Parsed (List ℕ)) → ident_of t ≡ p → started_of t ≡ first_behind (first_component t) (λ n. components_from (drop n t))
 unfolding started_of body_of
 by_name t (ok n name) e =
     rw (
@@ -217,5 +217,5 @@ by_name t (ok n name) e =
 by_name t err e = rw (with_none t e, or-fails {A = List Component} fails (without_element_of t) refl, first-other t e) (by_first t (component_of t) refl)
 
 -- a selector's components are the first one, without which it does not read, and those behind it
-pub started : (t : List ℕ) → started_of t ≡ first_behind (first_of t) (λ n. components_from (drop n t))
+pub started : (t : List ℕ) → started_of t ≡ first_behind (first_component t) (λ n. components_from (drop n t))
 started t = by_name t (ident_of t) refl

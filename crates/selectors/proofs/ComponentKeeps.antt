@@ -25,7 +25,7 @@ use Rattle.selectors.specs.Outcome.{Outcome, reads, fails, panics, parsed, or_el
 use Rattle.selectors.specs.Selector as selector
 use Rattle.selectors.specs.Selector.{class_of, hash_of, closed, value_of, attr_of, nth_args_of, pseudo_class_of, marked, blank_of, component_of}
 use Rattle.selectors.specs.NthAnswer.{greatest_signed}
-use Rattle.selectors.specs.Components.{first_of, next_of}
+use Rattle.selectors.specs.Components.{first_component, next_of}
 use Rattle.selectors.proofs.AllLaws.{Where, where-else}
 use Rattle.selectors.proofs.NthKeeps.{NthKeeps, args-keeps}
 use Rattle.selectors.proofs.AttrLaws.{quoted-keeps}
@@ -187,7 +187,7 @@ component-keeps s =
 
 -- the next one: a type selector at the start of a selector, or else any
 pub next-keeps : (start : Bool) (s : List ℕ) → ComponentKeeps s (next_of start s)
-unfolding next_of first_of
+unfolding next_of first_component
 next-keeps start s = pick-holds (ComponentKeeps s) start _ _ (λ _. or-keeps s _ _ (element-keeps s) (component-keeps s)) (λ _. component-keeps s)
 
 -- the numbers that go to its row

@@ -18,7 +18,7 @@ use Rattle.syntax.specs.Writing.{ComponentFits}
 use Rattle.syntax.proofs.RowSizes.{length-components}
 use Rattle.selectors.specs.Outcome.{Outcome, reads, fails, panics, on_outcome, behind}
 use Rattle.selectors.specs.Selector.{component_of, components_of, components_from}
-use Rattle.selectors.specs.Components.{text_length, first_of, next_of, kept_of, started_of}
+use Rattle.selectors.specs.Components.{text_length, first_component, next_of, kept_of, started_of}
 use Rattle.selectors.specs.ComponentAnswer.{component_answer}
 use Rattle.selectors.specs.Stores.{Clean}
 use Rattle.selectors.specs.Reading.{written, TextRoom, RowRoom}
@@ -117,7 +117,7 @@ module _ (s : List ℕ) (turns taken : ℕ) (enough : length s ≤ taken + turns
     later t = rw (is-no (taken + n) 0 (λ e. absurd (omega arith)))
 
     -- at the start: the first component is read, and behind it components in turns for all bytes
-    first-turn : is taken 0 ≡ true → first_of s ≡ reads n c → taken + n ≡ n
+    first-turn : is taken 0 ≡ true → first_component s ≡ reads n c → taken + n ≡ n
         → rest_of s turns taken ≡ behind n (components_of (length (drop (taken + n) s)) (drop (taken + n) s)) (λ more. kept_of true c ++ more)
     unfolding rest_of first_behind components_from on_outcome pick
     first-turn b e z = rw (b, z) (started s ∙ rw e)
@@ -136,7 +136,7 @@ module _ (s : List ℕ) (turns taken : ℕ) (enough : length s ≤ taken + turns
     unfolding next_of pick
     step true b e =
         let z : taken ≡ 0 = is_true taken 0 b in
-        let f : first_of s ≡ reads n c = ap (λ (i : ℕ). first_of (drop i s)) (sym z) ∙ e in
+        let f : first_component s ≡ reads n c = ap (λ (i : ℕ). first_component (drop i s)) (sym z) ∙ e in
         record {
           others = length (drop (taken + n) s);
           suffice = omega (arith, length-drop (taken + n) s);
@@ -151,7 +151,7 @@ module _ (s : List ℕ) (turns taken : ℕ) (enough : length s ≤ taken + turns
   first-none b e =
       let z : taken ≡ 0 = is_true taken 0 b in
       let f : next_of true (drop taken s) ≡ fails = ap (λ (i : Bool). next_of i (drop taken s)) (sym b) ∙ e in
-      started s ∙ rw (ap (λ (i : ℕ). first_of (drop i s)) (sym z) ∙ f)
+      started s ∙ rw (ap (λ (i : ℕ). first_component (drop i s)) (sym z) ∙ f)
 
   -- where no further component reads, what is left to be read is no components
   later-none : (t : ℕ) → is taken 0 ≡ false → next_of (is taken 0) (drop taken s) ≡ fails → rest_of s t taken ≡ reads 0 []
@@ -166,7 +166,7 @@ module _ (s : List ℕ) (turns taken : ℕ) (enough : length s ≤ taken + turns
   unfolding rest_of next_of components_of first_behind on_outcome pick
   panics-at true b p e t l =
       let z : taken ≡ 0 = is_true taken 0 b in
-      let f : first_of s ≡ panics p = ap (λ (i : ℕ). first_of (drop i s)) (sym z) ∙ e in
+      let f : first_component s ≡ panics p = ap (λ (i : ℕ). first_component (drop i s)) (sym z) ∙ e in
       rw b (started s ∙ rw f)
   panics-at false b p e zero l = absurd (none-panics (drop taken s) p (omega (arith, length-drop taken s)) e)
   panics-at false b p e (suc t) l = rw (b, e)

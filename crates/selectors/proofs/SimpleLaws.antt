@@ -14,7 +14,7 @@ use Rattle.syntax.specs.Selector.{child, star, descendant, element}
 use Rattle.syntax.specs.RuleLayout.{component_text}
 use Rattle.selectors.specs.Outcome.{Outcome, reads, fails, panics, on_outcome, parsed, or_else}
 use Rattle.selectors.specs.Selector.{class_of, attr_of, hash_of, pseudo_class_of, marked, blank_of, component_of}
-use Rattle.selectors.specs.Components.{first_of, next_of}
+use Rattle.selectors.specs.Components.{first_component, next_of}
 use Rattle.selectors.specs.Reading.{written}
 use Rattle.selectors.specs.ComponentAnswer.{component_answer, mark_of, named_of}
 use Rattle.selectors.specs.declared.components.ComponentAnswer.{ComponentAnswer}
@@ -193,7 +193,7 @@ module _ (start : ℕ) (s st : List ℕ) (fill : ℕ) where
   module _ (h : start ≡ 0) (r : ComponentAnswer) (z : List ℕ) (w : Left (parsed 0 (ident_of s) element) st fill r z) where
     -- at the start of a selector a type selector that reads or panics is the next component
     pub next-element : OneOf some (tag_of the_type r) → Left (next_of (is start 0) s) st fill r z
-    unfolding next_of first_of pick
+    unfolding next_of first_component pick
     next-element k = rw (is-yes start 0 h) (left-first _ _ st fill r z w k)
 
     -- no type selector was read: any component is tried
@@ -204,5 +204,5 @@ module _ (start : ℕ) (s st : List ℕ) (fill : ℕ) where
 
       -- where none was read, what the reader of any component leaves is left
       pub next-other : (x : ComponentAnswer) (y : List ℕ) → Left (component_of s) z fill x y → Left (next_of (is start 0) s) st fill x y
-      unfolding next_of first_of pick
+      unfolding next_of first_component pick
       next-other x y v = rw (is-yes start 0 h) (left-second _ _ st fill (tried _ st fill r z w e).0 x y (rw next-same at v))

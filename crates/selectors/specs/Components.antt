@@ -13,12 +13,12 @@ text_length k a b = pick (is k nth_kind) 0 (a + b)
 
 -- ---- selectors in the order of the code
 -- the first component: a type selector where there is one, or else any
-unfoldable pub first_of : List ℕ → Outcome Component
-first_of t = or_else (parsed 0 (ident_of t) element) (component_of t)
+unfoldable pub first_component : List ℕ → Outcome Component
+first_component t = or_else (parsed 0 (ident_of t) element) (component_of t)
 
 -- the next component, at the start or behind others
 unfoldable pub next_of : Bool → List ℕ → Outcome Component
-next_of start t = pick start (first_of t) (component_of t)
+next_of start t = pick start (first_component t) (component_of t)
 
 -- what is kept of it: a blank at the start is dropped
 unfoldable pub kept_of : Bool → Component → List Component

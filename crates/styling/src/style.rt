@@ -325,7 +325,7 @@ fn style_asked(
 ) -> StyleAnswer
     requires { AskedLent (record { agent = agent.now; user = user.now; author = author.now }) (record { nodes = nodes.now; attributes = attributes.now; text = text.now }) out.old rules.old tokens.old brackets.old texts.old }
     ensures { record { answer = result; row = out.new; texts = texts.new; rules = rules.new; tokens = tokens.new; brackets = brackets.new }
-        ≡ asked_left out.old texts.old rules.old tokens.old brackets.old cascade settings (record { nodes = nodes.entry.now; attributes = attributes.now; text = text.now }) row (sheets_of agent.now user.now author.now) }
+        ≡ asked_left out.old texts.old rules.old tokens.old brackets.old cascade settings (record { nodes = nodes.now; attributes = attributes.now; text = text.now }) row (sheets_of agent.now user.now author.now) }
 {
     let refusal = refusal_of(check_page(nodes, attributes, text));
     if refusal.number == NO_REFUSAL {
@@ -358,7 +358,7 @@ fn style_by(
     brackets: &mut [u8],
 ) -> StyleAnswer
     ensures { record { answer = result; row = out.new; texts = texts.new; rules = rules.new; tokens = tokens.new; brackets = brackets.new }
-        ≡ style_of cascade settings (record { agent = agent.entry.now; user = user.now; author = author.now }) (record { nodes = nodes.entry.now; attributes = attributes.now; text = text.now }) row out.old texts.old rules.old tokens.old brackets.old }
+        ≡ style_of cascade settings (record { agent = agent.now; user = user.now; author = author.now }) (record { nodes = nodes.now; attributes = attributes.now; text = text.now }) row out.old texts.old rules.old tokens.old brackets.old }
 {
     if any_too_long(agent.len(), user.len(), author.len()) {
         return refused_style(refused(TOO_LONG));
@@ -401,7 +401,7 @@ pub fn style(
     brackets: &mut [u8],
 ) -> StyleAnswer
     ensures { record { answer = result; row = out.new; texts = texts.new; rules = rules.new; tokens = tokens.new; brackets = brackets.new }
-        ≡ style_of Crate settings (record { agent = agent.entry.now; user = user.now; author = author.now }) (record { nodes = nodes.entry.now; attributes = attributes.now; text = text.now }) row out.old texts.old rules.old tokens.old brackets.old }
+        ≡ style_of Crate settings (record { agent = agent.now; user = user.now; author = author.now }) (record { nodes = nodes.now; attributes = attributes.now; text = text.now }) row out.old texts.old rules.old tokens.old brackets.old }
 {
     style_by(
         Cascade::Crate,
@@ -438,7 +438,7 @@ pub fn style_book(
     brackets: &mut [u8],
 ) -> StyleAnswer
     ensures { record { answer = result; row = out.new; texts = texts.new; rules = rules.new; tokens = tokens.new; brackets = brackets.new }
-        ≡ style_of Book settings (record { agent = agent.entry.now; user = user.now; author = author.now }) (record { nodes = nodes.entry.now; attributes = attributes.now; text = text.now }) row out.old texts.old rules.old tokens.old brackets.old }
+        ≡ style_of Book settings (record { agent = agent.now; user = user.now; author = author.now }) (record { nodes = nodes.now; attributes = attributes.now; text = text.now }) row out.old texts.old rules.old tokens.old brackets.old }
 {
     style_by(
         Cascade::Book,

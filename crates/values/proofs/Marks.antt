@@ -11,7 +11,7 @@ use Rattle.combinators.specs.Word.{same_text}
 use Rattle.combinators.proofs.Rules.{and_both, and_left, and_right, and-gives, is-yes, is-no, told}
 use Rattle.characters.specs.Literal.{text}
 use Rattle.lexer.specs.TokenRow.{token_width, kind_column, first_column, ident_kind, delim_kind}
-use Rattle.values.specs.Words.{first_of, is_word, is_delim}
+use Rattle.values.specs.Words.{token_first, is_word, is_delim}
 use Rattle.values.specs.Value.{is_mark, is_important}
 use Rattle.values.specs.View.{token_here, first_text, tokens_at}
 use Rattle.values.proofs.TokenViews.{kind-told, here-text, here-delim, tokens-here, tokens_none, ident-text, delim-kind}
@@ -58,7 +58,7 @@ module _ (rows store : List ℕ) where
       -- of this scalar value
       module _ (e : d ≡ true) (x : ℕ) (ex : x ≡ get_or rows (m + first_column) 0) where
         -- the scalar value of the last but one is the number in its row
-        sign-is : first_of (token_here rows store m) ≡ x
+        sign-is : token_first (token_here rows store m) ≡ x
         sign-is = here-delim rows store m (told _ _ _ ed e) ∙ sym ex
 
         -- where that delimiter is no '!', there is no mark

@@ -14,7 +14,7 @@ use Rattle.lexer.specs.TokenRow.{token_width, kind_column, start_column, first_c
 use Rattle.lexer.specs.declared.tokens.Token as lexer
 use Rattle.lexer.specs.declared.tokens.Token.TheVariants as code
 use Rattle.syntax.specs.Stream.{read_many}
-use Rattle.values.specs.Words.{kind_of, first_of, number_of, unit_of, is_kind}
+use Rattle.values.specs.Words.{kind_of, token_first, number_of, unit_of, is_kind}
 use Rattle.values.specs.View.{token_with, read_token, token_here, first_text, second_text, tokens_at}
 
 -- ---- kinds
@@ -162,18 +162,18 @@ module _ (rows store : List ℕ) (p : ℕ) where
 
   -- a dimension's number and unit
   pub here-number : is kind dimension_kind ≡ true → number_of (token_here rows store p) ≡ first_text rows store p
-  unfolding first_text number_of first_of columns_of coded text_of token_with token_from pick is
+  unfolding first_text number_of token_first columns_of coded text_of token_with token_from pick is
   here-number e = ap number_of (here-as dimension_kind e) ∙ take-append_seam (part store start first) (part store (start + first) second)
 
   -- a dimension's unit lies behind its number
   pub here-unit : is kind dimension_kind ≡ true → unit_of (token_here rows store p) ≡ second_text rows store p
-  unfolding second_text unit_of first_of columns_of coded text_of token_with token_from pick is
+  unfolding second_text unit_of token_first columns_of coded text_of token_with token_from pick is
   here-unit e = ap unit_of (here-as dimension_kind e) ∙ drop-append_seam (part store start first) (part store (start + first) second)
 
   -- the scalar value of a delimiter is the number in its row
-  pub here-delim : is kind delim_kind ≡ true → first_of (token_here rows store p) ≡ first
-  unfolding first_of columns_of coded token_with token_from pick is
-  here-delim e = ap first_of (here-as delim_kind e)
+  pub here-delim : is kind delim_kind ≡ true → token_first (token_here rows store p) ≡ first
+  unfolding token_first columns_of coded token_with token_from pick is
+  here-delim e = ap token_first (here-as delim_kind e)
 
   -- the code cuts its text from the store by two numbers of its row
   pub text-cut : (s n : ℕ) → s ≡ start → n ≡ first → (t : List ℕ) → t ≡ part store s n → t ≡ first_text rows store p

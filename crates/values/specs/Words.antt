@@ -11,15 +11,15 @@ unfoldable pub kind_of : Token → ℕ
 kind_of k = (columns_of (coded k)).kind
 
 -- the length of a dimension's number, the scalar value of a delimiter
-unfoldable pub first_of : Token → ℕ
-first_of k = (columns_of (coded k)).first
+unfoldable pub token_first : Token → ℕ
+token_first k = (columns_of (coded k)).first
 
 -- a dimension's number and its unit
 unfoldable pub number_of : Token → List ℕ
-number_of k = take (first_of k) (text_of k)
+number_of k = take (token_first k) (text_of k)
 
 unfoldable pub unit_of : Token → List ℕ
-unit_of k = drop (first_of k) (text_of k)
+unit_of k = drop (token_first k) (text_of k)
 
 unfoldable pub is_kind : ℕ → Token → Bool
 is_kind n k = is (kind_of k) n
@@ -30,7 +30,7 @@ is_word w k = and (is_kind ident_kind k) (same_text (text_of k) w)
 
 -- the delimiter c
 unfoldable pub is_delim : ℕ → Token → Bool
-is_delim c k = and (is_kind delim_kind k) (is (first_of k) c)
+is_delim c k = and (is_kind delim_kind k) (is (token_first k) c)
 
 -- ---- tables of words
 
