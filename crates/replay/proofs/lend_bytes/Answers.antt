@@ -1,6 +1,5 @@
 -- A part that is lent has as many bytes as were asked for, which `lent` bounds by the length of the buffer.
-use Rattle.std.proofs.Common.{sym, arith, length-take-le, rules}
-use borrow.Author.Rules.{rules}
+use Rattle.std.proofs.Common.{sym, arith, length-take-le}
 use Rattle.replay.proofs.lend_bytes.Goals as goal
 
 pub slice_bounds-judged-end-2 : goal.slice_bounds-judged-end-2

@@ -1,6 +1,5 @@
 -- A part that is lent has as many numbers as were asked for, which `lent` bounds by the length of the buffer.
-use Rattle.std.proofs.Common.{sym, arith, length-take-le, rules}
-use borrow.Author.Rules.{rules}
+use Rattle.std.proofs.Common.{sym, arith, length-take-le}
 use Rattle.replay.proofs.lend_numbers.Goals as goal
 
 pub slice_bounds-lend_bytes-end-2 : goal.slice_bounds-lend_bytes-end-2

@@ -1,5 +1,5 @@
 -- The count of vectors falls, and the window keeps its length.
-use Rattle.std.proofs.Common.{◌≡◌, length, rules}
+use Rattle.std.proofs.Common.{◌≡◌, length}
 use Rattle.replay.proofs.replay_all.Given as goal
 
 abbrev pub invariant-loop-left : goal.invariant-loop-left

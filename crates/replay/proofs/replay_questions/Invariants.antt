@@ -1,5 +1,5 @@
 -- Each question takes one from those that are left.
-use Rattle.std.proofs.Common.{◌≤◌, rules}
+use Rattle.std.proofs.Common.{◌≤◌}
 use Rattle.replay.proofs.replay_questions.Given as goal
 
 abbrev pub invariant-loop-left : goal.invariant-loop-left

@@ -1,5 +1,5 @@
 -- The index stays below the six results.
-use Rattle.std.proofs.Common.{◌-◌, ◌≤◌, rules}
+use Rattle.std.proofs.Common.{◌-◌, ◌≤◌}
 use Rattle.replay.proofs.settle_results.Given as goal
 
 abbrev pub invariant-loop-k : goal.invariant-loop-k

@@ -1,6 +1,5 @@
 -- Below ten a decimal digit, from ten on a letter: the two cases of the definition.
 use Rattle.compile_sheet.proofs.HexadecimalLaws as laws
-use borrow.Author.Rules.{rules}
 use Rattle.compile_sheet.proofs.hexadecimal.digit.Goals as goal
 
 pub returns-then-n-lt-DECIMAL_BASE : goal.returns-then-n-lt-DECIMAL_BASE

@@ -1,8 +1,5 @@
 -- What is left to write at a byte is what was to be written; behind the last byte that is the end of the line.
 use Rattle.compile_sheet.proofs.HexadecimalLaws as laws
-use Prim.Native.Nat.{◌-◌}
-use lib.ListN.{length}
-use borrow.Author.Rules.{rules}
 use Rattle.compile_sheet.proofs.hexadecimal.emit_line.Goals as goal
 
 pub loop-i-init : goal.loop-i-init

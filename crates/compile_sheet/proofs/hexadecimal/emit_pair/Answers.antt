@@ -1,6 +1,5 @@
 -- Two digits, one behind the other, are the pair.
 use Rattle.compile_sheet.proofs.HexadecimalLaws as laws
-use borrow.Author.Rules.{rules}
 use Rattle.compile_sheet.proofs.hexadecimal.emit_pair.Goals as goal
 
 pub returns : goal.returns

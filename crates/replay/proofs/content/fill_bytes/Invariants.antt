@@ -1,5 +1,5 @@
 -- The buffer keeps its length, and each index is tested against it.
-use Rattle.std.proofs.Common.{◌≡◌, ◌-◌, ◌≤◌, length, rules}
+use Rattle.std.proofs.Common.{◌≡◌, ◌-◌, length}
 use Rattle.replay.proofs.content.fill_bytes.Given as goal
 
 abbrev pub invariant-loop-i : goal.invariant-loop-i

@@ -1,5 +1,5 @@
 -- The count of parts falls to zero, and the buffer keeps its length.
-use Rattle.std.proofs.Common.{◌≡◌, length, rules}
+use Rattle.std.proofs.Common.{◌≡◌, length}
 use Rattle.replay.proofs.content.put_bytes.Given as goal
 
 abbrev pub invariant-loop-left : goal.invariant-loop-left

@@ -1,5 +1,5 @@
 -- Each number is written within the buffer, which keeps its length; the count falls to zero.
-use Rattle.std.proofs.Common.{◌≡◌, length, rules}
+use Rattle.std.proofs.Common.{◌≡◌, length}
 use Rattle.replay.proofs.content.put_list.Given as goal
 
 abbrev pub invariant-loop-left : goal.invariant-loop-left

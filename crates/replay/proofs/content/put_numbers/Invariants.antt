@@ -1,5 +1,5 @@
 -- The count of lists falls to zero, and the buffer keeps its length.
-use Rattle.std.proofs.Common.{◌≡◌, length, rules}
+use Rattle.std.proofs.Common.{◌≡◌, length}
 use Rattle.replay.proofs.content.put_numbers.Given as goal
 
 abbrev pub invariant-loop-left : goal.invariant-loop-left

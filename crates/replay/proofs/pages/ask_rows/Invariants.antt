@@ -1,5 +1,5 @@
 -- The row goes up to the count of rows, and the store keeps its length.
-use Rattle.std.proofs.Common.{◌≡◌, ◌-◌, ◌≤◌, length, rules}
+use Rattle.std.proofs.Common.{◌≡◌, ◌-◌, ◌≤◌, length}
 use Rattle.replay.proofs.pages.ask_rows.Given as goal
 
 abbrev pub invariant-loop-row : goal.invariant-loop-row

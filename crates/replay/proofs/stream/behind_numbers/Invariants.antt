@@ -1,5 +1,5 @@
 -- The count falls to zero.
-use Rattle.std.proofs.Common.{◌-◌, ◌≤◌, rules}
+use Rattle.std.proofs.Common.{◌≤◌}
 use Rattle.replay.proofs.stream.behind_numbers.Given as goal
 
 abbrev pub invariant-loop-left : goal.invariant-loop-left

@@ -1,5 +1,5 @@
 -- The place stays within the text; the value is cut before it grows, so that it fits.
-use Rattle.std.proofs.Common.{◌-◌, ◌≤◌, length, rules}
+use Rattle.std.proofs.Common.{◌-◌, ◌≤◌, length}
 use Rattle.replay.proofs.stream.number_at.Given as goal
 
 abbrev pub invariant-loop-i : goal.invariant-loop-i

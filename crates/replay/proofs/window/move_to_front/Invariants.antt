@@ -1,5 +1,5 @@
 -- The place that is read is never before the one that is written, and both stay within the window.
-use Rattle.std.proofs.Common.{◌≡◌, ◌-◌, ◌≤◌, length, arith, length-set, rules}
+use Rattle.std.proofs.Common.{◌≡◌, ◌-◌, ◌≤◌, length}
 use Rattle.replay.proofs.window.move_to_front.Given as goal
 
 abbrev pub invariant-loop-from : goal.invariant-loop-from
