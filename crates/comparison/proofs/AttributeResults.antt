@@ -12,13 +12,11 @@ use Rattle.combinators.proofs.LeastLaws.{least}
 use Rattle.combinators.proofs.Rules.{pick_true, pick-false}
 use Rattle.values.specs.Layout.{Room}
 use Rattle.values.specs.declared.colours.ColourAnswer.{ColourAnswer}
-use Rattle.declarations.specs.Leaving.{Leaves, ColourLeft, colour_left, style_left, StyleRoom}
+use Rattle.declarations.specs.Leaving.{colour_left, style_left, StyleRoom}
 use Rattle.declarations.specs.declared.attributes.StylesRead.{StylesRead}
 use Rattle.declarations.proofs.LeastLengths.{least-room, least-style-room}
 use Rattle.page.specs.Accepted.{text_limit}
-use Rattle.comparison.specs.Attributes.{refused_or, refused_styles, styles_result, StyleCalled, style_read, style_called, refused_colour, colour_result, ColourCalled, colour_read, colour_called}
-use Rattle.comparison.specs.declared.values_read.StylesResult.{StylesResult}
-use Rattle.comparison.specs.declared.values_read.ColourResult.{ColourResult}
+use Rattle.comparison.specs.Attributes.{refused_or, refused_styles, styles_result, style_read, style_called, refused_colour, colour_result, colour_read, colour_called}
 
 -- ---- refusals, in their order
 module _ {A : Type 0} (s : List ℕ) (rules tokens brackets texts : ℕ) (refused : ℕ → A) (answer : A) where

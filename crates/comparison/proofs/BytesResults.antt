@@ -1,10 +1,10 @@
 -- Returns of `comparison_check_bytes`, from what `check_sheet` answers.
 use Prim.Native.Nat.{ℕ, ◌≤◌, ◌<◌}
 use mathlib.Core.List.{List}
-use mathlib.Core.Path.{◌≡◌, refl, ap, sym, ◌∙◌}
+use mathlib.Core.Path.{◌≡◌, refl, ap, ◌∙◌}
 use borrow.Author.Tests.{lt-ltb, le-ltb}
 use lib.ListN.{length}
-use Rattle.combinators.specs.Refusal.{refused, refused_at, too_long}
+use Rattle.combinators.specs.Refusal.{refused_at, too_long}
 use Rattle.combinators.specs.declared.refusals.Refusal.{Refusal}
 use Rattle.combinators.proofs.Rules.{pick_true, pick-false}
 use Rattle.compiled.specs.Answer.{refusal_of, bytes_refusal}

@@ -1,19 +1,18 @@
 -- Returns of `comparison_matches` and what it calls, in the order of the refusals.
-use Prim.Native.Nat.{ℕ, suc, ◌*◌, ◌≤◌, ◌<◌}
+use Prim.Native.Nat.{ℕ, ◌*◌, ◌≤◌, ◌<◌}
 use mathlib.Core.Bool.{Bool}
 use mathlib.Core.List.{List}
-use mathlib.Core.Path.{◌≡◌, refl, ap, sym, subst, ◌∙◌}
+use mathlib.Core.Path.{◌≡◌, refl, ap, sym, ◌∙◌}
 use native.Mathlib.Omega.{arith}
 use borrow.Author.Tests.{lt-ltb, le-ltb, le-leb, lt-leb}
 use lib.ListN.{length}
-use Rattle.combinators.specs.Choice.{pick, is}
 use Rattle.combinators.specs.Refusal.{no_refusal, too_long, short_store, no_element}
 use Rattle.combinators.specs.declared.refusals.Refusal.{Refusal}
-use Rattle.combinators.proofs.Rules.{pick_true, pick-false, and_both, and_left, and_right, is-yes, is-yes-of, is-no-of, pick-holds}
+use Rattle.combinators.proofs.Rules.{pick_true, pick-false, and_both, and_left, and_right, is-yes, is-yes-of, is-no-of}
 use Rattle.syntax.specs.Layout.{flag}
 use Rattle.syntax.specs.RuleLayout.{component_width}
 use Rattle.cascade.specs.declared.specificity.Specificity.{Specificity}
-use Rattle.page.specs.Accepted.{rows_refusal, page_refusal}
+use Rattle.page.specs.Accepted.{page_refusal}
 use Rattle.page.specs.PathOf.{path_of}
 use Rattle.page.specs.Rows.{node_count, node_at, element_kind}
 use Rattle.matching.specs.Matches.{matches}

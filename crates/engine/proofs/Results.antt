@@ -19,7 +19,7 @@ use Rattle.page.specs.declared.check.PageAnswer.{PageAnswer}
 use Rattle.page.specs.declared.check.PageAnswer.TheVariants as page
 use Rattle.compiler.specs.CompileAnswer.{CompileLeft}
 use Rattle.compiler.specs.declared.answers.CompileNumbers.{CompileNumbers}
-use Rattle.combinators.specs.Choice.{pick, is}
+use Rattle.combinators.specs.Choice.{is}
 use Rattle.combinators.proofs.Rules.{pick_true, pick-false, pick-holds, is-yes, is-no}
 use Rattle.styles.specs.declared.settings.Settings.{Settings}
 use Rattle.styling.specs.StyleAnswer.{StyleLeft}

@@ -1,15 +1,15 @@
 -- The claim about a style call, from its contract's own definition; and of the book order that each slot is what CSS Cascading has (result 7, S-2).
-use mathlib.Core.Path.{◌≡◌, refl, ap, sym, subst, ◌∙◌}
+use mathlib.Core.Path.{◌≡◌, refl, ap}
 use mathlib.Core.Bool.{Bool, true, false}
-use mathlib.Core.List.{List, [], ◌∷◌, ◌++◌}
-use Prim.Native.Nat.{ℕ, ◌+◌, ◌-◌, ◌≤◌, ◌<◌}
+use mathlib.Core.List.{List, ◌∷◌}
+use Prim.Native.Nat.{ℕ, ◌-◌, ◌≤◌}
 use native.Mathlib.Omega.{arith}
 use lib.Dec.{leb}
 use lib.ListN.{length, take, replicate, length-append}
 use lib.Seq.{take_at}
 use Rattle.combinators.specs.Choice.{pick, and, is}
 use Rattle.combinators.specs.LeastLengths.{stores_suffice}
-use Rattle.combinators.specs.Refusal.{no_refusal, refused, refused_in, too_long, short_store, not_utf8, no_element, panic}
+use Rattle.combinators.specs.Refusal.{no_refusal, refused, too_long, short_store, not_utf8, no_element}
 use Rattle.combinators.specs.declared.refusals.Refusal.{Refusal}
 use Rattle.combinators.proofs.Rules.{is_false}
 use Rattle.syntax.specs.Selector.{RuleSet}
@@ -20,7 +20,7 @@ use Rattle.cascade.specs.declared.slots.Cascade.{Cascade}
 use Rattle.cascade.specs.declared.slots.Cascade.TheVariants.{Book}
 use Rattle.cascade.specs.Related.{SameStyle}
 use Rattle.cascade.specs.Record.{book_declared, BookDecides}
-use Rattle.cascade.specs.Row.{style_row_width, row_of, style_at, RowFine}
+use Rattle.cascade.specs.Row.{style_row_width, style_at, RowFine}
 use Rattle.cascade.proofs.RowBack.{row_fine}
 use Rattle.page.specs.Accepted.{page_refusal}
 use Rattle.page.specs.Path.{Element, Path}

@@ -6,7 +6,7 @@ use lib.ListN.{length}
 use Rattle.syntax.specs.Style.{agent_origin, user_origin, author_origin}
 use Rattle.syntax.specs.declared.styles.Value.{Value}
 use Rattle.cascade.specs.declared.slots.Cascade.{Cascade}
-use Rattle.cascade.specs.Record.{ComputedStyle, Formed, Declared, RuleStyle, AttributeStyle, Sources, merge_by, from_rule, declared_by, inherit_by, handed_by, finish_by, cascade_by}
+use Rattle.cascade.specs.Record.{ComputedStyle, Formed, Declared, AttributeStyle, merge_by, from_rule, inherit_by, handed_by, finish_by, cascade_by}
 use Rattle.cascade.specs.Slot.{update_by}
 use Rattle.cascade.proofs.Cascading.{inherit-by-formed, merges-formed}
 use Rattle.page.specs.Path.{Path}

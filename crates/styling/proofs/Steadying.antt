@@ -1,26 +1,23 @@
 -- What the call keeps of three sheets stays the same whatever is written behind it, and the stores suffice for a path.
 use mathlib.Core.Path.{◌≡◌, refl, ap, sym, ◌∙◌}
-use mathlib.Core.List.{List, [], ◌∷◌, ◌++◌, map, append_assoc}
-use Prim.Native.Nat.{ℕ, ◌+◌, ◌-◌, ◌*◌, ◌^◌, ◌≤◌, ◌<◌}
+use mathlib.Core.List.{List, ◌++◌, map, append_assoc}
+use Prim.Native.Nat.{ℕ, ◌+◌, ◌-◌, ◌*◌, ◌≤◌}
 use native.Mathlib.Omega.{arith}
 use lib.ListN.{length, take, drop, length-append, take-append-drop}
 use lib.Seq.{sets, sets-eq, length-sets, take_at, drop_at, drop-drop, length-take-le}
 use Rattle.combinators.proofs.Wiped.{sets-append}
-use Rattle.syntax.specs.RuleLayout.{rule_rows, rule_texts}
 use Rattle.syntax.specs.Selector.{Selector, RuleSet}
-use Rattle.syntax.specs.declared.styles.Value.{Value}
 use Rattle.origins.specs.declared.reading.SheetRules.{SheetRules}
 use Rattle.origins.specs.declared.reading.SheetsRules.{SheetsRules}
 use Rattle.origins.proofs.SheetsKnown.{from_first, from_second, from-third, rows_held, texts_held, rows-length, zr, zt, rows_are, texts-are}
 use Rattle.page.specs.Path.{Path}
 use Rattle.matching.specs.Rows.{Rooted}
-use Rattle.styles.specs.Room.{values_along, attributes_along}
-use Rattle.styles.specs.Said.{Rules, StyledRule}
+use Rattle.styles.specs.Said.{Rules}
 use Rattle.styles.specs.StyleCall.{rules_contents, sheets_contents, placed_rules, placed_sheets}
 use Rattle.rule_styles.specs.Deciding.{deciding_rule}
-use Rattle.rule_styles.specs.Placing.{sheet_text, rules_selectors, kept_rules, rules_kept}
+use Rattle.rule_styles.specs.Placing.{sheet_text, rules_selectors, kept_rules}
 use Rattle.path_styles.specs.Path.{kept_sheet, kept_sheets, SameKept, SheetsTops, Steady, PathRoom}
-use Rattle.path_styles.specs.Tops.{selectors_tops, sheet_selectors, sheets_selectors, TextsIn, SheetsTopsRoom, ready_places, ready_counts, ready_sheets}
+use Rattle.path_styles.specs.Tops.{selectors_tops, sheet_selectors, sheets_selectors, SheetsTopsRoom, ready_places, ready_counts, ready_sheets}
 use Rattle.path_styles.specs.declared.tops.ReadySheets.{ReadySheets}
 use Rattle.rule_styles.specs.Held.{SheetsHeld, PathHeld, sheets_kept, styled_places}
 use Rattle.rule_styles.specs.declared.styled.StyledSheets.{StyledSheets}

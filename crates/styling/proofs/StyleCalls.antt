@@ -1,15 +1,15 @@
 -- Returns of the style call: sheets that are read into stores that were cleared, the page and the row that is asked, and the refusals in their order.
 use mathlib.Core.Path.{◌≡◌, refl, ap, sym, ◌∙◌}
 use mathlib.Core.Bool.{Bool, true, false}
-use mathlib.Core.List.{List, [], ◌∷◌, ◌++◌}
-use Prim.Native.Nat.{ℕ, zero, suc, ◌+◌, ◌-◌, ◌*◌, ◌/◌, ◌^◌, ◌≤◌, ◌<◌}
+use mathlib.Core.List.{List, ◌++◌}
+use Prim.Native.Nat.{ℕ, zero, suc, ◌+◌, ◌-◌, ◌^◌, ◌≤◌, ◌<◌}
 use native.Mathlib.Omega.{arith}
 use borrow.Author.Tests.{ltb-true, leb-true}
-use lib.Dec.{leb, ltb, eqb}
-use lib.ListN.{length, drop, replicate, length-replicate}
-use lib.Seq.{sets, length-sets}
-use Rattle.combinators.specs.Choice.{pick, and, is}
-use Rattle.combinators.specs.LeastLengths.{text_least, bracket_least, number_least, stores_suffice, Least}
+use lib.Dec.{leb, ltb}
+use lib.ListN.{length, drop, replicate}
+use lib.Seq.{sets}
+use Rattle.combinators.specs.Choice.{and, is}
+use Rattle.combinators.specs.LeastLengths.{stores_suffice}
 use Rattle.combinators.specs.Refusal.{no_refusal, refused, refused_in, too_long, short_store, not_utf8, no_element, panic}
 use Rattle.combinators.specs.Store.{cleared}
 use Rattle.combinators.specs.declared.refusals.Refusal.{Refusal}
@@ -27,10 +27,10 @@ use Rattle.origins.proofs.ChecksLaws.{none-long}
 use Rattle.origins.proofs.SheetsKnown.{zeros_of, room-cleared, panic-known}
 use Rattle.cascade.specs.declared.slots.Cascade.{Cascade}
 use Rattle.cascade.specs.Row.{style_row_width}
-use Rattle.page.specs.Accepted.{text_limit, attributes_before, bytes_before, rows_refusal, page_refusal}
+use Rattle.page.specs.Accepted.{rows_refusal, page_refusal}
 use Rattle.page.specs.Path.{Path}
 use Rattle.page.specs.PathOf.{path_of}
-use Rattle.page.specs.Rows.{attribute_width, attribute_rows, number_bound, node_count, node_at, element_kind}
+use Rattle.page.specs.Rows.{attribute_rows, number_bound, node_count, node_at, element_kind}
 use Rattle.page.proofs.AcceptedPages.{Accepted, accepted}
 use Rattle.page.proofs.Sums.{bytes-within, attributes-before-within}
 use Rattle.matching.specs.Rows.{Rooted}
@@ -41,7 +41,7 @@ use Rattle.styles.specs.Said.{Rules}
 use Rattle.styles.specs.StyleCall.{call_row, call_store}
 use Rattle.styles.proofs.Called.{call-row-long}
 use Rattle.styles.proofs.Room.{path-values, path-attributes}
-use Rattle.rule_styles.specs.Held.{sheets_from, SheetsHeld, PathHeld}
+use Rattle.rule_styles.specs.Held.{sheets_from, SheetsHeld}
 use Rattle.styles.specs.Lent.{SheetTexts, Page}
 use Rattle.styling.specs.StyleAnswer.{call_bytes, is_element, StyleLeft, zeroed, unchanged, answered, styled_left, asked_left, style_of}
 use Rattle.styling.specs.Styling.{FewBytes, ReadRoom, CallLent, AskedLent}

@@ -1,11 +1,11 @@
 -- Returns of the functions of a style call.
 use mathlib.Core.Path.{◌≡◌, refl, ap, sym, ◌∙◌}
 use mathlib.Core.Bool.{Bool, true, false}
-use mathlib.Core.List.{List, [], ◌∷◌, ◌++◌, append_assoc, append-nil}
-use Prim.Native.Nat.{ℕ, ◌+◌, ◌-◌, ◌*◌, ◌/◌, ◌^◌, ◌≤◌, ◌<◌}
+use mathlib.Core.List.{List, ◌++◌, append_assoc}
+use Prim.Native.Nat.{ℕ, ◌+◌, ◌-◌, ◌≤◌, ◌<◌}
 use native.Mathlib.Omega.{arith}
 use borrow.Author.Tests.{lt-ltb, le-ltb, le-leb, lt-leb}
-use lib.Dec.{leb, ltb, eqb}
+use lib.Dec.{leb, eqb}
 use lib.ListN.{length, take, drop, replicate, length-append, length-drop}
 use lib.Seq.{sets, sets-eq, length-sets, take_at, drop_at, take-add, length-take-le}
 use Rattle.combinators.specs.Choice.{and, is}
@@ -25,7 +25,6 @@ use Rattle.page.specs.Rows.{node_count, node_at, element_kind}
 use Rattle.matching.specs.Rows.{Rooted}
 use Rattle.styles.specs.declared.settings.Settings.{Settings}
 use Rattle.styles.specs.Computed.{cascaded}
-use Rattle.styles.specs.Room.{values_along, attributes_along}
 use Rattle.styles.specs.Said.{Rules, StyledRule}
 use Rattle.styles.specs.StyleCall.{sheets_contents, path_contents, placed_sheets, placed_from, placed_along, call_store, call_row}
 use Rattle.styles.proofs.Room.{path-short}

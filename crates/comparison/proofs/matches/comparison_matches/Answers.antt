@@ -1,7 +1,6 @@
 -- The refusals in their order, each by its own test; a page that is accepted is asked for the row.
 use mathlib.Core.Path.{◌∙◌}
 use Rattle.comparison.proofs.MatchResults as results
-use borrow.Author.Rules.{rules}
 use Rattle.comparison.proofs.matches.comparison_matches.Goals as goal
 
 pub returns-then-count-gt-COMPONENT_LIMIT : goal.returns-then-count-gt-COMPONENT_LIMIT

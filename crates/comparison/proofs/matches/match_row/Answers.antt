@@ -1,7 +1,6 @@
 -- A row beyond the page and a row that is no element are refused; any other is an element of an accepted page, so the matcher may be asked.
 use mathlib.Core.Path.{◌∙◌}
 use Rattle.comparison.proofs.MatchResults as results
-use borrow.Author.Rules.{rules}
 use Rattle.comparison.proofs.matches.match_row.Goals as goal
 
 pub returns-then-row-node_count : goal.returns-then-row-node_count

@@ -1,7 +1,6 @@
 -- A value that is too long and stores that are too short are refused; stores of the least lengths have room for the reader, whose answer is told in numbers.
 use Rattle.comparison.specs.Attributes.{colour_result}
 use Rattle.comparison.proofs.AttributeResults as results
-use borrow.Author.Rules.{rules}
 use Rattle.comparison.proofs.values_read.comparison_color_attribute.Goals as goal
 
 pub returns-then-n-gt-TEXT_LIMIT : goal.returns-then-n-gt-TEXT_LIMIT

@@ -1,6 +1,5 @@
 -- The contract of `compile`, whose answer is told in numbers.
 use Rattle.engine.proofs.Results as results
-use borrow.Author.Rules.{rules}
 use Rattle.engine.proofs.compile.hicsolmab_compile.Goals as goal
 
 pub returns : goal.returns

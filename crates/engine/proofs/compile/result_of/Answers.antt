@@ -1,6 +1,5 @@
 -- Field by field the numbers of the answer.
 use Rattle.engine.specs.Compile.{numbers_in}
-use borrow.Author.Rules.{rules}
 use Rattle.engine.proofs.compile.result_of.Goals as goal
 
 pub returns : goal.returns

@@ -1,6 +1,5 @@
 -- What the call leaves, with its answer in numbers.
 use Rattle.engine.proofs.Results as results
-use borrow.Author.Rules.{rules}
 use Rattle.engine.proofs.length.hicsolmab_height_length.Goals as goal
 
 pub returns : goal.returns

@@ -1,7 +1,6 @@
 -- The numbers are told without the text of the refusal, which is 0.
 use Rattle.engine.specs.Length.{numbers_in}
 use Rattle.engine.proofs.Results as results
-use borrow.Author.Rules.{rules}
 use Rattle.engine.proofs.length.result_of.Goals as goal
 
 pub returns : goal.returns

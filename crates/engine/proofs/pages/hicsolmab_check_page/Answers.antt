@@ -1,7 +1,6 @@
 -- The contract of `check_page`, whose answer is told in numbers.
 use Rattle.engine.specs.Page.{refusal_in}
 use Rattle.engine.proofs.Results as results
-use borrow.Author.Rules.{rules}
 use Rattle.engine.proofs.pages.hicsolmab_check_page.Goals as goal
 
 pub returns : goal.returns

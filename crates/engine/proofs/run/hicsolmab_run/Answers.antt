@@ -1,5 +1,4 @@
 -- What the call leaves, its answer in numbers.
-use Rattle.running.specs.RunAnswer.{run_call}
 use Rattle.engine.proofs.Results as results
 use borrow.Author.Rules.{rules}
 use Rattle.engine.proofs.run.hicsolmab_run.Goals as goal

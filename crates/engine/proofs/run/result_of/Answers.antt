@@ -1,7 +1,6 @@
 -- The struct has the numbers of the answer.
 use mathlib.Core.Path.{refl}
 use Rattle.engine.specs.Run.{result_of}
-use borrow.Author.Rules.{rules}
 use Rattle.engine.proofs.run.result_of.Goals as goal
 
 pub returns : goal.returns

@@ -1,6 +1,5 @@
 -- The contract of `read_sheet`, whose answer is told in numbers.
 use Rattle.engine.proofs.Results as results
-use borrow.Author.Rules.{rules}
 use Rattle.engine.proofs.sheet.hicsolmab_read_sheet.Goals as goal
 
 pub returns : goal.returns

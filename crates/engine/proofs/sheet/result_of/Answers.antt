@@ -1,7 +1,6 @@
 -- Field by field the numbers of the answer.
 use Rattle.engine.specs.Sheet.{numbers_in}
 use Rattle.engine.proofs.Results as results
-use borrow.Author.Rules.{rules}
 use Rattle.engine.proofs.sheet.result_of.Goals as goal
 
 pub returns : goal.returns

@@ -1,7 +1,6 @@
 -- The struct tells the answer, number by number.
 use mathlib.Core.Path.{refl}
 use Rattle.engine.specs.Style.{answer_in}
-use borrow.Author.Rules.{rules}
 use Rattle.engine.proofs.style.result_of.Goals as goal
 
 pub returns : goal.returns

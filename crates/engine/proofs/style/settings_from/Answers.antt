@@ -1,6 +1,5 @@
 -- 0 is off, all else on.
 use Rattle.engine.proofs.Results as results
-use borrow.Author.Rules.{rules}
 use Rattle.engine.proofs.style.settings_from.Goals as goal
 
 pub returns-then-switch-eq-SWITCH_OFF : goal.returns-then-switch-eq-SWITCH_OFF

@@ -1,6 +1,5 @@
 -- The total so far and what is left to add give what all attribute rows give; over the limit it stays.
 use Rattle.styling.proofs.FrontLaws as laws
-use borrow.Author.Rules.{rules}
 use Rattle.styling.proofs.front.attributes_room.Goals as goal
 
 pub loop-left-init : goal.loop-left-init

@@ -1,5 +1,4 @@
 -- Each store is cleared from its place on.
-use borrow.Author.Rules.{rules}
 use Rattle.styling.proofs.front.clear_behind.Goals as goal
 
 pub returns : goal.returns

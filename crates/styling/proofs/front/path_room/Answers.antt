@@ -1,6 +1,5 @@
 -- The total so far and what the rows from here up ask for are what all rows ask for.
 use Rattle.styling.proofs.FrontLaws as laws
-use borrow.Author.Rules.{rules}
 use Rattle.styling.proofs.front.path_room.Goals as goal
 
 pub loop-above-init : goal.loop-above-init

@@ -1,5 +1,4 @@
 -- The row is cleared, then the stores.
-use borrow.Author.Rules.{rules}
 use Rattle.styling.proofs.style.clear_all.Goals as goal
 
 pub returns : goal.returns

@@ -1,6 +1,5 @@
 -- The row is on the page and an element, or it is not.
 use Rattle.styling.proofs.StyleTurns as laws
-use borrow.Author.Rules.{rules}
 use Rattle.styling.proofs.style.is_element.Goals as goal
 
 pub returns-then-row-node_count : goal.returns-then-row-node_count

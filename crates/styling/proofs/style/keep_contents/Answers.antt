@@ -1,7 +1,6 @@
 -- The contents move down to the start; what is cleared stands behind them.
 use native.Mathlib.Omega.{arith}
 use Rattle.styling.proofs.StyleTurns as laws
-use borrow.Author.Rules.{rules}
 use Rattle.styling.proofs.style.keep_contents.Goals as goal
 
 pub move_down-requires : goal.move_down-requires

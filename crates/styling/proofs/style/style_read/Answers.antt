@@ -1,9 +1,5 @@
 -- The styles are made, the numbers of selectors are found, the path is gone down, its contents are moved to the start; all else is cleared.
-use mathlib.Core.Path.{sym, ap, ◌∙◌}
-use native.Mathlib.Omega.{arith}
-use mathlib.Core.List.{◌++◌}
-use lib.ListN.{drop}
-use Rattle.cascade.specs.Row.{style_row_width}
+use mathlib.Core.Path.{sym, ◌∙◌}
 use Rattle.styling.proofs.StyleTurns as laws
 use borrow.Author.Rules.{rules}
 use Rattle.styling.proofs.style.style_read.Goals as goal

@@ -1,6 +1,5 @@
 -- The refusal is the one that says none, and the count of bytes is passed on.
 use mathlib.Core.Path.{ap}
-use borrow.Author.Rules.{rules}
 use Rattle.styling.proofs.style.styled_answer.Goals as goal
 
 pub returns : goal.returns
