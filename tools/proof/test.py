@@ -272,6 +272,9 @@ VIEW = """        module _ (the-before : Lts.Joined1 the-Pre) where
           pub open before use *
           pub type_inv : Typed-Joined-a before
 
+        abbrev pub Named-peek-a-requires : Type 0
+        Named-peek-a-requires = (c : Lts.Start the-Pre) → Lts.s7.asks
+
         abbrev pub Named-returns : Type 0
         Named-returns =
             (c : In-Joined-a) →
@@ -301,6 +304,7 @@ class Paths(unittest.TestCase):
                 (Path(folder) / name).write_text(text, encoding="utf-8")
             places = paths.Places(Path(folder) / "Lts", Path(folder) / "View")
         function = paths.function_of("characters", "is_continuation")
+        self.assertEqual(list(paths.facts("characters", function, places, "peek-a-requires")), [("", "", ".args.s .requires")])
         self.assertEqual(list(paths.facts("characters", function, places, "returns")), [
             ("", "", ".type_inv.s"), (".if-a", "", ".branch"), (".if-a", ".branch", "then-a w: w.if-a"),
             (".peek-a", "", ".result .new .type_inv .auto .ensures"), (".peek-a", ".ensures", "result ≡ get_or s.now i 0"), ("", "", ".args.s .requires"),
