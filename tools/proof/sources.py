@@ -3,6 +3,7 @@
 What a reading here does not understand it says (`Trouble`), and leaves nothing out in silence."""
 import re
 import signal
+import subprocess
 import sys
 from pathlib import Path
 
@@ -120,9 +121,24 @@ class Declaration:
     def lines(self):
         return self.file.lines[self.first - 1 : self.last]
 
+    def comment_lines(self):
+        return self.file.lines[self.comment - 1 : self.first - 1]
+
     def said(self):
         """Its lines without comments and blank ones."""
         return [l for l in map(without_comment, self.lines()) if l.strip()]
+
+    def member_types(self):
+        """Each field or constructor with its type."""
+        found, name = {}, None
+        for line in self.said():
+            m = SIGNATURE.match(line.strip())
+            if m and plain(m.group("name")) in self.members:
+                name = plain(m.group("name"))
+                found[name] = line.strip()[m.end() :].strip()
+            elif name:
+                found[name] = f"{found[name]} {line.strip()}".strip()
+        return found
 
     def head_last(self):
         """The last line of its signature: the line before the first `unfolding` line or clause of its own column."""
@@ -294,6 +310,9 @@ class Function:
         self.parameters = []
         self.clauses = []
 
+    def of_kind(self, kind):
+        return [c for c in self.clauses if c.kind == kind]
+
     def said(self):
         return [l for l in self.file.lines[self.first - 1 : self.last] if l.strip() and not l.lstrip().startswith("//")]
 
@@ -414,12 +433,12 @@ class RattleFile:
         return text.count("{") - text.count("}")
 
 
-def parts_of(text):
-    """What stands between the commas of a text that are in no braces."""
+def parts_of(text, mark=","):
+    """What stands between the commas of a text, or another mark, that are in no braces."""
     parts, depth = [""], 0
     for c in text:
         depth += (c == "{") - (c == "}")
-        if c == "," and not depth:
+        if c == mark and not depth:
             parts.append("")
         else:
             parts[-1] += c
@@ -556,6 +575,18 @@ def scope_of(file):
     if file.path not in _scopes:
         _scopes[file.path] = Scope(file)
     return _scopes[file.path]
+
+
+# ---- what the check writes to start a proof from
+
+
+def start(crate, functions, folder=None):
+    """Has the check write the files to start these functions' proofs from (`rows::parent_of`) into the crate; or into a folder, with all that is generated of them. What it said."""
+    command = ["rt", "check"] + (["--generated", str(folder)] if folder else [])
+    for name in functions:
+        command += ["--start", f"{crate}::{name}"]
+    done = subprocess.run(command, cwd=ROOT / "crates" / crate, stdout=subprocess.PIPE, stderr=subprocess.STDOUT, text=True)
+    return done.stdout
 
 
 # ---- which names a text has that it does not bind itself

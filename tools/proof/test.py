@@ -67,7 +67,7 @@ class Reading(unittest.TestCase):
         self.assertEqual(file.uses, [(prelude, "◌≡◌", "◌≡◌"), (prelude, "length", "length"), (prelude, "take", "front"), ("a.B", None, "b")])
         self.assertEqual([(d.name, d.kind, d.comment, d.first, d.last) for d in file.declarations],
                          [("R", "record", 5, 6, 10), ("law", "definition", 14, 15, 19), ("D", "data", 21, 21, 23)])
-        self.assertEqual(file.by_name["R"].members, ["long", "short"])
+        self.assertEqual(file.by_name["R"].member_types(), {"long": "n ≡ 0", "short": "n ≡ 1"})
         self.assertEqual(file.by_name["D"].members, ["one", "two", "three"])
         self.assertEqual(file.by_name["law"].head_last(), 17)
         self.assertEqual(file.by_name["law"].outer, [(12, 13)])
@@ -103,6 +103,212 @@ class Exporting(unittest.TestCase):
                      for f in sources.rattle_file(path).functions if f.exported} for crate in (library, library + "_c")]
             self.assertEqual(*said)
             self.assertTrue(all(clauses for _, clauses in said[0].values()))
+
+
+OLD = """-- why it holds
+use a.Laws as laws
+use Rattle.a.proofs.rows.f.Goals as goal
+use Rattle.a.proofs.rows.f.Goals.{then-x}
+
+pub loop-i-init : goal.loop-i-init
+loop-i-init c = laws.begin
+
+-- a fact that two answers use
+fact : ℕ
+fact = 1
+
+-- the text goes on
+pub peek-requires : goal.peek-requires
+peek-requires c = laws.stops fact
+
+pub bounds-s-i : goal.bounds-s-i
+bounds-s-i c = laws.within
+
+pub overflow_add-i : goal.overflow_add-i
+unfolding f
+overflow_add-i c = laws.fits fact
+
+pub peek-requires-2 : goal.peek-requires-2
+peek-requires-2 c =
+    let t : goal.peek-requires-2-raw c = laws.done in t
+
+pub returns : goal.returns
+returns c = record { value = laws.value; kept = laws.kept }
+"""
+
+OFFERED = """use Rattle.std.proofs.Common.{rules, ◌≡◌, length}
+use Rattle.a.proofs.rows.f.Goals as goal
+
+-- src/rows.rt:1:2
+pub loop-i-init : goal.loop-i-init
+loop-i-init c = ?
+
+-- src/rows.rt:1:9
+pub peek-requires : goal.peek-requires
+peek-requires c = ?
+
+-- src/rows.rt:2:2
+pub peek-requires-2 : goal.peek-requires-2
+peek-requires-2 c = ?
+
+-- src/rows.rt:3:4
+pub bounds-s-i : goal.bounds-s-i
+bounds-s-i c = ?
+
+-- src/rows.rt:4:4
+pub nonzero_div-x : goal.nonzero_div-x
+nonzero_div-x c = ?
+
+-- src/rows.rt:5:6
+pub peek-requires-3 :
+    goal.peek-requires-3
+peek-requires-3 c = ?
+
+-- src/rows.rt:6:6
+pub returns-clause-value : goal.returns-clause-value
+returns-clause-value c = ?
+
+-- src/rows.rt:6:6
+pub returns-clause-kept : goal.returns-clause-kept
+returns-clause-kept c = ?
+"""
+
+INVARIANTS = """use Rattle.a.proofs.rows.f.Given as goal
+
+abbrev pub invariant-loop-i : goal.invariant-loop-i
+invariant-loop-i l = laws.Holds l.s
+"""
+
+INVARIANTS_OFFERED = """use Rattle.std.proofs.Common.{length, ◌-◌, ◌≡◌}
+use Rattle.a.proofs.rows.f.Given as goal
+
+abbrev pub invariant-loop-i : goal.invariant-loop-i
+invariant-loop-i l = ?
+
+-- proposed from the loop's first test
+abbrev pub decreases-loop-i : goal.decreases-loop-i
+decreases-loop-i l = length l.s - l.i
+"""
+
+
+class Reprinting(unittest.TestCase):
+    def merged(self, old, new, left):
+        return tool("reprint").merged(AnttFile("a/Answers.antt", old), AnttFile("a/Answers.antt", new), left, False)
+
+    def test_answers_go_over_in_their_order(self):
+        text, told = self.merged(OLD, OFFERED, {"peek-requires-2", "returns-clause-kept"})
+        self.assertEqual(told, {"new": ["peek-requires-2"], "moved": ["peek-requires-2 to peek-requires-3"], "no longer asked": ["overflow_add-i"]})
+        for part in ("-- why it holds\nuse a.Laws as laws\n", "-- a fact that two answers use\nfact : ℕ\nfact = 1\n\n-- the text goes on\npub peek-requires :", "peek-requires c = laws.stops fact\n",
+                     "peek-requires-2 c = ?\n", "pub peek-requires-3 : goal.peek-requires-3\npeek-requires-3 c =\n    let t : goal.peek-requires-3-raw c = laws.done in t\n",
+                     "pub returns : goal.returns\nreturns c = record {", "-- no longer asked: overflow_add-i\n-- pub overflow_add-i : goal.overflow_add-i\n-- unfolding f\n"):
+            self.assertIn(part, text)
+        for part in ("src/rows.rt", "nonzero_div-x", "returns-clause", "Common"):
+            self.assertNotIn(part, text)
+        text, told = self.merged(INVARIANTS, INVARIANTS_OFFERED, None)
+        self.assertEqual(told, {"new": ["decreases-loop-i"], "moved": [], "no longer asked": []})
+        self.assertEqual(text, INVARIANTS.replace("use", "use Rattle.std.proofs.Common.{length, ◌-◌}\nuse", 1) + INVARIANTS_OFFERED.partition("= ?\n")[2])
+
+    def test_what_is_printed_as_it_was_stays(self):
+        for left in (set(), {"overflow_add-i"}):
+            text, told = self.merged(OLD, OLD, left)
+            self.assertEqual(sum(told.values(), []), [])
+            self.assertEqual(text, OLD)
+
+    def test_files_that_the_checker_offers(self):
+        with tempfile.TemporaryDirectory() as folder:
+            made = Path(folder) / "Rattle-a-proofs" / "rows" / "f"
+            made.mkdir(parents=True)
+            (made / "AnswersOffered.antt").write_text(OFFERED, encoding="utf-8")
+            (made / "Goals.antt").write_text("", encoding="utf-8")
+            offered = tool("reprint").offered(Path(folder), "a", Path("rows/f"))
+        self.assertEqual(offered, {"Answers.antt": OFFERED})
+
+
+# What the check generates of a function `f` that calls `peek` and joins two branches, cut down.
+LTS = """        pub record Args : Type 0 where
+          pub s : Kinds.Den {n = 1}
+              κs
+
+        pub record Start : Type 0 where
+          pub lifetimes : Lifetimes.Lfts 1
+          pub args : Args lifetimes
+          pub requires : the-Pre
+
+        module _ (the-before : Start) where
+          abbrev pub Own-After-peek : Type 0
+          Own-After-peek =
+              Called.Called
+              ps-0
+
+        pub record After-peek : Type 0 where
+          pub before : Start
+          pub open before use *
+          pub peek-a : Own-After-peek before
+
+        module _ (the-before : After-peek) where
+          pub record By-Joined1-then-a : Type 0 where
+            pub if-a : Own-Then1 the-before
+
+          pub data Came-Joined1 : Type 0 where
+            then-a : By-Joined1-then-a → Came-Joined1
+
+          pub record Step-Joined1 : Type 0 where
+            pub branch : Came-Joined1 the-before
+            pub branch-raw : Logic.◌⊎◌
+
+        pub record Joined1 : Type 0 where
+          pub before : After-peek
+          pub open before use *
+          pub if-a : Step-Joined1 before
+"""
+
+VIEW = """        module _ (the-before : Lts.Joined1 the-Pre) where
+          pub record Typed-Joined-a : Type 0 where
+            pub s : (Lts.s1).gives
+
+        pub record In-Joined-a : Type 0 where
+          pub before : Lts.Joined1
+              the-Pre
+          pub open before use *
+          pub type_inv : Typed-Joined-a before
+
+        abbrev pub Named-peek-a-requires : Type 0
+        Named-peek-a-requires = (c : Lts.Start the-Pre) → Lts.s7.asks
+
+        abbrev pub Named-returns : Type 0
+        Named-returns =
+            (c : In-Joined-a) →
+            the-Post
+"""
+
+
+class Paths(unittest.TestCase):
+    def test_claims_nest_to_the_right(self):
+        paths = tool("paths")
+        function = paths.function_of("selectors", "parse_selector")
+        self.assertEqual([p for p, _, _ in paths.clauses(function, "requires")], ["." + c.name for c in function.of_kind("requires")])
+        self.assertEqual([p for p, _, _ in paths.clauses(paths.function_of("combinators", "starts_with"), "ensures")], [""])
+
+    def test_a_callee_of_another_file(self):
+        paths = tool("paths")
+        function = paths.function_of("matching", "place_of")
+        for step in ("parent_of", "parent_of-p", "parent_of-2"):
+            self.assertEqual(paths.callee(function, step).file.path.parts[-3:], ("page", "src", "rows.rt"))
+        self.assertIsNone(paths.callee(function, "shared_slice_known-1"))
+        self.assertEqual(paths.path_of(paths.function_of("cascade", "slots/held_in_book")), "slots::Weight::held_in_book")
+
+    def test_steps_and_their_fields(self):
+        paths = tool("paths")
+        with tempfile.TemporaryDirectory() as folder:
+            for name, text in (("Lts", LTS), ("View", VIEW)):
+                (Path(folder) / name).write_text(text, encoding="utf-8")
+            places = paths.Places(Path(folder) / "Lts", Path(folder) / "View")
+        function = paths.function_of("characters", "is_continuation")
+        self.assertEqual(list(paths.facts("characters", function, places, "peek-a-requires")), [("", "", ".args.s .requires")])
+        self.assertEqual(list(paths.facts("characters", function, places, "returns")), [
+            ("", "", ".type_inv.s"), (".if-a", "", ".branch"), (".if-a", ".branch", "then-a w: w.if-a"),
+            (".peek-a", "", ".result .new .type_inv .auto .ensures"), (".peek-a", ".ensures", "result ≡ get_or s.now i 0"), ("", "", ".args.s .requires"),
+        ])
 
 
 class Twice(unittest.TestCase):
