@@ -139,6 +139,6 @@ pub rounds-to-zero : (s : Bool) (num den : ℕ) → 0 < den → is_zero (round b
 rounds-to-zero = round-zero binary32
 
 -- "the decimal is rounded to the nearest f32, ties to even, so it is zero exactly if, sign aside, it is at most 2^-150"
-pub zero_test : (s : Bool) (i f : List ℕ) → is_zero (decimal32 s i f) ≡ rounds_to_zero i f
+pub zero-test : (s : Bool) (i f : List ℕ) → is_zero (decimal32 s i f) ≡ rounds_to_zero i f
 unfolding decimal32 rounds_to_zero denominator
-zero_test s i f = rounds-to-zero s (numerator i f) (10 ^ length f) (ten-pos (length f))
+zero-test s i f = rounds-to-zero s (numerator i f) (10 ^ length f) (ten-pos (length f))

@@ -12,7 +12,7 @@ use Rattle.combinators.proofs.Lists.{rest}
 use Rattle.combinators.proofs.Rules.{pick_true, pick-false, told}
 use Rattle.decimal.specs.Decimal.{rounds_to_zero}
 use Rattle.decimal.specs.Rounded.{is_zero, decimal32}
-use Rattle.decimal.proofs.Float.{zero_test}
+use Rattle.decimal.proofs.Float.{zero-test}
 use Rattle.lexer.specs.Number.{digits, sign}
 use Rattle.lexer.specs.Whitespace.{skip_whitespace}
 use Rattle.lexer.specs.Token.{Token, text_of}
@@ -70,7 +70,7 @@ fraction_of n = drop (digits (unsigned_of n) + 1) (unsigned_of n)
 -- the answer is whether the number, with either sign, rounded to the nearest f32, ties to even, equals zero
 pub number-zero : (negative : Bool) (n : List ℕ) → number_zero n ≡ is_zero (decimal32 negative (integer_of n) (fraction_of n))
 unfolding number_zero unsigned_zero unsigned_of integer_of fraction_of
-number-zero negative n = sym (zero_test negative (integer_of n) (fraction_of n))
+number-zero negative n = sym (zero-test negative (integer_of n) (fraction_of n))
 
 -- ---- units
 -- a word is one of a list where its place is below the list's length
