@@ -29,13 +29,13 @@ const NUMBERS: usize = NUMBER_WIDTH * LONGEST + NUMBER_MORE;
 // The longest line.
 const LINE: usize = PAIR_WIDTH * COMPILED_LIMIT;
 
-fn print(out: Stdout, text: &[u8]) {
-    streams::write_all(out, text);
+fn print(mut out: Stdout, text: &[u8]) {
+    streams::write_all(&mut out, text);
 }
 
-fn print_number(out: Stdout, n: usize) {
+fn print_number(mut out: Stdout, n: usize) {
     print(out, b" ");
-    streams::print_decimal(out, n as u64);
+    streams::print_decimal(&mut out, n as u64);
 }
 
 fn print_refusal(out: Stdout, r: Refusal) {

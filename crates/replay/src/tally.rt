@@ -12,8 +12,8 @@ pub struct Tally {
     pub differ: u64,
 }
 
-fn print(out: Stdout, text: &[u8]) {
-    streams::write_all(out, text);
+fn print(mut out: Stdout, text: &[u8]) {
+    streams::write_all(&mut out, text);
 }
 
 fn print_call(out: Stdout, call: u32) {
@@ -35,9 +35,9 @@ fn print_call(out: Stdout, call: u32) {
 }
 
 // A vector that differs: its number in the list, the call and its words.
-fn print_vector(out: Stdout, number: u64, call: u32, words: &[u8]) {
+fn print_vector(mut out: Stdout, number: u64, call: u32, words: &[u8]) {
     print(out, b"vector ");
-    streams::print_decimal(out, number);
+    streams::print_decimal(&mut out, number);
     print(out, b" (");
     print_call(out, call);
     print(out, b") differs: ");
@@ -69,11 +69,11 @@ pub fn nothing() -> Tally {
 }
 
 // A list's words, how many vectors it has and how many differ.
-pub fn print_tally(out: Stdout, words: &[u8], t: Tally) {
+pub fn print_tally(mut out: Stdout, words: &[u8], t: Tally) {
     print(out, words);
     print(out, b": ");
-    streams::print_decimal(out, t.vectors);
+    streams::print_decimal(&mut out, t.vectors);
     print(out, b" vectors, ");
-    streams::print_decimal(out, t.differ);
+    streams::print_decimal(&mut out, t.differ);
     print(out, b" differ\n");
 }

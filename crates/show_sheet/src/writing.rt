@@ -13,12 +13,12 @@ pub enum Where {
 
 const DELETE: u8 = 0x7f;
 
-pub fn print(out: Stdout, text: &[u8]) {
-    streams::write_all(out, text);
+pub fn print(mut out: Stdout, text: &[u8]) {
+    streams::write_all(&mut out, text);
 }
 
-pub fn print_number(out: Stdout, n: usize) {
-    streams::print_decimal(out, n as u64);
+pub fn print_number(mut out: Stdout, n: usize) {
+    streams::print_decimal(&mut out, n as u64);
 }
 
 // Whether `b` is not a control character.
@@ -74,9 +74,9 @@ fn plain_count(s: &[u8], place: Where) -> usize
     i
 }
 
-fn print_escaped(out: Stdout, b: u8) {
+fn print_escaped(mut out: Stdout, b: u8) {
     print(out, b"\\x");
-    streams::print_hex(out, b as u64, 2);
+    streams::print_hex(&mut out, b as u64, 2);
 }
 
 pub fn print_text(out: Stdout, text: &[u8], place: Where) {
@@ -105,7 +105,7 @@ pub fn print_name(out: Stdout, text: &[u8]) {
 }
 
 // A colour by its hexadecimal digits.
-pub fn print_colour(out: Stdout, colour: u32) {
+pub fn print_colour(mut out: Stdout, colour: u32) {
     print(out, b"#");
-    streams::print_hex(out, colour as u64, 6);
+    streams::print_hex(&mut out, colour as u64, 6);
 }

@@ -31,12 +31,12 @@ enum Texts {
     Character(u32),
 }
 
-fn print(out: Stdout, text: &[u8]) {
-    streams::write_all(out, text);
+fn print(mut out: Stdout, text: &[u8]) {
+    streams::write_all(&mut out, text);
 }
 
-fn print_number(out: Stdout, n: usize) {
-    streams::print_decimal(out, n as u64);
+fn print_number(mut out: Stdout, n: usize) {
+    streams::print_decimal(&mut out, n as u64);
 }
 
 // Whether `b` stands for itself between double quotes.
@@ -68,9 +68,9 @@ fn plain_count(s: &[u8]) -> usize
 }
 
 // A byte that does not stand for itself, by its hexadecimal digits.
-fn print_escaped(out: Stdout, b: u8) {
+fn print_escaped(mut out: Stdout, b: u8) {
     print(out, b"\\x");
-    streams::print_hex(out, b as u64, 2);
+    streams::print_hex(&mut out, b as u64, 2);
 }
 
 // A blank and the text in double quotes.
@@ -208,9 +208,9 @@ fn print_tokens(out: Stdout, s: &[u8], store: &mut [u8]) -> usize
 }
 
 // That the text is refused as a whole, with nothing else printed.
-fn print_refusal(out: Stdout, number: u32) {
+fn print_refusal(mut out: Stdout, number: u32) {
     print(out, b"refused ");
-    streams::print_decimal(out, number as u64);
+    streams::print_decimal(&mut out, number as u64);
     print(out, b" 0\n");
 }
 

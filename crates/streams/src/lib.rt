@@ -2,22 +2,32 @@
 // a read that fails counts as the end of the input.
 #![tactic(auto)]
 
-ghost use Rattle.std.specs.Prelude.{◌≤◌, length};
+ghost use Rattle.std.specs.Prelude.{◌≤◌, IsTrue, length};
+ghost use Rattle.std.specs.Fmt.{decimal};
+ghost use Rattle.std.specs.Io.KnownBytes.{Appends};
+ghost use Rattle.streams.specs.Printed.{hexadecimal};
 
-use std::io::{Read, Stdin, Stdout, Write};
+use std::io::{Read, Stdin, Write};
 
-pub fn write_all(mut out: Stdout, bytes: &[u8]) {
-    let _ = out.write_all(bytes);
+// Whether all bytes were written.
+pub fn write_all<W: Write>(out: &mut W, bytes: &[u8]) -> bool
+    ensures { IsTrue result → Appends (W.contents out.old) (W.contents out.new) bytes.now }
+{
+    out.write_all(bytes).is_ok()
 }
 
-// The number by its decimal digits.
-pub fn print_decimal(mut out: Stdout, n: u64) {
-    let _ = write!(out, "{n}");
+// The number by its decimal digits; whether they were written.
+pub fn print_decimal<W: Write>(out: &mut W, n: u64) -> bool
+    ensures { IsTrue result → Appends (W.contents out.old) (W.contents out.new) (decimal n) }
+{
+    write!(out, "{n}").is_ok()
 }
 
-// The number by its hexadecimal digits, with zeros in front up to `width` digits.
-pub fn print_hex(mut out: Stdout, n: u64, width: usize) {
-    let _ = write!(out, "{n:0width$x}");
+// The number by its hexadecimal digits, with zeros in front up to `width` digits; whether they were written.
+pub fn print_hex<W: Write>(out: &mut W, n: u64, width: usize) -> bool
+    ensures { IsTrue result → Appends (W.contents out.old) (W.contents out.new) (hexadecimal width n) }
+{
+    write!(out, "{n:0width$x}").is_ok()
 }
 
 // Reads until the buffer is full, the input ends or a read fails; how many bytes it put at the start of the buffer.
