@@ -6,7 +6,8 @@ use Rattle.std.specs.Result.{is_ok, OnOk}
 use Rattle.std.specs.Bool.{IsTrue}
 use Rattle.std.specs.Fmt.{padded_integral, format_spec, shown_prefix, char_count}
 
--- the digits stand behind as many zeros as they are short of the width
+-- the digits stand behind as many zeros (48) as they are short of the width; the options are those of `{n:0width$x}`: blanks (32) as fill, the side left to the
+-- type (0), zeros in front (4), the width, and no precision (2 ^ 64 - 1)
 pub zeros-before : (width : ℕ) (prefix digits : List ℕ)
     → padded_integral (format_spec 32 0 4 width 18446744073709551615) false (shown_prefix (format_spec 32 0 4 width 18446744073709551615) prefix) digits ≡ replicate (width - length digits) 48 ++ digits
 unfolding padded_integral char_count
