@@ -1,5 +1,4 @@
 -- What the hole of the format writes is the number's digits behind zeros.
-use Rattle.std.proofs.Common.{◌≡◌, ap, sym, ◌∙◌, true}
 use Rattle.streams.specs.Printed.{hexadecimal}
 use Rattle.streams.proofs.Printing.{zeros-before, when-ok}
 use Rattle.streams.proofs.print_hex.Goals as goal
